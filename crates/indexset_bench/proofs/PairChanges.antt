@@ -1,6 +1,10 @@
 -- What a line does, by the kind of its command.
-use Rattle.std.proofs.Common.{None, ◌≡◌, ◌≢◌, ℕ, ◌+◌, ◌==◌, Bool, true, false, cond, List, [], ◌∷◌, ◌++◌, length, Ordering, ap}
-use Rattle.std.specs.Option.{option_map_or}
+use Rattle.std.proofs.Common.{Option, None, Some, ◌≡◌, ◌≢◌, ℕ, ◌+◌, ◌==◌, Bool, true, false, cond, List, [], ◌∷◌, ◌++◌, length, Ordering, refl, ap}
+use Rattle.std.specs.Option.{option_map, option_map_or}
+use Rattle.indexset_core.specs.Pairs.{entry_of}
+use Rattle.indexset_core.specs.declared.pair.Pair.{Pair}
+use Rattle.indexset_bench.specs.declared.reply.Reply.{Reply}
+use Rattle.indexset_bench.specs.declared.reply.Reply.TheVariants.{GoneValue, Nothing}
 use Rattle.indexset_core.specs.Nodes.{node_at}
 use Rattle.indexset_core.specs.Order.{has_equal, rank}
 use Rattle.indexset_events.specs.Nodes.{is_filled}
@@ -9,6 +13,8 @@ use Rattle.indexset_bench.specs.Command.{meaning}
 use Rattle.indexset_bench.specs.PairCommand.{pair_meaning}
 use Rattle.indexset_bench.specs.Pairs.{PairTree, pair_reply, pairs_after, reply_ended}
 use Rattle.indexset_bench.specs.Reply.{AddsNew, contents_after, reply_to}
+use Rattle.std.specs.Ordering.{nat_cmp}
+use Rattle.indexset_bench.specs.Texts.{number_texts}
 use Rattle.indexset_bench.specs.Text.{Changes, reply_line, stores, stores_after}
 
 -- ---- a put tells an event
@@ -43,15 +49,21 @@ module _ {T : Type 0} (cmp : T → T → Ordering) where
       at true x some e = some e
       at false x some e = cc
 
+-- ---- the reply to a cut
+
+pub gone_reply : {T : Type 0} (o : Option (Pair T T)) → option_map_or {U = Reply T} (λ entry. GoneValue entry.1) (option_map entry_of o) Nothing ≡ option_map_or GoneValue (option_map (λ p. p.value) o) Nothing
+gone_reply None = refl
+gone_reply (Some p) = refl
+
 -- ---- a line of either kind
 
-module _ (s : List ℕ) (t : PairTree) (line : List ℕ) where
-  module _ (e : pair_meaning line ≡ None) where
-    pub numbers_reply : reply_line (stores s t) line ≡ reply_ended (reply_to s (meaning line))
-    numbers_reply = ap (λ o. option_map_or (pair_reply t) o (reply_ended (reply_to s (meaning line)))) e
+module _ (s : List ℕ) (t : PairTree ℕ) (line : List ℕ) where
+  module _ (e : pair_meaning number_texts line ≡ None) where
+    pub numbers_reply : reply_line (stores s t) line ≡ reply_ended number_texts (reply_to s (meaning line))
+    numbers_reply = ap (λ o. option_map_or (pair_reply nat_cmp number_texts t) o (reply_ended number_texts (reply_to s (meaning line)))) e
 
     pub numbers_left : stores_after (stores s t) line ≡ stores (contents_after s (meaning line)) t
-    numbers_left = ap (λ o. option_map_or (λ d. stores s (pairs_after t d)) o (stores (contents_after s (meaning line)) t)) e
+    numbers_left = ap (λ o. option_map_or (λ d. stores s (pairs_after nat_cmp t d)) o (stores (contents_after s (meaning line)) t)) e
 
     pub numbers_change : AddsNew s (meaning line) → Changes (stores s t) line
     numbers_change added = rw e added

@@ -1,5 +1,5 @@
 -- What a writer holds after a line for each thing.
-use Rattle.std.proofs.Common.{Option, Result, Ok, Err, OnOk, ◌≡◌, ℕ, ◌+◌, ◌<◌, List, [], ◌∷◌, ◌++◌, map, take, get_or, length, refl, sym, ap, subst, ◌∙◌, append_assoc, append-nil}
+use Rattle.std.proofs.Common.{Option, Result, Ok, Err, OnOk, ◌≡◌, ℕ, suc, ◌+◌, ◌<◌, List, [], ◌∷◌, ◌++◌, map, take, get_or, length, refl, sym, ap, subst, ◌∙◌, arith, append_assoc, append-nil}
 use Rattle.std.specs.Io.KnownBytes.{Appends}
 use Rattle.std.specs.List.{join_with_byte}
 use Rattle.std.proofs.KnownBytes.{Appends-trans}
@@ -38,12 +38,10 @@ module _ {X : Type 0} (text : X → List ℕ) where
         let now = subst (λ l. Appends w1 w2 (l ++ text x)) led told in
         subst (Appends w w2) (sym (ap (λ l. join_with_byte 32 (map text l)) next ∙ join-push (take i xs) x)) (Appends-trans w w1 w2 (join_with_byte 32 (map text (take i xs))) (lead_after (take i xs) ++ text x) far now)
 
-    pub next_lead : 32 ∷ [] ≡ lead_after (take (i + 1) xs)
-    next_lead = sym (ap lead_after next ∙ after (take i xs))
-      where
-        after : (ys : List X) → lead_after (ys ++ x ∷ []) ≡ 32 ∷ []
-        after [] = refl
-        after (y ∷ ys) = refl
+-- once something stands in a row, a space goes before the next
+pub next_lead : {X : Type 0} (xs : List X) (i : ℕ) → i < length xs → 32 ∷ [] ≡ lead_after (take (i + 1) xs)
+next_lead [] i lt = absurd (omega (arith, lt))
+next_lead (x ∷ xs) i lt = let next : i + 1 ≡ suc i = omega arith in rw next refl
 
 -- the same, where the things are read one by one
 module _ {R X : Type 0} (text : X → List ℕ) (read : R → X) where

@@ -11,4 +11,5 @@ pub mod Reply
 pub mod Run
 pub mod SetRun
 pub mod Text
+pub mod Texts
 pub mod Told

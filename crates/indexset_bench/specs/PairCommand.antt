@@ -1,43 +1,32 @@
 -- What a line means to the map.
-use Rattle.std.specs.Prelude.{Option, ℕ, ◌^◌, ◌<◌, Bool, ◌&&◌, nat_lt, List, [], ◌∷◌, ◌++◌, ◌==◌, true, find, codes}
-use Rattle.std.specs.List.{before_first, after_first}
-use Rattle.std.specs.Fmt.{decimal}
+use Rattle.std.specs.Prelude.{ℕ, if◌then◌else◌, List, ◌∷◌, ◌++◌, Option, None, Some, codes}
+use Rattle.std.specs.Option.{option_map, option_map_or}
 use Rattle.std.specs.Str.{bytes_eq}
-use Rattle.std.specs.Str.Parse.{digits_value}
+use Rattle.indexset_events.specs.Spelling.{cut_at}
+use Rattle.indexset_bench.specs.Texts.{Texts, two_keys}
 use Rattle.indexset_bench.specs.declared.pair_command.PairCommand.{PairCommand}
 use Rattle.indexset_bench.specs.declared.pair_command.PairCommand.TheVariants.{Put, Cut, Nodes}
 
--- the line of a command
-abbrev pub pair_spelling : PairCommand → List ℕ
-pair_spelling (Put k v) = codes "put " ++ decimal k ++ 32 ∷ decimal v
-pair_spelling (Cut k) = codes "cut " ++ decimal k
-pair_spelling Nodes = codes "nodes"
+module _ {T : Type 0} (texts : Texts T) where
+  -- the line of a command
+  abbrev pub pair_spelling : PairCommand T → List ℕ
+  pair_spelling (Put k v) = codes "put " ++ texts.spelling k ++ 32 ∷ texts.spelling v
+  pair_spelling (Cut k) = codes "cut " ++ texts.spelling k
+  pair_spelling Nodes = codes "nodes"
 
--- the command's numbers are of 64 bits
-abbrev pub PairFitsU64 : PairCommand → Type 0
-PairFitsU64 (Put k v) = (k < 2 ^ 64) × (v < 2 ^ 64)
-PairFitsU64 (Cut k) = k < 2 ^ 64
-PairFitsU64 Nodes = Unit {0}
+  -- the command's key and value are in range
+  abbrev pub CommandFits : PairCommand T → Type 0
+  CommandFits (Put k v) = texts.InRange k × texts.InRange v
+  CommandFits (Cut k) = texts.InRange k
+  CommandFits Nodes = Unit {0}
 
--- the test of it
-abbrev pub pair_fits_u64 : PairCommand → Bool
-pair_fits_u64 (Put k v) = nat_lt k (2 ^ 64) && nat_lt v (2 ^ 64)
-pair_fits_u64 (Cut k) = nat_lt k (2 ^ 64)
-pair_fits_u64 Nodes = true
+  -- the command of a word and what stands behind it
+  abbrev pub word_command : List ℕ → List ℕ → Option (PairCommand T)
+  word_command word rest =
+      if bytes_eq word (codes "put") then option_map (λ p. Put p.0 p.1) (two_keys texts rest)
+      else if bytes_eq word (codes "cut") then option_map Cut (texts.reading rest)
+      else None
 
--- the bytes before the first space, and those after it
-abbrev pub before_space : List ℕ → List ℕ
-before_space line = before_first (λ x. x == 32) line
-
-abbrev pub after_space : List ℕ → List ℕ
-after_space line = after_first (λ x. x == 32) line
-
--- every command that the line may spell
-abbrev pub pair_candidates : List ℕ → List PairCommand
-pair_candidates line =
-    let rest = after_space line in
-    Put (digits_value 10 (before_space rest)) (digits_value 10 (after_space rest)) ∷ Cut (digits_value 10 rest) ∷ Nodes ∷ []
-
--- the one of them that it does spell
-unfoldable pub pair_meaning : List ℕ → Option PairCommand
-pair_meaning line = find (λ c. pair_fits_u64 c && bytes_eq line (pair_spelling c)) (pair_candidates line)
+  -- the command that a line spells
+  unfoldable pub pair_meaning : List ℕ → Option (PairCommand T)
+  pair_meaning line = option_map_or (λ cut. word_command cut.0 cut.1) (cut_at 32 line) (if bytes_eq line (codes "nodes") then Some Nodes else None)

@@ -2,7 +2,7 @@
 use Rattle.std.specs.Prelude.{ℕ, if◌then◌else◌, List, [], ◌++◌, Option, None, Some, codes}
 use Rattle.std.specs.Fmt.{decimal}
 use Rattle.std.specs.Option.{option_map_or}
-use Rattle.std.specs.Ordering.{nat_cmp}
+use Rattle.std.specs.declared.cmp.Ordering.{Ordering}
 use Rattle.indexset_core.specs.Nodes.{joined}
 use Rattle.indexset_core.specs.Pairs.{by_key, pair, value_of}
 use Rattle.indexset_core.specs.declared.pair.Pair.{Pair}
@@ -19,43 +19,46 @@ use Rattle.indexset_bench.specs.declared.reply.Reply.{Reply}
 use Rattle.indexset_bench.specs.declared.reply.Reply.TheVariants.{New, OldValue, GoneValue, Nothing, Empty}
 use Rattle.indexset_bench.specs.PairText.{ended, event_text, lines_for, node_text}
 use Rattle.indexset_bench.specs.Reply.{reply_text}
+use Rattle.indexset_bench.specs.Texts.{Texts}
 use Rattle.indexset_bench.specs.Told.{tree_after}
 
 -- the map's nodes, their greatest size, and the number of the next event
-abbrev pub PairTree : Type 0
-PairTree = Tree (Pair ℕ ℕ)
+abbrev pub PairTree : Type 0 → Type 0
+PairTree T = Tree (Pair T T)
 
--- the events of a command, without numbers
-abbrev pub pair_events : PairTree → PairCommand → List (ChangeEventUnassigned (Pair ℕ ℕ))
-pair_events t (Put k v) = put_events (by_key nat_cmp) t.size t.nodes (pair k v)
-pair_events t (Cut k) = key_removal_events nat_cmp t.size t.nodes k
-pair_events t Nodes = []
+module _ {T : Type 0} (cmp : T → T → Ordering) where
+  -- the events of a command, without numbers
+  abbrev pub pair_events : PairTree T → PairCommand T → List (ChangeEventUnassigned (Pair T T))
+  pair_events t (Put k v) = put_events (by_key cmp) t.size t.nodes (pair k v)
+  pair_events t (Cut k) = key_removal_events cmp t.size t.nodes k
+  pair_events t Nodes = []
 
--- the same, numbered on
-abbrev pub told_events : PairTree → PairCommand → List (ChangeEvent (Pair ℕ ℕ))
-told_events t c = numbered_from t.next (pair_events t c)
+  -- the same, numbered on
+  abbrev pub told_events : PairTree T → PairCommand T → List (ChangeEvent (Pair T T))
+  told_events t c = numbered_from t.next (pair_events t c)
 
--- the nodes that the events lead to, and the number after theirs
-abbrev pub pairs_after : PairTree → PairCommand → PairTree
-pairs_after t c = tree_after (by_key nat_cmp) t (pair_events t c)
+  -- the nodes that the events lead to, and the number after theirs
+  abbrev pub pairs_after : PairTree T → PairCommand T → PairTree T
+  pairs_after t c = tree_after (by_key cmp) t (pair_events t c)
+
+  -- the reply to a command that changes the map: the value that was there, where there was one
+  abbrev pub change_reply : PairTree T → PairCommand T → Reply T
+  change_reply t (Put k v) = option_map_or OldValue (value_of cmp (joined t.nodes) k) New
+  change_reply t (Cut k) = option_map_or GoneValue (value_of cmp (joined t.nodes) k) Nothing
+  change_reply t Nodes = Empty
 
 -- a reply as a line
-abbrev pub reply_ended : Reply → List ℕ
-reply_ended reply = ended (reply_text reply)
-
--- the reply to a command that changes the map: the value that was there, where there was one
-abbrev pub change_reply : PairTree → PairCommand → Reply
-change_reply t (Put k v) = option_map_or OldValue (value_of nat_cmp (joined t.nodes) k) New
-change_reply t (Cut k) = option_map_or GoneValue (value_of nat_cmp (joined t.nodes) k) Nothing
-change_reply t Nodes = Empty
+abbrev pub reply_ended : {T : Type 0} → Texts T → Reply T → List ℕ
+reply_ended texts reply = ended (reply_text texts reply)
 
 -- the number that a caller gave the command, where it gave one, stands before the reply
 abbrev pub echo_text : Option ℕ → List ℕ
 echo_text None = []
 echo_text (Some n) = codes "#" ++ decimal n ++ codes " "
 
--- the lines of the reply: those of a change and of its events, or one for each node
-abbrev pub pair_reply : PairTree → PairCommand → List ℕ
-pair_reply t (Put k v) = reply_ended (change_reply t (Put k v)) ++ lines_for event_text (told_events t (Put k v))
-pair_reply t (Cut k) = reply_ended (change_reply t (Cut k)) ++ lines_for event_text (told_events t (Cut k))
-pair_reply t Nodes = if is_filled t.nodes then lines_for node_text t.nodes else reply_ended Empty
+module _ {T : Type 0} (cmp : T → T → Ordering) (texts : Texts T) where
+  -- the lines of the reply: those of a change and of its events, or one for each node
+  abbrev pub pair_reply : PairTree T → PairCommand T → List ℕ
+  pair_reply t (Put k v) = reply_ended texts (change_reply cmp t (Put k v)) ++ lines_for (event_text texts) (told_events cmp t (Put k v))
+  pair_reply t (Cut k) = reply_ended texts (change_reply cmp t (Cut k)) ++ lines_for (event_text texts) (told_events cmp t (Cut k))
+  pair_reply t Nodes = if is_filled t.nodes then lines_for (node_text texts) t.nodes else reply_ended texts Empty

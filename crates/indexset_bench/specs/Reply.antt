@@ -3,18 +3,19 @@ use Rattle.std.specs.Prelude.{Option, ◌≡◌, false, ℕ, ◌++◌, if◌then
 use Rattle.std.specs.Ordering.{nat_cmp}
 use Rattle.std.specs.Fmt.{decimal}
 use Rattle.indexset_core.specs.Order.{rank, has_equal, keep, without}
+use Rattle.indexset_bench.specs.Texts.{Texts}
 use Rattle.indexset_bench.specs.declared.command.Command.{Command}
 use Rattle.indexset_bench.specs.declared.command.Command.TheVariants.{Add, Del, Has, Rank, At, Len}
 use Rattle.indexset_bench.specs.declared.reply.Reply.{Reply}
 use Rattle.indexset_bench.specs.declared.reply.Reply.TheVariants.{New, Old, OldValue, Gone, GoneValue, Yes, No, Count, Item, Nothing, Empty, Bad}
 
 -- the element, if any
-abbrev pub item_reply : Option ℕ → Reply
+abbrev pub item_reply : Option ℕ → Reply ℕ
 item_reply None = Nothing
 item_reply (Some n) = Item n
 
 -- the reply to a line of this meaning
-abbrev pub reply_to : List ℕ → Option Command → Reply
+abbrev pub reply_to : List ℕ → Option Command → Reply ℕ
 reply_to s (Some (Add n)) = if has_equal nat_cmp s n then Old else New
 reply_to s (Some (Del n)) = if has_equal nat_cmp s n then Gone else Nothing
 reply_to s (Some (Has n)) = if has_equal nat_cmp s n then Yes else No
@@ -38,17 +39,18 @@ abbrev pub AddsNew : List ℕ → Option Command → Type 0
 AddsNew s (Some (Add n)) = has_equal nat_cmp s n ≡ false
 AddsNew s other = ⊥
 
--- how a reply is written
-abbrev pub reply_text : Reply → List ℕ
-reply_text New = codes "new"
-reply_text Old = codes "old"
-reply_text (OldValue v) = codes "old " ++ decimal v
-reply_text Gone = codes "gone"
-reply_text (GoneValue v) = codes "gone " ++ decimal v
-reply_text Yes = codes "yes"
-reply_text No = codes "no"
-reply_text (Count n) = decimal n
-reply_text (Item n) = decimal n
-reply_text Nothing = codes "none"
-reply_text Empty = codes "empty"
-reply_text Bad = codes "bad"
+module _ {T : Type 0} (texts : Texts T) where
+  -- how a reply is written
+  abbrev pub reply_text : Reply T → List ℕ
+  reply_text New = codes "new"
+  reply_text Old = codes "old"
+  reply_text (OldValue v) = codes "old " ++ texts.spelling v
+  reply_text Gone = codes "gone"
+  reply_text (GoneValue v) = codes "gone " ++ texts.spelling v
+  reply_text Yes = codes "yes"
+  reply_text No = codes "no"
+  reply_text (Count n) = decimal n
+  reply_text (Item n) = texts.spelling n
+  reply_text Nothing = codes "none"
+  reply_text Empty = codes "empty"
+  reply_text Bad = codes "bad"

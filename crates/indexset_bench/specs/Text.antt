@@ -1,20 +1,22 @@
 -- The text that answers an input.
 use Rattle.std.specs.Prelude.{ℕ, ◌≢◌, List, [], MatchOption}
 use Rattle.std.specs.Option.{option_map_or}
+use Rattle.std.specs.Ordering.{nat_cmp}
 use Rattle.indexset_log.specs.Tree.{fresh}
 use Rattle.indexset_bench.specs.Command.{meaning}
 use Rattle.indexset_bench.specs.PairCommand.{pair_meaning}
 use Rattle.indexset_lines.specs.Lines.{lines_of}
 use Rattle.indexset_lines.specs.Run.{left_by, replies_to}
 use Rattle.indexset_bench.specs.Pairs.{PairTree, pair_events, pair_reply, pairs_after, reply_ended}
+use Rattle.indexset_bench.specs.Texts.{number_texts}
 use Rattle.indexset_bench.specs.Reply.{AddsNew, reply_to, contents_after}
 
 -- what a run holds: the numbers of the set, and the map
 pub record Stores : Type 0 where
   pub numbers : List ℕ
-  pub pairs : PairTree
+  pub pairs : PairTree ℕ
 
-abbrev pub stores : List ℕ → PairTree → Stores
+abbrev pub stores : List ℕ → PairTree ℕ → Stores
 stores s t = record { numbers = s; pairs = t }
 
 -- at first: nothing, in nodes of four pairs at most, and the first event is to have the number 0
@@ -23,15 +25,15 @@ no_stores = stores [] (fresh 4)
 
 -- the reply to a line, each of its lines ended by a byte 10
 abbrev pub reply_line : Stores → List ℕ → List ℕ
-reply_line s line = option_map_or (pair_reply s.pairs) (pair_meaning line) (reply_ended (reply_to s.numbers (meaning line)))
+reply_line s line = option_map_or (pair_reply nat_cmp number_texts s.pairs) (pair_meaning number_texts line) (reply_ended number_texts (reply_to s.numbers (meaning line)))
 
 -- what the run holds after it
 abbrev pub stores_after : Stores → List ℕ → Stores
-stores_after s line = option_map_or (λ c. stores s.numbers (pairs_after s.pairs c)) (pair_meaning line) (stores (contents_after s.numbers (meaning line)) s.pairs)
+stores_after s line = option_map_or (λ c. stores s.numbers (pairs_after nat_cmp s.pairs c)) (pair_meaning number_texts line) (stores (contents_after s.numbers (meaning line)) s.pairs)
 
 -- the line changes the map, or is none to the map and inserts a number that is absent
 abbrev pub Changes : Stores → List ℕ → Type 0
-Changes s line = MatchOption (pair_meaning line) (AddsNew s.numbers (meaning line)) (λ c. pair_events s.pairs c ≢ [])
+Changes s line = MatchOption (pair_meaning number_texts line) (AddsNew s.numbers (meaning line)) (λ c. pair_events nat_cmp s.pairs c ≢ [])
 
 -- the replies to the lines, joined
 abbrev pub replies_of : Stores → List (List ℕ) → List ℕ

@@ -4,8 +4,10 @@ ghost use Rattle.std.specs.Prelude.{◌≡◌, ◌≢◌, ℕ, List, [], ◌∷�
 ghost use Rattle.indexset_bench.specs.declared.command.Command.{Command};
 ghost use Rattle.indexset_bench.specs.Command.{FitsU64, meaning, spelling};
 ghost use Rattle.indexset_bench.specs.declared.pair_command.PairCommand.{PairCommand};
-ghost use Rattle.indexset_bench.specs.PairCommand.{PairFitsU64, pair_meaning, pair_spelling};
+ghost use Rattle.indexset_bench.specs.PairCommand.{CommandFits, pair_meaning, pair_spelling};
 ghost use Rattle.indexset_lines.specs.Lines.{HasNoEnd, lines_of};
+
+use crate::key::Key;
 
 /// A line means the command of which it is the spelling, and no other line means one.
 pub fn meaning_is_spelling()
@@ -16,13 +18,13 @@ pub fn meaning_is_spelling()
 {}
 
 /// The same of the commands to the map. No command to the set is spelled as one to the map.
-pub fn pair_meaning_is_spelling()
-    ensures spelled { (line : List ℕ) (command : PairCommand) → PairFitsU64 command
-        → (pair_meaning line ≡ Some command) ↔ (line ≡ pair_spelling command) }
-    ensures fits { (line : List ℕ) (command : PairCommand)
-        → pair_meaning line ≡ Some command → PairFitsU64 command }
-    ensures apart { (command : Command) (of_pairs : PairCommand)
-        → spelling command ≢ pair_spelling of_pairs }
+pub fn pair_meaning_is_spelling<T: Key>()
+    ensures spelled { (line : List ℕ) (command : PairCommand T) → CommandFits T.texts command
+        → (pair_meaning T.texts line ≡ Some command) ↔ (line ≡ pair_spelling T.texts command) }
+    ensures fits { (line : List ℕ) (command : PairCommand T)
+        → pair_meaning T.texts line ≡ Some command → CommandFits T.texts command }
+    ensures apart { (command : Command) (of_pairs : PairCommand T)
+        → spelling command ≢ pair_spelling T.texts of_pairs }
 {}
 
 /// An input is cut after each byte 10, and a last part without one is a line unless it is empty.

@@ -10,6 +10,7 @@
 
 pub mod command;
 pub mod command_run;
+pub mod key;
 pub mod laws;
 pub mod logged;
 pub mod logged_run;

@@ -1,49 +1,60 @@
 //! The commands to the map, and what a line says.
 
-ghost use Rattle.std.specs.Prelude.{◌≡◌, ◌≢◌, ℕ, ◌^◌, ◌<◌, ◌++◌, ◌∷◌, MatchOption};
-ghost use Rattle.std.specs.Fmt.{decimal};
-ghost use Rattle.indexset_bench.specs.PairCommand.{pair_meaning};
+ghost use Rattle.std.specs.Prelude.{◌≡◌, false, IfErr, IfOk, IsOk};
+ghost use Rattle.indexset_bench.specs.PairCommand.{pair_meaning, word_command};
 
-use crate::command::number;
-use indexset_lines::bytes::first_place;
+use crate::key::{Key, read_key, read_two_keys};
+use indexset_events::parts::cut;
+use indexset_lines::RunFault;
+use std::alloc::Global;
 
 /// A command to the map.
-#[derive(Clone, Copy, Debug, PartialEq, Eq)]
-pub enum PairCommand {
+#[derive(Clone, Copy, Debug, PartialEq, Eq, Drop)]
+pub enum PairCommand<T> {
     /// Inserts a key and a value, or replaces the pair of that key.
-    Put(u64, u64),
+    Put(T, T),
     /// Takes the pair of the key out.
-    Cut(u64),
+    Cut(T),
     /// Returns the nodes.
     Nodes,
 }
 
-/// Returns the numbers of which this is the text: two, separated by one space.
-fn two_numbers(text: &[u8]) -> Option<(u64, u64)>
-    ensures { MatchOption result
-        ((m n : ℕ) → m < 2 ^ 64 → n < 2 ^ 64 → text.now ≢ decimal m ++ 32 ∷ decimal n)
-        (λ p. (text.now ≡ decimal p.0 ++ 32 ∷ decimal p.1) × (p.0 < 2 ^ 64) × (p.1 < 2 ^ 64)) }
+/// Returns the command to the map that the line spells, if it spells one.
+#[tactic(auto, unfolding(crate::specs::PairCommand::pair_meaning))]
+pub fn parse_pairs<T: Key>(alloc: Global, line: &[u8]) -> Result<Option<PairCommand<T>>, RunFault>
+    ensures command { IfOk result (λ command. command ≡ pair_meaning T.texts line.now) }
+    ensures fault { IfErr result (λ fault. fault ≡ RunFault.Memory) }
+    ensures never { T.allocates ≡ false → IsOk result }
 {
-    let space = first_place(text, b' ')?;
-    let first = number(&text[..space])?;
-    let second = number(&text[space + 1..])?;
-    Some((first, second))
+    match cut(line, b' ') {
+        Some((word, rest)) => parse_word(alloc, word, rest),
+        None => {
+            if line == b"nodes".as_slice() {
+                Ok(Some(PairCommand::Nodes))
+            } else {
+                Ok(None)
+            }
+        }
+    }
 }
 
-/// Returns the command to the map that the line spells, if it spells one.
-pub fn parse_pairs(line: &[u8]) -> Option<PairCommand>
-    ensures { result ≡ pair_meaning line.now }
+/// Returns the command of a word and what stands behind it.
+fn parse_word<T: Key>(
+    alloc: Global,
+    word: &[u8],
+    rest: &[u8],
+) -> Result<Option<PairCommand<T>>, RunFault>
+    ensures command { IfOk result (λ command. command ≡ word_command T.texts word.now rest.now) }
+    ensures fault { IfErr result (λ fault. fault ≡ RunFault.Memory) }
+    ensures never { T.allocates ≡ false → IsOk result }
 {
-    if let Some(numbers) = line.strip_prefix(b"put ") {
-        let (key, value) = two_numbers(numbers)?;
-        return Some(PairCommand::Put(key, value));
-    }
-    if let Some(digits) = line.strip_prefix(b"cut ") {
-        return number(digits).map(PairCommand::Cut);
-    }
-    if line == b"nodes".as_slice() {
-        Some(PairCommand::Nodes)
+    if word == b"put".as_slice() {
+        let keys = read_two_keys(alloc, rest)?;
+        Ok(keys.map(|keys| PairCommand::Put(keys.0, keys.1)))
+    } else if word == b"cut".as_slice() {
+        let key = read_key(alloc, rest)?;
+        Ok(key.map(PairCommand::Cut))
     } else {
-        None
+        Ok(None)
     }
 }

@@ -2,31 +2,45 @@
 
 ghost use Rattle.std.specs.Prelude.{Some};
 ghost use Rattle.indexset_bench.specs.PairText.{event_text, pair_text};
+ghost use Rattle.indexset_core.specs.Pairs.{pair};
 
+use crate::key::Key;
 use indexset_core::pair::Pair;
 use indexset_events::change::ChangeEvent;
 use std::fmt;
 
 /// A pair, as it is written.
 #[derive(Clone, Copy)]
-pub struct PairText<'a>(pub &'a Pair<u64, u64>);
+pub struct PairText<'a, T>(pub &'a Pair<T, T>);
 
-impl fmt::Display for PairText<'_> {
-    ghost output = { λ t. Some (pair_text t.0.now) };
+impl<T: Key> fmt::Display for PairText<'_, T> {
+    ghost output = { λ t. Some (pair_text T.texts t.0.now) };
 
     fn fmt<W: fmt::Write>(&self, f: &mut fmt::Formatter<W>) -> fmt::Result {
-        let key = self.0.key;
-        let value = self.0.value;
+        let Pair { key, value } = self.0;
+        write!(f, "{key}:{value}")
+    }
+}
+
+/// A key and its value, as they are written.
+#[derive(Clone, Copy)]
+pub struct EntryText<'a, T>(pub &'a T, pub &'a T);
+
+impl<T: Key> fmt::Display for EntryText<'_, T> {
+    ghost output = { λ t. Some (pair_text T.texts (pair t.0.now t.1.now)) };
+
+    fn fmt<W: fmt::Write>(&self, f: &mut fmt::Formatter<W>) -> fmt::Result {
+        let EntryText(key, value) = self;
         write!(f, "{key}:{value}")
     }
 }
 
 /// An event, as it is written.
 #[derive(Clone, Copy)]
-pub struct EventText<'a>(pub &'a ChangeEvent<Pair<u64, u64>>);
+pub struct EventText<'a, T>(pub &'a ChangeEvent<Pair<T, T>>);
 
-impl fmt::Display for EventText<'_> {
-    ghost output = { λ t. Some (event_text t.0.now) };
+impl<T: Key> fmt::Display for EventText<'_, T> {
+    ghost output = { λ t. Some (event_text T.texts t.0.now) };
 
     fn fmt<W: fmt::Write>(&self, f: &mut fmt::Formatter<W>) -> fmt::Result {
         let id = self.0.id().inner();

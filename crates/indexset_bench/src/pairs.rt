@@ -6,6 +6,7 @@ ghost use Rattle.std.specs.Io.KnownBytes.{Appends, Keeps};
 ghost use Rattle.indexset_bench.specs.Pairs.{echo_text, pair_events, pair_reply, pairs_after};
 ghost use Rattle.std.below.core.specs.declared.int.u64.TheConstants.{MAX};
 
+use crate::key::Key;
 use crate::pair_command::PairCommand;
 use crate::reply::Reply;
 use crate::write::{write_change, write_echo, write_line, write_nodes};
@@ -14,27 +15,27 @@ use indexset_lines::RunFault;
 use indexset_log::map::BTreeMap;
 use std::io::Write;
 
-/// A map of numbers, which returns its changes as events.
-pub type Pairs = BTreeMap<u64, u64, Vec<Pair<u64, u64>>>;
+/// A map of keys to values of the same type, which returns its changes as events.
+pub type Pairs<T> = BTreeMap<T, T, Vec<Pair<T, T>>>;
 
 /// Carries out a line's command to the map, and writes the reply to it, behind the number that the
 /// caller gave the command. A failed call changes nothing, and nothing is written.
-pub fn answer_pairs<W: Write>(
+pub fn answer_pairs<T: Key, W: Write>(
     writer: &mut W,
     echo: Option<u64>,
-    pairs: &mut Pairs,
-    command: PairCommand,
+    pairs: &mut Pairs<T>,
+    command: PairCommand<T>,
 ) -> Result<(), RunFault>
-    ensures pairs { OnOk result (pairs.new ≡ pairs_after pairs.old command) }
+    ensures pairs { OnOk result (pairs.new ≡ pairs_after T.cmp pairs.old command) }
     ensures told { OnOk result (Appends (W.contents writer.old) (W.contents writer.new)
-        (echo_text echo ++ pair_reply pairs.old command)) }
+        (echo_text echo ++ pair_reply T.cmp T.texts pairs.old command)) }
     ensures memory_refused { result ≡ Err RunFault.Memory
         → Keeps (W.contents writer.old) (W.contents writer.new) }
     ensures numbers_refused { result ≡ Err RunFault.Numbers
         → Keeps (W.contents writer.old) (W.contents writer.new) }
-    ensures only_changes { result ≡ Err RunFault.Memory → pair_events pairs.old command ≢ [] }
+    ensures only_changes { result ≡ Err RunFault.Memory → pair_events T.cmp pairs.old command ≢ [] }
     ensures no_numbers { result ≡ Err RunFault.Numbers
-        → MAX < pairs.old.next + length (pair_events pairs.old command) }
+        → MAX < pairs.old.next + length (pair_events T.cmp pairs.old command) }
     ensures no_read { result ≢ Err RunFault.Read }
 {
     match command {
@@ -50,7 +51,7 @@ pub fn answer_pairs<W: Write>(
         PairCommand::Nodes => {
             write_echo(writer, echo)?;
             if pairs.node_count() == 0 {
-                write_line(writer, Reply::Empty)
+                write_line(writer, Reply::<T>::Empty)
             } else {
                 write_nodes(writer, pairs)
             }
@@ -59,7 +60,7 @@ pub fn answer_pairs<W: Write>(
 }
 
 /// Returns the reply to a put.
-fn reply_to_put(old: Option<u64>) -> Reply
+fn reply_to_put<T: Drop>(old: Option<T>) -> Reply<T>
     ensures { result ≡ option_map_or Reply.OldValue old Reply.New }
 {
     match old {
@@ -69,7 +70,7 @@ fn reply_to_put(old: Option<u64>) -> Reply
 }
 
 /// Returns the reply to a cut.
-fn reply_to_cut(out: Option<(u64, u64)>) -> Reply
+fn reply_to_cut<T: Drop>(out: Option<(T, T)>) -> Reply<T>
     ensures { result ≡ option_map_or (λ entry. Reply.GoneValue entry.1) out Reply.Nothing }
 {
     match out {

@@ -9,7 +9,7 @@ use indexset_core::refusal::Refusal;
 use indexset_set::BTreeSet;
 
 /// Carries out a command, and returns the reply to it. A failed call changes nothing.
-pub fn perform(set: &mut BTreeSet<u64>, command: Command) -> Result<Reply, Refusal>
+pub fn perform(set: &mut BTreeSet<u64>, command: Command) -> Result<Reply<u64>, Refusal>
     ensures reply { IfOk result (λ reply. reply ≡ reply_to (items set.old) (Some command)) }
     ensures ok { OnOk result (items set.new ≡ contents_after (items set.old) (Some command)) }
     ensures refusal { IfErr result (λ e. e ≡ Refusal.Memory) }

@@ -9,6 +9,7 @@ ghost use Rattle.indexset_bench.specs.Reply.{AddsNew, contents_after, reply_to};
 ghost use Rattle.indexset_bench.specs.Pairs.{reply_ended};
 ghost use Rattle.indexset_bench.specs.Run.{AnswersAll, AnswersWholeLines, LacksNumbers};
 ghost use Rattle.indexset_bench.specs.Text.{Changes, reply_line, stores, stores_after, text_of};
+ghost use Rattle.indexset_bench.specs.Texts.{number_texts};
 
 use crate::command::{Command, parse};
 use crate::pair_command::parse_pairs;
@@ -69,7 +70,8 @@ pub fn run<R: BufRead, W: Write>(
 #[derive(Drop)]
 struct Holding {
     set: BTreeSet<u64>,
-    pairs: Pairs,
+    pairs: Pairs<u64>,
+    alloc: Global,
 }
 
 impl Answers for Holding {
@@ -90,7 +92,7 @@ impl Answers for Holding {
     ghost lacks_numbers = { lacks };
 
     fn answer<W: Write>(&mut self, writer: &mut W, line: &[u8]) -> Result<(), RunFault> {
-        answer_line(writer, &mut self.set, &mut self.pairs, line)
+        answer_line(self.alloc, writer, &mut self.set, &mut self.pairs, line)
     }
 
     fn answer_cut<W: Write>(&mut self, writer: &mut W, line: &[u8]) -> Result<(), RunFault> {
@@ -118,16 +120,22 @@ fn answer_all<R: BufRead, W: Write>(
         (W.contents writer.old) (W.contents writer.new) }
 {
     let set = BTreeSet::new(alloc)?;
-    let pairs = Pairs::with_maximum_node_size(alloc, 4);
+    let pairs = Pairs::<u64>::with_maximum_node_size(alloc, 4);
     let mut line = Vec::new(alloc);
-    answer_lines(&mut Holding { set, pairs }, reader, writer, &mut line)
+    answer_lines(
+        &mut Holding { set, pairs, alloc },
+        reader,
+        writer,
+        &mut line,
+    )
 }
 
 /// Writes the reply to one line. Where it fails, nothing is written.
 fn answer_line<W: Write>(
+    alloc: Global,
     writer: &mut W,
     set: &mut BTreeSet<u64>,
-    pairs: &mut Pairs,
+    pairs: &mut Pairs<u64>,
     line: &[u8],
 ) -> Result<(), RunFault>
     ensures held { OnOk result (stores (items set.new) pairs.new
@@ -147,9 +155,9 @@ fn answer_line<W: Write>(
     if let Some(command) = parse(line) {
         return answer_numbers(writer, set, command);
     }
-    match parse_pairs(line) {
+    match parse_pairs::<u64>(alloc, line)? {
         Some(command) => answer_pairs(writer, None, pairs, command),
-        None => write_line(writer, Reply::Bad),
+        None => write_line(writer, Reply::<u64>::Bad),
     }
 }
 
@@ -161,7 +169,7 @@ fn answer_numbers<W: Write>(
 ) -> Result<(), RunFault>
     ensures set { OnOk result (items set.new ≡ contents_after (items set.old) (Some command)) }
     ensures told { OnOk result (Appends (W.contents writer.old) (W.contents writer.new)
-        (reply_ended (reply_to (items set.old) (Some command)))) }
+        (reply_ended number_texts (reply_to (items set.old) (Some command)))) }
     ensures untold { result ≡ Err RunFault.Memory
         → Keeps (W.contents writer.old) (W.contents writer.new) }
     ensures only_new { result ≡ Err RunFault.Memory → AddsNew (items set.old) (Some command) }

@@ -3,27 +3,28 @@
 ghost use Rattle.std.specs.Prelude.{Some};
 ghost use Rattle.indexset_bench.specs.Reply.{reply_text};
 
+use crate::key::Key;
 use std::fmt;
 
 /// The reply to a line.
-#[derive(Clone, Copy, Debug, PartialEq, Eq)]
-pub enum Reply {
+#[derive(Clone, Copy, Debug, PartialEq, Eq, Drop)]
+pub enum Reply<T> {
     New,
     Old,
-    OldValue(u64),
+    OldValue(T),
     Gone,
-    GoneValue(u64),
+    GoneValue(T),
     Yes,
     No,
     Count(usize),
-    Item(u64),
+    Item(T),
     Nothing,
     Empty,
     Bad,
 }
 
-impl fmt::Display for Reply {
-    ghost output = { λ r. Some (reply_text r) };
+impl<T: Key> fmt::Display for Reply<T> {
+    ghost output = { λ r. Some (reply_text T.texts r) };
 
     fn fmt<W: fmt::Write>(&self, f: &mut fmt::Formatter<W>) -> fmt::Result {
         match self {

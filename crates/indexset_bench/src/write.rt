@@ -5,6 +5,7 @@ ghost use Rattle.std.specs.Io.KnownBytes.{Appends};
 ghost use Rattle.indexset_bench.specs.Pairs.{echo_text, reply_ended};
 ghost use Rattle.indexset_bench.specs.PairText.{ended, event_text, lines_for, node_text};
 
+use crate::key::Key;
 use crate::pair_text::{EventText, PairText};
 use crate::pairs::Pairs;
 use crate::reply::Reply;
@@ -14,9 +15,9 @@ use indexset_lines::RunFault;
 use std::io::Write;
 
 /// Writes a reply as a line.
-pub fn write_line<W: Write>(writer: &mut W, reply: Reply) -> Result<(), RunFault>
+pub fn write_line<T: Key, W: Write>(writer: &mut W, reply: Reply<T>) -> Result<(), RunFault>
     ensures told { OnOk result (Appends (W.contents writer.old) (W.contents writer.new)
-        (reply_ended reply)) }
+        (reply_ended T.texts reply)) }
     ensures fault { IfErr result (λ fault. fault ≡ RunFault.Write) }
 {
     writer.writeln(reply).map_err(|_| RunFault::Write)
@@ -35,14 +36,14 @@ pub fn write_echo<W: Write>(writer: &mut W, echo: Option<u64>) -> Result<(), Run
 }
 
 /// Writes the reply to a command behind its number, and each event as a line.
-pub(crate) fn write_change<W: Write>(
+pub(crate) fn write_change<T: Key, W: Write>(
     writer: &mut W,
     echo: Option<u64>,
-    reply: Reply,
-    events: &[ChangeEvent<Pair<u64, u64>>],
+    reply: Reply<T>,
+    events: &[ChangeEvent<Pair<T, T>>],
 ) -> Result<(), RunFault>
-    ensures told { OnOk result (Appends (W.contents writer.old) (W.contents writer.new)
-        (echo_text echo ++ (reply_ended reply ++ lines_for event_text events.now))) }
+    ensures told { OnOk result (Appends (W.contents writer.old) (W.contents writer.new) (echo_text
+        echo ++ (reply_ended T.texts reply ++ lines_for (event_text T.texts) events.now))) }
     ensures fault { IfErr result (λ fault. fault ≡ RunFault.Write) }
 {
     write_echo(writer, echo)?;
@@ -51,12 +52,12 @@ pub(crate) fn write_change<W: Write>(
 }
 
 /// Writes each event as a line.
-pub fn write_events<W: Write>(
+pub fn write_events<T: Key, W: Write>(
     writer: &mut W,
-    events: &[ChangeEvent<Pair<u64, u64>>],
+    events: &[ChangeEvent<Pair<T, T>>],
 ) -> Result<(), RunFault>
     ensures told { OnOk result (Appends (W.contents writer.old) (W.contents writer.new)
-        (lines_for event_text events.now)) }
+        (lines_for (event_text T.texts) events.now)) }
     ensures fault { IfErr result (λ fault. fault ≡ RunFault.Write) }
 {
     for event in events {
@@ -67,9 +68,9 @@ pub fn write_events<W: Write>(
 }
 
 /// Writes each node as a line.
-pub fn write_nodes<W: Write>(writer: &mut W, pairs: &Pairs) -> Result<(), RunFault>
+pub fn write_nodes<T: Key, W: Write>(writer: &mut W, pairs: &Pairs<T>) -> Result<(), RunFault>
     ensures told { OnOk result (Appends (W.contents writer.old) (W.contents writer.new)
-        (lines_for node_text pairs.now.nodes)) }
+        (lines_for (node_text T.texts) pairs.now.nodes)) }
     ensures fault { IfErr result (λ fault. fault ≡ RunFault.Write) }
 {
     for node in pairs.iter_nodes() {
@@ -79,9 +80,9 @@ pub fn write_nodes<W: Write>(writer: &mut W, pairs: &Pairs) -> Result<(), RunFau
 }
 
 /// Writes a node as a line: its pairs, separated by one space.
-pub fn write_node<W: Write>(writer: &mut W, node: &[Pair<u64, u64>]) -> Result<(), RunFault>
+pub fn write_node<T: Key, W: Write>(writer: &mut W, node: &[Pair<T, T>]) -> Result<(), RunFault>
     ensures told { OnOk result (Appends (W.contents writer.old) (W.contents writer.new)
-        (ended (node_text node.now))) }
+        (ended (node_text T.texts node.now))) }
     ensures fault { IfErr result (λ fault. fault ≡ RunFault.Write) }
 {
     let mut lead = "";

@@ -16,6 +16,8 @@ use Rattle.indexset_follow.specs.EventLine.{Event, EventFits, event_of}
 use Rattle.indexset_follow.specs.Follow.{State, after_event, after_line, state_after}
 use Rattle.indexset_follow.proofs.EventLines.{event_told}
 use Rattle.indexset_follow.proofs.Turns.{Onward, number_at, onward, read_at}
+use Rattle.std.specs.declared.cmp.Ordering.{Ordering}
+use Rattle.indexset_bench.specs.Texts.{AreWords, Texts}
 
 -- ---- lists
 
@@ -45,92 +47,93 @@ got [] i d lt = absurd (omega (arith, lt))
 got (x ∷ xs) zero d lt = refl
 got (x ∷ xs) (suc i) d lt = got xs i d (omega (arith, lt))
 
--- ---- lines
+module _ {T : Type 0} (cmp : T → T → Ordering) (texts : Texts T) (spelled : AreWords texts) where
+  -- ---- lines
 
-module _ (s : ℕ) (ns : List (List (Pair ℕ ℕ))) (es : List Event) (feed : IsFeedOfPairs s ns es) (fit : All EventFits es) where
-  pub fits_at : (p : ℕ) (e : Event) → slice_get es p ≡ Some e → EventFits e
-  fits_at p e told = let read = read_at es p e told in subst EventFits read.1 (fit p e read.0)
+  module _ (s : ℕ) (ns : List (List (Pair T T))) (es : List (Event T)) (feed : IsFeedOfPairs cmp s ns es) (fit : All (EventFits texts) es) where
+    pub fits_at : (p : ℕ) (e : Event T) → slice_get es p ≡ Some e → EventFits texts e
+    fits_at p e told = let read = read_at es p e told in subst (EventFits texts) read.1 (fit p e read.0)
 
-  line_is : (r : State) (line : List ℕ) (d : IsDrawn es line) → after_line r line ≡ after_event r d.event
-  line_is r line d =
-      let told : event_of line ≡ Some d.event = ap event_of d.text ∙ event_told d.event (fits_at d.place d.event d.at) in
-      rw told refl
+    line_is : (r : State T) (line : List ℕ) (d : IsDrawn texts es line) → after_line cmp texts r line ≡ after_event cmp r d.event
+    line_is r line d =
+        let told : event_of texts line ≡ Some d.event = ap (event_of texts) d.text ∙ event_told texts spelled d.event (fits_at d.place d.event d.at) in
+        rw told refl
 
-  pub one : (k : ℕ) (r : State) (line : List ℕ) (d : IsDrawn es line) → HoldsFirst s ns es k r → HoldsAhead s es r → Onward s ns es feed k d.place r (after_line r line)
-  one k r line d at h = subst (Onward s ns es feed k d.place r) (sym (line_is r line d)) (onward s ns es feed k d.place r d.event at h d.at)
+    pub one : (k : ℕ) (r : State T) (line : List ℕ) (d : IsDrawn texts es line) → HoldsFirst cmp s ns es k r → HoldsAhead s es r → Onward cmp s ns es feed k d.place r (after_line cmp texts r line)
+    one k r line d at h = subst (Onward cmp s ns es feed k d.place r) (sym (line_is r line d)) (onward cmp s ns es feed k d.place r d.event at h d.at)
 
-  pub beginning : (j : ℕ) (r : State) (ls : List (List ℕ)) → HoldsFirst s ns es j r → HoldsAhead s es r → All (IsDrawn es) ls → (k : ℕ) × HoldsFirst s ns es k (state_after r ls) × HoldsAhead s es (state_after r ls)
-  unfolding left_by
-  beginning j r [] at h drawn = (j, at, h)
-  beginning j r (l ∷ ls) at h drawn =
-      let d = All-head (IsDrawn es) l ls drawn in
-      let on = one j r l d at h in
-      beginning on.place (after_line r l) ls on.at on.ahead (All-tail (IsDrawn es) l ls drawn)
+    pub beginning : (j : ℕ) (r : State T) (ls : List (List ℕ)) → HoldsFirst cmp s ns es j r → HoldsAhead s es r → All (IsDrawn texts es) ls → (k : ℕ) × HoldsFirst cmp s ns es k (state_after cmp texts r ls) × HoldsAhead s es (state_after cmp texts r ls)
+    unfolding left_by
+    beginning j r [] at h drawn = (j, at, h)
+    beginning j r (l ∷ ls) at h drawn =
+        let d = All-head (IsDrawn texts es) l ls drawn in
+        let on = one j r l d at h in
+        beginning on.place (after_line cmp texts r l) ls on.at on.ahead (All-tail (IsDrawn texts es) l ls drawn)
 
-  -- the texts of the events from j on
-  abbrev texts_from : ℕ → List (List ℕ)
-  texts_from j = map event_text (drop j es)
+    -- the texts of the events from j on
+    abbrev texts_from : ℕ → List (List ℕ)
+    texts_from j = map (event_text texts) (drop j es)
 
-  -- no two events have one text
-  pub same_place : (p j : ℕ) (e f : Event) → slice_get es p ≡ Some e → slice_get es j ≡ Some f → event_text f ≡ event_text e → p ≡ j
-  same_place p j e f first second text =
-      let same : f ≡ e = some_inj f e (sym (event_told f (fits_at j f second)) ∙ ap event_of text ∙ event_told e (fits_at p e first)) in
-      omega (arith, number_at s ns es feed p e first, number_at s ns es feed j f second, ap event_number same)
+    -- no two events have one text
+    pub same_place : (p j : ℕ) (e f : Event T) → slice_get es p ≡ Some e → slice_get es j ≡ Some f → event_text texts f ≡ event_text texts e → p ≡ j
+    same_place p j e f first second text =
+        let same : f ≡ e = some_inj f e (sym (event_told texts spelled f (fits_at j f second)) ∙ ap (event_of texts) text ∙ event_told texts spelled e (fits_at p e first)) in
+        omega (arith, number_at cmp s ns es feed p e first, number_at cmp s ns es feed j f second, ap event_number same)
 
-  -- what is to come behind a line that came
-  came_on : (j p : ℕ) (e : Event) (ls : List (List ℕ)) → slice_get es p ≡ Some e → IsSubsequence (texts_from j) (event_text e ∷ ls) → (b : Bool) → (p == j) ≡ b → IsSubsequence (texts_from (if b then j + 1 else j)) ls
-  came_on j p e ls told came b here = at (nat_lt j (length es)) refl b here
-    where
-      first_text : nat_lt j (length es) ≡ true → texts_from j ≡ event_text (get_or es j e) ∷ texts_from (j + 1)
-      first_text lt = ap (map event_text) (drop_more es j e (ltb-true j (length es) lt))
+    -- what is to come behind a line that came
+    came_on : (j p : ℕ) (e : Event T) (ls : List (List ℕ)) → slice_get es p ≡ Some e → IsSubsequence (texts_from j) (event_text texts e ∷ ls) → (b : Bool) → (p == j) ≡ b → IsSubsequence (texts_from (if b then j + 1 else j)) ls
+    came_on j p e ls told came b here = at (nat_lt j (length es)) refl b here
+      where
+        first_text : nat_lt j (length es) ≡ true → texts_from j ≡ event_text texts (get_or es j e) ∷ texts_from (j + 1)
+        first_text lt = ap (map (event_text texts)) (drop_more es j e (ltb-true j (length es) lt))
 
-      at : (t : Bool) → nat_lt j (length es) ≡ t → (b : Bool) → (p == j) ≡ b → IsSubsequence (texts_from (if b then j + 1 else j)) ls
-      at true lt true here =
-          elim (subst (λ l. IsSubsequence l (event_text e ∷ ls)) (first_text lt) came) [
-            | inl first ↦ first.1
-            | inr later ↦ subsequence_tail (event_text (get_or es j e)) (texts_from (j + 1)) ls later
-          ]
-      at true lt false here =
-          elim (subst (λ l. IsSubsequence l (event_text e ∷ ls)) (first_text lt) came) [
-            | inl first ↦ absurd (eqb-false p j here (same_place p j e (get_or es j e) told (got es j e (ltb-true j (length es) lt)) first.0))
-            | inr later ↦ subst (λ l. IsSubsequence l ls) (sym (first_text lt)) later
-          ]
-      at false past true here = absurd (omega (arith, (read_at es p e told).0, eqb-true p j here, ltb-false j (length es) past))
-      at false past false here = empty_came (texts_from j) ls (omega (arith, length_map event_text (drop j es), length-drop j es, ltb-false j (length es) past))
+        at : (t : Bool) → nat_lt j (length es) ≡ t → (b : Bool) → (p == j) ≡ b → IsSubsequence (texts_from (if b then j + 1 else j)) ls
+        at true lt true here =
+            elim (subst (λ l. IsSubsequence l (event_text texts e ∷ ls)) (first_text lt) came) [
+              | inl first ↦ first.1
+              | inr later ↦ subsequence_tail (event_text texts (get_or es j e)) (texts_from (j + 1)) ls later
+            ]
+        at true lt false here =
+            elim (subst (λ l. IsSubsequence l (event_text texts e ∷ ls)) (first_text lt) came) [
+              | inl first ↦ absurd (eqb-false p j here (same_place p j e (get_or es j e) told (got es j e (ltb-true j (length es) lt)) first.0))
+              | inr later ↦ subst (λ l. IsSubsequence l ls) (sym (first_text lt)) later
+            ]
+        at false past true here = absurd (omega (arith, (read_at es p e told).0, eqb-true p j here, ltb-false j (length es) past))
+        at false past false here = empty_came (texts_from j) ls (omega (arith, length_map (event_text texts) (drop j es), length-drop j es, ltb-false j (length es) past))
 
-  next_came : (j : ℕ) (e : Event) (ls : List (List ℕ)) → IsSubsequence (texts_from j) ls → IsSubsequence (texts_from (j + 1)) ls
-  next_came j e ls came = at (nat_lt j (length es)) refl
-    where
-      at : (t : Bool) → nat_lt j (length es) ≡ t → IsSubsequence (texts_from (j + 1)) ls
-      at true lt = subsequence_tail (event_text (get_or es j e)) (texts_from (j + 1)) ls (subst (λ l. IsSubsequence l ls) (ap (map event_text) (drop_more es j e (ltb-true j (length es) lt))) came)
-      at false past = empty_came (texts_from (j + 1)) ls (omega (arith, length_map event_text (drop (j + 1) es), length-drop (j + 1) es, ltb-false j (length es) past))
+    next_came : (j : ℕ) (e : Event T) (ls : List (List ℕ)) → IsSubsequence (texts_from j) ls → IsSubsequence (texts_from (j + 1)) ls
+    next_came j e ls came = at (nat_lt j (length es)) refl
+      where
+        at : (t : Bool) → nat_lt j (length es) ≡ t → IsSubsequence (texts_from (j + 1)) ls
+        at true lt = subsequence_tail (event_text texts (get_or es j e)) (texts_from (j + 1)) ls (subst (λ l. IsSubsequence l ls) (ap (map (event_text texts)) (drop_more es j e (ltb-true j (length es) lt))) came)
+        at false past = empty_came (texts_from (j + 1)) ls (omega (arith, length_map (event_text texts) (drop (j + 1) es), length-drop (j + 1) es, ltb-false j (length es) past))
 
-  later_came : (n j : ℕ) (e : Event) (ls : List (List ℕ)) → IsSubsequence (texts_from j) ls → IsSubsequence (texts_from (j + n)) ls
-  later_came zero j e ls came = let same : j ≡ j + 0 = omega arith in subst (λ k. IsSubsequence (texts_from k) ls) same came
-  later_came (suc n) j e ls came =
-      let same : j + 1 + n ≡ j + suc n = omega arith in
-      subst (λ k. IsSubsequence (texts_from k) ls) same (later_came n (j + 1) e ls (next_came j e ls came))
+    later_came : (n j : ℕ) (e : Event T) (ls : List (List ℕ)) → IsSubsequence (texts_from j) ls → IsSubsequence (texts_from (j + n)) ls
+    later_came zero j e ls came = let same : j ≡ j + 0 = omega arith in subst (λ k. IsSubsequence (texts_from k) ls) same came
+    later_came (suc n) j e ls came =
+        let same : j + 1 + n ≡ j + suc n = omega arith in
+        subst (λ k. IsSubsequence (texts_from k) ls) same (later_came n (j + 1) e ls (next_came j e ls came))
 
-  came_from : (j k : ℕ) (e : Event) (ls : List (List ℕ)) → j ≤ k → IsSubsequence (texts_from j) ls → IsSubsequence (texts_from k) ls
-  came_from j k e ls le came = let same : j + (k - j) ≡ k = omega (arith, le) in subst (λ i. IsSubsequence (texts_from i) ls) same (later_came (k - j) j e ls came)
+    came_from : (j k : ℕ) (e : Event T) (ls : List (List ℕ)) → j ≤ k → IsSubsequence (texts_from j) ls → IsSubsequence (texts_from k) ls
+    came_from j k e ls le came = let same : j + (k - j) ≡ k = omega (arith, le) in subst (λ i. IsSubsequence (texts_from i) ls) same (later_came (k - j) j e ls came)
 
-  -- what is to come behind a line that was taken, or is early
-  on_came : (j : ℕ) (r : State) (l : List ℕ) (ls : List (List ℕ)) (d : IsDrawn es l) (on : Onward s ns es feed j d.place r (after_line r l)) → IsSubsequence (texts_from j) (l ∷ ls) → IsSubsequence (texts_from on.place) ls
-  on_came j r l ls d on came = by (d.place == j) refl
-    where
-      by : (b : Bool) → (d.place == j) ≡ b → IsSubsequence (texts_from on.place) ls
-      by b here = at b here (came_on j d.place d.event ls d.at (subst (λ t. IsSubsequence (texts_from j) (t ∷ ls)) d.text came) b here)
-        where
-          at : (b : Bool) → (d.place == j) ≡ b → IsSubsequence (texts_from (if b then j + 1 else j)) ls → IsSubsequence (texts_from on.place) ls
-          at true here more = came_from (j + 1) on.place d.event ls (let lt = on.grown (eqb-true d.place j here) in omega (arith, lt)) more
-          at false other more = came_from j on.place d.event ls on.from more
+    -- what is to come behind a line that was taken, or is early
+    on_came : (j : ℕ) (r : State T) (l : List ℕ) (ls : List (List ℕ)) (d : IsDrawn texts es l) (on : Onward cmp s ns es feed j d.place r (after_line cmp texts r l)) → IsSubsequence (texts_from j) (l ∷ ls) → IsSubsequence (texts_from on.place) ls
+    on_came j r l ls d on came = by (d.place == j) refl
+      where
+        by : (b : Bool) → (d.place == j) ≡ b → IsSubsequence (texts_from on.place) ls
+        by b here = at b here (came_on j d.place d.event ls d.at (subst (λ t. IsSubsequence (texts_from j) (t ∷ ls)) d.text came) b here)
+          where
+            at : (b : Bool) → (d.place == j) ≡ b → IsSubsequence (texts_from (if b then j + 1 else j)) ls → IsSubsequence (texts_from on.place) ls
+            at true here more = came_from (j + 1) on.place d.event ls (let lt = on.grown (eqb-true d.place j here) in omega (arith, lt)) more
+            at false other more = came_from j on.place d.event ls on.from more
 
-  pub whole : (j : ℕ) (r : State) (ls : List (List ℕ)) → HoldsFirst s ns es j r → HoldsAhead s es r → All (IsDrawn es) ls → IsSubsequence (texts_from j) ls → HoldsFirst s ns es (length es) (state_after r ls)
-  unfolding left_by
-  whole j r [] at h drawn came =
-      let all : j ≡ length es = omega (arith, none_of_none (texts_from j) came, length_map event_text (drop j es), length-drop j es, at.within) in
-      subst (λ k. HoldsFirst s ns es k r) all at
-  whole j r (l ∷ ls) at h drawn came =
-      let d = All-head (IsDrawn es) l ls drawn in
-      let on = one j r l d at h in
-      whole on.place (after_line r l) ls on.at on.ahead (All-tail (IsDrawn es) l ls drawn) (on_came j r l ls d on came)
+    pub whole : (j : ℕ) (r : State T) (ls : List (List ℕ)) → HoldsFirst cmp s ns es j r → HoldsAhead s es r → All (IsDrawn texts es) ls → IsSubsequence (texts_from j) ls → HoldsFirst cmp s ns es (length es) (state_after cmp texts r ls)
+    unfolding left_by
+    whole j r [] at h drawn came =
+        let all : j ≡ length es = omega (arith, none_of_none (texts_from j) came, length_map (event_text texts) (drop j es), length-drop j es, at.within) in
+        subst (λ k. HoldsFirst cmp s ns es k r) all at
+    whole j r (l ∷ ls) at h drawn came =
+        let d = All-head (IsDrawn texts es) l ls drawn in
+        let on = one j r l d at h in
+        whole on.place (after_line cmp texts r l) ls on.at on.ahead (All-tail (IsDrawn texts es) l ls drawn) (on_came j r l ls d on came)

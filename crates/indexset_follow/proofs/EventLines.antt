@@ -11,7 +11,7 @@ use Rattle.indexset_events.specs.declared.change.ChangeEvent.TheVariants.{Insert
 use Rattle.indexset_events.specs.declared.change.Id.{Id}
 use Rattle.indexset_follow.specs.EventLine.{Event, EventFits, event_of, named_event, placed_event, word_event}
 use Rattle.indexset_events.specs.Spelling.{cut_at, number_of}
-use Rattle.indexset_follow.specs.Numbers.{PairFits, pair_of}
+use Rattle.indexset_bench.specs.Texts.{AreWords, PairFits, Texts, pair_of}
 use Rattle.indexset_events.specs.Spelling.Laws.{Lacks, cut_sound, cut_told, lacks_tested, map_some, none_some, number_lacks, number_sound, number_told, some_inj, then_some}
 use Rattle.indexset_follow.proofs.Readings.{pair_lacks, pair_sound, pair_told, space_apart}
 
@@ -21,15 +21,16 @@ use Rattle.indexset_follow.proofs.Readings.{pair_lacks, pair_sound, pair_told, s
 abbrev line_of : Id → List ℕ → List ℕ → List ℕ
 line_of id word rest = decimal id.0 ++ 32 ∷ (word ++ 32 ∷ rest)
 
--- a name, and what stands behind it
-abbrev named : Pair ℕ ℕ → List ℕ → List ℕ
-named p rest = pair_text p ++ 32 ∷ rest
+module _ {T : Type 0} (texts : Texts T) where
+  -- a name, and what stands behind it
+  abbrev named : Pair T T → List ℕ → List ℕ
+  named p rest = pair_text texts p ++ 32 ∷ rest
 
-create_line : (id : Id) (max : Pair ℕ ℕ) → event_text (CreateNode id max) ≡ line_of id (codes "create") (pair_text max)
-create_line id max = append_assoc (decimal id.0) (codes " create ") (pair_text max)
+  create_line : (id : Id) (max : Pair T T) → event_text texts (CreateNode id max) ≡ line_of id (codes "create") (pair_text texts max)
+  create_line id max = append_assoc (decimal id.0) (codes " create ") (pair_text texts max)
 
-drop_line : (id : Id) (max : Pair ℕ ℕ) → event_text (RemoveNode id max) ≡ line_of id (codes "drop") (pair_text max)
-drop_line id max = append_assoc (decimal id.0) (codes " drop ") (pair_text max)
+  drop_line : (id : Id) (max : Pair T T) → event_text texts (RemoveNode id max) ≡ line_of id (codes "drop") (pair_text texts max)
+  drop_line id max = append_assoc (decimal id.0) (codes " drop ") (pair_text texts max)
 
 -- what stands behind a head, a space and the rest
 behind : (d w p rest : List ℕ) → ((d ++ w) ++ p) ++ (32 ∷ []) ++ rest ≡ d ++ (w ++ (p ++ 32 ∷ rest))
@@ -40,157 +41,161 @@ behind_two : (d w p q rest : List ℕ) → ((d ++ w) ++ p) ++ (32 ∷ []) ++ q +
 behind_two d w p q rest =
     append_assoc (((d ++ w) ++ p) ++ (32 ∷ []) ++ q) (32 ∷ []) rest ∙ append_assoc (((d ++ w) ++ p) ++ (32 ∷ [])) q (32 ∷ rest) ∙ behind d w p (q ++ 32 ∷ rest)
 
-insert_line : (id : Id) (max p : Pair ℕ ℕ) (i : ℕ) → event_text (InsertAt id max p i) ≡ line_of id (codes "insert") (named max (named p (decimal i)))
-insert_line id max p i = behind_two (decimal id.0) (codes " insert ") (pair_text max) (pair_text p) (decimal i)
+module _ {T : Type 0} (texts : Texts T) where
+  insert_line : (id : Id) (max p : Pair T T) (i : ℕ) → event_text texts (InsertAt id max p i) ≡ line_of id (codes "insert") (named texts max (named texts p (decimal i)))
+  insert_line id max p i = behind_two (decimal id.0) (codes " insert ") (pair_text texts max) (pair_text texts p) (decimal i)
 
-remove_line : (id : Id) (max p : Pair ℕ ℕ) (i : ℕ) → event_text (RemoveAt id max p i) ≡ line_of id (codes "remove") (named max (named p (decimal i)))
-remove_line id max p i = behind_two (decimal id.0) (codes " remove ") (pair_text max) (pair_text p) (decimal i)
+  remove_line : (id : Id) (max p : Pair T T) (i : ℕ) → event_text texts (RemoveAt id max p i) ≡ line_of id (codes "remove") (named texts max (named texts p (decimal i)))
+  remove_line id max p i = behind_two (decimal id.0) (codes " remove ") (pair_text texts max) (pair_text texts p) (decimal i)
 
-split_line : (id : Id) (max : Pair ℕ ℕ) (k : ℕ) → event_text (SplitNode id max k) ≡ line_of id (codes "split") (named max (decimal k))
-split_line id max k = behind (decimal id.0) (codes " split ") (pair_text max) (decimal k)
+  split_line : (id : Id) (max : Pair T T) (k : ℕ) → event_text texts (SplitNode id max k) ≡ line_of id (codes "split") (named texts max (decimal k))
+  split_line id max k = behind (decimal id.0) (codes " split ") (pair_text texts max) (decimal k)
 
-merge_line : (id : Id) (max next : Pair ℕ ℕ) → event_text (MergeNodes id max next) ≡ line_of id (codes "merge") (named max (pair_text next))
-merge_line id max next = behind (decimal id.0) (codes " merge ") (pair_text max) (pair_text next)
+  merge_line : (id : Id) (max next : Pair T T) → event_text texts (MergeNodes id max next) ≡ line_of id (codes "merge") (named texts max (pair_text texts next))
+  merge_line id max next = behind (decimal id.0) (codes " merge ") (pair_text texts max) (pair_text texts next)
 
--- ---- what is spelled is read
+module _ {T : Type 0} (texts : Texts T) (spelled : AreWords texts) where
+  -- ---- what is spelled is read
 
-module _ (id : Id) (small : id.0 < 2 ^ 64) where
-  line_told : (word rest : List ℕ) → Lacks 32 word → event_of (line_of id word rest) ≡ word_event id word rest
-  line_told word rest lacks =
-      let first : cut_at 32 (line_of id word rest) ≡ Some (decimal id.0, word ++ 32 ∷ rest) = cut_told 32 (decimal id.0) (word ++ 32 ∷ rest) (number_lacks 32 (omega arith) id.0 small) in
-      let second : cut_at 32 (word ++ 32 ∷ rest) ≡ Some (word, rest) = cut_told 32 word rest lacks in
-      rw (first, number_told id.0 small, second) refl
+  module _ (id : Id) (small : id.0 < 2 ^ 64) where
+    line_told : (word rest : List ℕ) → Lacks 32 word → event_of texts (line_of id word rest) ≡ word_event texts id word rest
+    line_told word rest lacks =
+        let first : cut_at 32 (line_of id word rest) ≡ Some (decimal id.0, word ++ 32 ∷ rest) = cut_told 32 (decimal id.0) (word ++ 32 ∷ rest) (number_lacks 32 (omega arith) id.0 small) in
+        let second : cut_at 32 (word ++ 32 ∷ rest) ≡ Some (word, rest) = cut_told 32 word rest lacks in
+        rw (first, number_told id.0 small, second) refl
 
-  module _ (max : Pair ℕ ℕ) (fit : PairFits max) where
-    create_told : word_event id (codes "create") (pair_text max) ≡ Some (CreateNode id max)
-    create_told = ap (option_map (CreateNode id)) (pair_told max fit)
+    module _ (max : Pair T T) (fit : PairFits texts max) where
+      create_told : word_event texts id (codes "create") (pair_text texts max) ≡ Some (CreateNode id max)
+      create_told = ap (option_map (CreateNode id)) (pair_told texts spelled max fit)
 
-    drop_told : word_event id (codes "drop") (pair_text max) ≡ Some (RemoveNode id max)
-    drop_told = ap (option_map (RemoveNode id)) (pair_told max fit)
+      drop_told : word_event texts id (codes "drop") (pair_text texts max) ≡ Some (RemoveNode id max)
+      drop_told = ap (option_map (RemoveNode id)) (pair_told texts spelled max fit)
 
-    -- what stands behind the name is cut off
-    name_cut : (f : List ℕ → Pair ℕ ℕ → Option Event) (rest : List ℕ) → option_and_then (λ cut. option_and_then (f cut.1) (pair_of cut.0)) (cut_at 32 (named max rest)) ≡ f rest max
-    name_cut f rest =
-        let cut : cut_at 32 (named max rest) ≡ Some (pair_text max, rest) = cut_told 32 (pair_text max) rest (pair_lacks 32 space_apart max fit) in
-        rw (cut, pair_told max fit) refl
+      -- what stands behind the name is cut off
+      name_cut : (f : List ℕ → Pair T T → Option (Event T)) (rest : List ℕ) → option_and_then (λ cut. option_and_then (f cut.1) (pair_of texts cut.0)) (cut_at 32 (named texts max rest)) ≡ f rest max
+      name_cut f rest =
+          let cut : cut_at 32 (named texts max rest) ≡ Some (pair_text texts max, rest) = cut_told 32 (pair_text texts max) rest (pair_lacks texts 32 (space_apart texts spelled) max fit) in
+          rw (cut, pair_told texts spelled max fit) refl
 
-    split_told : (k : ℕ) → k < 2 ^ 64 → word_event id (codes "split") (named max (decimal k)) ≡ Some (SplitNode id max k)
-    split_told k less = name_cut (λ rest m. named_event id (codes "split") m rest) (decimal k) ∙ ap (option_map (SplitNode id max)) (number_told k less)
+      split_told : (k : ℕ) → k < 2 ^ 64 → word_event texts id (codes "split") (named texts max (decimal k)) ≡ Some (SplitNode id max k)
+      split_told k less = name_cut (λ rest m. named_event texts id (codes "split") m rest) (decimal k) ∙ ap (option_map (SplitNode id max)) (number_told k less)
 
-    merge_told : (next : Pair ℕ ℕ) → PairFits next → word_event id (codes "merge") (named max (pair_text next)) ≡ Some (MergeNodes id max next)
-    merge_told next fits = name_cut (λ rest m. named_event id (codes "merge") m rest) (pair_text next) ∙ ap (option_map (MergeNodes id max)) (pair_told next fits)
+      merge_told : (next : Pair T T) → PairFits texts next → word_event texts id (codes "merge") (named texts max (pair_text texts next)) ≡ Some (MergeNodes id max next)
+      merge_told next fits = name_cut (λ rest m. named_event texts id (codes "merge") m rest) (pair_text texts next) ∙ ap (option_map (MergeNodes id max)) (pair_told texts spelled next fits)
 
--- an item and an index are cut apart
-placed_cut : (f : Pair ℕ ℕ → ℕ → Option Event) (p : Pair ℕ ℕ) (i : ℕ) → PairFits p → i < 2 ^ 64
-    → option_and_then (λ cut. option_and_then (λ q. option_and_then (f q) (number_of cut.1)) (pair_of cut.0)) (cut_at 32 (named p (decimal i))) ≡ f p i
-placed_cut f p i fit less =
-    let cut : cut_at 32 (named p (decimal i)) ≡ Some (pair_text p, decimal i) = cut_told 32 (pair_text p) (decimal i) (pair_lacks 32 space_apart p fit) in
-    rw (cut, pair_told p fit, number_told i less) refl
+  -- an item and an index are cut apart
+  placed_cut : (f : Pair T T → ℕ → Option (Event T)) (p : Pair T T) (i : ℕ) → PairFits texts p → i < 2 ^ 64
+      → option_and_then (λ cut. option_and_then (λ q. option_and_then (f q) (number_of cut.1)) (pair_of texts cut.0)) (cut_at 32 (named texts p (decimal i))) ≡ f p i
+  placed_cut f p i fit less =
+      let cut : cut_at 32 (named texts p (decimal i)) ≡ Some (pair_text texts p, decimal i) = cut_told 32 (pair_text texts p) (decimal i) (pair_lacks texts 32 (space_apart texts spelled) p fit) in
+      rw (cut, pair_told texts spelled p fit, number_told i less) refl
 
-insert_told : (id : Id) → id.0 < 2 ^ 64 → (max p : Pair ℕ ℕ) (i : ℕ) → PairFits max → PairFits p → i < 2 ^ 64 → word_event id (codes "insert") (named max (named p (decimal i))) ≡ Some (InsertAt id max p i)
-insert_told id small max p i fit fits less =
-    name_cut id small max fit (λ rest m. named_event id (codes "insert") m rest) (named p (decimal i)) ∙ placed_cut (placed_event id (codes "insert") max) p i fits less
+  insert_told : (id : Id) → id.0 < 2 ^ 64 → (max p : Pair T T) (i : ℕ) → PairFits texts max → PairFits texts p → i < 2 ^ 64 → word_event texts id (codes "insert") (named texts max (named texts p (decimal i))) ≡ Some (InsertAt id max p i)
+  insert_told id small max p i fit fits less =
+      name_cut id small max fit (λ rest m. named_event texts id (codes "insert") m rest) (named texts p (decimal i)) ∙ placed_cut (placed_event texts id (codes "insert") max) p i fits less
 
-remove_told : (id : Id) → id.0 < 2 ^ 64 → (max p : Pair ℕ ℕ) (i : ℕ) → PairFits max → PairFits p → i < 2 ^ 64 → word_event id (codes "remove") (named max (named p (decimal i))) ≡ Some (RemoveAt id max p i)
-remove_told id small max p i fit fits less =
-    name_cut id small max fit (λ rest m. named_event id (codes "remove") m rest) (named p (decimal i)) ∙ placed_cut (placed_event id (codes "remove") max) p i fits less
+  remove_told : (id : Id) → id.0 < 2 ^ 64 → (max p : Pair T T) (i : ℕ) → PairFits texts max → PairFits texts p → i < 2 ^ 64 → word_event texts id (codes "remove") (named texts max (named texts p (decimal i))) ≡ Some (RemoveAt id max p i)
+  remove_told id small max p i fit fits less =
+      name_cut id small max fit (λ rest m. named_event texts id (codes "remove") m rest) (named texts p (decimal i)) ∙ placed_cut (placed_event texts id (codes "remove") max) p i fits less
 
-pub event_told : (e : Event) → EventFits e → event_of (event_text e) ≡ Some e
-event_told (CreateNode id max) h = ap event_of (create_line id max) ∙ line_told id h.0 (codes "create") (pair_text max) (lacks_tested 32 (codes "create") refl) ∙ create_told id h.0 max h.1
-event_told (RemoveNode id max) h = ap event_of (drop_line id max) ∙ line_told id h.0 (codes "drop") (pair_text max) (lacks_tested 32 (codes "drop") refl) ∙ drop_told id h.0 max h.1
-event_told (InsertAt id max p i) h =
-    ap event_of (insert_line id max p i) ∙ line_told id h.0 (codes "insert") (named max (named p (decimal i))) (lacks_tested 32 (codes "insert") refl)
-    ∙ insert_told id h.0 max p i h.1 h.2 h.3
-event_told (RemoveAt id max p i) h =
-    ap event_of (remove_line id max p i) ∙ line_told id h.0 (codes "remove") (named max (named p (decimal i))) (lacks_tested 32 (codes "remove") refl)
-    ∙ remove_told id h.0 max p i h.1 h.2 h.3
-event_told (SplitNode id max k) h =
-    ap event_of (split_line id max k) ∙ line_told id h.0 (codes "split") (named max (decimal k)) (lacks_tested 32 (codes "split") refl) ∙ split_told id h.0 max h.1 k h.2
-event_told (MergeNodes id max next) h =
-    ap event_of (merge_line id max next) ∙ line_told id h.0 (codes "merge") (named max (pair_text next)) (lacks_tested 32 (codes "merge") refl) ∙ merge_told id h.0 max h.1 next h.2
+  pub event_told : (e : Event T) → EventFits texts e → event_of texts (event_text texts e) ≡ Some e
+  event_told (CreateNode id max) h = ap (event_of texts) (create_line texts id max) ∙ line_told id h.0 (codes "create") (pair_text texts max) (lacks_tested 32 (codes "create") refl) ∙ create_told id h.0 max h.1
+  event_told (RemoveNode id max) h = ap (event_of texts) (drop_line texts id max) ∙ line_told id h.0 (codes "drop") (pair_text texts max) (lacks_tested 32 (codes "drop") refl) ∙ drop_told id h.0 max h.1
+  event_told (InsertAt id max p i) h =
+      ap (event_of texts) (insert_line texts id max p i) ∙ line_told id h.0 (codes "insert") (named texts max (named texts p (decimal i))) (lacks_tested 32 (codes "insert") refl)
+      ∙ insert_told id h.0 max p i h.1 h.2 h.3
+  event_told (RemoveAt id max p i) h =
+      ap (event_of texts) (remove_line texts id max p i) ∙ line_told id h.0 (codes "remove") (named texts max (named texts p (decimal i))) (lacks_tested 32 (codes "remove") refl)
+      ∙ remove_told id h.0 max p i h.1 h.2 h.3
+  event_told (SplitNode id max k) h =
+      ap (event_of texts) (split_line texts id max k) ∙ line_told id h.0 (codes "split") (named texts max (decimal k)) (lacks_tested 32 (codes "split") refl) ∙ split_told id h.0 max h.1 k h.2
+  event_told (MergeNodes id max next) h =
+      ap (event_of texts) (merge_line texts id max next) ∙ line_told id h.0 (codes "merge") (named texts max (pair_text texts next)) (lacks_tested 32 (codes "merge") refl) ∙ merge_told id h.0 max h.1 next h.2
 
--- ---- what is read is spelled
+module _ {T : Type 0} (texts : Texts T) where
+  -- ---- what is read is spelled
 
--- the text is that of the event
-abbrev Spells : List ℕ → Event → Type 0
-Spells text e = (text ≡ event_text e) × EventFits e
+  -- the text is that of the event
+  abbrev Spells : List ℕ → Event T → Type 0
+  Spells text e = (text ≡ event_text texts e) × EventFits texts e
 
 same : (word text : List ℕ) → bytes_eq word text ≡ true → word ≡ text
 same word text e = (bytes_eq-Decides word text).0 e
 
-module _ (id : Id) (small : id.0 < 2 ^ 64) (word : List ℕ) where
-  -- the event of what stands behind a name, and of what stands behind the word
-  abbrev item_event : Pair ℕ ℕ → List ℕ × List ℕ → Option Event
-  item_event max cut = option_and_then (λ p. option_and_then (placed_event id word max p) (number_of cut.1)) (pair_of cut.0)
+module _ {T : Type 0} (texts : Texts T) (spelled : AreWords texts) where
+  module _ (id : Id) (small : id.0 < 2 ^ 64) (word : List ℕ) where
+    -- the event of what stands behind a name, and of what stands behind the word
+    abbrev item_event : Pair T T → List ℕ × List ℕ → Option (Event T)
+    item_event max cut = option_and_then (λ p. option_and_then (placed_event texts id word max p) (number_of cut.1)) (pair_of texts cut.0)
 
-  abbrev name_event : List ℕ × List ℕ → Option Event
-  name_event cut = option_and_then (λ max. named_event id word max cut.1) (pair_of cut.0)
+    abbrev name_event : List ℕ × List ℕ → Option (Event T)
+    name_event cut = option_and_then (λ max. named_event texts id word max cut.1) (pair_of texts cut.0)
 
-  placed_sound : (max p : Pair ℕ ℕ) (i : ℕ) (e : Event) → PairFits max → PairFits p → i < 2 ^ 64 → placed_event id word max p i ≡ Some e → Spells (line_of id word (named max (named p (decimal i)))) e
-  placed_sound max p i e fit fits less h = at (bytes_eq word (codes "insert")) (bytes_eq word (codes "remove")) refl refl h
-    where
-      at : (a b : Bool) → bytes_eq word (codes "insert") ≡ a → bytes_eq word (codes "remove") ≡ b → cond a (Some (InsertAt id max p i)) (cond b (Some (RemoveAt id max p i)) None) ≡ Some e
-          → Spells (line_of id word (named max (named p (decimal i)))) e
-      at true b is _ h =
-          subst (Spells (line_of id word (named max (named p (decimal i))))) (some_inj (InsertAt id max p i) e h)
-          (ap (λ w. line_of id w (named max (named p (decimal i)))) (same word (codes "insert") is) ∙ sym (insert_line id max p i), (small, fit, fits, less))
-      at false true _ is h =
-          subst (Spells (line_of id word (named max (named p (decimal i))))) (some_inj (RemoveAt id max p i) e h)
-          (ap (λ w. line_of id w (named max (named p (decimal i)))) (same word (codes "remove") is) ∙ sym (remove_line id max p i), (small, fit, fits, less))
-      at false false _ _ h = none_some e h
+    placed_sound : (max p : Pair T T) (i : ℕ) (e : Event T) → PairFits texts max → PairFits texts p → i < 2 ^ 64 → placed_event texts id word max p i ≡ Some e → Spells texts (line_of id word (named texts max (named texts p (decimal i)))) e
+    placed_sound max p i e fit fits less h = at (bytes_eq word (codes "insert")) (bytes_eq word (codes "remove")) refl refl h
+      where
+        at : (a b : Bool) → bytes_eq word (codes "insert") ≡ a → bytes_eq word (codes "remove") ≡ b → cond a (Some (InsertAt id max p i)) (cond b (Some (RemoveAt id max p i)) None) ≡ Some e
+            → Spells texts (line_of id word (named texts max (named texts p (decimal i)))) e
+        at true b is _ h =
+            subst (Spells texts (line_of id word (named texts max (named texts p (decimal i))))) (some_inj (InsertAt id max p i) e h)
+            (ap (λ w. line_of id w (named texts max (named texts p (decimal i)))) (same word (codes "insert") is) ∙ sym (insert_line texts id max p i), (small, fit, fits, less))
+        at false true _ is h =
+            subst (Spells texts (line_of id word (named texts max (named texts p (decimal i))))) (some_inj (RemoveAt id max p i) e h)
+            (ap (λ w. line_of id w (named texts max (named texts p (decimal i)))) (same word (codes "remove") is) ∙ sym (remove_line texts id max p i), (small, fit, fits, less))
+        at false false _ _ h = none_some e h
 
-  named_sound : (max : Pair ℕ ℕ) (rest : List ℕ) (e : Event) → PairFits max → named_event id word max rest ≡ Some e → Spells (line_of id word (named max rest)) e
-  named_sound max rest e fit h = at (bytes_eq word (codes "split")) (bytes_eq word (codes "merge")) refl refl h
-    where
-      at : (a b : Bool) → bytes_eq word (codes "split") ≡ a → bytes_eq word (codes "merge") ≡ b
-          → cond a (option_map (SplitNode id max) (number_of rest)) (cond b (option_map (MergeNodes id max) (pair_of rest)) (option_and_then (item_event max) (cut_at 32 rest))) ≡ Some e
-          → Spells (line_of id word (named max rest)) e
-      at true b is _ h =
-          let made = map_some (number_of rest) (SplitNode id max) e h in
-          let read = number_sound rest made.0 made.1 in
-          subst (Spells (line_of id word (named max rest))) made.2
-          ((λ i. line_of id (same word (codes "split") is i) (named max (read.0 i))) ∙ sym (split_line id max made.0), (small, fit, read.1))
-      at false true _ is h =
-          let made = map_some (pair_of rest) (MergeNodes id max) e h in
-          let read = pair_sound rest made.0 made.1 in
-          subst (Spells (line_of id word (named max rest))) made.2
-          ((λ i. line_of id (same word (codes "merge") is i) (named max (read.0 i))) ∙ sym (merge_line id max made.0), (small, fit, read.1))
-      at false false _ _ h =
-          let cut = then_some (cut_at 32 rest) (item_event max) e h in
-          let first = then_some (pair_of cut.0.0) (λ p. option_and_then (placed_event id word max p) (number_of cut.0.1)) e cut.2 in
-          let second = then_some (number_of cut.0.1) (placed_event id word max first.0) e first.2 in
-          let p = pair_sound cut.0.0 first.0 first.1 in
-          let k = number_sound cut.0.1 second.0 second.1 in
-          let text = cut_sound 32 rest cut.0.0 cut.0.1 cut.1 ∙ (λ i. p.0 i ++ 32 ∷ k.0 i) in
-          let told = placed_sound max first.0 second.0 e fit p.1 k.1 second.2 in
-          (ap (λ r. line_of id word (named max r)) text ∙ told.0, told.1)
+    named_sound : (max : Pair T T) (rest : List ℕ) (e : Event T) → PairFits texts max → named_event texts id word max rest ≡ Some e → Spells texts (line_of id word (named texts max rest)) e
+    named_sound max rest e fit h = at (bytes_eq word (codes "split")) (bytes_eq word (codes "merge")) refl refl h
+      where
+        at : (a b : Bool) → bytes_eq word (codes "split") ≡ a → bytes_eq word (codes "merge") ≡ b
+            → cond a (option_map (SplitNode id max) (number_of rest)) (cond b (option_map (MergeNodes id max) (pair_of texts rest)) (option_and_then (item_event max) (cut_at 32 rest))) ≡ Some e
+            → Spells texts (line_of id word (named texts max rest)) e
+        at true b is _ h =
+            let made = map_some (number_of rest) (SplitNode id max) e h in
+            let read = number_sound rest made.0 made.1 in
+            subst (Spells texts (line_of id word (named texts max rest))) made.2
+            ((λ i. line_of id (same word (codes "split") is i) (named texts max (read.0 i))) ∙ sym (split_line texts id max made.0), (small, fit, read.1))
+        at false true _ is h =
+            let made = map_some (pair_of texts rest) (MergeNodes id max) e h in
+            let read = pair_sound texts spelled rest made.0 made.1 in
+            subst (Spells texts (line_of id word (named texts max rest))) made.2
+            ((λ i. line_of id (same word (codes "merge") is i) (named texts max (read.0 i))) ∙ sym (merge_line texts id max made.0), (small, fit, read.1))
+        at false false _ _ h =
+            let cut = then_some (cut_at 32 rest) (item_event max) e h in
+            let first = then_some (pair_of texts cut.0.0) (λ p. option_and_then (placed_event texts id word max p) (number_of cut.0.1)) e cut.2 in
+            let second = then_some (number_of cut.0.1) (placed_event texts id word max first.0) e first.2 in
+            let p = pair_sound texts spelled cut.0.0 first.0 first.1 in
+            let k = number_sound cut.0.1 second.0 second.1 in
+            let text = cut_sound 32 rest cut.0.0 cut.0.1 cut.1 ∙ (λ i. p.0 i ++ 32 ∷ k.0 i) in
+            let told = placed_sound max first.0 second.0 e fit p.1 k.1 second.2 in
+            (ap (λ r. line_of id word (named texts max r)) text ∙ told.0, told.1)
 
-  word_sound : (rest : List ℕ) (e : Event) → word_event id word rest ≡ Some e → Spells (line_of id word rest) e
-  word_sound rest e h = at (bytes_eq word (codes "create")) (bytes_eq word (codes "drop")) refl refl h
-    where
-      at : (a b : Bool) → bytes_eq word (codes "create") ≡ a → bytes_eq word (codes "drop") ≡ b
-          → cond a (option_map (CreateNode id) (pair_of rest)) (cond b (option_map (RemoveNode id) (pair_of rest)) (option_and_then name_event (cut_at 32 rest))) ≡ Some e
-          → Spells (line_of id word rest) e
-      at true b is _ h =
-          let made = map_some (pair_of rest) (CreateNode id) e h in
-          let read = pair_sound rest made.0 made.1 in
-          subst (Spells (line_of id word rest)) made.2 ((λ i. line_of id (same word (codes "create") is i) (read.0 i)) ∙ sym (create_line id made.0), (small, read.1))
-      at false true _ is h =
-          let made = map_some (pair_of rest) (RemoveNode id) e h in
-          let read = pair_sound rest made.0 made.1 in
-          subst (Spells (line_of id word rest)) made.2 ((λ i. line_of id (same word (codes "drop") is i) (read.0 i)) ∙ sym (drop_line id made.0), (small, read.1))
-      at false false _ _ h =
-          let cut = then_some (cut_at 32 rest) name_event e h in
-          let first = then_some (pair_of cut.0.0) (λ max. named_event id word max cut.0.1) e cut.2 in
-          let max = pair_sound cut.0.0 first.0 first.1 in
-          let told = named_sound first.0 cut.0.1 e max.1 first.2 in
-          (ap (line_of id word) (cut_sound 32 rest cut.0.0 cut.0.1 cut.1 ∙ ap (λ t. t ++ 32 ∷ cut.0.1) max.0) ∙ told.0, told.1)
+    word_sound : (rest : List ℕ) (e : Event T) → word_event texts id word rest ≡ Some e → Spells texts (line_of id word rest) e
+    word_sound rest e h = at (bytes_eq word (codes "create")) (bytes_eq word (codes "drop")) refl refl h
+      where
+        at : (a b : Bool) → bytes_eq word (codes "create") ≡ a → bytes_eq word (codes "drop") ≡ b
+            → cond a (option_map (CreateNode id) (pair_of texts rest)) (cond b (option_map (RemoveNode id) (pair_of texts rest)) (option_and_then name_event (cut_at 32 rest))) ≡ Some e
+            → Spells texts (line_of id word rest) e
+        at true b is _ h =
+            let made = map_some (pair_of texts rest) (CreateNode id) e h in
+            let read = pair_sound texts spelled rest made.0 made.1 in
+            subst (Spells texts (line_of id word rest)) made.2 ((λ i. line_of id (same word (codes "create") is i) (read.0 i)) ∙ sym (create_line texts id made.0), (small, read.1))
+        at false true _ is h =
+            let made = map_some (pair_of texts rest) (RemoveNode id) e h in
+            let read = pair_sound texts spelled rest made.0 made.1 in
+            subst (Spells texts (line_of id word rest)) made.2 ((λ i. line_of id (same word (codes "drop") is i) (read.0 i)) ∙ sym (drop_line texts id made.0), (small, read.1))
+        at false false _ _ h =
+            let cut = then_some (cut_at 32 rest) name_event e h in
+            let first = then_some (pair_of texts cut.0.0) (λ max. named_event texts id word max cut.0.1) e cut.2 in
+            let max = pair_sound texts spelled cut.0.0 first.0 first.1 in
+            let told = named_sound first.0 cut.0.1 e max.1 first.2 in
+            (ap (line_of id word) (cut_sound 32 rest cut.0.0 cut.0.1 cut.1 ∙ ap (λ t. t ++ 32 ∷ cut.0.1) max.0) ∙ told.0, told.1)
 
-pub event_sound : (line : List ℕ) (e : Event) → event_of line ≡ Some e → (line ≡ event_text e) × EventFits e
-event_sound line e h =
-    let first = then_some (cut_at 32 line) (λ cut. option_and_then (λ n. option_and_then (λ more. word_event (record { 0 = n }) more.0 more.1) (cut_at 32 cut.1)) (number_of cut.0)) e h in
-    let number = then_some (number_of first.0.0) (λ n. option_and_then (λ more. word_event (record { 0 = n }) more.0 more.1) (cut_at 32 first.0.1)) e first.2 in
-    let second = then_some (cut_at 32 first.0.1) (λ more. word_event (record { 0 = number.0 }) more.0 more.1) e number.2 in
-    let n = number_sound first.0.0 number.0 number.1 in
-    let told = word_sound (record { 0 = number.0 }) n.1 second.0.0 second.0.1 e second.2 in
-    (cut_sound 32 line first.0.0 first.0.1 first.1 ∙ (λ i. n.0 i ++ 32 ∷ cut_sound 32 first.0.1 second.0.0 second.0.1 second.1 i) ∙ told.0, told.1)
+  pub event_sound : (line : List ℕ) (e : Event T) → event_of texts line ≡ Some e → (line ≡ event_text texts e) × EventFits texts e
+  event_sound line e h =
+      let first = then_some (cut_at 32 line) (λ cut. option_and_then (λ n. option_and_then (λ more. word_event texts (record { 0 = n }) more.0 more.1) (cut_at 32 cut.1)) (number_of cut.0)) e h in
+      let number = then_some (number_of first.0.0) (λ n. option_and_then (λ more. word_event texts (record { 0 = n }) more.0 more.1) (cut_at 32 first.0.1)) e first.2 in
+      let second = then_some (cut_at 32 first.0.1) (λ more. word_event texts (record { 0 = number.0 }) more.0 more.1) e number.2 in
+      let n = number_sound first.0.0 number.0 number.1 in
+      let told = word_sound (record { 0 = number.0 }) n.1 second.0.0 second.0.1 e second.2 in
+      (cut_sound 32 line first.0.0 first.0.1 first.1 ∙ (λ i. n.0 i ++ 32 ∷ cut_sound 32 first.0.1 second.0.0 second.0.1 second.1 i) ∙ told.0, told.1)

@@ -5,7 +5,7 @@ use Rattle.std.proofs.lemmas.List.Sums.{count_by-le-length}
 use Rattle.std.specs.List.{find}
 use Rattle.std.specs.Prelude.{IfSome}
 use Rattle.std.specs.Option.{option_map_or}
-use Rattle.std.specs.Ordering.{is_lt, nat_cmp}
+use Rattle.std.specs.Ordering.{is_lt}
 use Rattle.indexset_core.specs.Nodes.{joined, node_at}
 use Rattle.indexset_core.specs.Order.{has_equal, rank}
 use Rattle.indexset_core.specs.Pairs.{by_key, pair_of}
@@ -17,7 +17,7 @@ use Rattle.indexset_events.specs.Table.{half_of, halving_events, is_past, joinin
 use Rattle.indexset_events.specs.declared.change.ChangeEventUnassigned.{ChangeEventUnassigned}
 use Rattle.indexset_events.specs.declared.change.ChangeEventUnassigned.TheVariants.{InsertAt, RemoveAt, CreateNode, RemoveNode, SplitNode, MergeNodes}
 use Rattle.indexset_events.proofs.CallerLemmas.{Each, each-append, each-left, each-right}
-use Rattle.indexset_follow.specs.Numbers.{PairFits}
+use Rattle.indexset_bench.specs.Texts.{PairFits, Texts}
 
 -- ---- lists
 
@@ -73,127 +73,130 @@ half_length true false xs = omega (arith, parts_length)
     parts_length : length xs ≡ length (take (length xs / 2) xs) + length (drop (length xs / 2) xs)
     parts_length = sym (ap (λ l. length l) (take-append-drop (length xs / 2) xs)) ∙ length-append (take (length xs / 2) xs) (drop (length xs / 2) xs)
 
--- ---- events
+module _ {T : Type 0} (texts : Texts T) where
+  -- ---- events
 
--- the numbers of an event without a number are of 64 bits
-abbrev pub PlainFits : ChangeEventUnassigned (Pair ℕ ℕ) → Type 0
-PlainFits (CreateNode max) = PairFits max
-PlainFits (RemoveNode max) = PairFits max
-PlainFits (InsertAt max p i) = PairFits max × PairFits p × (i < 2 ^ 64)
-PlainFits (RemoveAt max p i) = PairFits max × PairFits p × (i < 2 ^ 64)
-PlainFits (SplitNode max k) = PairFits max × (k < 2 ^ 64)
-PlainFits (MergeNodes max next) = PairFits max × PairFits next
+  -- the numbers of an event without a number are of 64 bits
+  abbrev pub PlainFits : ChangeEventUnassigned (Pair T T) → Type 0
+  PlainFits (CreateNode max) = PairFits texts max
+  PlainFits (RemoveNode max) = PairFits texts max
+  PlainFits (InsertAt max p i) = PairFits texts max × PairFits texts p × (i < 2 ^ 64)
+  PlainFits (RemoveAt max p i) = PairFits texts max × PairFits texts p × (i < 2 ^ 64)
+  PlainFits (SplitNode max k) = PairFits texts max × (k < 2 ^ 64)
+  PlainFits (MergeNodes max next) = PairFits texts max × PairFits texts next
 
--- the pairs of a node fit, and their places
-abbrev Fit : List (Pair ℕ ℕ) → Type 0
-Fit n = (length n < 2 ^ 64) × Each PairFits n
+  -- the pairs of a node fit, and their places
+  abbrev Fit : List (Pair T T) → Type 0
+  Fit n = (length n < 2 ^ 64) × Each (PairFits texts) n
 
-abbrev order : Pair ℕ ℕ → Pair ℕ ℕ → Ordering
-order = by_key nat_cmp
+module _ {T : Type 0} (cmp : T → T → Ordering) where
+  abbrev order : Pair T T → Pair T T → Ordering
+  order = by_key cmp
 
-rank_small : (n : List (Pair ℕ ℕ)) (v : Pair ℕ ℕ) → Fit n → rank order n v < 2 ^ 64
-rank_small n v fit = omega (arith, fit.0, count_by-le-length (λ x. is_lt (order x v)) n)
+module _ {T : Type 0} (cmp : T → T → Ordering) (texts : Texts T) where
+  rank_small : (n : List (Pair T T)) (v : Pair T T) → Fit texts n → rank (order cmp) n v < 2 ^ 64
+  rank_small n v fit = omega (arith, fit.0, count_by-le-length (λ x. is_lt (order cmp x v)) n)
 
-module _ (v : Pair ℕ ℕ) (new : PairFits v) where
-  replace_fit : (n : List (Pair ℕ ℕ)) → Fit n → Each PlainFits (replace_events order n v)
-  unfolding replace_events
-  replace_fit n fit = at (length n == 1) (i + 1 == length n)
-    where
-      i : ℕ
-      i = rank order n v
-
-      at : (a b : Bool) → Each PlainFits (cond a (RemoveNode (get_or n i v) ∷ CreateNode v ∷ []) (cond b (RemoveAt (last_of n v) (get_or n i v) i ∷ InsertAt (get_or n (i - 1) v) v i ∷ []) (RemoveAt (last_of n v) (get_or n i v) i ∷ InsertAt (last_of n v) v i ∷ [])))
-      at true b = (each_got PairFits n i v fit.1 new, (new, tt))
-      at false true = ((each_last_or PairFits n v fit.1 new, each_got PairFits n i v fit.1 new, rank_small n v fit), ((each_got PairFits n (i - 1) v fit.1 new, new, rank_small n v fit), tt))
-      at false false = ((each_last_or PairFits n v fit.1 new, each_got PairFits n i v fit.1 new, rank_small n v fit), ((each_last_or PairFits n v fit.1 new, new, rank_small n v fit), tt))
-
-  node_fit : (n : List (Pair ℕ ℕ)) → Fit n → Each PlainFits (node_events order n v)
-  unfolding node_events
-  node_fit n fit = at (has_equal order n v)
-    where
-      at : (b : Bool) → Each PlainFits (cond b (replace_events order n v) (InsertAt (last_of n v) v (rank order n v) ∷ []))
-      at true = replace_fit n fit
-      at false = ((each_last_or PairFits n v fit.1 new, new, rank_small n v fit), tt)
-
-  halving_fit : (size : ℕ) (n : List (Pair ℕ ℕ)) → Fit n → Each PlainFits (halving_events size n v)
-  halving_fit size n fit = at (length n == size)
-    where
-      at : (b : Bool) → Each PlainFits (cond b (SplitNode (last_of n v) (length n / 2) ∷ []) [])
-      at true = ((each_last_or PairFits n v fit.1 new, half_small (length n) fit.0), tt)
-      at false = tt
-
-  target_fit : (size : ℕ) (n : List (Pair ℕ ℕ)) → Fit n → Each PlainFits (target_events order size n v)
-  unfolding target_events
-  target_fit size n fit =
-      let part : Fit (part_for order size n v) = (omega (arith, fit.0, half_length (length n == size) (is_past order (take (length n / 2) n) v) n), each_half PairFits (length n == size) (is_past order (take (length n / 2) n) v) n fit.1) in
-      each-append PlainFits (halving_events size n v) (node_events order (part_for order size n v) v) (halving_fit size n fit) (node_fit (part_for order size n v) part)
-
--- ---- nodes
-
-module _ (size : ℕ) (few : size < 2 ^ 64) where
-  at_fit : (ns : List (List (Pair ℕ ℕ))) (k : ℕ) → Each (λ n. length n ≤ size) ns → Each PairFits (joined ns) → Fit (node_at ns k)
-  at_fit [] k small held = (omega arith, tt)
-  at_fit (n ∷ ns) zero small held = (omega (arith, small.0, few), each-left PairFits n (joined ns) held)
-  at_fit (n ∷ ns) (suc k) small held = at_fit ns k small.1 (each-right PairFits n (joined ns) held)
-
-  module _ (ns : List (List (Pair ℕ ℕ))) (small : Each (λ n. length n ≤ size) ns) (held : Each PairFits (joined ns)) where
-    pub put_fit : (v : Pair ℕ ℕ) → PairFits v → Each PlainFits (put_events order size ns v)
-    unfolding put_events
-    put_fit v new = at (is_filled ns)
+  module _ (v : Pair T T) (new : PairFits texts v) where
+    replace_fit : (n : List (Pair T T)) → Fit texts n → Each (PlainFits texts) (replace_events (order cmp) n v)
+    unfolding replace_events
+    replace_fit n fit = at (length n == 1) (i + 1 == length n)
       where
-        at : (b : Bool) → Each PlainFits (cond b (target_events order size (node_at ns (target order ns v)) v) (CreateNode v ∷ []))
-        at true = target_fit v new size (node_at ns (target order ns v)) (at_fit ns (target order ns v) small held)
-        at false = (new, tt)
-
-    -- what is left once an item is gone
-    left_fit : (k i : ℕ) → Each (Each PairFits) (item_removed ns k i)
-    left_fit k i = at (length (node_at ns k) == 1)
-      where
-        apart : Each (Each PairFits) ns
-        apart = each_apart PairFits ns held
-
-        at : (b : Bool) → Each (Each PairFits) (cond b (remove ns k) (set ns k (remove (node_at ns k) i)))
-        at true = each_removed (Each PairFits) ns k apart
-        at false = each_set (Each PairFits) ns k (remove (node_at ns k) i) apart (each_removed PairFits (node_at ns k) i (each_got (Each PairFits) ns k [] apart tt))
-
-    taking_fit : (k i : ℕ) (x : Pair ℕ ℕ) → PairFits x → i < 2 ^ 64 → Each PlainFits (taking_events size ns k i x)
-    taking_fit k i x gone less = (one (length n == 1), two (join_after size ns k i))
-      where
-        n : List (Pair ℕ ℕ)
-        n = node_at ns k
-
-        one : (b : Bool) → PlainFits (cond b (RemoveNode x) (RemoveAt (last_of n x) x i))
-        one true = gone
-        one false = (each_last_or PairFits n x (at_fit ns k small held).1 gone, gone, less)
-
-        name : (j : ℕ) → PairFits (last_of (node_at (item_removed ns k i) j) x)
-        name j = each_last_or PairFits (node_at (item_removed ns k i) j) x (each_got (Each PairFits) (item_removed ns k i) j [] (left_fit k i) tt) gone
-
-        two : (o : Option ℕ) → Each PlainFits (option_map_or (λ j. joining_event (item_removed ns k i) x j ∷ []) o [])
-        two None = tt
-        two (Some j) = ((name j, name (j + 1)), tt)
-
-    removal_fit : (v : Pair ℕ ℕ) → PairFits v → Each PlainFits (removal_events order size ns v)
-    unfolding removal_events
-    removal_fit v fits = at (has_equal order n v)
-      where
-        k : ℕ
-        k = target order ns v
-
-        n : List (Pair ℕ ℕ)
-        n = node_at ns k
-
         i : ℕ
-        i = rank order n v
+        i = rank (order cmp) n v
 
-        at : (b : Bool) → Each PlainFits (cond b (taking_events size ns k i (get_or n i v)) [])
-        at true = let fit = at_fit ns k small held in taking_fit k i (get_or n i v) (each_got PairFits n i v fit.1 fits) (rank_small n v fit)
+        at : (a b : Bool) → Each (PlainFits texts) (cond a (RemoveNode (get_or n i v) ∷ CreateNode v ∷ []) (cond b (RemoveAt (last_of n v) (get_or n i v) i ∷ InsertAt (get_or n (i - 1) v) v i ∷ []) (RemoveAt (last_of n v) (get_or n i v) i ∷ InsertAt (last_of n v) v i ∷ [])))
+        at true b = (each_got (PairFits texts) n i v fit.1 new, (new, tt))
+        at false true = ((each_last_or (PairFits texts) n v fit.1 new, each_got (PairFits texts) n i v fit.1 new, rank_small n v fit), ((each_got (PairFits texts) n (i - 1) v fit.1 new, new, rank_small n v fit), tt))
+        at false false = ((each_last_or (PairFits texts) n v fit.1 new, each_got (PairFits texts) n i v fit.1 new, rank_small n v fit), ((each_last_or (PairFits texts) n v fit.1 new, new, rank_small n v fit), tt))
+
+    node_fit : (n : List (Pair T T)) → Fit texts n → Each (PlainFits texts) (node_events (order cmp) n v)
+    unfolding node_events
+    node_fit n fit = at (has_equal (order cmp) n v)
+      where
+        at : (b : Bool) → Each (PlainFits texts) (cond b (replace_events (order cmp) n v) (InsertAt (last_of n v) v (rank (order cmp) n v) ∷ []))
+        at true = replace_fit n fit
+        at false = ((each_last_or (PairFits texts) n v fit.1 new, new, rank_small n v fit), tt)
+
+    halving_fit : (size : ℕ) (n : List (Pair T T)) → Fit texts n → Each (PlainFits texts) (halving_events size n v)
+    halving_fit size n fit = at (length n == size)
+      where
+        at : (b : Bool) → Each (PlainFits texts) (cond b (SplitNode (last_of n v) (length n / 2) ∷ []) [])
+        at true = ((each_last_or (PairFits texts) n v fit.1 new, half_small (length n) fit.0), tt)
         at false = tt
 
-    pub key_removal_fit : (key : ℕ) → Each PlainFits (key_removal_events nat_cmp size ns key)
-    unfolding key_removal_events
-    key_removal_fit key = at (pair_of nat_cmp (joined ns) key) (each_found PairFits _ (joined ns) held)
-      where
-        at : (o : Option (Pair ℕ ℕ)) → IfSome o PairFits → Each PlainFits (option_map_or (λ p. removal_events order size ns p) o [])
-        at None h = tt
-        at (Some p) h = removal_fit p h
+    target_fit : (size : ℕ) (n : List (Pair T T)) → Fit texts n → Each (PlainFits texts) (target_events (order cmp) size n v)
+    unfolding target_events
+    target_fit size n fit =
+        let part : Fit texts (part_for (order cmp) size n v) = (omega (arith, fit.0, half_length (length n == size) (is_past (order cmp) (take (length n / 2) n) v) n), each_half (PairFits texts) (length n == size) (is_past (order cmp) (take (length n / 2) n) v) n fit.1) in
+        each-append (PlainFits texts) (halving_events size n v) (node_events (order cmp) (part_for (order cmp) size n v) v) (halving_fit size n fit) (node_fit (part_for (order cmp) size n v) part)
+
+  -- ---- nodes
+
+  module _ (size : ℕ) (few : size < 2 ^ 64) where
+    at_fit : (ns : List (List (Pair T T))) (k : ℕ) → Each (λ n. length n ≤ size) ns → Each (PairFits texts) (joined ns) → Fit texts (node_at ns k)
+    at_fit [] k small held = (omega arith, tt)
+    at_fit (n ∷ ns) zero small held = (omega (arith, small.0, few), each-left (PairFits texts) n (joined ns) held)
+    at_fit (n ∷ ns) (suc k) small held = at_fit ns k small.1 (each-right (PairFits texts) n (joined ns) held)
+
+    module _ (ns : List (List (Pair T T))) (small : Each (λ n. length n ≤ size) ns) (held : Each (PairFits texts) (joined ns)) where
+      pub put_fit : (v : Pair T T) → PairFits texts v → Each (PlainFits texts) (put_events (order cmp) size ns v)
+      unfolding put_events
+      put_fit v new = at (is_filled ns)
+        where
+          at : (b : Bool) → Each (PlainFits texts) (cond b (target_events (order cmp) size (node_at ns (target (order cmp) ns v)) v) (CreateNode v ∷ []))
+          at true = target_fit v new size (node_at ns (target (order cmp) ns v)) (at_fit ns (target (order cmp) ns v) small held)
+          at false = (new, tt)
+
+      -- what is left once an item is gone
+      left_fit : (k i : ℕ) → Each (Each (PairFits texts)) (item_removed ns k i)
+      left_fit k i = at (length (node_at ns k) == 1)
+        where
+          apart : Each (Each (PairFits texts)) ns
+          apart = each_apart (PairFits texts) ns held
+
+          at : (b : Bool) → Each (Each (PairFits texts)) (cond b (remove ns k) (set ns k (remove (node_at ns k) i)))
+          at true = each_removed (Each (PairFits texts)) ns k apart
+          at false = each_set (Each (PairFits texts)) ns k (remove (node_at ns k) i) apart (each_removed (PairFits texts) (node_at ns k) i (each_got (Each (PairFits texts)) ns k [] apart tt))
+
+      taking_fit : (k i : ℕ) (x : Pair T T) → PairFits texts x → i < 2 ^ 64 → Each (PlainFits texts) (taking_events size ns k i x)
+      taking_fit k i x gone less = (one (length n == 1), two (join_after size ns k i))
+        where
+          n : List (Pair T T)
+          n = node_at ns k
+
+          one : (b : Bool) → PlainFits texts (cond b (RemoveNode x) (RemoveAt (last_of n x) x i))
+          one true = gone
+          one false = (each_last_or (PairFits texts) n x (at_fit ns k small held).1 gone, gone, less)
+
+          name : (j : ℕ) → PairFits texts (last_of (node_at (item_removed ns k i) j) x)
+          name j = each_last_or (PairFits texts) (node_at (item_removed ns k i) j) x (each_got (Each (PairFits texts)) (item_removed ns k i) j [] (left_fit k i) tt) gone
+
+          two : (o : Option ℕ) → Each (PlainFits texts) (option_map_or (λ j. joining_event (item_removed ns k i) x j ∷ []) o [])
+          two None = tt
+          two (Some j) = ((name j, name (j + 1)), tt)
+
+      removal_fit : (v : Pair T T) → PairFits texts v → Each (PlainFits texts) (removal_events (order cmp) size ns v)
+      unfolding removal_events
+      removal_fit v fits = at (has_equal (order cmp) n v)
+        where
+          k : ℕ
+          k = target (order cmp) ns v
+
+          n : List (Pair T T)
+          n = node_at ns k
+
+          i : ℕ
+          i = rank (order cmp) n v
+
+          at : (b : Bool) → Each (PlainFits texts) (cond b (taking_events size ns k i (get_or n i v)) [])
+          at true = let fit = at_fit ns k small held in taking_fit k i (get_or n i v) (each_got (PairFits texts) n i v fit.1 fits) (rank_small n v fit)
+          at false = tt
+
+      pub key_removal_fit : (key : T) → Each (PlainFits texts) (key_removal_events cmp size ns key)
+      unfolding key_removal_events
+      key_removal_fit key = at (pair_of cmp (joined ns) key) (each_found (PairFits texts) _ (joined ns) held)
+        where
+          at : (o : Option (Pair T T)) → IfSome o (PairFits texts) → Each (PlainFits texts) (option_map_or (λ p. removal_events (order cmp) size ns p) o [])
+          at None h = tt
+          at (Some p) h = removal_fit p h

@@ -13,12 +13,15 @@ pub mod MarkLines
 pub mod Near
 pub mod NoWindow
 pub mod NodeLines
+pub mod Onwards
 pub mod Output
 pub mod Pages
+pub mod PassedReplies
 pub mod Passing
 pub mod Programs
 pub mod QueryLines
 pub mod Readings
+pub mod Replies
 pub mod ReplyExamples
 pub mod Returns
 pub mod Rows

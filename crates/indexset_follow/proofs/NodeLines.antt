@@ -15,7 +15,7 @@ use Rattle.indexset_bench.specs.PairText.{node_text, pair_text}
 use Rattle.indexset_core.specs.declared.pair.Pair.{Pair}
 use Rattle.indexset_follow.specs.NodeLine.{NodeFits, node_line, node_of, pairs_of, words}
 use Rattle.indexset_events.specs.Spelling.{cut_at}
-use Rattle.indexset_follow.specs.Numbers.{PairFits, pair_of}
+use Rattle.indexset_bench.specs.Texts.{AreWords, PairFits, Texts, pair_of}
 use Rattle.indexset_events.specs.Spelling.Laws.{Lacks, cut_sound, cut_told, lacks_tested, map_some, none_some, some_inj, then_some}
 use Rattle.indexset_follow.proofs.Readings.{pair_lacks, pair_sound, pair_told, space_apart}
 
@@ -53,69 +53,72 @@ uncut_words text e = at (nat_lt (spot text) (length text)) refl e
         let other = fails_before_first (λ x. eqb x 32) text k 0 before in
         eqb-false (get_or text k 0) 32 other space))
 
--- ---- pairs
+module _ {T : Type 0} (texts : Texts T) where
+  -- ---- pairs
 
-pub pairs_first : (word : List ℕ) (rest : List (List ℕ)) (p : Pair ℕ ℕ) → pair_of word ≡ Some p → pairs_of (word ∷ rest) ≡ option_map (λ ps. p ∷ ps) (pairs_of rest)
-unfolding pairs_of
-pairs_first word rest p e = rw e refl
+  pub pairs_first : (word : List ℕ) (rest : List (List ℕ)) (p : Pair T T) → pair_of texts word ≡ Some p → pairs_of texts (word ∷ rest) ≡ option_map (λ ps. p ∷ ps) (pairs_of texts rest)
+  unfolding pairs_of
+  pairs_first word rest p e = rw e refl
 
-pub pairs_none : (word : List ℕ) (rest : List (List ℕ)) → pair_of word ≡ None → pairs_of (word ∷ rest) ≡ None
-unfolding pairs_of
-pairs_none word rest e = rw e refl
+  pub pairs_none : (word : List ℕ) (rest : List (List ℕ)) → pair_of texts word ≡ None → pairs_of texts (word ∷ rest) ≡ None
+  unfolding pairs_of
+  pairs_none word rest e = rw e refl
 
-pub pairs_last : (word : List ℕ) (p : Pair ℕ ℕ) → pair_of word ≡ Some p → pairs_of (word ∷ []) ≡ Some (p ∷ [])
-unfolding pairs_of
-pairs_last word p e = rw e refl
+  pub pairs_last : (word : List ℕ) (p : Pair T T) → pair_of texts word ≡ Some p → pairs_of texts (word ∷ []) ≡ Some (p ∷ [])
+  unfolding pairs_of
+  pairs_last word p e = rw e refl
 
--- one more pair was read
-pub pairs_more : (ps : List (Pair ℕ ℕ)) (p : Pair ℕ ℕ) (o : Option (List (Pair ℕ ℕ))) → option_map (λ qs. ps ++ qs) (option_map (λ qs. p ∷ qs) o) ≡ option_map (λ qs. (ps ++ p ∷ []) ++ qs) o
-pairs_more ps p None = refl
-pairs_more ps p (Some qs) = ap Some (sym (append_assoc ps (p ∷ []) qs))
+module _ {T : Type 0} where
+  -- one more pair was read
+  pub pairs_more : (ps : List (Pair T T)) (p : Pair T T) (o : Option (List (Pair T T))) → option_map (λ qs. ps ++ qs) (option_map (λ qs. p ∷ qs) o) ≡ option_map (λ qs. (ps ++ p ∷ []) ++ qs) o
+  pairs_more ps p None = refl
+  pairs_more ps p (Some qs) = ap Some (sym (append_assoc ps (p ∷ []) qs))
 
-pub all_pairs_told : (ps : List (Pair ℕ ℕ)) → All PairFits ps → pairs_of (map pair_text ps) ≡ Some ps
-unfolding pairs_of
-all_pairs_told [] fit = refl
-all_pairs_told (p ∷ ps) fit = rw (pair_told p (All-head PairFits p ps fit), all_pairs_told ps (All-tail PairFits p ps fit)) refl
+module _ {T : Type 0} (texts : Texts T) (spelled : AreWords texts) where
+  pub all_pairs_told : (ps : List (Pair T T)) → All (PairFits texts) ps → pairs_of texts (map (pair_text texts) ps) ≡ Some ps
+  unfolding pairs_of
+  all_pairs_told [] fit = refl
+  all_pairs_told (p ∷ ps) fit = rw (pair_told texts spelled p (All-head (PairFits texts) p ps fit), all_pairs_told ps (All-tail (PairFits texts) p ps fit)) refl
 
-all_pairs_sound : (ws : List (List ℕ)) (ps : List (Pair ℕ ℕ)) → pairs_of ws ≡ Some ps → (ws ≡ map pair_text ps) × All PairFits ps
-unfolding pairs_of
-all_pairs_sound [] ps e = subst (λ qs. ([] ≡ map pair_text qs) × All PairFits qs) (some_inj [] ps e) (refl, All-nil PairFits)
-all_pairs_sound (w ∷ ws) ps e =
-    let first = then_some (pair_of w) (λ p. option_map (λ qs. p ∷ qs) (pairs_of ws)) ps e in
-    let more = map_some (pairs_of ws) (λ qs. first.0 ∷ qs) ps first.2 in
-    let read = pair_sound w first.0 first.1 in
-    let rest = all_pairs_sound ws more.0 more.1 in
-    subst (λ qs. (w ∷ ws ≡ map pair_text qs) × All PairFits qs) more.2 ((λ i. read.0 i ∷ rest.0 i), All-cons PairFits first.0 more.0 read.1 rest.1)
+  all_pairs_sound : (ws : List (List ℕ)) (ps : List (Pair T T)) → pairs_of texts ws ≡ Some ps → (ws ≡ map (pair_text texts) ps) × All (PairFits texts) ps
+  unfolding pairs_of
+  all_pairs_sound [] ps e = subst (λ qs. ([] ≡ map (pair_text texts) qs) × All (PairFits texts) qs) (some_inj [] ps e) (refl, All-nil (PairFits texts))
+  all_pairs_sound (w ∷ ws) ps e =
+      let first = then_some (pair_of texts w) (λ p. option_map (λ qs. p ∷ qs) (pairs_of texts ws)) ps e in
+      let more = map_some (pairs_of texts ws) (λ qs. first.0 ∷ qs) ps first.2 in
+      let read = pair_sound texts spelled w first.0 first.1 in
+      let rest = all_pairs_sound ws more.0 more.1 in
+      subst (λ qs. (w ∷ ws ≡ map (pair_text texts) qs) × All (PairFits texts) qs) more.2 ((λ i. read.0 i ∷ rest.0 i), All-cons (PairFits texts) first.0 more.0 read.1 rest.1)
 
--- ---- nodes
+  -- ---- nodes
 
--- the words of a node's text are those of its pairs
-node_words : (ps : List (Pair ℕ ℕ)) → 0 < length ps → All PairFits ps → words (node_text ps) ≡ map pair_text ps
-node_words [] some fit = absurd (omega arith)
-node_words (p ∷ []) some fit = lacking_words (pair_text p) (pair_lacks 32 space_apart p (All-head PairFits p [] fit))
-node_words (p ∷ q ∷ ps) some fit =
-    let lacks = pair_lacks 32 space_apart p (All-head PairFits p (q ∷ ps) fit) in
-    cut_words (pair_text p ++ 32 ∷ node_text (q ∷ ps)) (pair_text p) (node_text (q ∷ ps)) (cut_told 32 (pair_text p) (node_text (q ∷ ps)) lacks)
-    ∙ ap (λ ws. pair_text p ∷ ws) (node_words (q ∷ ps) (omega arith) (All-tail PairFits p (q ∷ ps) fit))
+  -- the words of a node's text are those of its pairs
+  node_words : (ps : List (Pair T T)) → 0 < length ps → All (PairFits texts) ps → words (node_text texts ps) ≡ map (pair_text texts) ps
+  node_words [] some fit = absurd (omega arith)
+  node_words (p ∷ []) some fit = lacking_words (pair_text texts p) (pair_lacks texts 32 (space_apart texts spelled) p (All-head (PairFits texts) p [] fit))
+  node_words (p ∷ q ∷ ps) some fit =
+      let lacks = pair_lacks texts 32 (space_apart texts spelled) p (All-head (PairFits texts) p (q ∷ ps) fit) in
+      cut_words (pair_text texts p ++ 32 ∷ node_text texts (q ∷ ps)) (pair_text texts p) (node_text texts (q ∷ ps)) (cut_told 32 (pair_text texts p) (node_text texts (q ∷ ps)) lacks)
+      ∙ ap (λ ws. pair_text texts p ∷ ws) (node_words (q ∷ ps) (omega arith) (All-tail (PairFits texts) p (q ∷ ps) fit))
 
-pub node_told : (n : List (Pair ℕ ℕ)) → NodeFits n → node_of (node_line n) ≡ Some n
-node_told n fit =
-    let cut : cut_at 32 (node_line n) ≡ Some (codes "node", node_text n) = cut_told 32 (codes "node") (node_text n) (lacks_tested 32 (codes "node") refl) in
-    rw cut (ap pairs_of (node_words n fit.0 fit.1) ∙ all_pairs_told n fit.1)
+  pub node_told : (n : List (Pair T T)) → NodeFits texts n → node_of texts (node_line texts n) ≡ Some n
+  node_told n fit =
+      let cut : cut_at 32 (node_line texts n) ≡ Some (codes "node", node_text texts n) = cut_told 32 (codes "node") (node_text texts n) (lacks_tested 32 (codes "node") refl) in
+      rw cut (ap (pairs_of texts) (node_words n fit.0 fit.1) ∙ all_pairs_told n fit.1)
 
-pub node_sound : (line : List ℕ) (n : List (Pair ℕ ℕ)) → node_of line ≡ Some n → (line ≡ node_line n) × NodeFits n
-node_sound line n e =
-    let cut = then_some (cut_at 32 line) (λ cut. if bytes_eq cut.0 (codes "node") then pairs_of (words cut.1) else None) n e in
-    let text = cut_sound 32 line cut.0.0 cut.0.1 cut.1 in
-    let read = at cut.0.0 cut.0.1 (bytes_eq cut.0.0 (codes "node")) refl cut.2 in
-    let some = length-slice_split (λ x. eqb x 32) cut.0.1 in
-    let rest = sym (join_with_byte-slice_split 32 cut.0.1) ∙ ap (join_with_byte 32) read.1 in
-    (text ∙ (λ i. read.0 i ++ 32 ∷ rest i), (omega (arith, some, ap length read.1, length_map n), read.2))
-  where
-    at : (word rest : List ℕ) (b : Bool) → bytes_eq word (codes "node") ≡ b → cond b (pairs_of (words rest)) None ≡ Some n → (word ≡ codes "node") × (words rest ≡ map pair_text n) × All PairFits n
-    at word rest true is e = let read = all_pairs_sound (words rest) n e in ((bytes_eq-Decides word (codes "node")).0 is, read.0, read.1)
-    at word rest false is e = none_some n e
+  pub node_sound : (line : List ℕ) (n : List (Pair T T)) → node_of texts line ≡ Some n → (line ≡ node_line texts n) × NodeFits texts n
+  node_sound line n e =
+      let cut = then_some (cut_at 32 line) (λ cut. if bytes_eq cut.0 (codes "node") then pairs_of texts (words cut.1) else None) n e in
+      let text = cut_sound 32 line cut.0.0 cut.0.1 cut.1 in
+      let read = at cut.0.0 cut.0.1 (bytes_eq cut.0.0 (codes "node")) refl cut.2 in
+      let some = length-slice_split (λ x. eqb x 32) cut.0.1 in
+      let rest = sym (join_with_byte-slice_split 32 cut.0.1) ∙ ap (join_with_byte 32) read.1 in
+      (text ∙ (λ i. read.0 i ++ 32 ∷ rest i), (omega (arith, some, ap length read.1, length_map n), read.2))
+    where
+      at : (word rest : List ℕ) (b : Bool) → bytes_eq word (codes "node") ≡ b → cond b (pairs_of texts (words rest)) None ≡ Some n → (word ≡ codes "node") × (words rest ≡ map (pair_text texts) n) × All (PairFits texts) n
+      at word rest true is e = let read = all_pairs_sound (words rest) n e in ((bytes_eq-Decides word (codes "node")).0 is, read.0, read.1)
+      at word rest false is e = none_some n e
 
-    length_map : (ps : List (Pair ℕ ℕ)) → length (map pair_text ps) ≡ length ps
-    length_map [] = refl
-    length_map (p ∷ ps) = omega (arith, length_map ps)
+      length_map : (ps : List (Pair T T)) → length (map (pair_text texts) ps) ≡ length ps
+      length_map [] = refl
+      length_map (p ∷ ps) = omega (arith, length_map ps)

@@ -1,19 +1,15 @@
 -- The lines of the first program's output that tell events tell those of its commands.
-use Rattle.std.proofs.Common.{Option, None, Some, ◌≡◌, ◌≢◌, ℕ, zero, suc, ◌+◌, ◌<◌, ◌≤◌, ◌^◌, Bool, true, false, cond, not, List, [], ◌∷◌, ◌++◌, length, filter, slice_get, Ordering, refl, ap, sym, ◌∙◌, subst, arith, append_assoc, append-nil, length-append}
-use lib.Chars.{codes}
+use Rattle.std.proofs.Common.{Option, None, Some, ◌≡◌, ℕ, zero, suc, ◌+◌, ◌<◌, ◌≤◌, ◌^◌, Bool, true, false, cond, not, List, [], ◌∷◌, ◌++◌, length, filter, slice_get, Ordering, refl, ap, sym, ◌∙◌, subst, arith, append_assoc, append-nil, length-append}
 use Rattle.std.below.core.specs.declared.int.u64.TheConstants.{MAX}
-use Rattle.std.proofs.lemmas.List.Elements.{All-append}
 use Rattle.std.proofs.lemmas.List.Sums.{count_by-le-length}
-use Rattle.std.specs.Fmt.{decimal}
-use Rattle.std.specs.Option.{option_map, option_map_or}
-use Rattle.std.specs.Prelude.{IfSome}
+use Rattle.std.specs.Option.{option_map_or}
 use Rattle.std.specs.Ordering.{is_eq, is_gt, is_lt, nat_cmp}
 use Rattle.std.specs.declared.cmp.Ordering.TheVariants.{Less, Equal, Greater}
 use Rattle.indexset_lines.specs.Run.{left_by, replies_to}
 use Rattle.indexset_bench.specs.Command.{FitsU64, meaning}
 use Rattle.indexset_lines.specs.Lines.{HasNoEnd, lines_of}
 use Rattle.indexset_bench.specs.PairCommand.{pair_meaning}
-use Rattle.indexset_bench.specs.PairText.{ended, event_head, event_text, lines_for, node_text, pair_text}
+use Rattle.indexset_bench.specs.PairText.{ended, event_text, lines_for, node_text}
 use Rattle.indexset_bench.specs.Pairs.{PairTree, change_reply, pair_reply, pairs_after, reply_ended, told_events}
 use Rattle.indexset_bench.specs.Reply.{contents_after, item_reply, reply_text, reply_to}
 use Rattle.indexset_bench.specs.Text.{Stores, no_stores, replies_of, reply_line, stores, stores_after, stores_of}
@@ -22,126 +18,54 @@ use Rattle.indexset_bench.specs.declared.command.Command.TheVariants.{Add, Del, 
 use Rattle.indexset_bench.specs.declared.pair_command.PairCommand.{PairCommand}
 use Rattle.indexset_bench.specs.declared.pair_command.PairCommand.TheVariants.{Put, Cut, Nodes}
 use Rattle.indexset_bench.specs.declared.reply.Reply.{Reply}
-use Rattle.indexset_bench.specs.declared.reply.Reply.TheVariants.{New, Old, OldValue, Gone, GoneValue, Yes, No, Count, Item, Nothing, Empty, Bad}
+use Rattle.indexset_bench.specs.declared.reply.Reply.TheVariants.{New, Old, Gone, Yes, No, Nothing, Empty}
 use Rattle.indexset_bench.proofs.CallerLemmas.{sound}
-use Rattle.indexset_core.specs.Nodes.{joined}
 use Rattle.indexset_core.specs.Order.{above, below, has_equal, keep, put, without}
-use Rattle.indexset_core.specs.Pairs.{pair_of}
 use Rattle.indexset_core.specs.declared.pair.Pair.{Pair}
 use Rattle.indexset_events.specs.Nodes.{is_filled}
-use Rattle.indexset_events.specs.declared.change.ChangeEvent.TheVariants as change
-use Rattle.indexset_events.specs.declared.change.Id.{Id}
 use Rattle.indexset_events.proofs.CallerLemmas.{Each, each-append, each_all}
 use Rattle.indexset_follow.specs.EventLine.{Event, EventFits, event_of}
 use Rattle.indexset_follow.specs.Follow.{State, after_line}
-use Rattle.indexset_events.specs.Spelling.{cut_at}
-use Rattle.indexset_follow.specs.Numbers.{PairFits}
 use Rattle.indexset_follow.specs.Passed.{IsPassedOver, ReplyFits}
 use Rattle.indexset_follow.specs.Told.{events_from, events_of_lines, line_events, output_lines}
 use Rattle.indexset_follow.proofs.EventLines.{event_told}
-use Rattle.indexset_follow.proofs.Fits.{each_apart, each_found}
-use Rattle.indexset_follow.proofs.Passing.{node_alone, node_passed, reply_passed, uncut}
-use Rattle.indexset_follow.proofs.Programs.{Good, line_onward, lines_onward, no_good}
-use Rattle.indexset_events.specs.Spelling.Laws.{Lacks, cut_told, lacks_tested, none_some, number_lacks}
-use Rattle.indexset_follow.proofs.Readings.{end_apart, no_number, pair_lacks}
+use Rattle.indexset_follow.proofs.Fits.{each_apart}
+use Rattle.indexset_follow.proofs.Passing.{node_alone, node_passed}
+use Rattle.indexset_follow.proofs.PassedReplies.{reply_passed}
+use Rattle.indexset_follow.proofs.Onwards.{Good}
+use Rattle.indexset_follow.proofs.Programs.{line_onward, lines_onward, no_good}
+use Rattle.indexset_events.specs.Spelling.Laws.{none_some}
 use Rattle.indexset_follow.proofs.Snapshots.{first_line, row_lacks}
-
--- ---- no text has a byte that ends a line
-
-join : (a b : List ℕ) → Lacks 10 a → Lacks 10 b → Lacks 10 (a ++ b)
-join a b first second = All-append (λ x. x ≢ 10) a b first second
-
-space : Lacks 10 (codes " ")
-space = lacks_tested 10 (codes " ") refl
-
-number_whole : (n : ℕ) → n < 2 ^ 64 → Lacks 10 (decimal n)
-number_whole n small = number_lacks 10 (omega arith) n small
-
-pair_whole : (p : Pair ℕ ℕ) → PairFits p → Lacks 10 (pair_text p)
-pair_whole p fit = pair_lacks 10 end_apart p fit
-
-head_whole : (id : Id) (word : List ℕ) (max : Pair ℕ ℕ) → id.0 < 2 ^ 64 → Lacks 10 word → PairFits max → Lacks 10 (event_head id word max)
-head_whole id word max small lacks fit = join (decimal id.0 ++ word) (pair_text max) (join (decimal id.0) word (number_whole id.0 small) lacks) (pair_whole max fit)
-
-more_whole : (a rest : List ℕ) → Lacks 10 a → Lacks 10 rest → Lacks 10 (a ++ codes " " ++ rest)
-more_whole a rest first second = join (a ++ codes " ") rest (join a (codes " ") first space) second
-
-pub event_whole : (e : Event) → EventFits e → HasNoEnd (event_text e)
-event_whole (change.CreateNode id max) h = head_whole id (codes " create ") max h.0 (lacks_tested 10 (codes " create ") refl) h.1
-event_whole (change.RemoveNode id max) h = head_whole id (codes " drop ") max h.0 (lacks_tested 10 (codes " drop ") refl) h.1
-event_whole (change.InsertAt id max p i) h =
-    let word = codes " insert " in
-    more_whole (event_head id word max ++ codes " " ++ pair_text p) (decimal i) (more_whole (event_head id word max) (pair_text p) (head_whole id word max h.0 (lacks_tested 10 word refl) h.1) (pair_whole p h.2)) (number_whole i h.3)
-event_whole (change.RemoveAt id max p i) h =
-    let word = codes " remove " in
-    more_whole (event_head id word max ++ codes " " ++ pair_text p) (decimal i) (more_whole (event_head id word max) (pair_text p) (head_whole id word max h.0 (lacks_tested 10 word refl) h.1) (pair_whole p h.2)) (number_whole i h.3)
-event_whole (change.SplitNode id max k) h = more_whole (event_head id (codes " split ") max) (decimal k) (head_whole id (codes " split ") max h.0 (lacks_tested 10 (codes " split ") refl) h.1) (number_whole k h.2)
-event_whole (change.MergeNodes id max next) h = more_whole (event_head id (codes " merge ") max) (pair_text next) (head_whole id (codes " merge ") max h.0 (lacks_tested 10 (codes " merge ") refl) h.1) (pair_whole next h.2)
-
-pub reply_whole : (r : Reply) → ReplyFits r → HasNoEnd (reply_text r)
-reply_whole New fit = lacks_tested 10 (codes "new") refl
-reply_whole Old fit = lacks_tested 10 (codes "old") refl
-reply_whole (OldValue v) fit = join (codes "old ") (decimal v) (lacks_tested 10 (codes "old ") refl) (number_whole v fit)
-reply_whole Gone fit = lacks_tested 10 (codes "gone") refl
-reply_whole (GoneValue v) fit = join (codes "gone ") (decimal v) (lacks_tested 10 (codes "gone ") refl) (number_whole v fit)
-reply_whole Yes fit = lacks_tested 10 (codes "yes") refl
-reply_whole No fit = lacks_tested 10 (codes "no") refl
-reply_whole (Count n) fit = number_whole n fit
-reply_whole (Item n) fit = number_whole n fit
-reply_whole Nothing fit = lacks_tested 10 (codes "none") refl
-reply_whole Empty fit = lacks_tested 10 (codes "empty") refl
-reply_whole Bad fit = lacks_tested 10 (codes "bad") refl
-
--- ---- no reply tells an event, and no node
-
-word_alone : (word : List ℕ) → Lacks 32 word → event_of word ≡ None
-word_alone word lacks = let one = uncut 32 word lacks in rw one refl
-
-pub reply_alone : (r : Reply) → ReplyFits r → event_of (reply_text r) ≡ None
-reply_alone New fit = word_alone (codes "new") (lacks_tested 32 (codes "new") refl)
-reply_alone Old fit = word_alone (codes "old") (lacks_tested 32 (codes "old") refl)
-reply_alone (OldValue v) fit =
-    let cut : cut_at 32 (codes "old " ++ decimal v) ≡ Some (codes "old", decimal v) = cut_told 32 (codes "old") (decimal v) (lacks_tested 32 (codes "old") refl) in
-    rw (cut, no_number 111 (codes "ld") (omega arith)) refl
-reply_alone Gone fit = word_alone (codes "gone") (lacks_tested 32 (codes "gone") refl)
-reply_alone (GoneValue v) fit =
-    let cut : cut_at 32 (codes "gone " ++ decimal v) ≡ Some (codes "gone", decimal v) = cut_told 32 (codes "gone") (decimal v) (lacks_tested 32 (codes "gone") refl) in
-    rw (cut, no_number 103 (codes "one") (omega arith)) refl
-reply_alone Yes fit = word_alone (codes "yes") (lacks_tested 32 (codes "yes") refl)
-reply_alone No fit = word_alone (codes "no") (lacks_tested 32 (codes "no") refl)
-reply_alone (Count n) fit = word_alone (decimal n) (number_lacks 32 (omega arith) n fit)
-reply_alone (Item n) fit = word_alone (decimal n) (number_lacks 32 (omega arith) n fit)
-reply_alone Nothing fit = word_alone (codes "none") (lacks_tested 32 (codes "none") refl)
-reply_alone Empty fit = word_alone (codes "empty") (lacks_tested 32 (codes "empty") refl)
-reply_alone Bad fit = word_alone (codes "bad") (lacks_tested 32 (codes "bad") refl)
+use Rattle.indexset_bench.specs.Texts.{PairFits, number_texts, number_words}
+use Rattle.indexset_follow.proofs.Replies.{change_fits, event_whole, reply_alone, reply_whole}
 
 -- ---- what a text tells, whatever follows it
 
 -- the events that lines tell, in order: other lines tell none
-abbrev pub events_in : List (List ℕ) → List Event
+abbrev pub events_in : List (List ℕ) → List (Event ℕ)
 events_in [] = []
-events_in (line ∷ lines) = option_map_or (λ e. e ∷ events_in lines) (event_of line) (events_in lines)
+events_in (line ∷ lines) = option_map_or (λ e. e ∷ events_in lines) (event_of number_texts line) (events_in lines)
 
 -- a line that tells no event changes no follower
 abbrev pub Known : List ℕ → Type 0
-Known line = event_of line ≡ None → (s : State) → after_line s line ≡ s
+Known line = event_of number_texts line ≡ None → (s : State ℕ) → after_line nat_cmp number_texts s line ≡ s
 
 -- the text tells these events, whatever follows it, and changes a follower by nothing else
-abbrev Tells : List ℕ → List Event → Type 0
+abbrev Tells : List ℕ → List (Event ℕ) → Type 0
 Tells text es = (rest : List ℕ) → (events_in (lines_of (text ++ rest)) ≡ es ++ events_in (lines_of rest)) × (Each Known (lines_of rest) → Each Known (lines_of (text ++ rest)))
 
-tells_nothing : (line : List ℕ) → HasNoEnd line → event_of line ≡ None → IsPassedOver line → Tells (ended line) []
+tells_nothing : (line : List ℕ) → HasNoEnd line → event_of number_texts line ≡ None → IsPassedOver nat_cmp number_texts line → Tells (ended line) []
 tells_nothing line none event passed rest =
     let first = first_line line rest none in
     (ap events_in first ∙ rw event refl, λ known. subst (Each Known) (sym first) ((λ e s. (passed s).0), known))
 
-tells_event : (e : Event) → EventFits e → Tells (ended (event_text e)) (e ∷ [])
+tells_event : (e : Event ℕ) → EventFits number_texts e → Tells (ended (event_text number_texts e)) (e ∷ [])
 tells_event e fit rest =
-    let told = event_told e fit in
-    let first = first_line (event_text e) rest (event_whole e fit) in
+    let told = event_told number_texts number_words e fit in
+    let first = first_line (event_text number_texts e) rest (event_whole number_texts number_words e fit) in
     (ap events_in first ∙ rw told refl, λ known. subst (Each Known) (sym first) ((λ none. none_some e (sym none ∙ told)), known))
 
-tells_both : (a b : List ℕ) (es fs : List Event) → Tells a es → Tells b fs → Tells (a ++ b) (es ++ fs)
+tells_both : (a b : List ℕ) (es fs : List (Event ℕ)) → Tells a es → Tells b fs → Tells (a ++ b) (es ++ fs)
 tells_both a b es fs first second rest = (
   ap (λ t. events_in (lines_of t)) (append_assoc a b rest) ∙ (first (b ++ rest)).0 ∙ ap (λ l. es ++ l) (second rest).0 ∙ sym (append_assoc es fs (events_in (lines_of rest))),
   λ known. subst (λ t. Each Known (lines_of t)) (sym (append_assoc a b rest)) ((first (b ++ rest)).1 ((second rest).1 known)),
@@ -150,39 +74,26 @@ tells_both a b es fs first second rest = (
 tells_none : Tells [] []
 tells_none rest = (refl, λ known. known)
 
-tells_events : (es : List Event) → Each EventFits es → Tells (lines_for event_text es) es
+tells_events : (es : List (Event ℕ)) → Each (EventFits number_texts) es → Tells (lines_for (event_text number_texts) es) es
 tells_events [] fit = tells_none
-tells_events (e ∷ es) fit = tells_both (ended (event_text e)) (lines_for event_text es) (e ∷ []) es (tells_event e fit.0) (tells_events es fit.1)
+tells_events (e ∷ es) fit = tells_both (ended (event_text number_texts e)) (lines_for (event_text number_texts) es) (e ∷ []) es (tells_event e fit.0) (tells_events es fit.1)
 
-tells_nodes : (ns : List (List (Pair ℕ ℕ))) → Each (Each PairFits) ns → Tells (lines_for node_text ns) []
+tells_nodes : (ns : List (List (Pair ℕ ℕ))) → Each (Each (PairFits number_texts)) ns → Tells (lines_for (node_text number_texts) ns) []
 tells_nodes [] fit = tells_none
-tells_nodes (n ∷ ns) fit = tells_both (ended (node_text n)) (lines_for node_text ns) [] [] (tells_nothing (node_text n) (row_lacks n (each_all PairFits n fit.0)) (node_alone n fit.0) (node_passed n fit.0)) (tells_nodes ns fit.1)
+tells_nodes (n ∷ ns) fit = tells_both (ended (node_text number_texts n)) (lines_for (node_text number_texts) ns) [] [] (tells_nothing (node_text number_texts n) (row_lacks number_texts number_words n (each_all (PairFits number_texts) n fit.0)) (node_alone number_texts number_words n fit.0) (node_passed nat_cmp number_texts number_words n fit.0)) (tells_nodes ns fit.1)
 
-tells_reply : (r : Reply) → ReplyFits r → Tells (reply_ended r) []
-tells_reply r fit = tells_nothing (reply_text r) (reply_whole r fit) (reply_alone r fit) (reply_passed r fit)
+tells_reply : (r : Reply ℕ) → ReplyFits number_texts r → Tells (reply_ended number_texts r) []
+tells_reply r fit = tells_nothing (reply_text number_texts r) (reply_whole number_texts number_words r fit) (reply_alone number_texts number_words r fit) (reply_passed r fit)
 
 -- ---- a command to the map
 
-pub change_fits : (t : PairTree) → Good t → (c : PairCommand) → ReplyFits (change_reply t c)
-change_fits t g (Put k v) = at (pair_of nat_cmp (joined t.nodes) k) (each_found PairFits _ (joined t.nodes) g.held)
-  where
-    at : (o : Option (Pair ℕ ℕ)) → IfSome o PairFits → ReplyFits (option_map_or OldValue (option_map (λ (p : Pair ℕ ℕ). p.value) o) New)
-    at None h = tt
-    at (Some p) h = h.1
-change_fits t g (Cut k) = at (pair_of nat_cmp (joined t.nodes) k) (each_found PairFits _ (joined t.nodes) g.held)
-  where
-    at : (o : Option (Pair ℕ ℕ)) → IfSome o PairFits → ReplyFits (option_map_or GoneValue (option_map (λ (p : Pair ℕ ℕ). p.value) o) Nothing)
-    at None h = tt
-    at (Some p) h = h.1
-change_fits t g Nodes = tt
-
-command_tells : (t : PairTree) → Good t → (c : PairCommand) → Each EventFits (told_events t c) → Tells (pair_reply t c) (told_events t c)
-command_tells t g (Put k v) fits = tells_both (reply_ended (change_reply t (Put k v))) (lines_for event_text (told_events t (Put k v))) [] (told_events t (Put k v)) (tells_reply (change_reply t (Put k v)) (change_fits t g (Put k v))) (tells_events (told_events t (Put k v)) fits)
-command_tells t g (Cut k) fits = tells_both (reply_ended (change_reply t (Cut k))) (lines_for event_text (told_events t (Cut k))) [] (told_events t (Cut k)) (tells_reply (change_reply t (Cut k)) (change_fits t g (Cut k))) (tells_events (told_events t (Cut k)) fits)
+command_tells : (t : PairTree ℕ) → Good nat_cmp number_texts t → (c : PairCommand ℕ) → Each (EventFits number_texts) (told_events nat_cmp t c) → Tells (pair_reply nat_cmp number_texts t c) (told_events nat_cmp t c)
+command_tells t g (Put k v) fits = tells_both (reply_ended number_texts (change_reply nat_cmp t (Put k v))) (lines_for (event_text number_texts) (told_events nat_cmp t (Put k v))) [] (told_events nat_cmp t (Put k v)) (tells_reply (change_reply nat_cmp t (Put k v)) (change_fits nat_cmp number_texts t g (Put k v))) (tells_events (told_events nat_cmp t (Put k v)) fits)
+command_tells t g (Cut k) fits = tells_both (reply_ended number_texts (change_reply nat_cmp t (Cut k))) (lines_for (event_text number_texts) (told_events nat_cmp t (Cut k))) [] (told_events nat_cmp t (Cut k)) (tells_reply (change_reply nat_cmp t (Cut k)) (change_fits nat_cmp number_texts t g (Cut k))) (tells_events (told_events nat_cmp t (Cut k)) fits)
 command_tells t g Nodes fits = at (is_filled t.nodes)
   where
-    at : (b : Bool) → Tells (cond b (lines_for node_text t.nodes) (reply_ended Empty)) []
-    at true = tells_nodes t.nodes (each_apart PairFits t.nodes g.held)
+    at : (b : Bool) → Tells (cond b (lines_for (node_text number_texts) t.nodes) (reply_ended number_texts Empty)) []
+    at true = tells_nodes t.nodes (each_apart (PairFits number_texts) t.nodes g.held)
     at false = tells_reply Empty tt
 
 -- ---- a command to the set
@@ -243,26 +154,26 @@ after_few count s h (Some (Rank n)) fit = more_few count s h
 after_few count s h (Some (At n)) fit = more_few count s h
 after_few count s h (Some Len) fit = more_few count s h
 
-item_fits : (s : List ℕ) (i : ℕ) → Each (λ n. n < 2 ^ 64) s → ReplyFits (item_reply (slice_get s i))
+item_fits : (s : List ℕ) (i : ℕ) → Each (λ n. n < 2 ^ 64) s → ReplyFits number_texts (item_reply (slice_get s i))
 item_fits [] i h = tt
 item_fits (x ∷ s) zero h = h.0
 item_fits (x ∷ s) (suc i) h = item_fits s i h.1
 
-set_fits : (count : ℕ) → count < 2 ^ 64 → (s : List ℕ) → Few count s → (o : Option Command) → ReplyFits (reply_to s o)
+set_fits : (count : ℕ) → count < 2 ^ 64 → (s : List ℕ) → Few count s → (o : Option Command) → ReplyFits number_texts (reply_to s o)
 set_fits count less s h None = tt
 set_fits count less s h (Some (Add n)) = at (has_equal nat_cmp s n)
   where
-    at : (b : Bool) → ReplyFits (cond b Old New)
+    at : (b : Bool) → ReplyFits number_texts (cond b Old New)
     at true = tt
     at false = tt
 set_fits count less s h (Some (Del n)) = at (has_equal nat_cmp s n)
   where
-    at : (b : Bool) → ReplyFits (cond b Gone Nothing)
+    at : (b : Bool) → ReplyFits number_texts (cond b Gone Nothing)
     at true = tt
     at false = tt
 set_fits count less s h (Some (Has n)) = at (has_equal nat_cmp s n)
   where
-    at : (b : Bool) → ReplyFits (cond b Yes No)
+    at : (b : Bool) → ReplyFits number_texts (cond b Yes No)
     at true = tt
     at false = tt
 set_fits count less s h (Some (Rank n)) = omega (arith, less, h.many, count_by-le-length (λ x. is_lt (nat_cmp x n)) s)
@@ -272,20 +183,20 @@ set_fits count less s h (Some Len) = omega (arith, less, h.many)
 -- ---- lines
 
 line_few : (count : ℕ) (s : Stores) → Few count s.numbers → (line : List ℕ) → Few (count + 1) (stores_after s line).numbers
-line_few count s h line = at (pair_meaning line)
+line_few count s h line = at (pair_meaning number_texts line)
   where
-    at : (o : Option PairCommand) → Few (count + 1) (option_map_or {U = Stores} (λ c. stores s.numbers (pairs_after s.pairs c)) o (stores (contents_after s.numbers (meaning line)) s.pairs)).numbers
+    at : (o : Option (PairCommand ℕ)) → Few (count + 1) (option_map_or {U = Stores} (λ c. stores s.numbers (pairs_after nat_cmp s.pairs c)) o (stores (contents_after s.numbers (meaning line)) s.pairs)).numbers
     at None = after_few count s.numbers h (meaning line) (λ c e. (sound line c e).1)
     at (Some c) = more_few count s.numbers h
 
-line_tells : (count : ℕ) → count < 2 ^ 64 → (s : Stores) → Good s.pairs → Few count s.numbers → (line : List ℕ) → Each EventFits (line_events s line) → Tells (reply_line s line) (line_events s line)
-line_tells count less s g h line = at (pair_meaning line)
+line_tells : (count : ℕ) → count < 2 ^ 64 → (s : Stores) → Good nat_cmp number_texts s.pairs → Few count s.numbers → (line : List ℕ) → Each (EventFits number_texts) (line_events s line) → Tells (reply_line s line) (line_events s line)
+line_tells count less s g h line = at (pair_meaning number_texts line)
   where
-    at : (o : Option PairCommand) → Each EventFits (option_map_or {U = List Event} (told_events s.pairs) o []) → Tells (option_map_or (pair_reply s.pairs) o (reply_ended (reply_to s.numbers (meaning line)))) (option_map_or {U = List Event} (told_events s.pairs) o [])
+    at : (o : Option (PairCommand ℕ)) → Each (EventFits number_texts) (option_map_or {U = List (Event ℕ)} (told_events nat_cmp s.pairs) o []) → Tells (option_map_or (pair_reply nat_cmp number_texts s.pairs) o (reply_ended number_texts (reply_to s.numbers (meaning line)))) (option_map_or {U = List (Event ℕ)} (told_events nat_cmp s.pairs) o [])
     at None fits = tells_reply (reply_to s.numbers (meaning line)) (set_fits count less s.numbers h (meaning line))
     at (Some c) fits = command_tells s.pairs g c fits
 
-lines_tell : (count : ℕ) (s : Stores) → Good s.pairs → Few count s.numbers → (lines : List (List ℕ)) → count + length lines < 2 ^ 64 → (stores_of s lines).pairs.next ≤ MAX → Tells (replies_of s lines) (events_from s lines)
+lines_tell : (count : ℕ) (s : Stores) → Good nat_cmp number_texts s.pairs → Few count s.numbers → (lines : List (List ℕ)) → count + length lines < 2 ^ 64 → (stores_of s lines).pairs.next ≤ MAX → Tells (replies_of s lines) (events_from s lines)
 unfolding replies_to left_by events_from
 lines_tell count s g h [] many less = tells_none
 lines_tell count s g h (line ∷ lines) many less =

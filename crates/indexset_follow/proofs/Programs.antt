@@ -1,126 +1,52 @@
 -- The events that the first program tells lead from no nodes to its nodes.
-use Rattle.std.proofs.Common.{Option, None, Some, ◌≡◌, ℕ, ◌+◌, ◌<◌, ◌≤◌, ◌^◌, List, [], ◌∷◌, ◌++◌, length, map, drop, slice_get, take, option_and_then, Ordering, refl, ap, sym, ◌∙◌, subst, arith, append_assoc, length-append}
-use Rattle.std.below.core.specs.declared.int.u64.TheConstants.{MAX}
+use Rattle.std.proofs.Common.{Option, None, Some, ◌≡◌, ℕ, ◌<◌, ◌≤◌, ◌^◌, List, [], ◌∷◌, ◌++◌, length, map, drop, slice_get, take, refl, ap, sym, ◌∙◌, arith, append_assoc}
 use Rattle.std.proofs.Math.Seq.{take-append_seam}
 use Rattle.std.proofs.lemmas.Cmp.{nat_cmp_total}
 use Rattle.std.proofs.lemmas.List.{take-append-drop, take_all}
 use Rattle.std.specs.List.{All}
 use Rattle.std.specs.Option.{option_map_or}
 use Rattle.std.specs.Ordering.{nat_cmp}
-use Rattle.std.specs.Prelude.{is_some, unwrap_or}
+use Rattle.std.specs.Prelude.{is_some}
 use Rattle.indexset_lines.specs.Run.{left_by}
-use Rattle.indexset_bench.specs.PairCommand.{PairFitsU64, pair_meaning}
+use Rattle.indexset_bench.specs.PairCommand.{CommandFits, pair_meaning}
 use Rattle.indexset_bench.specs.PairText.{event_text}
-use Rattle.indexset_bench.specs.Pairs.{PairTree, pair_events, pairs_after, told_events}
+use Rattle.indexset_bench.specs.Pairs.{pairs_after, told_events}
 use Rattle.indexset_bench.specs.Command.{meaning}
 use Rattle.indexset_bench.specs.Reply.{contents_after}
 use Rattle.indexset_bench.specs.Text.{Stores, no_stores, stores, stores_after, stores_of}
-use Rattle.indexset_bench.specs.Told.{nodes_after, tree_after}
 use Rattle.indexset_bench.specs.declared.pair_command.PairCommand.{PairCommand}
-use Rattle.indexset_bench.specs.declared.pair_command.PairCommand.TheVariants.{Put, Cut, Nodes}
 use Rattle.indexset_bench.proofs.CallerLemmas.{pair_sound}
-use Rattle.indexset_core.specs.Nodes.{joined, IsLawful}
-use Rattle.indexset_core.specs.Pairs.{by_key, pair}
-use Rattle.indexset_core.specs.declared.pair.Pair.{Pair}
-use Rattle.indexset_core.proofs.CallerLemmas.{pairs_total}
-use Rattle.indexset_events.specs.Replay.{numbered_from, replay, IsNumberedFrom}
-use Rattle.indexset_events.specs.declared.change.ChangeEventUnassigned.{ChangeEventUnassigned}
-use Rattle.indexset_events.specs.declared.change.ChangeEventUnassigned.TheVariants.{InsertAt, RemoveAt, CreateNode, RemoveNode, SplitNode, MergeNodes}
-use Rattle.indexset_events.proofs.CallerLemmas.{Each, Leads, each-append, each_all, key_removal_leads, length-numbered, nodes_each, none_lawful, nothing_leads, numbered-append, numbered_is, put_leads, replay-append}
+use Rattle.indexset_core.specs.Pairs.{by_key}
+use Rattle.indexset_events.specs.Replay.{replay, IsNumberedFrom}
+use Rattle.indexset_events.proofs.CallerLemmas.{each_all, none_lawful}
 use Rattle.indexset_replica.specs.Delivery.{IsSubsequence}
 use Rattle.indexset_follow.specs.Drawn.{AreWithin, HoldsFirst, IsDrawn, IsFeedOfPairs}
 use Rattle.indexset_follow.specs.EventLine.{Event, EventFits}
-use Rattle.indexset_follow.specs.Numbers.{PairFits}
 use Rattle.indexset_follow.specs.Copy.{copy}
 use Rattle.indexset_follow.specs.Follow.{start_state, state_after}
 use Rattle.indexset_follow.specs.Told.{IsAmong, events_from, events_of_lines, line_events}
 use Rattle.indexset_follow.proofs.Drawing.{beginning, whole}
 use Rattle.indexset_follow.proofs.Within.{all_held}
 use Rattle.indexset_events.specs.Spelling.Laws.{some_inj}
-use Rattle.indexset_follow.proofs.Fits.{PlainFits, key_removal_fit, put_fit}
-
-abbrev pub order : Pair ℕ ℕ → Pair ℕ ℕ → Ordering
-order = by_key nat_cmp
-
--- ---- numbers
-
--- events fit once they have numbers that do
-numbered_fit : (s : ℕ) (es : List (ChangeEventUnassigned (Pair ℕ ℕ))) → s + length es ≤ MAX → Each PlainFits es → Each EventFits (numbered_from s es)
-numbered_fit s [] less h = tt
-numbered_fit s (InsertAt m v i ∷ es) less h = ((omega (arith, less), h.0.0, h.0.1, h.0.2), numbered_fit (s + 1) es (omega (arith, less)) h.1)
-numbered_fit s (RemoveAt m v i ∷ es) less h = ((omega (arith, less), h.0.0, h.0.1, h.0.2), numbered_fit (s + 1) es (omega (arith, less)) h.1)
-numbered_fit s (CreateNode m ∷ es) less h = ((omega (arith, less), h.0), numbered_fit (s + 1) es (omega (arith, less)) h.1)
-numbered_fit s (RemoveNode m ∷ es) less h = ((omega (arith, less), h.0), numbered_fit (s + 1) es (omega (arith, less)) h.1)
-numbered_fit s (SplitNode m k ∷ es) less h = ((omega (arith, less), h.0.0, h.0.1), numbered_fit (s + 1) es (omega (arith, less)) h.1)
-numbered_fit s (MergeNodes m w ∷ es) less h = ((omega (arith, less), h.0.0, h.0.1), numbered_fit (s + 1) es (omega (arith, less)) h.1)
-
--- ---- a command
-
--- the map's nodes are lawful, and its numbers are of 64 bits
-pub record Good (t : PairTree) : Type 0 where
-  pub two : 2 ≤ t.size
-  pub few : t.size < 2 ^ 64
-  pub lawful : IsLawful order t.size t.nodes
-  pub held : Each PairFits (joined t.nodes)
-
--- the events lead from what is held to what is held after them, which has the number after theirs
-pub record Onward (t after : PairTree) (es : List Event) : Type 0 where
-  pub good : Good after
-  pub replayed : replay order t.nodes es ≡ Some after.nodes
-  pub next : after.next ≡ t.next + length es
-  pub numbered : IsNumberedFrom t.next es
-  pub fits : after.next ≤ MAX → Each EventFits es
-
-tree_onward : (t : PairTree) → Good t → (es : List (ChangeEventUnassigned (Pair ℕ ℕ))) → Leads order PairFits t.size t.next t.nodes es → Each PlainFits es → Onward t (tree_after order t es) (numbered_from t.next es)
-tree_onward t g es l plain =
-    let made : nodes_after order t.nodes t.next es ≡ l.after = ap (λ o. unwrap_or o t.nodes) l.replayed in
-    record {
-      good = record { two = g.two; few = g.few; lawful = subst (IsLawful order t.size) (sym made) l.lawful; held = subst (λ q. Each PairFits (joined q)) (sym made) l.kept };
-      replayed = l.replayed ∙ ap Some (sym made);
-      next = omega (arith, length-numbered t.next es);
-      numbered = numbered_is t.next es;
-      fits = λ less. numbered_fit t.next es less plain;
-    }
-
-pub command_onward : (t : PairTree) → Good t → (c : PairCommand) → PairFitsU64 c → Onward t (pairs_after t c) (told_events t c)
-command_onward t g (Put k v) fit =
-    let total = pairs_total nat_cmp nat_cmp_total in
-    let small = nodes_each (λ n. n ≤ t.size) t.nodes g.lawful.bounded in
-    tree_onward t g (pair_events t (Put k v)) (put_leads order total PairFits t.size t.next g.two t.nodes g.lawful g.held (pair k v) fit) (put_fit t.size g.few t.nodes small g.held (pair k v) fit)
-command_onward t g (Cut k) fit =
-    let small = nodes_each (λ n. n ≤ t.size) t.nodes g.lawful.bounded in
-    tree_onward t g (pair_events t (Cut k)) (key_removal_leads nat_cmp nat_cmp_total PairFits t.size t.next g.two t.nodes g.lawful g.held k) (key_removal_fit t.size g.few t.nodes small g.held k)
-command_onward t g Nodes fit =
-    tree_onward t g [] (nothing_leads order (pairs_total nat_cmp nat_cmp_total) PairFits t.size t.next g.two t.nodes g.lawful g.held) tt
-
-pub still : (t : PairTree) → Good t → Onward t t []
-still t g = record { good = g; replayed = refl; next = omega arith; numbered = λ i lt d. absurd (omega (arith, lt)); fits = λ less. tt }
+use Rattle.indexset_follow.proofs.Onwards.{Good, Onward, both_onward, command_onward, still}
+use Rattle.indexset_bench.specs.Texts.{number_texts, number_words}
 
 -- ---- lines
 
-pub line_onward : (s : Stores) → Good s.pairs → (line : List ℕ) → Onward s.pairs (stores_after s line).pairs (line_events s line)
-line_onward s g line = at (pair_meaning line) (λ c told. (pair_sound line c told).1)
+pub line_onward : (s : Stores) → Good nat_cmp number_texts s.pairs → (line : List ℕ) → Onward nat_cmp number_texts s.pairs (stores_after s line).pairs (line_events s line)
+line_onward s g line = at (pair_meaning number_texts line) (λ c told. (pair_sound number_texts number_words line c told).1)
   where
-    at : (o : Option PairCommand) → ((c : PairCommand) → o ≡ Some c → PairFitsU64 c)
-        → Onward s.pairs (option_map_or {U = Stores} (λ c. stores s.numbers (pairs_after s.pairs c)) o (stores (contents_after s.numbers (meaning line)) s.pairs)).pairs (option_map_or {U = List Event} (told_events s.pairs) o [])
-    at None fit = still s.pairs g
-    at (Some c) fit = command_onward s.pairs g c (fit c refl)
+    at : (o : Option (PairCommand ℕ)) → ((c : PairCommand ℕ) → o ≡ Some c → CommandFits number_texts c)
+        → Onward nat_cmp number_texts s.pairs (option_map_or {U = Stores} (λ c. stores s.numbers (pairs_after nat_cmp s.pairs c)) o (stores (contents_after s.numbers (meaning line)) s.pairs)).pairs (option_map_or {U = List (Event ℕ)} (told_events nat_cmp s.pairs) o [])
+    at None fit = still nat_cmp number_texts s.pairs g
+    at (Some c) fit = command_onward nat_cmp number_texts nat_cmp_total s.pairs g c (fit c refl)
 
-pub both_onward : (t mid after : PairTree) (first rest : List Event) → Onward t mid first → Onward mid after rest → Onward t after (first ++ rest)
-both_onward t mid after first rest a b = record {
-  good = b.good;
-  replayed = replay-append order t.nodes first rest ∙ (ap (option_and_then (λ m. replay order m rest)) a.replayed ∙ b.replayed);
-  next = omega (arith, a.next, b.next, length-append first rest);
-  numbered = numbered-append t.next first rest a.numbered (subst (λ n. IsNumberedFrom n rest) a.next b.numbered);
-  fits = λ less. each-append EventFits first rest (a.fits (omega (arith, less, b.next))) (b.fits less);
-}
-
-pub lines_onward : (s : Stores) → Good s.pairs → (lines : List (List ℕ)) → Onward s.pairs (stores_of s lines).pairs (events_from s lines)
+pub lines_onward : (s : Stores) → Good nat_cmp number_texts s.pairs → (lines : List (List ℕ)) → Onward nat_cmp number_texts s.pairs (stores_of s lines).pairs (events_from s lines)
 unfolding left_by events_from
-lines_onward s g [] = still s.pairs g
+lines_onward s g [] = still nat_cmp number_texts s.pairs g
 lines_onward s g (line ∷ lines) =
     let first = line_onward s g line in
-    both_onward s.pairs (stores_after s line).pairs (stores_of (stores_after s line) lines).pairs (line_events s line) (events_from (stores_after s line) lines) first (lines_onward (stores_after s line) first.good lines)
+    both_onward nat_cmp number_texts s.pairs (stores_after s line).pairs (stores_of (stores_after s line) lines).pairs (line_events s line) (events_from (stores_after s line) lines) first (lines_onward (stores_after s line) first.good lines)
 
 -- the events of a beginning of the lines are a beginning of the events
 pub events_part : (s : Stores) (front back : List (List ℕ)) → events_from s (front ++ back) ≡ events_from s front ++ events_from (stores_of s front) back
@@ -130,11 +56,11 @@ events_part s (line ∷ front) back =
     ap (λ l. line_events s line ++ l) (events_part (stores_after s line) front back)
     ∙ sym (append_assoc (line_events s line) (events_from (stores_after s line) front) (events_from (stores_of (stores_after s line) front) back))
 
-pub no_good : Good no_stores.pairs
+pub no_good : Good nat_cmp number_texts no_stores.pairs
 no_good = record {
   two = omega arith;
   few = omega arith;
-  lawful = none_lawful order 4;
+  lawful = none_lawful (by_key nat_cmp) 4;
   held = tt;
 }
 
@@ -142,13 +68,13 @@ no_good = record {
 
 -- the events of the lines, and what the program holds after them
 module _ (lines : List (List ℕ)) where
-  told : Onward no_stores.pairs (stores_of no_stores lines).pairs (events_of_lines lines)
+  told : Onward nat_cmp number_texts no_stores.pairs (stores_of no_stores lines).pairs (events_of_lines lines)
   told = lines_onward no_stores no_good lines
 
   pub told_numbered : IsNumberedFrom 0 (events_of_lines lines)
   told_numbered = told.numbered
 
-  pub told_replayed : replay order [] (events_of_lines lines) ≡ Some (stores_of no_stores lines).pairs.nodes
+  pub told_replayed : replay (by_key nat_cmp) [] (events_of_lines lines) ≡ Some (stores_of no_stores lines).pairs.nodes
   told_replayed = told.replayed
 
   pub told_count : (stores_of no_stores lines).pairs.next ≡ length (events_of_lines lines)
@@ -160,37 +86,37 @@ module _ (lines : List (List ℕ)) where
       ap (take (length (events_of_lines (take n lines)))) parts ∙ take-append_seam (events_of_lines (take n lines)) (events_from (stores_of no_stores (take n lines)) (drop n lines))
 
   module _ (less : (stores_of no_stores lines).pairs.next < 2 ^ 64) where
-    pub told_fit : All EventFits (events_of_lines lines)
-    told_fit = each_all EventFits (events_of_lines lines) (told.fits (omega (arith, less)))
+    pub told_fit : All (EventFits number_texts) (events_of_lines lines)
+    told_fit = each_all (EventFits number_texts) (events_of_lines lines) (told.fits (omega (arith, less)))
 
-    pub told_feed : IsFeedOfPairs 0 [] (events_of_lines lines)
+    pub told_feed : IsFeedOfPairs nat_cmp 0 [] (events_of_lines lines)
     told_feed = record { numbered = told.numbered; defined = ap is_some told.replayed; fits = omega (arith, told_count, less) }
 
-    start : (w : ℕ) → HoldsFirst 0 [] (events_of_lines lines) 0 (start_state w)
+    start : (w : ℕ) → HoldsFirst nat_cmp 0 [] (events_of_lines lines) 0 (start_state w)
     start w = record { within = omega arith; nodes = refl; next = omega arith }
 
-    module _ (w : ℕ) (delivered : List (List ℕ)) (drawn : All (IsDrawn (events_of_lines lines)) delivered) where
-      pub follower_begins : (k : ℕ) × HoldsFirst 0 [] (events_of_lines lines) k (state_after (start_state w) delivered)
-      follower_begins = let held = beginning 0 [] (events_of_lines lines) told_feed told_fit 0 (start_state w) delivered (start w) tt drawn in (held.0, held.1)
+    module _ (w : ℕ) (delivered : List (List ℕ)) (drawn : All (IsDrawn number_texts (events_of_lines lines)) delivered) where
+      pub follower_begins : (k : ℕ) × HoldsFirst nat_cmp 0 [] (events_of_lines lines) k (state_after nat_cmp number_texts (start_state w) delivered)
+      follower_begins = let held = beginning nat_cmp number_texts number_words 0 [] (events_of_lines lines) told_feed told_fit 0 (start_state w) delivered (start w) tt drawn in (held.0, held.1)
 
       -- a follower that holds what k events lead to, and the program after lines that told as many
-      pub same_nodes : (n : ℕ) → (state_after (start_state w) delivered).held.next ≡ (stores_of no_stores (take n lines)).pairs.next → (state_after (start_state w) delivered).held.nodes ≡ (stores_of no_stores (take n lines)).pairs.nodes
+      pub same_nodes : (n : ℕ) → (state_after nat_cmp number_texts (start_state w) delivered).held.next ≡ (stores_of no_stores (take n lines)).pairs.next → (state_after nat_cmp number_texts (start_state w) delivered).held.nodes ≡ (stores_of no_stores (take n lines)).pairs.nodes
       same_nodes n same =
           let at = follower_begins in
           let front = lines_onward no_stores no_good (take n lines) in
           let count : at.0 ≡ length (events_of_lines (take n lines)) = omega (arith, at.1.next, same, front.next) in
           let first : take at.0 (events_of_lines lines) ≡ events_of_lines (take n lines) = ap (λ k. take k (events_of_lines lines)) count ∙ told_first n in
-          some_inj _ _ (sym at.1.nodes ∙ ap (replay order []) first ∙ front.replayed)
+          some_inj _ _ (sym at.1.nodes ∙ ap (replay (by_key nat_cmp) []) first ∙ front.replayed)
 
       -- a follower that holds what all events lead to holds the program's nodes
-      at_end : HoldsFirst 0 [] (events_of_lines lines) (length (events_of_lines lines)) (state_after (start_state w) delivered) → (state_after (start_state w) delivered).held ≡ copy (stores_of no_stores lines).pairs.nodes (stores_of no_stores lines).pairs.next
+      at_end : HoldsFirst nat_cmp 0 [] (events_of_lines lines) (length (events_of_lines lines)) (state_after nat_cmp number_texts (start_state w) delivered) → (state_after nat_cmp number_texts (start_state w) delivered).held ≡ copy (stores_of no_stores lines).pairs.nodes (stores_of no_stores lines).pairs.next
       at_end at =
-          let nodes : (state_after (start_state w) delivered).held.nodes ≡ (stores_of no_stores lines).pairs.nodes = some_inj _ _ (sym at.nodes ∙ ap (replay order []) (take_all (length (events_of_lines lines)) (events_of_lines lines) (omega arith)) ∙ told.replayed) in
-          let next : (state_after (start_state w) delivered).held.next ≡ (stores_of no_stores lines).pairs.next = omega (arith, at.next, told_count) in
+          let nodes : (state_after nat_cmp number_texts (start_state w) delivered).held.nodes ≡ (stores_of no_stores lines).pairs.nodes = some_inj _ _ (sym at.nodes ∙ ap (replay (by_key nat_cmp) []) (take_all (length (events_of_lines lines)) (events_of_lines lines) (omega arith)) ∙ told.replayed) in
+          let next : (state_after nat_cmp number_texts (start_state w) delivered).held.next ≡ (stores_of no_stores lines).pairs.next = omega (arith, at.next, told_count) in
           λ i. copy (nodes i) (next i)
 
-      pub follower_ends : IsSubsequence (map event_text (events_of_lines lines)) delivered → (state_after (start_state w) delivered).held ≡ copy (stores_of no_stores lines).pairs.nodes (stores_of no_stores lines).pairs.next
-      follower_ends came = at_end (whole 0 [] (events_of_lines lines) told_feed told_fit 0 (start_state w) delivered (start w) tt drawn came)
+      pub follower_ends : IsSubsequence (map (event_text number_texts) (events_of_lines lines)) delivered → (state_after nat_cmp number_texts (start_state w) delivered).held ≡ copy (stores_of no_stores lines).pairs.nodes (stores_of no_stores lines).pairs.next
+      follower_ends came = at_end (whole nat_cmp number_texts number_words 0 [] (events_of_lines lines) told_feed told_fit 0 (start_state w) delivered (start w) tt drawn came)
 
-      pub follower_holds : AreWithin (start_state w) delivered → ((p : ℕ) (e : Event) → 0 ≤ p → slice_get (events_of_lines lines) p ≡ Some e → IsAmong delivered (event_text e)) → (state_after (start_state w) delivered).held ≡ copy (stores_of no_stores lines).pairs.nodes (stores_of no_stores lines).pairs.next
-      follower_holds within came = at_end (all_held 0 [] (events_of_lines lines) told_feed told_fit 0 (start_state w) delivered refl (start w) drawn within came)
+      pub follower_holds : AreWithin nat_cmp number_texts (start_state w) delivered → ((p : ℕ) (e : Event ℕ) → 0 ≤ p → slice_get (events_of_lines lines) p ≡ Some e → IsAmong delivered (event_text number_texts e)) → (state_after nat_cmp number_texts (start_state w) delivered).held ≡ copy (stores_of no_stores lines).pairs.nodes (stores_of no_stores lines).pairs.next
+      follower_holds within came = at_end (all_held nat_cmp number_texts number_words 0 [] (events_of_lines lines) told_feed told_fit 0 (start_state w) delivered refl (start w) drawn within came)

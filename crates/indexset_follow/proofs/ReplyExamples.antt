@@ -15,16 +15,18 @@ use Rattle.indexset_follow.specs.Store.{without_return}
 use Rattle.indexset_follow.specs.declared.others.Others.TheVariants.{Tell, Pass}
 use Rattle.indexset_follow.specs.declared.others.Voice.{Voice}
 use Rattle.indexset_follow.specs.declared.reply.Reply.TheVariants.{Next, Had, Gap, Held}
+use Rattle.std.specs.Ordering.{nat_cmp}
+use Rattle.indexset_bench.specs.Texts.{number_texts}
 
 -- the first pair of a map, and the removal of a key that it lacks
-commands : (command_text (leader_of (fresh 4) 0) (command None (Put 3 30)) ≡ ended (codes "new") ++ ended (codes "0 create 3:30") ++ ended (codes "next 1"))
-    × (command_text (leader_of (fresh 4) 0) (command None (Cut 3)) ≡ ended (codes "none") ++ ended (codes "next 0"))
+commands : (command_text nat_cmp number_texts (leader_of (fresh 4) 0) (command None (Put 3 30)) ≡ ended (codes "new") ++ ended (codes "0 create 3:30") ++ ended (codes "next 1"))
+    × (command_text nat_cmp number_texts (leader_of (fresh 4) 0) (command None (Cut 3)) ≡ ended (codes "none") ++ ended (codes "next 0"))
 unfolding put_events key_removal_events removal_events digits
 commands = (refl, refl)
 
 -- the same with a number, which is or is not the greatest
-numbered : (command_text (leader_of (fresh 4) 0) (command (Some 17) (Put 3 30)) ≡ ended (codes "#17 new") ++ ended (codes "0 create 3:30") ++ ended (codes "done 17 1") ++ ended (codes "next 1"))
-    × (command_text (leader_of (fresh 4) 20) (command (Some 17) (Cut 3)) ≡ ended (codes "#17 none") ++ ended (codes "done 20 0") ++ ended (codes "next 0"))
+numbered : (command_text nat_cmp number_texts (leader_of (fresh 4) 0) (command (Some 17) (Put 3 30)) ≡ ended (codes "#17 new") ++ ended (codes "0 create 3:30") ++ ended (codes "done 17 1") ++ ended (codes "next 1"))
+    × (command_text nat_cmp number_texts (leader_of (fresh 4) 20) (command (Some 17) (Cut 3)) ≡ ended (codes "#17 none") ++ ended (codes "done 20 0") ++ ended (codes "next 0"))
 unfolding put_events key_removal_events removal_events digits
 numbered = (refl, refl)
 

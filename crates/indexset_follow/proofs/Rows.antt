@@ -10,6 +10,7 @@ use Rattle.indexset_bench.proofs.CallerLemmas.{lead_after}
 use Rattle.std.specs.List.{join_with_byte}
 use Rattle.indexset_follow.specs.Reads.{row_text}
 use Rattle.indexset_follow.specs.NodeLine.{node_line}
+use Rattle.indexset_bench.specs.Texts.{Texts}
 
 -- lines for things that are walked over
 module _ {X : Type 0} (text : X → List ℕ) where
@@ -50,14 +51,15 @@ module _ {R X : Type 0} (text : X → List ℕ) (read : R → X) where
         after [] = refl
         after (z ∷ ys) = refl
 
--- ---- the end of a row
+module _ {T : Type 0} (texts : Texts T) where
+  -- ---- the end of a row
 
-pub row_full : (ps : List (Pair ℕ ℕ)) (w w1 w2 : Option (List ℕ)) → lead_after ps ≢ [] → Appends w w1 (node_text ps) → Appends w1 w2 (10 ∷ []) → Appends w w2 (row_text ps)
-row_full [] w w1 w2 some far told = absurd (some refl)
-row_full (p ∷ ps) w w1 w2 some far told = Appends-trans w w1 w2 (node_text (p ∷ ps)) (10 ∷ []) far told
+  pub row_full : (ps : List (Pair T T)) (w w1 w2 : Option (List ℕ)) → lead_after ps ≢ [] → Appends w w1 (node_text texts ps) → Appends w1 w2 (10 ∷ []) → Appends w w2 (row_text texts ps)
+  row_full [] w w1 w2 some far told = absurd (some refl)
+  row_full (p ∷ ps) w w1 w2 some far told = Appends-trans w w1 w2 (node_text texts (p ∷ ps)) (10 ∷ []) far told
 
--- ---- a node of a snapshot
+  -- ---- a node of a snapshot
 
--- the word of a node's line, and then the node
-pub node_written : (n : List (Pair ℕ ℕ)) (w w1 w2 : Option (List ℕ)) → Appends w w1 (codes "node ") → Appends w1 w2 (ended (node_text n)) → Appends w w2 (ended (node_line n))
-node_written n w w1 w2 word told = subst (Appends w w2) (sym (append_assoc (codes "node ") (node_text n) (10 ∷ []))) (Appends-trans w w1 w2 (codes "node ") (ended (node_text n)) word told)
+  -- the word of a node's line, and then the node
+  pub node_written : (n : List (Pair T T)) (w w1 w2 : Option (List ℕ)) → Appends w w1 (codes "node ") → Appends w1 w2 (ended (node_text texts n)) → Appends w w2 (ended (node_line texts n))
+  node_written n w w1 w2 word told = subst (Appends w w2) (sym (append_assoc (codes "node ") (node_text texts n) (10 ∷ []))) (Appends-trans w w1 w2 (codes "node ") (ended (node_text texts n)) word told)

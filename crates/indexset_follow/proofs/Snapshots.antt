@@ -9,7 +9,7 @@ use Rattle.std.proofs.lemmas.List.Elements.{All-append, All-cons, All-head, All-
 use Rattle.std.proofs.lemmas.List.Sums.{sum_by-cons}
 use Rattle.std.specs.Fmt.{decimal}
 use Rattle.std.specs.List.{All, list_all}
-use Rattle.std.specs.Ordering.{is_lt, nat_cmp}
+use Rattle.std.specs.Ordering.{is_lt}
 use Rattle.indexset_lines.specs.Run.{left_by}
 use Rattle.indexset_lines.proofs.CallerLemmas.{left_by-append, lines_of-line}
 use Rattle.std.proofs.lemmas.Bool.{eq-eqb, eqb-true}
@@ -27,7 +27,8 @@ use Rattle.indexset_follow.specs.Copy.{Copy, copy, end_line, snapshot_text, sum_
 use Rattle.indexset_follow.specs.Follow.{State, after_event, after_line, after_mark, after_node, holding, put_in_place, state_after, with_coming, with_done}
 use Rattle.indexset_follow.specs.NodeLine.{NodeFits, node_line, node_of}
 use Rattle.indexset_events.specs.Spelling.{cut_at}
-use Rattle.indexset_follow.specs.Numbers.{PairFits, tail_text}
+use Rattle.indexset_follow.specs.Numbers.{tail_text}
+use Rattle.indexset_bench.specs.Texts.{AreWords, PairFits, Texts}
 use Rattle.indexset_follow.specs.Mark.{LacksEnd, MarkFits, mark_line, mark_of}
 use Rattle.indexset_follow.specs.declared.mark.Mark.TheVariants.{Start, End, Done}
 use Rattle.indexset_follow.specs.declared.mark.Mark.{Mark}
@@ -83,69 +84,75 @@ module _ {T : Type 0} (cmp : T → T → Ordering) where
         let rise = up_true cmp n (up-left cmp n (joined rest) (up-right cmp (joined done) (n ++ joined rest) whole)) in
         not_refused cmp (length n) done n full (omega arith) rise (all_apart done n below)
 
--- ---- lines
+module _ {T : Type 0} where
+  -- ---- lines
 
--- a snapshot is coming
-abbrev coming : State → Copy → ℕ → State
-coming s came d = with_coming s (Some came) d
+  -- a snapshot is coming
+  abbrev coming : State T → Copy T → ℕ → State T
+  coming s came d = with_coming s (Some came) d
 
-mark_line_told : (s : State) (m : Mark) → MarkFits m → event_of (mark_line m) ≡ None → node_of (mark_line m) ≡ None → after_line s (mark_line m) ≡ after_mark s m
-mark_line_told s m fit event node = rw (event, node, mark_told m fit) refl
+module _ {T : Type 0} (cmp : T → T → Ordering) (texts : Texts T) where
+  mark_line_told : (s : State T) (m : Mark) → MarkFits m → event_of texts (mark_line m) ≡ None → node_of texts (mark_line m) ≡ None → after_line cmp texts s (mark_line m) ≡ after_mark texts s m
+  mark_line_told s m fit event node = rw (event, node, mark_told m fit) refl
 
-start_told : (s : State) (n d : ℕ) → n < 2 ^ 64 → d < 2 ^ 64 → after_line s (mark_line (Start n d)) ≡ coming s (copy [] n) d
-start_told s n d small less =
-    let word = no_number 115 (codes "tart") (omega arith) in
-    mark_line_told s (Start n d) (small, less) (rw (start_cut n d, word) refl) (rw (start_cut n d) refl)
+  start_told : (s : State T) (n d : ℕ) → n < 2 ^ 64 → d < 2 ^ 64 → after_line cmp texts s (mark_line (Start n d)) ≡ coming s (copy [] n) d
+  start_told s n d small less =
+      let word = no_number 115 (codes "tart") (omega arith) in
+      mark_line_told s (Start n d) (small, less) (rw (start_cut n d, word) refl) (rw (start_cut n d) refl)
 
-end_told : (s : State) (count sum : ℕ) → count < 2 ^ 64 → sum < 2 ^ 64 → after_line s (mark_line (End count sum)) ≡ after_mark s (End count sum)
-end_told s count sum few small =
-    let word = no_number 101 (codes "nd") (omega arith) in
-    mark_line_told s (End count sum) (few, small) (rw (end_cut count sum, word) refl) (rw (end_cut count sum) refl)
+  end_told : (s : State T) (count sum : ℕ) → count < 2 ^ 64 → sum < 2 ^ 64 → after_line cmp texts s (mark_line (End count sum)) ≡ after_mark texts s (End count sum)
+  end_told s count sum few small =
+      let word = no_number 101 (codes "nd") (omega arith) in
+      mark_line_told s (End count sum) (few, small) (rw (end_cut count sum, word) refl) (rw (end_cut count sum) refl)
 
--- what came whole takes the place of what is held
-whole_put : (s : State) (came : Copy) (d : ℕ) → after_mark (coming s came d) (End (length came.nodes) (sum_of came d)) ≡ holding s.window came d
-whole_put s came d = rw (eq-eqb (length came.nodes) (length came.nodes) refl, eq-eqb (sum_of came d) (sum_of came d) refl) refl
+module _ {T : Type 0} (texts : Texts T) where
+  -- what came whole takes the place of what is held
+  whole_put : (s : State T) (came : Copy T) (d : ℕ) → after_mark texts (coming s came d) (End (length came.nodes) (sum_of texts came d)) ≡ holding s.window came d
+  whole_put s came d = rw (eq-eqb (length came.nodes) (length came.nodes) refl, eq-eqb (sum_of texts came d) (sum_of texts came d) refl) refl
 
-node_line_told : (s : State) (n : List (Pair ℕ ℕ)) → NodeFits n → after_line s (node_line n) ≡ after_node s n
-node_line_told s n fit =
-    let cut : cut_at 32 (node_line n) ≡ Some (codes "node", node_text n) = cut_told 32 (codes "node") (node_text n) (lacks_tested 32 (codes "node") refl) in
-    let word = no_number 110 (codes "ode") (omega arith) in
-    let event : event_of (node_line n) ≡ None = rw (cut, word) refl in
-    rw (event, node_told n fit) refl
+module _ {T : Type 0} (cmp : T → T → Ordering) (texts : Texts T) (spelled : AreWords texts) where
+  node_line_told : (s : State T) (n : List (Pair T T)) → NodeFits texts n → after_line cmp texts s (node_line texts n) ≡ after_node cmp s n
+  node_line_told s n fit =
+      let cut : cut_at 32 (node_line texts n) ≡ Some (codes "node", node_text texts n) = cut_told 32 (codes "node") (node_text texts n) (lacks_tested 32 (codes "node") refl) in
+      let word = no_number 110 (codes "ode") (omega arith) in
+      let event : event_of texts (node_line texts n) ≡ None = rw (cut, word) refl in
+      rw (event, node_told texts spelled n fit) refl
 
--- the nodes, one line after the other
-filled_up : (s : State) (next d : ℕ) (done rest : List (List (Pair ℕ ℕ))) → Ruled (by_key nat_cmp) (done ++ rest) → All NodeFits rest → state_after (coming s (copy done next) d) (map node_line rest) ≡ coming s (copy (done ++ rest) next) d
-unfolding left_by
-filled_up s next d done [] rule fit = ap (λ ns. coming s (copy ns next) d) (sym (append-nil done))
-filled_up s next d done (n ∷ rest) rule fit =
-    let one = node_line_told (coming s (copy done next) d) n (All-head NodeFits n rest fit) in
-    let held : after_node (coming s (copy done next) d) n ≡ coming s (copy (done ++ n ∷ []) next) d = rw (fits_behind (by_key nat_cmp) done rest n rule, goes_behind (by_key nat_cmp) done rest n rule) refl in
-    let more : (done ++ n ∷ []) ++ rest ≡ done ++ n ∷ rest = append_assoc done (n ∷ []) rest in
-    ap (λ r. state_after r (map node_line rest)) (one ∙ held)
-    ∙ filled_up s next d (done ++ n ∷ []) rest (subst (Ruled (by_key nat_cmp)) (sym more) rule) (All-tail NodeFits n rest fit)
-    ∙ ap (λ ns. coming s (copy ns next) d) more
+  -- the nodes, one line after the other
+  filled_up : (s : State T) (next d : ℕ) (done rest : List (List (Pair T T))) → Ruled (by_key cmp) (done ++ rest) → All (NodeFits texts) rest → state_after cmp texts (coming s (copy done next) d) (map (node_line texts) rest) ≡ coming s (copy (done ++ rest) next) d
+  unfolding left_by
+  filled_up s next d done [] rule fit = ap (λ ns. coming s (copy ns next) d) (sym (append-nil done))
+  filled_up s next d done (n ∷ rest) rule fit =
+      let one = node_line_told (coming s (copy done next) d) n (All-head (NodeFits texts) n rest fit) in
+      let held : after_node cmp (coming s (copy done next) d) n ≡ coming s (copy (done ++ n ∷ []) next) d = rw (fits_behind (by_key cmp) done rest n rule, goes_behind (by_key cmp) done rest n rule) refl in
+      let more : (done ++ n ∷ []) ++ rest ≡ done ++ n ∷ rest = append_assoc done (n ∷ []) rest in
+      ap (λ r. state_after cmp texts r (map (node_line texts) rest)) (one ∙ held)
+      ∙ filled_up s next d (done ++ n ∷ []) rest (subst (Ruled (by_key cmp)) (sym more) rule) (All-tail (NodeFits texts) n rest fit)
+      ∙ ap (λ ns. coming s (copy ns next) d) more
 
--- ---- the text of a snapshot is cut into its lines
+module _ {T : Type 0} (texts : Texts T) (spelled : AreWords texts) where
+  -- ---- the text of a snapshot is cut into its lines
 
-pub row_lacks : (ps : List (Pair ℕ ℕ)) → All PairFits ps → Lacks 10 (node_text ps)
-row_lacks [] fit = All-nil (λ x. x ≢ 10)
-row_lacks (p ∷ []) fit = pair_lacks 10 end_apart p (All-head PairFits p [] fit)
-row_lacks (p ∷ q ∷ ps) fit =
-    All-append (λ x. x ≢ 10) (pair_text p) (32 ∷ node_text (q ∷ ps)) (pair_lacks 10 end_apart p (All-head PairFits p (q ∷ ps) fit))
-    (All-cons (λ x. x ≢ 10) 32 (node_text (q ∷ ps)) (omega arith) (row_lacks (q ∷ ps) (All-tail PairFits p (q ∷ ps) fit)))
+  pub row_lacks : (ps : List (Pair T T)) → All (PairFits texts) ps → Lacks 10 (node_text texts ps)
+  row_lacks [] fit = All-nil (λ x. x ≢ 10)
+  row_lacks (p ∷ []) fit = pair_lacks texts 10 (end_apart texts spelled) p (All-head (PairFits texts) p [] fit)
+  row_lacks (p ∷ q ∷ ps) fit =
+      All-append (λ x. x ≢ 10) (pair_text texts p) (32 ∷ node_text texts (q ∷ ps)) (pair_lacks texts 10 (end_apart texts spelled) p (All-head (PairFits texts) p (q ∷ ps) fit))
+      (All-cons (λ x. x ≢ 10) 32 (node_text texts (q ∷ ps)) (omega arith) (row_lacks (q ∷ ps) (All-tail (PairFits texts) p (q ∷ ps) fit)))
 
-node_line_lacks : (n : List (Pair ℕ ℕ)) → NodeFits n → HasNoEnd (node_line n)
-node_line_lacks n fit = All-append (λ x. x ≢ 10) (codes "node ") (node_text n) (lacks_tested 10 (codes "node ") refl) (row_lacks n fit.1)
+  node_line_lacks : (n : List (Pair T T)) → NodeFits texts n → HasNoEnd (node_line texts n)
+  node_line_lacks n fit = All-append (λ x. x ≢ 10) (codes "node ") (node_text texts n) (lacks_tested 10 (codes "node ") refl) (row_lacks n fit.1)
 
 pub first_line : (line rest : List ℕ) → HasNoEnd line → lines_of (ended line ++ rest) ≡ line ∷ lines_of rest
 first_line line rest none = ap lines_of (append_assoc line (10 ∷ []) rest) ∙ lines_of-line line rest none
 
-node_lines : (ns : List (List (Pair ℕ ℕ))) (rest : List ℕ) → All NodeFits ns → lines_of (lines_for node_line ns ++ rest) ≡ map node_line ns ++ lines_of rest
-node_lines [] rest fit = refl
-node_lines (n ∷ ns) rest fit =
-    ap lines_of (append_assoc (ended (node_line n)) (lines_for node_line ns) rest)
-    ∙ first_line (node_line n) (lines_for node_line ns ++ rest) (node_line_lacks n (All-head NodeFits n ns fit))
-    ∙ ap (λ ls. node_line n ∷ ls) (node_lines ns rest (All-tail NodeFits n ns fit))
+module _ {T : Type 0} (texts : Texts T) (spelled : AreWords texts) where
+  node_lines : (ns : List (List (Pair T T))) (rest : List ℕ) → All (NodeFits texts) ns → lines_of (lines_for (node_line texts) ns ++ rest) ≡ map (node_line texts) ns ++ lines_of rest
+  node_lines [] rest fit = refl
+  node_lines (n ∷ ns) rest fit =
+      ap lines_of (append_assoc (ended (node_line texts n)) (lines_for (node_line texts) ns) rest)
+      ∙ first_line (node_line texts n) (lines_for (node_line texts) ns ++ rest) (node_line_lacks texts spelled n (All-head (NodeFits texts) n ns fit))
+      ∙ ap (λ ls. node_line texts n ∷ ls) (node_lines ns rest (All-tail (NodeFits texts) n ns fit))
 
 tail_lacks : (d : ℕ) → d < 2 ^ 64 → (b : Bool) → HasNoEnd (if b then [] else 32 ∷ decimal d)
 tail_lacks d less true = All-nil (λ x. x ≢ 10)
@@ -164,56 +171,59 @@ mark_lacks (Done d n) fit =
     (All-append (λ x. x ≢ 10) (decimal d) (32 ∷ decimal n) (number_lacks 10 (omega arith) d fit.0)
     (All-cons (λ x. x ≢ 10) 32 (decimal n) (omega arith) (number_lacks 10 (omega arith) n fit.1)))
 
-module _ (c : Copy) (d : ℕ) (small : c.next < 2 ^ 64) (less : d < 2 ^ 64) (few : length c.nodes < 2 ^ 64) (fit : All NodeFits c.nodes) where
-  snapshot_lines : lines_of (snapshot_text c d) ≡ mark_line (Start c.next d) ∷ (map node_line c.nodes ++ end_line c d ∷ [])
-  unfolding lines_of
-  snapshot_lines =
-      ap lines_of (append_assoc (ended (mark_line (Start c.next d))) (lines_for node_line c.nodes) (ended (end_line c d)))
-      ∙ first_line (mark_line (Start c.next d)) (lines_for node_line c.nodes ++ ended (end_line c d)) (mark_lacks (Start c.next d) (small, less))
-      ∙ ap (λ ls. mark_line (Start c.next d) ∷ ls)
-      (node_lines c.nodes (ended (end_line c d)) fit ∙ ap (λ ls. map node_line c.nodes ++ ls) (lines_of-line (end_line c d) [] (mark_lacks (End (length c.nodes) (sum_of c d)) (few, sum_small c d))))
+module _ {T : Type 0} (cmp : T → T → Ordering) (texts : Texts T) (spelled : AreWords texts) where
+  module _ (c : Copy T) (d : ℕ) (small : c.next < 2 ^ 64) (less : d < 2 ^ 64) (few : length c.nodes < 2 ^ 64) (fit : All (NodeFits texts) c.nodes) where
+    snapshot_lines : lines_of (snapshot_text texts c d) ≡ mark_line (Start c.next d) ∷ (map (node_line texts) c.nodes ++ end_line texts c d ∷ [])
+    unfolding lines_of
+    snapshot_lines =
+        ap lines_of (append_assoc (ended (mark_line (Start c.next d))) (lines_for (node_line texts) c.nodes) (ended (end_line texts c d)))
+        ∙ first_line (mark_line (Start c.next d)) (lines_for (node_line texts) c.nodes ++ ended (end_line texts c d)) (mark_lacks (Start c.next d) (small, less))
+        ∙ ap (λ ls. mark_line (Start c.next d) ∷ ls)
+        (node_lines texts spelled c.nodes (ended (end_line texts c d)) fit ∙ ap (λ ls. map (node_line texts) c.nodes ++ ls) (lines_of-line (end_line texts c d) [] (mark_lacks (End (length c.nodes) (sum_of texts c d)) (few, sum_small texts c d))))
 
-  pub snapshot_taken : (t : State) → IsNodeList (by_key nat_cmp) c.nodes → state_after t (lines_of (snapshot_text c d)) ≡ holding t.window c d
+    pub snapshot_taken : (t : State T) → IsNodeList (by_key cmp) c.nodes → state_after cmp texts t (lines_of (snapshot_text texts c d)) ≡ holding t.window c d
+    unfolding left_by
+    snapshot_taken t lawful =
+        ap (state_after cmp texts t) snapshot_lines
+        ∙ ap (λ r. state_after cmp texts r (map (node_line texts) c.nodes ++ end_line texts c d ∷ [])) (start_told cmp texts t c.next d small less)
+        ∙ left_by-append (after_line cmp texts) (coming t (copy [] c.next) d) (map (node_line texts) c.nodes) (end_line texts c d ∷ [])
+        ∙ ap (λ r. after_line cmp texts r (end_line texts c d)) (filled_up cmp texts spelled t c.next d [] c.nodes (nodes_ruled (by_key cmp) c.nodes lawful) fit)
+        ∙ end_told cmp texts (coming t c d) (length c.nodes) (sum_of texts c d) few (sum_small texts c d)
+        ∙ whole_put texts t c d
+
+module _ {T : Type 0} (cmp : T → T → Ordering) (texts : Texts T) where
+  -- ---- until the end
+
+  held_still : (s : State T) (line : List ℕ) → LacksEnd texts line → (after_line cmp texts s line).held ≡ s.held
+  held_still s line lacks = at (event_of texts line) lacks.0 (node_of texts line) (mark_of line) lacks.1
+    where
+      told : (d : ℕ) (b : Bool) → (if b then s else with_done s d).held ≡ s.held
+      told d true = refl
+      told d false = refl
+
+      at : (e : Option (Event T)) → e ≡ None → (n : Option (List (Pair T T))) (m : Option Mark) → ((count sum : ℕ) → m ≢ Some (End count sum))
+          → (option_map_or {U = State T} (after_event cmp s) e (option_map_or (after_node cmp s) n (option_map_or (after_mark texts s) m s))).held ≡ s.held
+      at (Some e) none n m no_end = absurd (cc)
+      at None none (Some n) m no_end = refl
+      at None none None None no_end = refl
+      at None none None (Some (Start n d)) no_end = refl
+      at None none None (Some (End count sum)) no_end = absurd (no_end count sum refl)
+      at None none None (Some (Done d n)) no_end = told d (nat_lt s.held.next n)
+
+  pub held_before : (s : State T) (lines : List (List ℕ)) → All (LacksEnd texts) lines → (state_after cmp texts s lines).held ≡ s.held
   unfolding left_by
-  snapshot_taken t lawful =
-      ap (state_after t) snapshot_lines
-      ∙ ap (λ r. state_after r (map node_line c.nodes ++ end_line c d ∷ [])) (start_told t c.next d small less)
-      ∙ left_by-append after_line (coming t (copy [] c.next) d) (map node_line c.nodes) (end_line c d ∷ [])
-      ∙ ap (λ r. after_line r (end_line c d)) (filled_up t c.next d [] c.nodes (nodes_ruled (by_key nat_cmp) c.nodes lawful) fit)
-      ∙ end_told (coming t c d) (length c.nodes) (sum_of c d) few (sum_small c d)
-      ∙ whole_put t c d
+  held_before s [] lack = refl
+  held_before s (line ∷ lines) lack = held_before (after_line cmp texts s line) lines (All-tail (LacksEnd texts) line lines lack) ∙ held_still s line (All-head (LacksEnd texts) line lines lack)
 
--- ---- until the end
-
-held_still : (s : State) (line : List ℕ) → LacksEnd line → (after_line s line).held ≡ s.held
-held_still s line lacks = at (event_of line) lacks.0 (node_of line) (mark_of line) lacks.1
-  where
-    told : (d : ℕ) (b : Bool) → (if b then s else with_done s d).held ≡ s.held
-    told d true = refl
-    told d false = refl
-
-    at : (e : Option Event) → e ≡ None → (n : Option (List (Pair ℕ ℕ))) (m : Option Mark) → ((count sum : ℕ) → m ≢ Some (End count sum))
-        → (option_map_or {U = State} (after_event s) e (option_map_or (after_node s) n (option_map_or (after_mark s) m s))).held ≡ s.held
-    at (Some e) none n m no_end = absurd (cc)
-    at None none (Some n) m no_end = refl
-    at None none None None no_end = refl
-    at None none None (Some (Start n d)) no_end = refl
-    at None none None (Some (End count sum)) no_end = absurd (no_end count sum refl)
-    at None none None (Some (Done d n)) no_end = told d (nat_lt s.held.next n)
-
-pub held_before : (s : State) (lines : List (List ℕ)) → All LacksEnd lines → (state_after s lines).held ≡ s.held
-unfolding left_by
-held_before s [] lack = refl
-held_before s (line ∷ lines) lack = held_before (after_line s line) lines (All-tail LacksEnd line lines lack) ∙ held_still s line (All-head LacksEnd line lines lack)
-
-pub wrong_end : (s : State) (came : Copy) (count sum : ℕ) → s.coming ≡ Some came → (length came.nodes ≢ count) ⊎ (sum_of came s.coming_done ≢ sum) → after_mark s (End count sum) ≡ with_coming s None 0
-wrong_end s came count sum is other = rw is (at (length came.nodes == count) refl (sum_of came s.coming_done == sum) refl)
-  where
-    at : (a : Bool) → (length came.nodes == count) ≡ a → (b : Bool) → (sum_of came s.coming_done == sum) ≡ b → put_in_place count sum s came ≡ with_coming s None 0
-    at false few b same = rw few refl
-    at true few false same = rw (few, same) refl
-    at true few true same =
-        elim other [
-          | inl many ↦ absurd (many (eqb-true (length came.nodes) count few))
-          | inr apart ↦ absurd (apart (eqb-true (sum_of came s.coming_done) sum same))
-        ]
+module _ {T : Type 0} (texts : Texts T) where
+  pub wrong_end : (s : State T) (came : Copy T) (count sum : ℕ) → s.coming ≡ Some came → (length came.nodes ≢ count) ⊎ (sum_of texts came s.coming_done ≢ sum) → after_mark texts s (End count sum) ≡ with_coming s None 0
+  wrong_end s came count sum is other = rw is (at (length came.nodes == count) refl (sum_of texts came s.coming_done == sum) refl)
+    where
+      at : (a : Bool) → (length came.nodes == count) ≡ a → (b : Bool) → (sum_of texts came s.coming_done == sum) ≡ b → put_in_place texts count sum s came ≡ with_coming s None 0
+      at false few b same = rw few refl
+      at true few false same = rw (few, same) refl
+      at true few true same =
+          elim other [
+            | inl many ↦ absurd (many (eqb-true (length came.nodes) count few))
+            | inr apart ↦ absurd (apart (eqb-true (sum_of texts came s.coming_done) sum same))
+          ]

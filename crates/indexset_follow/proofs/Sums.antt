@@ -7,6 +7,7 @@ use Rattle.std.specs.List.{All}
 use Rattle.sha2.specs.Sha256.{digest_bytes, sha256}
 use Rattle.std.specs.Prelude.{slice_index}
 use Rattle.indexset_follow.specs.Copy.{Copy, body_text, sum_of}
+use Rattle.indexset_bench.specs.Texts.{Texts}
 
 abbrev IsByte : ℕ → Type 0
 IsByte b = b < 256
@@ -41,9 +42,10 @@ eight_small : (bs : List ℕ) → All IsByte bs → from_be_bytes w64 bs < 2 ^ 6
 eight_small bs small =
     omega (arith, at_small bs small 0, at_small bs small 1, at_small bs small 2, at_small bs small 3, at_small bs small 4, at_small bs small 5, at_small bs small 6, at_small bs small 7)
 
-pub sum_small : (c : Copy) (d : ℕ) → sum_of c d < 2 ^ 64
-unfolding sum_of sha256
-sum_small c d = eight_small (take 8 (sha256 (body_text c d))) (take_small 8 (sha256 (body_text c d)) (digest_small _ 8))
+module _ {T : Type 0} (texts : Texts T) where
+  pub sum_small : (c : Copy T) (d : ℕ) → sum_of texts c d < 2 ^ 64
+  unfolding sum_of sha256
+  sum_small c d = eight_small (take 8 (sha256 (body_text texts c d))) (take_small 8 (sha256 (body_text texts c d)) (digest_small _ 8))
 
 -- ---- the first bytes of the digest
 

@@ -3,6 +3,7 @@ use Rattle.std.specs.Prelude.{ℕ, List, ◌++◌, length, take}
 use Rattle.std.specs.Int.{w64, from_be_bytes}
 use Rattle.sha2.specs.Sha256.{sha256}
 use Rattle.indexset_bench.specs.PairText.{ended, lines_for}
+use Rattle.indexset_bench.specs.Texts.{Texts}
 use Rattle.indexset_core.specs.declared.pair.Pair.{Pair}
 use Rattle.indexset_replica.specs.Replica.{ReplicaState}
 use Rattle.indexset_follow.specs.Mark.{mark_line}
@@ -10,24 +11,25 @@ use Rattle.indexset_follow.specs.NodeLine.{node_line}
 use Rattle.indexset_follow.specs.declared.mark.Mark.TheVariants.{Start, End}
 
 -- its nodes, and the number of the event that is awaited
-abbrev pub Copy : Type 0
-Copy = ReplicaState (Pair ℕ ℕ)
+abbrev pub Copy : Type 0 → Type 0
+Copy T = ReplicaState (Pair T T)
 
-abbrev pub copy : List (List (Pair ℕ ℕ)) → ℕ → Copy
+abbrev pub copy : {T : Type 0} → List (List (Pair T T)) → ℕ → Copy T
 copy ns n = record { nodes = ns; next = n }
 
--- the lines of a snapshot before its last, where d is the greatest number of a command
-abbrev pub body_text : Copy → ℕ → List ℕ
-body_text c d = ended (mark_line (Start c.next d)) ++ lines_for node_line c.nodes
+module _ {T : Type 0} (texts : Texts T) where
+  -- the lines of a snapshot before its last, where d is the greatest number of a command
+  abbrev pub body_text : Copy T → ℕ → List ℕ
+  body_text c d = ended (mark_line (Start c.next d)) ++ lines_for (node_line texts) c.nodes
 
--- the first 64 bits of the SHA-256 of these
-unfoldable pub sum_of : Copy → ℕ → ℕ
-sum_of c d = from_be_bytes w64 (take 8 (sha256 (body_text c d)))
+  -- the first 64 bits of the SHA-256 of these
+  unfoldable pub sum_of : Copy T → ℕ → ℕ
+  sum_of c d = from_be_bytes w64 (take 8 (sha256 (body_text c d)))
 
--- the line that ends a snapshot: how many nodes it has, and its sum
-abbrev pub end_line : Copy → ℕ → List ℕ
-end_line c d = mark_line (End (length c.nodes) (sum_of c d))
+  -- the line that ends a snapshot: how many nodes it has, and its sum
+  abbrev pub end_line : Copy T → ℕ → List ℕ
+  end_line c d = mark_line (End (length c.nodes) (sum_of c d))
 
--- the lines that make another follower the same
-abbrev pub snapshot_text : Copy → ℕ → List ℕ
-snapshot_text c d = body_text c d ++ ended (end_line c d)
+  -- the lines that make another follower the same
+  abbrev pub snapshot_text : Copy T → ℕ → List ℕ
+  snapshot_text c d = body_text c d ++ ended (end_line c d)

@@ -12,46 +12,52 @@ use Rattle.indexset_follow.specs.EventLine.{Event}
 use Rattle.indexset_follow.specs.declared.reason.Reason.TheVariants.{Refused}
 use Rattle.indexset_follow.specs.declared.reply.Reply.{Reply}
 use Rattle.indexset_follow.specs.declared.reply.Reply.TheVariants as reply
+use Rattle.std.specs.declared.cmp.Ordering.{Ordering}
 
 -- events by their numbers, which ascend
-abbrev pub EarlyEvents : Type 0
-EarlyEvents = List (Pair ℕ Event)
+abbrev pub EarlyEvents : Type 0 → Type 0
+EarlyEvents T = List (Pair ℕ (Event T))
 
--- each has the property, and their numbers ascend from n on
-abbrev pub AscendFrom : (Pair ℕ Event → Type 0) → ℕ → EarlyEvents → Type 0
-AscendFrom Q n [] = Unit {0}
-AscendFrom Q n (p ∷ early) = (n ≤ p.key) × Q p × AscendFrom Q (p.key + 1) early
+module _ {T : Type 0} where
+  -- each has the property, and their numbers ascend from n on
+  abbrev pub AscendFrom : (Pair ℕ (Event T) → Type 0) → ℕ → EarlyEvents T → Type 0
+  AscendFrom Q n [] = Unit {0}
+  AscendFrom Q n (p ∷ early) = (n ≤ p.key) × Q p × AscendFrom Q (p.key + 1) early
 
--- the event among them, in place of one of the same number
-abbrev pub with_early : EarlyEvents → Event → EarlyEvents
-with_early early e = put_value nat_cmp early (event_number e) e
+  -- the event among them, in place of one of the same number
+  abbrev pub with_early : EarlyEvents T → Event T → EarlyEvents T
+  with_early early e = put_value nat_cmp early (event_number e) e
 
--- the first of their numbers, or n where there is none
-abbrev pub first_number : EarlyEvents → ℕ → ℕ
-first_number early n = option_map_or (λ p. p.key) (slice_get early 0) n
+  -- the first of their numbers, or n where there is none
+  abbrev pub first_number : EarlyEvents T → ℕ → ℕ
+  first_number early n = option_map_or (λ p. p.key) (slice_get early 0) n
 
--- the awaited event makes its step where it is one; any other event changes nothing
-abbrev pub copy_after : Copy → Event → Copy
-copy_after c e = unwrap_or (delivered (by_key nat_cmp) c e) c
+module _ {T : Type 0} (cmp : T → T → Ordering) where
+  -- the awaited event makes its step where it is one; any other event changes nothing
+  abbrev pub copy_after : Copy T → Event T → Copy T
+  copy_after c e = unwrap_or (delivered (by_key cmp) c e) c
 
 -- what is held, the events that are early, and the reply
-pub record Taken : Type 0 where
-  pub held : Copy
-  pub early : EarlyEvents
+pub record Taken (T : Type 0) : Type 0 where
+  pub held : Copy T
+  pub early : EarlyEvents T
   pub reply : Reply
 
-abbrev pub taken : Copy → EarlyEvents → Reply → Taken
-taken c early r = record { held = c; early = early; reply = r }
+module _ {T : Type 0} where
+  abbrev pub taken : Copy T → EarlyEvents T → Reply → Taken T
+  taken c early r = record { held = c; early = early; reply = r }
 
--- the events make their steps one after another, while the first is the awaited one; one that is no step is dropped, and ends it
-unfoldable pub caught_up : Copy → EarlyEvents → Taken
-caught_up c [] = taken c [] (reply.Next c.next)
-caught_up c (p ∷ early) =
-    if p.key == c.next
-    then option_map_or (λ cause. taken c early (reply.Unfit c.next (Refused cause))) (apply_refusal (by_key nat_cmp) c.nodes c.next p.value) (caught_up (copy_after c p.value) early)
-    else taken c (p ∷ early) (reply.Next c.next)
+module _ {T : Type 0} (cmp : T → T → Ordering) where
+  -- the events make their steps one after another, while the first is the awaited one; one that is no step is dropped, and ends it
+  unfoldable pub caught_up : Copy T → EarlyEvents T → Taken T
+  caught_up c [] = taken c [] (reply.Next c.next)
+  caught_up c (p ∷ early) =
+      if p.key == c.next
+      then option_map_or (λ cause. taken c early (reply.Unfit c.next (Refused cause))) (apply_refusal (by_key cmp) c.nodes c.next p.value) (caught_up (copy_after cmp c p.value) early)
+      else taken c (p ∷ early) (reply.Next c.next)
 
--- the events whose numbers go on by one from n, from the first on
-abbrev pub consecutive : ℕ → EarlyEvents → List Event
-consecutive n [] = []
-consecutive n (p ∷ early) = if p.key == n then p.value ∷ consecutive (n + 1) early else []
+module _ {T : Type 0} where
+  -- the events whose numbers go on by one from n, from the first on
+  abbrev pub consecutive : ℕ → EarlyEvents T → List (Event T)
+  consecutive n [] = []
+  consecutive n (p ∷ early) = if p.key == n then p.value ∷ consecutive (n + 1) early else []

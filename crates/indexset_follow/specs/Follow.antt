@@ -1,7 +1,6 @@
 -- What a line does to a follower, and the text that answers it.
 use Rattle.std.specs.Prelude.{ℕ, ◌+◌, ◌≤◌, ◌==◌, is_none, not, if◌then◌else◌, nat_le, nat_lt, List, [], ◌∷◌, length, max, Option, Some, None}
 use Rattle.std.specs.Option.{option_map, option_map_or}
-use Rattle.std.specs.Ordering.{nat_cmp}
 use Rattle.indexset_lines.specs.Run.{left_by}
 use Rattle.indexset_core.specs.Pairs.{by_key, pair}
 use Rattle.indexset_core.specs.declared.pair.Pair.{Pair}
@@ -23,108 +22,117 @@ use Rattle.indexset_follow.specs.declared.reason.Reason.{Reason}
 use Rattle.indexset_follow.specs.declared.reason.Reason.TheVariants.{Refused, NotBegun, Count, Sum}
 use Rattle.indexset_follow.specs.declared.reply.Reply.{Reply}
 use Rattle.indexset_follow.specs.declared.reply.Reply.TheVariants as reply
+use Rattle.std.specs.declared.cmp.Ordering.{Ordering}
+use Rattle.indexset_bench.specs.Texts.{Texts}
 
 -- what is held, and the snapshot that has begun and not ended
-abbrev pub State : Type 0
-State = Follower
+abbrev pub State : Type 0 → Type 0
+State T = Follower T
 
--- a copy and the greatest number of a command are held with a window, no snapshot has begun, and no event is early
-abbrev pub holding : ℕ → Copy → ℕ → State
-holding window c d = record { held = c; done = d; coming = None; coming_done = 0; window = window; early = [] }
+module _ {T : Type 0} where
+  -- a copy and the greatest number of a command are held with a window, no snapshot has begun, and no event is early
+  abbrev pub holding : ℕ → Copy T → ℕ → State T
+  holding window c d = record { held = c; done = d; coming = None; coming_done = 0; window = window; early = [] }
 
--- another snapshot comes with its greatest number of a command, or none
-abbrev pub with_coming : State → Option Copy → ℕ → State
-with_coming s c d = record { held = s.held; done = s.done; coming = c; coming_done = d; window = s.window; early = s.early }
+  -- another snapshot comes with its greatest number of a command, or none
+  abbrev pub with_coming : State T → Option (Copy T) → ℕ → State T
+  with_coming s c d = record { held = s.held; done = s.done; coming = c; coming_done = d; window = s.window; early = s.early }
 
--- the commands up to a number are done
-abbrev pub with_done : State → ℕ → State
-with_done s d = record { held = s.held; done = max s.done d; coming = s.coming; coming_done = s.coming_done; window = s.window; early = s.early }
+  -- the commands up to a number are done
+  abbrev pub with_done : State T → ℕ → State T
+  with_done s d = record { held = s.held; done = max s.done d; coming = s.coming; coming_done = s.coming_done; window = s.window; early = s.early }
 
--- ---- an event
+  -- ---- an event
 
--- an event that is ahead of the awaited one is held where it is ahead by no more than the window
-abbrev pub ahead_taken : State → Event → Taken
-ahead_taken s e =
-    if nat_le (event_number e) (s.held.next + s.window)
-    then taken s.held (with_early s.early e) (reply.Missing s.held.next (first_number (with_early s.early e) (event_number e)))
-    else taken s.held s.early (reply.Gap s.held.next)
+  -- an event that is ahead of the awaited one is held where it is ahead by no more than the window
+  abbrev pub ahead_taken : State T → Event T → Taken T
+  ahead_taken s e =
+      if nat_le (event_number e) (s.held.next + s.window)
+      then taken s.held (with_early s.early e) (reply.Missing s.held.next (first_number (with_early s.early e) (event_number e)))
+      else taken s.held s.early (reply.Gap s.held.next)
 
--- the awaited event is taken, and then the early ones whose turn has come
-abbrev pub event_taken : State → Event → Taken
-event_taken s e =
-    if event_number e == s.held.next then caught_up s.held (pair (event_number e) e ∷ s.early)
-    else if nat_lt (event_number e) s.held.next then taken s.held s.early (reply.Had s.held.next)
-    else ahead_taken s e
+module _ {T : Type 0} (cmp : T → T → Ordering) where
+  -- the awaited event is taken, and then the early ones whose turn has come
+  abbrev pub event_taken : State T → Event T → Taken T
+  event_taken s e =
+      if event_number e == s.held.next then caught_up cmp s.held (pair (event_number e) e ∷ s.early)
+      else if nat_lt (event_number e) s.held.next then taken s.held s.early (reply.Had s.held.next)
+      else ahead_taken s e
 
--- what was taken is held
-abbrev pub with_taken : State → Taken → State
-with_taken s t = record { held = t.held; done = s.done; coming = s.coming; coming_done = s.coming_done; window = s.window; early = t.early }
+module _ {T : Type 0} where
+  -- what was taken is held
+  abbrev pub with_taken : State T → Taken T → State T
+  with_taken s t = record { held = t.held; done = s.done; coming = s.coming; coming_done = s.coming_done; window = s.window; early = t.early }
 
-abbrev pub after_event : State → Event → State
-after_event s e = with_taken s (event_taken s e)
+module _ {T : Type 0} (cmp : T → T → Ordering) where
+  abbrev pub after_event : State T → Event T → State T
+  after_event s e = with_taken s (event_taken cmp s e)
 
-abbrev pub event_reply : State → Event → Reply
-event_reply s e = (event_taken s e).reply
+  abbrev pub event_reply : State T → Event T → Reply
+  event_reply s e = (event_taken cmp s e).reply
 
--- ---- a whole node
+  -- ---- a whole node
 
--- why the node does not fit the nodes of the snapshot
-abbrev pub node_refusal : Copy → List (Pair ℕ ℕ) → Option Refusal
-node_refusal c n = attach_refusal (by_key nat_cmp) (length n) c.nodes n
+  -- why the node does not fit the nodes of the snapshot
+  abbrev pub node_refusal : Copy T → List (Pair T T) → Option Refusal
+  node_refusal c n = attach_refusal (by_key cmp) (length n) c.nodes n
 
--- the node in its place, where it fits
-abbrev pub with_node : List (Pair ℕ ℕ) → Copy → Copy
-with_node n c = if is_none (node_refusal c n) then copy (attached (by_key nat_cmp) c.nodes n) c.next else c
+  -- the node in its place, where it fits
+  abbrev pub with_node : List (Pair T T) → Copy T → Copy T
+  with_node n c = if is_none (node_refusal c n) then copy (attached (by_key cmp) c.nodes n) c.next else c
 
-abbrev pub after_node : State → List (Pair ℕ ℕ) → State
-after_node s n = with_coming s (option_map (with_node n) s.coming) s.coming_done
+  abbrev pub after_node : State T → List (Pair T T) → State T
+  after_node s n = with_coming s (option_map (with_node n) s.coming) s.coming_done
 
-abbrev pub node_reply : State → List (Pair ℕ ℕ) → Reply
-node_reply s n = option_map_or (λ c. option_map_or (λ cause. reply.Unfit s.held.next (Refused cause)) (node_refusal c n) reply.Held) s.coming (reply.Unfit s.held.next NotBegun)
+  abbrev pub node_reply : State T → List (Pair T T) → Reply
+  node_reply s n = option_map_or (λ c. option_map_or (λ cause. reply.Unfit s.held.next (Refused cause)) (node_refusal c n) reply.Held) s.coming (reply.Unfit s.held.next NotBegun)
 
--- ---- the beginning and the end of a snapshot, and commands that are done
+module _ {T : Type 0} (texts : Texts T) where
+  -- ---- the beginning and the end of a snapshot, and commands that are done
 
--- why the numbers at the end of a snapshot are not those of what came
-abbrev pub end_reason : ℕ → ℕ → Copy → ℕ → Option Reason
-end_reason count sum c d =
-    if not (length c.nodes == count) then Some Count
-    else if not (sum_of c d == sum) then Some Sum
-    else None
+  -- why the numbers at the end of a snapshot are not those of what came
+  abbrev pub end_reason : ℕ → ℕ → Copy T → ℕ → Option Reason
+  end_reason count sum c d =
+      if not (length c.nodes == count) then Some Count
+      else if not (sum_of texts c d == sum) then Some Sum
+      else None
 
--- the snapshot takes the place of all that is held, where it is whole
-abbrev pub put_in_place : ℕ → ℕ → State → Copy → State
-put_in_place count sum s c = if is_none (end_reason count sum c s.coming_done) then holding s.window c s.coming_done else with_coming s None 0
+  -- the snapshot takes the place of all that is held, where it is whole
+  abbrev pub put_in_place : ℕ → ℕ → State T → Copy T → State T
+  put_in_place count sum s c = if is_none (end_reason count sum c s.coming_done) then holding s.window c s.coming_done else with_coming s None 0
 
-abbrev pub after_mark : State → Mark → State
-after_mark s (Start n d) = with_coming s (Some (copy [] n)) d
-after_mark s (End count sum) = option_map_or (put_in_place count sum s) s.coming s
-after_mark s (Done d n) = if nat_lt s.held.next n then s else with_done s d
+  abbrev pub after_mark : State T → Mark → State T
+  after_mark s (Start n d) = with_coming s (Some (copy [] n)) d
+  after_mark s (End count sum) = option_map_or (put_in_place count sum s) s.coming s
+  after_mark s (Done d n) = if nat_lt s.held.next n then s else with_done s d
 
-abbrev pub mark_reply : State → Mark → Reply
-mark_reply s (Start n d) = reply.Held
-mark_reply s (End count sum) =
-    option_map_or (λ c. option_map_or (reply.Unfit s.held.next) (end_reason count sum c s.coming_done) (reply.Next c.next)) s.coming (reply.Unfit s.held.next NotBegun)
-mark_reply s (Done d n) = head_reply s.held.next n
+  abbrev pub mark_reply : State T → Mark → Reply
+  mark_reply s (Start n d) = reply.Held
+  mark_reply s (End count sum) =
+      option_map_or (λ c. option_map_or (reply.Unfit s.held.next) (end_reason count sum c s.coming_done) (reply.Next c.next)) s.coming (reply.Unfit s.held.next NotBegun)
+  mark_reply s (Done d n) = head_reply s.held.next n
 
--- ---- a line
+module _ {T : Type 0} (cmp : T → T → Ordering) (texts : Texts T) where
+  -- ---- a line
 
-abbrev pub after_line : State → List ℕ → State
-after_line s line = option_map_or (after_event s) (event_of line) (option_map_or (after_node s) (node_of line) (option_map_or (after_mark s) (mark_of line) s))
+  abbrev pub after_line : State T → List ℕ → State T
+  after_line s line = option_map_or (after_event cmp s) (event_of texts line) (option_map_or (after_node cmp s) (node_of texts line) (option_map_or (after_mark texts s) (mark_of line) s))
 
-abbrev pub reply_line : Voice → State → List ℕ → List ℕ
-reply_line v s line =
-    option_map_or (λ e. voiced v (event_reply s e)) (event_of line)
-    (option_map_or (λ n. voiced v (node_reply s n)) (node_of line)
-    (option_map_or (λ m. voiced v (mark_reply s m)) (mark_of line) (read_reply (follower_others v) s.held.nodes s.held.next s.done line)))
+  abbrev pub reply_line : Voice → State T → List ℕ → List ℕ
+  reply_line v s line =
+      option_map_or (λ e. voiced v (event_reply cmp s e)) (event_of texts line)
+      (option_map_or (λ n. voiced v (node_reply cmp s n)) (node_of texts line)
+      (option_map_or (λ m. voiced v (mark_reply texts s m)) (mark_of line) (read_reply cmp texts (follower_others v) s.held.nodes s.held.next s.done line)))
 
--- the state after the lines
-abbrev pub state_after : State → List (List ℕ) → State
-state_after = left_by after_line
+  -- the state after the lines
+  abbrev pub state_after : State T → List (List ℕ) → State T
+  state_after = left_by after_line
 
--- at first: no nodes, and event 0 is awaited
-abbrev pub start_state : ℕ → State
-start_state window = holding window (copy [] 0) 0
+module _ {T : Type 0} where
+  -- at first: no nodes, and event 0 is awaited
+  abbrev pub start_state : ℕ → State T
+  start_state window = holding window (copy [] 0) 0
 
--- the events that are early are ahead of the awaited one by no more than the window
-abbrev pub HoldsNear : State → Type 0
-HoldsNear s = AscendFrom (λ p. p.key ≤ s.held.next + s.window) (s.held.next + 1) s.early
+  -- the events that are early are ahead of the awaited one by no more than the window
+  abbrev pub HoldsNear : State T → Type 0
+  HoldsNear s = AscendFrom (λ p. p.key ≤ s.held.next + s.window) (s.held.next + 1) s.early

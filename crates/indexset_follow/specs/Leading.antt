@@ -16,64 +16,75 @@ use Rattle.indexset_follow.specs.declared.leader.Leader.{Leader}
 use Rattle.indexset_follow.specs.declared.mark.Mark.TheVariants.{Done}
 use Rattle.indexset_follow.specs.declared.others.Others.{Others}
 use Rattle.indexset_follow.specs.declared.reply.Reply.TheVariants as reply
+use Rattle.std.specs.declared.cmp.Ordering.{Ordering}
+use Rattle.indexset_bench.specs.Texts.{Texts}
 
--- a map, and the greatest number of a command
-abbrev pub leader_of : PairTree → ℕ → Leader
-leader_of t d = record { pairs = t; done = d }
+module _ {T : Type 0} where
+  -- a map, and the greatest number of a command
+  abbrev pub leader_of : PairTree T → ℕ → Leader T
+  leader_of t d = record { pairs = t; done = d }
 
--- the tree after a line that is no read: that of its command
-abbrev pub after_command : PairTree → List ℕ → PairTree
-after_command t line = option_map_or (λ c. pairs_after t c.change) (command_of line) t
+module _ {T : Type 0} (cmp : T → T → Ordering) (texts : Texts T) where
+  -- the tree after a line that is no read: that of its command
+  abbrev pub after_command : PairTree T → List ℕ → PairTree T
+  after_command t line = option_map_or (λ c. pairs_after cmp t c.change) (command_of texts line) t
 
--- a read changes nothing
-abbrev pub after_leading : PairTree → List ℕ → PairTree
-after_leading t line = option_map_or (λ q. t) (query_of line) (after_command t line)
+  -- a read changes nothing
+  abbrev pub after_leading : PairTree T → List ℕ → PairTree T
+  after_leading t line = option_map_or (λ q. t) (query_of texts line) (after_command t line)
 
--- the greatest number of a command after a line: a read has none
-abbrev pub done_after : ℕ → List ℕ → ℕ
-done_after d line = option_map_or (λ q. d) (query_of line) (option_map_or (done_by d) (command_of line) d)
+module _ {T : Type 0} (texts : Texts T) where
+  -- the greatest number of a command after a line: a read has none
+  abbrev pub done_after : ℕ → List ℕ → ℕ
+  done_after d line = option_map_or (λ q. d) (query_of texts line) (option_map_or (done_by d) (command_of texts line) d)
 
--- both
-abbrev pub leader_after : Leader → List ℕ → Leader
-leader_after l line = leader_of (after_leading l.pairs line) (done_after l.done line)
+module _ {T : Type 0} (cmp : T → T → Ordering) (texts : Texts T) where
+  -- both
+  abbrev pub leader_after : Leader T → List ℕ → Leader T
+  leader_after l line = leader_of (after_leading cmp texts l.pairs line) (done_after texts l.done line)
 
 -- the line that tells followers which commands were done, where the command has a number
 abbrev pub done_text : Option ℕ → ℕ → ℕ → List ℕ
 done_text None d next = []
 done_text (Some n) d next = ended (mark_line (Done d next))
 
--- the answer to a command: the reply behind its number and the events, the commands that are done, and then the next number
-abbrev pub command_text : Leader → Command → List ℕ
-command_text l c =
-    let next = (pairs_after l.pairs c.change).next in
-    (echo_text c.echo ++ pair_reply l.pairs c.change) ++ (done_text c.echo (done_by l.done c) next ++ reply_ended (reply.Next next))
+module _ {T : Type 0} (cmp : T → T → Ordering) (texts : Texts T) where
+  -- the answer to a command: the reply behind its number and the events, the commands that are done, and then the next number
+  abbrev pub command_text : Leader T → Command T → List ℕ
+  command_text l c =
+      let next = (pairs_after cmp l.pairs c.change).next in
+      (echo_text c.echo ++ pair_reply cmp texts l.pairs c.change) ++ (done_text c.echo (done_by l.done c) next ++ reply_ended (reply.Next next))
 
--- the answer to a line that is no read: that to its command
-abbrev pub command_reply : Others → Leader → List ℕ → List ℕ
-command_reply o l line = option_map_or (command_text l) (command_of line) (others_text o)
+  -- the answer to a line that is no read: that to its command
+  abbrev pub command_reply : Others → Leader T → List ℕ → List ℕ
+  command_reply o l line = option_map_or (command_text l) (command_of texts line) (others_text o)
 
-abbrev pub leading_reply : Others → Leader → List ℕ → List ℕ
-leading_reply o l line = option_map_or (query_text l.pairs.nodes l.pairs.next l.done) (query_of line) (command_reply o l line)
+  abbrev pub leading_reply : Others → Leader T → List ℕ → List ℕ
+  leading_reply o l line = option_map_or (query_text cmp texts l.pairs.nodes l.pairs.next l.done) (query_of texts line) (command_reply o l line)
 
--- more events were told than there are numbers
-abbrev pub lacks : PairTree → Type 0
-lacks t = MAX < t.next
+module _ {T : Type 0} where
+  -- more events were told than there are numbers
+  abbrev pub lacks : PairTree T → Type 0
+  lacks t = MAX < t.next
 
--- ---- lines
+module _ {T : Type 0} (cmp : T → T → Ordering) (texts : Texts T) where
+  -- ---- lines
 
--- the tree after the lines
-abbrev pub tree_of : PairTree → List (List ℕ) → PairTree
-tree_of = left_by after_leading
+  -- the tree after the lines
+  abbrev pub tree_of : PairTree T → List (List ℕ) → PairTree T
+  tree_of = left_by (after_leading cmp texts)
 
--- the greatest number of a command after the lines
-abbrev pub done_of : ℕ → List (List ℕ) → ℕ
-done_of = left_by done_after
+module _ {T : Type 0} (texts : Texts T) where
+  -- the greatest number of a command after the lines
+  abbrev pub done_of : ℕ → List (List ℕ) → ℕ
+  done_of = left_by (done_after texts)
 
--- the events that the answer to a line tells
-abbrev pub leading_events : PairTree → List ℕ → List Event
-leading_events t line = option_map_or (λ q. []) (query_of line) (option_map_or (λ c. told_events t c.change) (command_of line) [])
+module _ {T : Type 0} (cmp : T → T → Ordering) (texts : Texts T) where
+  -- the events that the answer to a line tells
+  abbrev pub leading_events : PairTree T → List ℕ → List (Event T)
+  leading_events t line = option_map_or (λ q. []) (query_of texts line) (option_map_or (λ c. told_events cmp t c.change) (command_of texts line) [])
 
--- the events that the answers to the lines tell, one line after another
-unfoldable pub events_led : PairTree → List (List ℕ) → List Event
-events_led t [] = []
-events_led t (line ∷ lines) = leading_events t line ++ events_led (after_leading t line) lines
+  -- the events that the answers to the lines tell, one line after another
+  unfoldable pub events_led : PairTree T → List (List ℕ) → List (Event T)
+  events_led t [] = []
+  events_led t (line ∷ lines) = leading_events t line ++ events_led (after_leading cmp texts t line) lines

@@ -3,6 +3,7 @@ use Rattle.std.specs.Prelude.{◌≡◌, ◌≢◌, ℕ, ◌<◌, ◌^◌, ◌==
 use Rattle.std.specs.Fmt.{decimal}
 use Rattle.std.specs.Option.{option_map, option_map_or, option_and_then}
 use Rattle.std.specs.Str.{bytes_eq}
+use Rattle.indexset_bench.specs.Texts.{Texts}
 use Rattle.indexset_events.specs.Spelling.{cut_at, number_of}
 use Rattle.indexset_follow.specs.EventLine.{event_of}
 use Rattle.indexset_follow.specs.Numbers.{tail_text, two_numbers}
@@ -40,5 +41,5 @@ abbrev pub mark_of : List ℕ → Option Mark
 mark_of line = option_and_then (λ cut. word_mark cut.0 cut.1) (cut_at 32 line)
 
 -- the line is no event, and does not end a snapshot
-abbrev pub LacksEnd : List ℕ → Type 0
-LacksEnd line = (event_of line ≡ None) × ((count sum : ℕ) → mark_of line ≢ Some (End count sum))
+abbrev pub LacksEnd : {T : Type 0} → Texts T → List ℕ → Type 0
+LacksEnd texts line = (event_of texts line ≡ None) × ((count sum : ℕ) → mark_of line ≢ Some (End count sum))

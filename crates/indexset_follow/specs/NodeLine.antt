@@ -6,25 +6,26 @@ use Rattle.std.specs.Str.{bytes_eq}
 use Rattle.indexset_bench.specs.PairText.{node_text}
 use Rattle.indexset_core.specs.declared.pair.Pair.{Pair}
 use Rattle.indexset_events.specs.Spelling.{cut_at}
-use Rattle.indexset_follow.specs.Numbers.{PairFits, pair_of}
-
--- the line that gives a node
-abbrev pub node_line : List (Pair ℕ ℕ) → List ℕ
-node_line n = codes "node " ++ node_text n
-
--- a node that a line can give: pairs of numbers of 64 bits, one at least
-abbrev pub NodeFits : List (Pair ℕ ℕ) → Type 0
-NodeFits n = (0 < length n) × All PairFits n
+use Rattle.indexset_bench.specs.Texts.{PairFits, Texts, pair_of}
 
 -- the words of a text: it is cut at each space
 abbrev pub words : List ℕ → List (List ℕ)
 words text = slice_split (λ b. b == 32) text
 
--- the pairs of the words, where each is one
-unfoldable pub pairs_of : List (List ℕ) → Option (List (Pair ℕ ℕ))
-pairs_of [] = Some []
-pairs_of (word ∷ rest) = option_and_then (λ p. option_map (λ ps. p ∷ ps) (pairs_of rest)) (pair_of word)
+module _ {T : Type 0} (texts : Texts T) where
+  -- the line that gives a node
+  abbrev pub node_line : List (Pair T T) → List ℕ
+  node_line n = codes "node " ++ node_text texts n
 
--- the node that a line gives
-abbrev pub node_of : List ℕ → Option (List (Pair ℕ ℕ))
-node_of line = option_and_then (λ cut. if bytes_eq cut.0 (codes "node") then pairs_of (words cut.1) else None) (cut_at 32 line)
+  -- a node that a line can give: pairs that are in range, one at least
+  abbrev pub NodeFits : List (Pair T T) → Type 0
+  NodeFits n = (0 < length n) × All (PairFits texts) n
+
+  -- the pairs of the words, where each is one
+  unfoldable pub pairs_of : List (List ℕ) → Option (List (Pair T T))
+  pairs_of [] = Some []
+  pairs_of (word ∷ rest) = option_and_then (λ p. option_map (λ ps. p ∷ ps) (pairs_of rest)) (pair_of texts word)
+
+  -- the node that a line gives
+  abbrev pub node_of : List ℕ → Option (List (Pair T T))
+  node_of line = option_and_then (λ cut. if bytes_eq cut.0 (codes "node") then pairs_of (words cut.1) else None) (cut_at 32 line)

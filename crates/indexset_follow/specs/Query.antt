@@ -3,47 +3,14 @@ use Rattle.std.specs.Prelude.{ℕ, ◌<◌, ◌^◌, if◌then◌else◌, List, 
 use Rattle.std.specs.Fmt.{decimal}
 use Rattle.std.specs.Option.{option_map, option_map_or}
 use Rattle.std.specs.Str.{bytes_eq}
+use Rattle.indexset_bench.specs.Texts.{Texts, two_keys}
 use Rattle.indexset_events.specs.Spelling.{cut_at, number_of}
 use Rattle.indexset_follow.specs.Numbers.{two_numbers}
 use Rattle.indexset_follow.specs.declared.reads.query.Query.{Query}
 use Rattle.indexset_follow.specs.declared.reads.query.Query.TheVariants.{Get, Len, First, Last, Range, Rank, At, Page, Nodes, Next, Head, Snapshot, Sum, Compact}
 
--- the line of a read
-abbrev pub query_line : Query → List ℕ
-query_line (Get k) = codes "get " ++ decimal k
-query_line Len = codes "len"
-query_line First = codes "first"
-query_line Last = codes "last"
-query_line (Range a b) = codes "range " ++ decimal a ++ 32 ∷ decimal b
-query_line (Rank k) = codes "rank " ++ decimal k
-query_line (At i) = codes "at " ++ decimal i
-query_line (Page i n) = codes "page " ++ decimal i ++ 32 ∷ decimal n
-query_line Nodes = codes "nodes"
-query_line Next = codes "next"
-query_line (Head m) = codes "head " ++ decimal m
-query_line Snapshot = codes "snapshot"
-query_line Sum = codes "sum"
-query_line Compact = codes "compact"
-
--- the numbers of a read are of 64 bits
-abbrev pub QueryFits : Query → Type 0
-QueryFits (Get k) = k < 2 ^ 64
-QueryFits Len = Unit {0}
-QueryFits First = Unit {0}
-QueryFits Last = Unit {0}
-QueryFits (Range a b) = (a < 2 ^ 64) × (b < 2 ^ 64)
-QueryFits (Rank k) = k < 2 ^ 64
-QueryFits (At i) = i < 2 ^ 64
-QueryFits (Page i n) = (i < 2 ^ 64) × (n < 2 ^ 64)
-QueryFits Nodes = Unit {0}
-QueryFits Next = Unit {0}
-QueryFits (Head m) = m < 2 ^ 64
-QueryFits Snapshot = Unit {0}
-QueryFits Sum = Unit {0}
-QueryFits Compact = Unit {0}
-
 -- the read of one word
-abbrev pub word_query : List ℕ → Option Query
+abbrev pub word_query : {T : Type 0} → List ℕ → Option (Query T)
 word_query word =
     if bytes_eq word (codes "len") then Some Len
     else if bytes_eq word (codes "first") then Some First
@@ -55,17 +22,57 @@ word_query word =
     else if bytes_eq word (codes "compact") then Some Compact
     else None
 
--- the read of a word and what stands behind it
-abbrev pub numbered_query : List ℕ → List ℕ → Option Query
+-- the read of a word and a number behind it, or two
+abbrev pub numbered_query : {T : Type 0} → List ℕ → List ℕ → Option (Query T)
 numbered_query word rest =
-    if bytes_eq word (codes "get") then option_map Get (number_of rest)
-    else if bytes_eq word (codes "rank") then option_map Rank (number_of rest)
-    else if bytes_eq word (codes "at") then option_map At (number_of rest)
+    if bytes_eq word (codes "at") then option_map At (number_of rest)
     else if bytes_eq word (codes "head") then option_map Head (number_of rest)
-    else if bytes_eq word (codes "range") then option_map (λ p. Range p.0 p.1) (two_numbers rest)
     else if bytes_eq word (codes "page") then option_map (λ p. Page p.0 p.1) (two_numbers rest)
     else None
 
--- the read that a line asks for
-abbrev pub query_of : List ℕ → Option Query
-query_of line = option_map_or (λ cut. numbered_query cut.0 cut.1) (cut_at 32 line) (word_query line)
+module _ {T : Type 0} (texts : Texts T) where
+  -- the line of a read
+  abbrev pub query_line : Query T → List ℕ
+  query_line (Get k) = codes "get " ++ texts.spelling k
+  query_line Len = codes "len"
+  query_line First = codes "first"
+  query_line Last = codes "last"
+  query_line (Range a b) = codes "range " ++ texts.spelling a ++ 32 ∷ texts.spelling b
+  query_line (Rank k) = codes "rank " ++ texts.spelling k
+  query_line (At i) = codes "at " ++ decimal i
+  query_line (Page i n) = codes "page " ++ decimal i ++ 32 ∷ decimal n
+  query_line Nodes = codes "nodes"
+  query_line Next = codes "next"
+  query_line (Head m) = codes "head " ++ decimal m
+  query_line Snapshot = codes "snapshot"
+  query_line Sum = codes "sum"
+  query_line Compact = codes "compact"
+
+  -- the numbers of a read are of 64 bits, and its keys are in range
+  abbrev pub QueryFits : Query T → Type 0
+  QueryFits (Get k) = texts.InRange k
+  QueryFits Len = Unit {0}
+  QueryFits First = Unit {0}
+  QueryFits Last = Unit {0}
+  QueryFits (Range a b) = texts.InRange a × texts.InRange b
+  QueryFits (Rank k) = texts.InRange k
+  QueryFits (At i) = i < 2 ^ 64
+  QueryFits (Page i n) = (i < 2 ^ 64) × (n < 2 ^ 64)
+  QueryFits Nodes = Unit {0}
+  QueryFits Next = Unit {0}
+  QueryFits (Head m) = m < 2 ^ 64
+  QueryFits Snapshot = Unit {0}
+  QueryFits Sum = Unit {0}
+  QueryFits Compact = Unit {0}
+
+  -- the read of a word and what stands behind it
+  abbrev pub keyed_query : List ℕ → List ℕ → Option (Query T)
+  keyed_query word rest =
+      if bytes_eq word (codes "get") then option_map Get (texts.reading rest)
+      else if bytes_eq word (codes "rank") then option_map Rank (texts.reading rest)
+      else if bytes_eq word (codes "range") then option_map (λ p. Range p.0 p.1) (two_keys texts rest)
+      else numbered_query word rest
+
+  -- the read that a line asks for
+  abbrev pub query_of : List ℕ → Option (Query T)
+  query_of line = option_map_or (λ cut. keyed_query cut.0 cut.1) (cut_at 32 line) (word_query line)

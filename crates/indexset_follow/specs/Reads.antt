@@ -1,11 +1,12 @@
 -- What is read of a map: of its nodes, and of the list that they make joined.
 use Rattle.std.specs.Prelude.{ℕ, nat_lt, if◌then◌else◌, List, ◌++◌, Option, drop, length, slice_get, take}
 use Rattle.std.specs.Option.{option_map, option_map_or}
-use Rattle.std.specs.Ordering.{nat_cmp}
+use Rattle.std.specs.declared.cmp.Ordering.{Ordering}
 use Rattle.std.specs.declared.ops.Bound.TheVariants.{Included}
-use Rattle.indexset_bench.specs.PairText.{ended, lines_for, node_text}
+use Rattle.indexset_bench.specs.PairText.{ended, lines_for, node_text, pair_text}
+use Rattle.indexset_bench.specs.Texts.{Texts}
 use Rattle.indexset_core.specs.Nodes.{joined}
-use Rattle.indexset_core.specs.Pairs.{entry_of, key_rank, pair_of, pairs_within}
+use Rattle.indexset_core.specs.Pairs.{entry_of, key_rank, pair, pair_of, pairs_within}
 use Rattle.indexset_core.specs.declared.pair.Pair.{Pair}
 use Rattle.indexset_events.specs.Nodes.{is_filled}
 use Rattle.indexset_replica.specs.Replica.{first_item, last_item}
@@ -18,55 +19,57 @@ use Rattle.indexset_follow.specs.declared.reads.query.Query.TheVariants.{Get, Le
 use Rattle.indexset_follow.specs.declared.reply.Reply.{Reply}
 use Rattle.indexset_follow.specs.declared.reply.Reply.TheVariants as reply
 
--- the nodes of a map of numbers
-abbrev pub PairNodes : Type 0
-PairNodes = List (List (Pair ℕ ℕ))
+-- the nodes of a map
+abbrev pub PairNodes : Type 0 → Type 0
+PairNodes T = List (List (Pair T T))
 
 -- the n pairs from position i on, or those that there are
-abbrev pub page : List (Pair ℕ ℕ) → ℕ → ℕ → List (Pair ℕ ℕ)
+abbrev pub page : {T : Type 0} → List (Pair T T) → ℕ → ℕ → List (Pair T T)
 page ps i n = take n (drop i ps)
 
 -- the pairs whose keys are from a to b
-abbrev pub keys_from : List (Pair ℕ ℕ) → ℕ → ℕ → List (Pair ℕ ℕ)
-keys_from ps a b = pairs_within nat_cmp ps (Included a) (Included b)
-
--- the reply that gives a key and its value
-abbrev pub entry_reply : Option (ℕ × ℕ) → Reply
-entry_reply o = option_map_or (λ e. reply.Item e.0 e.1) o reply.Nothing
-
--- the same of a pair
-abbrev pub item_reply : Option (Pair ℕ ℕ) → Reply
-item_reply o = entry_reply (option_map entry_of o)
-
--- the pairs in one line
-abbrev pub row_text : List (Pair ℕ ℕ) → List ℕ
-row_text ps = if is_filled ps then ended (node_text ps) else reply_ended reply.Nothing
-
--- the nodes, one a line, and then the next number
-abbrev pub nodes_text : PairNodes → ℕ → List ℕ
-nodes_text ns next = lines_for node_text ns ++ reply_ended (reply.Next next)
+abbrev pub keys_from : {T : Type 0} → (T → T → Ordering) → List (Pair T T) → T → T → List (Pair T T)
+keys_from cmp ps a b = pairs_within cmp ps (Included a) (Included b)
 
 -- the reply where the events before number m were told: some are missing, or none is
 abbrev pub head_reply : ℕ → ℕ → Reply
 head_reply next m = if nat_lt next m then reply.Gap next else reply.Next next
 
--- the answer to a read, where d is the greatest number of a command
-abbrev pub query_text : PairNodes → ℕ → ℕ → Query → List ℕ
-query_text ns next d (Get k) = reply_ended (item_reply (pair_of nat_cmp (joined ns) k))
-query_text ns next d Len = reply_ended (reply.Count (length (joined ns)))
-query_text ns next d First = reply_ended (item_reply (first_item (joined ns)))
-query_text ns next d Last = reply_ended (item_reply (last_item (joined ns)))
-query_text ns next d (Range a b) = row_text (keys_from (joined ns) a b)
-query_text ns next d (Rank k) = reply_ended (reply.Count (key_rank nat_cmp (joined ns) k))
-query_text ns next d (At i) = reply_ended (item_reply (slice_get (joined ns) i))
-query_text ns next d (Page i n) = row_text (page (joined ns) i n)
-query_text ns next d Nodes = nodes_text ns next
-query_text ns next d Next = reply_ended (reply.Next next)
-query_text ns next d (Head m) = reply_ended (head_reply next m)
-query_text ns next d Snapshot = snapshot_text (copy ns next) d
-query_text ns next d Sum = reply_ended (reply.Sum next (length ns) (sum_of (copy ns next) d) d)
-query_text ns next d Compact = reply_ended (reply.Next next)
+module _ {T : Type 0} (texts : Texts T) where
+  -- a key and its value as a line, where they are there
+  abbrev pub entry_text : Option (T × T) → List ℕ
+  entry_text o = option_map_or (λ e. ended (pair_text texts (pair e.0 e.1))) o (reply_ended reply.Nothing)
 
--- the answer to a line that may ask for a read, and is nothing else
-abbrev pub read_reply : Others → PairNodes → ℕ → ℕ → List ℕ → List ℕ
-read_reply o ns next d line = option_map_or (query_text ns next d) (query_of line) (others_text o)
+  -- the same of a pair
+  abbrev pub item_text : Option (Pair T T) → List ℕ
+  item_text o = entry_text (option_map entry_of o)
+
+  -- the pairs in one line
+  abbrev pub row_text : List (Pair T T) → List ℕ
+  row_text ps = if is_filled ps then ended (node_text texts ps) else reply_ended reply.Nothing
+
+  -- the nodes, one a line, and then the next number
+  abbrev pub nodes_text : PairNodes T → ℕ → List ℕ
+  nodes_text ns next = lines_for (node_text texts) ns ++ reply_ended (reply.Next next)
+
+module _ {T : Type 0} (cmp : T → T → Ordering) (texts : Texts T) where
+  -- the answer to a read, where d is the greatest number of a command
+  abbrev pub query_text : PairNodes T → ℕ → ℕ → Query T → List ℕ
+  query_text ns next d (Get k) = item_text texts (pair_of cmp (joined ns) k)
+  query_text ns next d Len = reply_ended (reply.Count (length (joined ns)))
+  query_text ns next d First = item_text texts (first_item (joined ns))
+  query_text ns next d Last = item_text texts (last_item (joined ns))
+  query_text ns next d (Range a b) = row_text texts (keys_from cmp (joined ns) a b)
+  query_text ns next d (Rank k) = reply_ended (reply.Count (key_rank cmp (joined ns) k))
+  query_text ns next d (At i) = item_text texts (slice_get (joined ns) i)
+  query_text ns next d (Page i n) = row_text texts (page (joined ns) i n)
+  query_text ns next d Nodes = nodes_text texts ns next
+  query_text ns next d Next = reply_ended (reply.Next next)
+  query_text ns next d (Head m) = reply_ended (head_reply next m)
+  query_text ns next d Snapshot = snapshot_text texts (copy ns next) d
+  query_text ns next d Sum = reply_ended (reply.Sum next (length ns) (sum_of texts (copy ns next) d) d)
+  query_text ns next d Compact = reply_ended (reply.Next next)
+
+  -- the answer to a line that may ask for a read, and is nothing else
+  abbrev pub read_reply : Others → PairNodes T → ℕ → ℕ → List ℕ → List ℕ
+  read_reply o ns next d line = option_map_or (query_text ns next d) (query_of texts line) (others_text o)

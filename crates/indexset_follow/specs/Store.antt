@@ -1,7 +1,6 @@
 -- What a line does to a map that follows or leads, and the text that answers it.
 use Rattle.std.specs.Prelude.{ℕ, ◌&&◌, is_none, not, if◌then◌else◌, Bool, true, false, List, [], codes, Option, None, Some}
 use Rattle.std.specs.Io.BufRead.{strip_last}
-use Rattle.std.specs.Ordering.{nat_cmp}
 use Rattle.std.specs.Str.{bytes_eq}
 use Rattle.indexset_bench.specs.Pairs.{PairTree}
 use Rattle.indexset_core.specs.Pairs.{by_key}
@@ -22,44 +21,49 @@ use Rattle.indexset_follow.specs.declared.reason.Reason.TheVariants.{Refused}
 use Rattle.indexset_follow.specs.declared.reply.Reply.TheVariants as reply
 use Rattle.indexset_follow.specs.declared.role.Role.{Role}
 use Rattle.indexset_follow.specs.declared.role.Role.TheVariants.{Following, Leading}
+use Rattle.std.specs.declared.cmp.Ordering.{Ordering}
+use Rattle.indexset_bench.specs.Texts.{Texts}
 
 -- a map in one of two roles, how many pairs a node of a leader holds at most, and the window of a follower
-pub record Held : Type 0 where
+pub record Held (T : Type 0) : Type 0 where
   pub size : ℕ
   pub window : ℕ
-  pub role : Role
+  pub role : Role T
 
-abbrev pub held : ℕ → ℕ → Role → Held
-held size window role = record { size = size; window = window; role = role }
+module _ {T : Type 0} where
+  abbrev pub held : ℕ → ℕ → Role T → Held T
+  held size window role = record { size = size; window = window; role = role }
 
--- ---- a follower leads
+  -- ---- a follower leads
 
--- a leader of the nodes that are held, which goes on with the number that was awaited
-abbrev pub promoted : ℕ → Copy → PairTree
-promoted size c = record { nodes = c.nodes; size = size; next = c.next }
+  -- a leader of the nodes that are held, which goes on with the number that was awaited
+  abbrev pub promoted : ℕ → Copy T → PairTree T
+  promoted size c = record { nodes = c.nodes; size = size; next = c.next }
 
--- no node has more pairs than one of a leader
-abbrev pub can_lead : ℕ → Copy → Bool
-can_lead size c = is_none (nodes_refusal (by_key nat_cmp) size c.nodes)
+module _ {T : Type 0} (cmp : T → T → Ordering) where
+  -- no node has more pairs than one of a leader
+  abbrev pub can_lead : ℕ → Copy T → Bool
+  can_lead size c = is_none (nodes_refusal (by_key cmp) size c.nodes)
 
-abbrev pub after_lead : ℕ → Role → Role
-after_lead size (Following s) = if can_lead size s.held then Leading (leader_of (promoted size s.held) s.done) else Following s
-after_lead size (Leading l) = Leading l
+  abbrev pub after_lead : ℕ → Role T → Role T
+  after_lead size (Following s) = if can_lead size s.held then Leading (leader_of (promoted size s.held) s.done) else Following s
+  after_lead size (Leading l) = Leading l
 
-abbrev pub lead_reply : ℕ → Role → List ℕ
-lead_reply size (Following s) = reply_ended (if can_lead size s.held then reply.Next s.held.next else reply.Unfit s.held.next (Refused TooLarge))
-lead_reply size (Leading l) = reply_ended (reply.Next l.pairs.next)
+  abbrev pub lead_reply : ℕ → Role T → List ℕ
+  lead_reply size (Following s) = reply_ended (if can_lead size s.held then reply.Next s.held.next else reply.Unfit s.held.next (Refused TooLarge))
+  lead_reply size (Leading l) = reply_ended (reply.Next l.pairs.next)
 
--- ---- a leader follows
+module _ {T : Type 0} where
+  -- ---- a leader follows
 
--- a follower of the leader's nodes, which awaits the number that it would have given next
-abbrev pub after_follow : ℕ → Role → Role
-after_follow window (Following s) = Following s
-after_follow window (Leading l) = Following (holding window (copy l.pairs.nodes l.pairs.next) l.done)
+  -- a follower of the leader's nodes, which awaits the number that it would have given next
+  abbrev pub after_follow : ℕ → Role T → Role T
+  after_follow window (Following s) = Following s
+  after_follow window (Leading l) = Following (holding window (copy l.pairs.nodes l.pairs.next) l.done)
 
-abbrev pub follow_reply : Role → List ℕ
-follow_reply (Following s) = reply_ended (reply.Next s.held.next)
-follow_reply (Leading l) = reply_ended (reply.Next l.pairs.next)
+  abbrev pub follow_reply : Role T → List ℕ
+  follow_reply (Following s) = reply_ended (reply.Next s.held.next)
+  follow_reply (Leading l) = reply_ended (reply.Next l.pairs.next)
 
 -- ---- a snapshot begins a leader without nodes
 
@@ -73,10 +77,11 @@ is_start (Some (Done d n)) = false
 abbrev pub starts : List ℕ → Bool
 starts line = is_start (mark_of line)
 
--- it finds a leader without nodes, which then follows
-abbrev pub begun : ℕ → Role → List ℕ → Role
-begun window (Following s) line = Following s
-begun window (Leading l) line = if starts line && not (is_filled l.pairs.nodes) then Following (holding window (copy [] l.pairs.next) l.done) else Leading l
+module _ {T : Type 0} where
+  -- it finds a leader without nodes, which then follows
+  abbrev pub begun : ℕ → Role T → List ℕ → Role T
+  begun window (Following s) line = Following s
+  begun window (Leading l) line = if starts line && not (is_filled l.pairs.nodes) then Following (holding window (copy [] l.pairs.next) l.done) else Leading l
 
 -- ---- a line, by the role
 
@@ -86,36 +91,37 @@ is_lead line = bytes_eq line (codes "lead")
 abbrev pub is_follow : List ℕ → Bool
 is_follow line = bytes_eq line (codes "follow")
 
-abbrev pub after_in_role : Role → List ℕ → Role
-after_in_role (Following s) line = Following (after_line s line)
-after_in_role (Leading l) line = Leading (leader_after l line)
+module _ {T : Type 0} (cmp : T → T → Ordering) (texts : Texts T) where
+  abbrev pub after_in_role : Role T → List ℕ → Role T
+  after_in_role (Following s) line = Following (after_line cmp texts s line)
+  after_in_role (Leading l) line = Leading (leader_after cmp texts l line)
 
-abbrev pub reply_in_role : Voice → Role → List ℕ → List ℕ
-reply_in_role v (Following s) line = reply_line v s line
-reply_in_role v (Leading l) line = leading_reply v.others l line
+  abbrev pub reply_in_role : Voice → Role T → List ℕ → List ℕ
+  reply_in_role v (Following s) line = reply_line cmp texts v s line
+  reply_in_role v (Leading l) line = leading_reply cmp texts v.others l line
 
-abbrev pub role_after : Held → List ℕ → Role
-role_after h line =
-    if is_lead line then after_lead h.size h.role
-    else if is_follow line then after_follow h.window h.role
-    else after_in_role (begun h.window h.role line) line
+  abbrev pub role_after : Held T → List ℕ → Role T
+  role_after h line =
+      if is_lead line then after_lead cmp h.size h.role
+      else if is_follow line then after_follow h.window h.role
+      else after_in_role (begun h.window h.role line) line
 
-abbrev pub after_held : Held → List ℕ → Held
-after_held h line = held h.size h.window (role_after h line)
+  abbrev pub after_held : Held T → List ℕ → Held T
+  after_held h line = held h.size h.window (role_after h line)
 
-abbrev pub held_reply : Voice → Held → List ℕ → List ℕ
-held_reply v h line =
-    if is_lead line then lead_reply h.size h.role
-    else if is_follow line then follow_reply h.role
-    else reply_in_role v (begun h.window h.role line) line
+  abbrev pub held_reply : Voice → Held T → List ℕ → List ℕ
+  held_reply v h line =
+      if is_lead line then lead_reply cmp h.size h.role
+      else if is_follow line then follow_reply h.role
+      else reply_in_role v (begun h.window h.role line) line
 
--- a last line that lacks its end is answered where it asks for a read, and changes nothing
-abbrev pub cut_in_role : Voice → Role → List ℕ → List ℕ
-cut_in_role v (Following s) line = read_reply (follower_others v) s.held.nodes s.held.next s.done line
-cut_in_role v (Leading l) line = read_reply v.others l.pairs.nodes l.pairs.next l.done line
+  -- a last line that lacks its end is answered where it asks for a read, and changes nothing
+  abbrev pub cut_in_role : Voice → Role T → List ℕ → List ℕ
+  cut_in_role v (Following s) line = read_reply cmp texts (follower_others v) s.held.nodes s.held.next s.done line
+  cut_in_role v (Leading l) line = read_reply cmp texts v.others l.pairs.nodes l.pairs.next l.done line
 
-abbrev pub held_cut : Voice → Held → List ℕ → List ℕ
-held_cut v h line = cut_in_role v h.role line
+  abbrev pub held_cut : Voice → Held T → List ℕ → List ℕ
+  held_cut v h line = cut_in_role v h.role line
 
 -- ---- a line of the input
 
@@ -123,30 +129,34 @@ held_cut v h line = cut_in_role v h.role line
 abbrev pub without_return : List ℕ → List ℕ
 without_return line = strip_last 13 line
 
-abbrev pub after_input : Held → List ℕ → Held
-after_input h line = after_held h (without_return line)
+module _ {T : Type 0} (cmp : T → T → Ordering) (texts : Texts T) where
+  abbrev pub after_input : Held T → List ℕ → Held T
+  after_input h line = after_held cmp texts h (without_return line)
 
-abbrev pub input_reply : Voice → Held → List ℕ → List ℕ
-input_reply v h line = held_reply v h (without_return line)
+  abbrev pub input_reply : Voice → Held T → List ℕ → List ℕ
+  input_reply v h line = held_reply cmp texts v h (without_return line)
 
--- the role tells events, and more of them than there are numbers
-abbrev pub role_lacks : Role → Type 0
-role_lacks (Following s) = ⊥
-role_lacks (Leading l) = lacks l.pairs
+module _ {T : Type 0} where
+  -- the role tells events, and more of them than there are numbers
+  abbrev pub role_lacks : Role T → Type 0
+  role_lacks (Following s) = ⊥
+  role_lacks (Leading l) = lacks l.pairs
 
-abbrev pub held_lacks : Held → Type 0
-held_lacks h = role_lacks h.role
+  abbrev pub held_lacks : Held T → Type 0
+  held_lacks h = role_lacks h.role
 
--- ---- lines
+module _ {T : Type 0} (cmp : T → T → Ordering) (texts : Texts T) where
+  -- ---- lines
 
--- the answers to the lines, joined
-abbrev pub held_replies : Voice → Held → List (List ℕ) → List ℕ
-held_replies v = replies_to (held_reply v) after_held
+  -- the answers to the lines, joined
+  abbrev pub held_replies : Voice → Held T → List (List ℕ) → List ℕ
+  held_replies v = replies_to (held_reply cmp texts v) (after_held cmp texts)
 
--- what is held after the lines
-abbrev pub held_after : Held → List (List ℕ) → Held
-held_after = left_by after_held
+  -- what is held after the lines
+  abbrev pub held_after : Held T → List (List ℕ) → Held T
+  held_after = left_by (after_held cmp texts)
 
--- at first: no nodes, and event 0 is awaited, or to be told
-abbrev pub first_held : ℕ → ℕ → Bool → Held
-first_held size window leads = held size window (if leads then Leading (leader_of (record { nodes = []; size = size; next = 0 }) 0) else Following (start_state window))
+module _ {T : Type 0} where
+  -- at first: no nodes, and event 0 is awaited, or to be told
+  abbrev pub first_held : ℕ → ℕ → Bool → Held T
+  first_held size window leads = held size window (if leads then Leading (leader_of (record { nodes = []; size = size; next = 0 }) 0) else Following (start_state window))

@@ -4,27 +4,31 @@ use Rattle.indexset_lines.specs.Lines.{whole_lines}
 use Rattle.indexset_lines.specs.Run as lines
 use Rattle.indexset_follow.specs.Store.{Held, after_input, first_held, held_after, held_cut, held_lacks, input_reply, without_return}
 use Rattle.indexset_follow.specs.declared.others.Voice.{Voice}
+use Rattle.std.specs.declared.cmp.Ordering.{Ordering}
+use Rattle.indexset_bench.specs.Texts.{Texts}
 
--- the answers to the lines of the input, from nothing on
-abbrev pub store_text : Voice → ℕ → ℕ → Bool → List ℕ → List ℕ
-store_text v size window leads = lines.text_of (input_reply v) after_input (held_cut v) (first_held size window leads)
+module _ {T : Type 0} (cmp : T → T → Ordering) (texts : Texts T) where
+  -- the answers to the lines of the input, from nothing on
+  abbrev pub store_text : Voice → ℕ → ℕ → Bool → List ℕ → List ℕ
+  store_text v size window leads = lines.text_of (input_reply cmp texts v) (after_input cmp texts) (held_cut cmp texts v) (first_held size window leads)
 
 -- the lines that have their ends
 abbrev pub input_lines : List ℕ → List (List ℕ)
 input_lines input = map without_return (whole_lines input)
 
--- what is held after an input: what stands behind its last line end changes nothing
-abbrev pub store_after : ℕ → ℕ → Bool → List ℕ → Held
-store_after size window leads input = held_after (first_held size window leads) (input_lines input)
+module _ {T : Type 0} (cmp : T → T → Ordering) (texts : Texts T) where
+  -- what is held after an input: what stands behind its last line end changes nothing
+  abbrev pub store_after : ℕ → ℕ → Bool → List ℕ → Held T
+  store_after size window leads input = held_after cmp texts (first_held size window leads) (input_lines input)
 
--- the reader gave an input, to its end, and the writer got the answers
-abbrev pub AnswersAll : Voice → ℕ → ℕ → Bool → (reader reader' writer writer' : Option (List ℕ)) → Type 0
-AnswersAll v size window leads = lines.AnswersAll (store_text v size window leads)
+  -- the reader gave an input, to its end, and the writer got the answers
+  abbrev pub AnswersAll : Voice → ℕ → ℕ → Bool → (reader reader' writer writer' : Option (List ℕ)) → Type 0
+  AnswersAll v size window leads = lines.AnswersAll (store_text cmp texts v size window leads)
 
--- the reader gave whole lines and such a rest, and the writer got the answers to the whole lines
-abbrev pub AnswersWholeLines : Voice → ℕ → ℕ → Bool → (List ℕ → Type 0) → (reader reader' writer writer' : Option (List ℕ)) → Type 0
-AnswersWholeLines v size window leads = lines.AnswersWholeLines (input_reply v) after_input (first_held size window leads)
+  -- the reader gave whole lines and such a rest, and the writer got the answers to the whole lines
+  abbrev pub AnswersWholeLines : Voice → ℕ → ℕ → Bool → (List ℕ → Type 0) → (reader reader' writer writer' : Option (List ℕ)) → Type 0
+  AnswersWholeLines v size window leads = lines.AnswersWholeLines (input_reply cmp texts v) (after_input cmp texts) (first_held size window leads)
 
--- the same, where the rest is the line whose events do not fit
-abbrev pub LacksNumbers : Voice → ℕ → ℕ → Bool → (reader reader' writer writer' : Option (List ℕ)) → Type 0
-LacksNumbers v size window leads = lines.LacksNumbers (input_reply v) after_input (first_held size window leads) held_lacks
+  -- the same, where the rest is the line whose events do not fit
+  abbrev pub LacksNumbers : Voice → ℕ → ℕ → Bool → (reader reader' writer writer' : Option (List ℕ)) → Type 0
+  LacksNumbers v size window leads = lines.LacksNumbers (input_reply cmp texts v) (after_input cmp texts) (first_held size window leads) held_lacks

@@ -6,18 +6,20 @@ use Rattle.indexset_bench.specs.PairCommand.{pair_meaning}
 use Rattle.indexset_bench.specs.Pairs.{told_events}
 use Rattle.indexset_bench.specs.Text.{Stores, no_stores, replies_of, stores_after}
 use Rattle.indexset_follow.specs.EventLine.{Event, event_of}
+use Rattle.std.specs.Ordering.{nat_cmp}
+use Rattle.indexset_bench.specs.Texts.{number_texts}
 
 -- the events that the reply to a line tells: those of its command to the map
-abbrev pub line_events : Stores → List ℕ → List Event
-line_events s line = option_map_or (told_events s.pairs) (pair_meaning line) []
+abbrev pub line_events : Stores → List ℕ → List (Event ℕ)
+line_events s line = option_map_or (told_events nat_cmp s.pairs) (pair_meaning number_texts line) []
 
 -- the events that the replies to the lines tell, one line after another
-unfoldable pub events_from : Stores → List (List ℕ) → List Event
+unfoldable pub events_from : Stores → List (List ℕ) → List (Event ℕ)
 events_from s [] = []
 events_from s (line ∷ lines) = line_events s line ++ events_from (stores_after s line) lines
 
 -- the same, from nothing on
-abbrev pub events_of_lines : List (List ℕ) → List Event
+abbrev pub events_of_lines : List (List ℕ) → List (Event ℕ)
 events_of_lines lines = events_from no_stores lines
 
 -- the lines that the first program writes when it reads these
@@ -26,7 +28,7 @@ output_lines lines = lines_of (replies_of no_stores lines)
 
 -- those of the lines that tell events
 abbrev pub event_lines : List (List ℕ) → List (List ℕ)
-event_lines lines = filter (λ line. is_some (event_of line)) lines
+event_lines lines = filter (λ line. is_some (event_of number_texts line)) lines
 
 -- the line is one of these
 pub record IsAmong (lines : List (List ℕ)) (line : List ℕ) : Type 0 where

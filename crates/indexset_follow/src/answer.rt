@@ -17,28 +17,29 @@ use crate::reply::Reply;
 use crate::snapshot::{take_mark, take_node};
 use crate::write::{Nodes, write_voiced};
 use indexset_bench::RunFault;
+use indexset_bench::key::Key;
 use indexset_core::refusal::Refusal;
 use indexset_replica::lookup::Turn;
 use std::alloc::Global;
 use std::io::Write;
 
 /// Writes the reply to one line. Where memory runs out, nothing is written.
-pub fn answer_line<W: Write>(
+pub fn answer_line<T: Key, W: Write>(
     alloc: Global,
     voice: Voice,
     writer: &mut W,
-    follower: &mut Follower,
+    follower: &mut Follower<T>,
     line: &[u8],
 ) -> Result<(), RunFault>
-    ensures held { OnOk result (follower.new ≡ after_line follower.old line.now) }
+    ensures held { OnOk result (follower.new ≡ after_line T.cmp T.texts follower.old line.now) }
     ensures told { OnOk result (Appends (W.contents writer.old) (W.contents writer.new)
-        (reply_line voice follower.old line.now)) }
+        (reply_line T.cmp T.texts voice follower.old line.now)) }
     ensures memory_refused { result ≡ Err RunFault.Memory
         → Keeps (W.contents writer.old) (W.contents writer.new) }
     ensures no_read { result ≢ Err RunFault.Read }
     ensures no_numbers { result ≢ Err RunFault.Numbers }
 {
-    if let Some(event) = read_event(line) {
+    if let Some(event) = read_event(alloc, line)? {
         let reply = take_event(alloc, follower, event)?;
         return write_voiced(writer, voice, reply);
     }
@@ -64,9 +65,13 @@ pub fn answer_line<W: Write>(
 
 /// Makes the step of the awaited event and those of the early ones after it, holds an early event,
 /// and returns the reply to any event.
-fn take_event(alloc: Global, follower: &mut Follower, event: Event) -> Result<Reply, RunFault>
-    ensures held { OnOk result (follower.new ≡ after_event follower.old event) }
-    ensures reply { IfOk result (λ reply. reply ≡ event_reply follower.old event) }
+fn take_event<T: Key>(
+    alloc: Global,
+    follower: &mut Follower<T>,
+    event: Event<T>,
+) -> Result<Reply, RunFault>
+    ensures held { OnOk result (follower.new ≡ after_event T.cmp follower.old event) }
+    ensures reply { IfOk result (λ reply. reply ≡ event_reply T.cmp follower.old event) }
     ensures fault { IfErr result (λ fault. fault ≡ RunFault.Memory) }
 {
     let next = follower.held.next();
@@ -82,8 +87,8 @@ fn take_event(alloc: Global, follower: &mut Follower, event: Event) -> Result<Re
 
 /// Makes the steps of early events while the first is the awaited one, and returns the reply. One
 /// that does not apply is dropped, and ends it.
-fn catch_up(nodes: &mut Nodes, early: &mut Early) -> Result<Reply, RunFault>
-    ensures taken { IfOk result (λ reply. caught_up nodes.old early.old
+fn catch_up<T: Key>(nodes: &mut Nodes<T>, early: &mut Early<T>) -> Result<Reply, RunFault>
+    ensures taken { IfOk result (λ reply. caught_up T.cmp nodes.old early.old
         ≡ taken nodes.new early.new reply) }
     ensures fault { IfErr result (λ fault. fault ≡ RunFault.Memory) }
 {
@@ -97,7 +102,11 @@ fn catch_up(nodes: &mut Nodes, early: &mut Early) -> Result<Reply, RunFault>
 
 /// Holds an event that is ahead of the awaited one by no more than the window, and returns the
 /// reply to one that is ahead. A failed call changes nothing.
-fn take_ahead(alloc: Global, follower: &mut Follower, event: Event) -> Result<Reply, RunFault>
+fn take_ahead<T: Key>(
+    alloc: Global,
+    follower: &mut Follower<T>,
+    event: Event<T>,
+) -> Result<Reply, RunFault>
     ensures held { OnOk result
         (follower.new ≡ with_taken follower.old (ahead_taken follower.old event)) }
     ensures reply { IfOk result (λ reply. reply ≡ (ahead_taken follower.old event).reply) }

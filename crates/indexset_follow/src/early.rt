@@ -8,6 +8,7 @@ ghost use Rattle.indexset_follow.specs.Early.{consecutive, first_number, with_ea
 
 use crate::event::Event;
 use indexset_bench::RunFault;
+use indexset_bench::key::Key;
 use indexset_bench::pair_text::EventText;
 use indexset_map::BTreeMap;
 use std::alloc::Global;
@@ -15,31 +16,31 @@ use std::marker::Model;
 
 /// Events that came before their turn, by their numbers.
 #[derive(Drop)]
-pub struct Early {
+pub struct Early<T: Key> {
     // None until the first comes.
-    events: Option<BTreeMap<u64, Event>>,
+    events: Option<BTreeMap<u64, Event<T>>>,
 }
 
-impl Model for Early {
+impl<T: Key> Model for Early<T> {
     ghost use Rattle.std.specs.Prelude.{[]};
     ghost use Rattle.std.specs.Option.{option_map_or};
     ghost use Rattle.indexset_follow.specs.Early.{EarlyEvents};
 
-    ghost Value = { EarlyEvents };
+    ghost Value = { EarlyEvents T };
 
     ghost view = { λ early. option_map_or (λ events. events.pairs) early.events [] };
 }
 
-impl Early {
+impl<T: Key> Early<T> {
     /// Returns none.
-    pub fn new() -> Early
+    pub fn new() -> Early<T>
         ensures { result ≡ [] }
     {
         Early { events: None }
     }
 
     /// Inserts an event, in place of one of the same number. A failed call changes nothing.
-    pub fn insert(&mut self, alloc: Global, event: Event) -> Result<(), RunFault>
+    pub fn insert(&mut self, alloc: Global, event: Event<T>) -> Result<(), RunFault>
         ensures held { OnOk result (self.new ≡ with_early self.old event) }
         ensures fault { IfErr result (λ fault. fault ≡ RunFault.Memory) }
         ensures unchanged { OnErr result (self.new ≡ self.old) }
@@ -72,7 +73,7 @@ impl Early {
     /// on.
     pub fn lines_from(&self, alloc: Global, number: u64) -> Result<Vec<Vec<u8>>, RunFault>
         ensures lines { IfOk result (λ lines. map (λ line. line.items) lines.items
-            ≡ map event_text (consecutive number self.now)) }
+            ≡ map (event_text T.texts) (consecutive number self.now)) }
         ensures fault { IfErr result (λ fault. fault ≡ RunFault.Memory) }
     {
         match &self.events {
@@ -82,7 +83,7 @@ impl Early {
     }
 
     /// Removes the first event and returns it, where this is its number.
-    pub fn pop(&mut self, number: u64) -> Option<Event>
+    pub fn pop(&mut self, number: u64) -> Option<Event<T>>
         ensures first { IfSome result (λ event. self.old ≡ pair number event ∷ self.new) }
         ensures other { result ≡ None
             → option_map (λ p. p.key) (slice_get self.old 0) ≢ Some number }
@@ -99,13 +100,13 @@ impl Early {
 }
 
 /// Returns the lines of the events whose numbers go on by one from `number` on, from the first on.
-fn consecutive_lines(
+fn consecutive_lines<T: Key>(
     alloc: Global,
-    events: &BTreeMap<u64, Event>,
+    events: &BTreeMap<u64, Event<T>>,
     number: u64,
 ) -> Result<Vec<Vec<u8>>, RunFault>
     ensures lines { IfOk result (λ lines. map (λ line. line.items) lines.items
-        ≡ map event_text (consecutive number events.now.pairs)) }
+        ≡ map (event_text T.texts) (consecutive number events.now.pairs)) }
     ensures fault { IfErr result (λ fault. fault ≡ RunFault.Memory) }
 {
     let mut lines = Vec::new(alloc);
@@ -120,8 +121,8 @@ fn consecutive_lines(
 }
 
 /// Returns the line of an event.
-fn event_line(alloc: Global, event: &Event) -> Result<Vec<u8>, RunFault>
-    ensures line { IfOk result (λ line. line.items ≡ event_text event.now) }
+fn event_line<T: Key>(alloc: Global, event: &Event<T>) -> Result<Vec<u8>, RunFault>
+    ensures line { IfOk result (λ line. line.items ≡ event_text T.texts event.now) }
     ensures fault { IfErr result (λ fault. fault ≡ RunFault.Memory) }
 {
     let shown = EventText(event);

@@ -1,25 +1,28 @@
 //! The number that a caller gives a command.
 
-ghost use Rattle.std.specs.Prelude.{◌≡◌};
+ghost use Rattle.std.specs.Prelude.{◌≡◌, IfErr, IfOk};
 ghost use Rattle.indexset_follow.specs.Echo.{change_of, command_of, done_by, echo_of, echoed_of};
 
 use crate::reads::query::read_query;
+use indexset_bench::RunFault;
+use indexset_bench::key::Key;
 use indexset_bench::pair_command::{PairCommand, parse_pairs};
 use indexset_events::parts::{cut, read_number};
+use std::alloc::Global;
 
 /// A command, and the number that its caller gave it.
-#[derive(Clone, Copy, Debug, PartialEq, Eq)]
-pub struct Command {
+#[derive(Debug, PartialEq, Eq, Drop)]
+pub struct Command<T> {
     /// The number, where the line begins with one.
     pub echo: Option<u64>,
     /// What is done to the map.
-    pub change: PairCommand,
+    pub change: PairCommand<T>,
 }
 
-impl Command {
+impl<T> Command<T> {
     /// Returns the greatest number of a command, where `done` was the greatest before this one.
-    pub fn done(self, done: u64) -> u64
-        ensures { result ≡ done_by done self }
+    pub fn done(&self, done: u64) -> u64
+        ensures { result ≡ done_by done self.now }
     {
         match self.echo {
             Some(number) => done.max(number),
@@ -29,26 +32,34 @@ impl Command {
 }
 
 /// Returns the command of a line, with its number or without one.
-pub fn read_command(line: &[u8]) -> Option<Command>
-    ensures { result ≡ command_of line.now }
+pub fn read_command<T: Key>(alloc: Global, line: &[u8]) -> Result<Option<Command<T>>, RunFault>
+    ensures command { IfOk result (λ command. command ≡ command_of T.texts line.now) }
+    ensures fault { IfErr result (λ fault. fault ≡ RunFault.Memory) }
 {
-    match parse_pairs(line) {
-        Some(change) => Some(Command { echo: None, change }),
-        None => read_echoed(line),
+    match parse_pairs(alloc, line)? {
+        Some(change) => Ok(Some(Command { echo: None, change })),
+        None => read_echoed(alloc, line),
     }
 }
 
 /// Returns the command of a line that begins with its number and a space.
-fn read_echoed(line: &[u8]) -> Option<Command>
-    ensures { result ≡ echoed_of line.now }
+fn read_echoed<T: Key>(alloc: Global, line: &[u8]) -> Result<Option<Command<T>>, RunFault>
+    ensures command { IfOk result (λ command. command ≡ echoed_of T.texts line.now) }
+    ensures fault { IfErr result (λ fault. fault ≡ RunFault.Memory) }
 {
-    let (word, rest) = cut(line, b' ')?;
-    let number = read_echo(word)?;
-    let change = read_change(rest)?;
-    Some(Command {
+    let Some((word, rest)) = cut(line, b' ') else {
+        return Ok(None);
+    };
+    let Some(number) = read_echo(word) else {
+        return Ok(None);
+    };
+    let Some(change) = read_change(alloc, rest)? else {
+        return Ok(None);
+    };
+    Ok(Some(Command {
         echo: Some(number),
         change,
-    })
+    }))
 }
 
 /// Returns the number of a word, behind a `#`.
@@ -62,11 +73,12 @@ fn read_echo(word: &[u8]) -> Option<u64>
 }
 
 /// Returns the command of a text that is no read.
-fn read_change(text: &[u8]) -> Option<PairCommand>
-    ensures { result ≡ change_of text.now }
+fn read_change<T: Key>(alloc: Global, text: &[u8]) -> Result<Option<PairCommand<T>>, RunFault>
+    ensures command { IfOk result (λ command. command ≡ change_of T.texts text.now) }
+    ensures fault { IfErr result (λ fault. fault ≡ RunFault.Memory) }
 {
-    match read_query(text) {
-        Some(_) => None,
-        None => parse_pairs(text),
+    match read_query::<T>(alloc, text)? {
+        Some(_) => Ok(None),
+        None => parse_pairs(alloc, text),
     }
 }

@@ -1,87 +1,140 @@
 //! The event that a line spells.
 
-ghost use Rattle.std.specs.Prelude.{◌≡◌};
-ghost use Rattle.indexset_follow.specs.EventLine.{event_of, named_event, word_event};
+ghost use Rattle.std.specs.Prelude.{◌≡◌, IfErr, IfOk};
+ghost use Rattle.indexset_follow.specs.EventLine.{event_of, item_event, named_event, word_event};
 
-use crate::numbers::read_pair;
+use indexset_bench::RunFault;
+use indexset_bench::key::{Key, read_pair};
 use indexset_core::pair::Pair;
 use indexset_events::change::{ChangeEvent, Id};
 use indexset_events::parts::{cut, read_number};
+use std::alloc::Global;
 
-/// An event whose items are pairs of numbers.
-pub type Event = ChangeEvent<Pair<u64, u64>>;
+/// An event whose items are pairs.
+pub type Event<T> = ChangeEvent<Pair<T, T>>;
 
 /// Returns the event that the line spells, if it spells one.
-pub fn read_event(line: &[u8]) -> Option<Event>
-    ensures { result ≡ event_of line.now }
+pub fn read_event<T: Key>(alloc: Global, line: &[u8]) -> Result<Option<Event<T>>, RunFault>
+    ensures event { IfOk result (λ event. event ≡ event_of T.texts line.now) }
+    ensures fault { IfErr result (λ fault. fault ≡ RunFault.Memory) }
 {
-    let (digits, change) = cut(line, b' ')?;
-    let event_id = Id::from(read_number(digits)?);
-    let (word, rest) = cut(change, b' ')?;
-    read_change(event_id, word, rest)
+    let Some((digits, change)) = cut(line, b' ') else {
+        return Ok(None);
+    };
+    let Some(number) = read_number(digits) else {
+        return Ok(None);
+    };
+    let Some((word, rest)) = cut(change, b' ') else {
+        return Ok(None);
+    };
+    read_change(alloc, Id::from(number), word, rest)
 }
 
 /// Returns the event of a word, by what stands behind it.
-fn read_change(event_id: Id, word: &[u8], rest: &[u8]) -> Option<Event>
-    ensures { result ≡ word_event event_id word.now rest.now }
+fn read_change<T: Key>(
+    alloc: Global,
+    event_id: Id,
+    word: &[u8],
+    rest: &[u8],
+) -> Result<Option<Event<T>>, RunFault>
+    ensures event { IfOk result (λ event. event ≡ word_event T.texts event_id word.now rest.now) }
+    ensures fault { IfErr result (λ fault. fault ≡ RunFault.Memory) }
 {
     if word == b"create".as_slice() {
-        let max_value = read_pair(rest)?;
-        return Some(ChangeEvent::CreateNode {
+        let last = read_pair(alloc, rest)?;
+        return Ok(last.map(|max_value| ChangeEvent::CreateNode {
             event_id,
             max_value,
-        });
+        }));
     }
     if word == b"drop".as_slice() {
-        let max_value = read_pair(rest)?;
-        return Some(ChangeEvent::RemoveNode {
+        let last = read_pair(alloc, rest)?;
+        return Ok(last.map(|max_value| ChangeEvent::RemoveNode {
             event_id,
             max_value,
-        });
+        }));
     }
-    let (name, rest) = cut(rest, b' ')?;
-    let max_value = read_pair(name)?;
-    read_named(event_id, word, max_value, rest)
+    let Some((name, rest)) = cut(rest, b' ') else {
+        return Ok(None);
+    };
+    let Some(max_value) = read_pair(alloc, name)? else {
+        return Ok(None);
+    };
+    read_named(alloc, event_id, word, max_value, rest)
 }
 
 /// Returns the event of a word that names a node, by what stands behind the name.
-fn read_named(event_id: Id, word: &[u8], max_value: Pair<u64, u64>, rest: &[u8]) -> Option<Event>
-    ensures { result ≡ named_event event_id word.now max_value rest.now }
+fn read_named<T: Key>(
+    alloc: Global,
+    event_id: Id,
+    word: &[u8],
+    max_value: Pair<T, T>,
+    rest: &[u8],
+) -> Result<Option<Event<T>>, RunFault>
+    ensures event { IfOk result (λ event. event
+        ≡ named_event T.texts event_id word.now max_value rest.now) }
+    ensures fault { IfErr result (λ fault. fault ≡ RunFault.Memory) }
 {
     if word == b"split".as_slice() {
-        let split_index = read_number(rest)? as usize;
-        return Some(ChangeEvent::SplitNode {
+        let Some(index) = read_number(rest) else {
+            return Ok(None);
+        };
+        return Ok(Some(ChangeEvent::SplitNode {
             event_id,
             max_value,
-            split_index,
-        });
+            split_index: index as usize,
+        }));
     }
     if word == b"merge".as_slice() {
-        let next_max_value = read_pair(rest)?;
-        return Some(ChangeEvent::MergeNodes {
+        let Some(next_max_value) = read_pair(alloc, rest)? else {
+            return Ok(None);
+        };
+        return Ok(Some(ChangeEvent::MergeNodes {
             event_id,
             max_value,
             next_max_value,
-        });
+        }));
     }
-    let (item, index) = cut(rest, b' ')?;
-    let value = read_pair(item)?;
-    let index = read_number(index)? as usize;
+    read_placed(alloc, event_id, word, max_value, rest)
+}
+
+/// Returns the event of a word that names a node and an item, by the item and its index.
+fn read_placed<T: Key>(
+    alloc: Global,
+    event_id: Id,
+    word: &[u8],
+    max_value: Pair<T, T>,
+    rest: &[u8],
+) -> Result<Option<Event<T>>, RunFault>
+    ensures event { IfOk result (λ event. event
+        ≡ item_event T.texts event_id word.now max_value rest.now) }
+    ensures fault { IfErr result (λ fault. fault ≡ RunFault.Memory) }
+{
+    let Some((item, digits)) = cut(rest, b' ') else {
+        return Ok(None);
+    };
+    let Some(value) = read_pair(alloc, item)? else {
+        return Ok(None);
+    };
+    let Some(index) = read_number(digits) else {
+        return Ok(None);
+    };
+    let index = index as usize;
     if word == b"insert".as_slice() {
-        Some(ChangeEvent::InsertAt {
+        Ok(Some(ChangeEvent::InsertAt {
             event_id,
             max_value,
             value,
             index,
-        })
+        }))
     } else if word == b"remove".as_slice() {
-        Some(ChangeEvent::RemoveAt {
+        Ok(Some(ChangeEvent::RemoveAt {
             event_id,
             max_value,
             value,
             index,
-        })
+        }))
     } else {
-        None
+        Ok(None)
     }
 }

@@ -6,7 +6,10 @@ ghost use Rattle.std.specs.List.{All};
 ghost use Rattle.std.specs.Ordering.{nat_cmp};
 ghost use Rattle.indexset_lines.specs.Lines.{lines_of};
 ghost use Rattle.indexset_bench.specs.PairText.{event_text};
+ghost use Rattle.indexset_bench.specs.Pairs.{PairTree, change_reply};
 ghost use Rattle.indexset_bench.specs.Reply.{reply_text};
+ghost use Rattle.indexset_bench.specs.declared.pair_command.PairCommand.{PairCommand};
+ghost use Rattle.indexset_bench.specs.Texts.{number_texts};
 ghost use Rattle.indexset_bench.specs.Text.{no_stores, stores_of};
 ghost use Rattle.indexset_bench.specs.declared.reply.Reply.{Reply};
 ghost use Rattle.indexset_core.specs.Nodes.{IsNodeList};
@@ -29,25 +32,30 @@ ghost use Rattle.indexset_events.specs.Replay.{event_number, replay, IsNumberedF
 ghost use Rattle.indexset_replica.specs.Delivery.{IsSubsequence};
 ghost use Rattle.indexset_replica.specs.Replica.{apply_refusal};
 
+use indexset_bench::key::Key;
+
 /// A line spells the event of which it is the text, and no other line spells one.
-pub fn event_meaning_is_spelling()
-    ensures spelled { (line : List ℕ) (e : Event) → EventFits e
-        → (event_of line ≡ Some e) ↔ (line ≡ event_text e) }
-    ensures fits { (line : List ℕ) (e : Event) → event_of line ≡ Some e → EventFits e }
+pub fn event_meaning_is_spelling<T: Key>()
+    ensures spelled { (line : List ℕ) (e : Event T) → EventFits T.texts e
+        → (event_of T.texts line ≡ Some e) ↔ (line ≡ event_text T.texts e) }
+    ensures fits { (line : List ℕ) (e : Event T) → event_of T.texts line ≡ Some e
+        → EventFits T.texts e }
 {}
 
 /// The same of the line that gives a node, which has a pair at least.
-pub fn node_meaning_is_spelling()
-    ensures spelled { (line : List ℕ) (n : List (Pair ℕ ℕ)) → NodeFits n
-        → (node_of line ≡ Some n) ↔ (line ≡ node_line n) }
-    ensures fits { (line : List ℕ) (n : List (Pair ℕ ℕ)) → node_of line ≡ Some n → NodeFits n }
+pub fn node_meaning_is_spelling<T: Key>()
+    ensures spelled { (line : List ℕ) (n : List (Pair T T)) → NodeFits T.texts n
+        → (node_of T.texts line ≡ Some n) ↔ (line ≡ node_line T.texts n) }
+    ensures fits { (line : List ℕ) (n : List (Pair T T)) → node_of T.texts line ≡ Some n
+        → NodeFits T.texts n }
 {}
 
 /// The same of the line of a read.
-pub fn query_meaning_is_spelling()
-    ensures spelled { (line : List ℕ) (q : Query) → QueryFits q
-        → (query_of line ≡ Some q) ↔ (line ≡ query_line q) }
-    ensures fits { (line : List ℕ) (q : Query) → query_of line ≡ Some q → QueryFits q }
+pub fn query_meaning_is_spelling<T: Key>()
+    ensures spelled { (line : List ℕ) (q : Query T) → QueryFits T.texts q
+        → (query_of T.texts line ≡ Some q) ↔ (line ≡ query_line T.texts q) }
+    ensures fits { (line : List ℕ) (q : Query T) → query_of T.texts line ≡ Some q
+        → QueryFits T.texts q }
 {}
 
 /// The same of the line that begins a snapshot or ends it, or tells which commands were done.
@@ -62,20 +70,19 @@ pub fn mark_meaning_is_spelling()
 /// of lines that are texts of these events, with losses, repeats and in any order, it holds what
 /// the first k lead to, for some k, and some of those after the awaited one early. Where the texts
 /// of the events from j on are among the lines in their order, k is all of them.
-pub fn deliveries_lead_to_a_beginning()
-    ensures beginning { (s j : ℕ) (ns : List (List (Pair ℕ ℕ))) (es : List Event) (r : State)
-        (lines : List (List ℕ))
-        → IsFeedOfPairs s ns es → All EventFits es → HoldsFirst s ns es j r → HoldsAhead s es r
-        → All (IsDrawn es) lines
-        → (k : ℕ) × HoldsFirst s ns es k (state_after r lines)
-        × HoldsAhead s es (state_after r lines) }
-    ensures whole { (s j : ℕ) (ns : List (List (Pair ℕ ℕ))) (es : List Event) (r : State)
-        (lines : List (List ℕ))
-        → IsFeedOfPairs s ns es → All EventFits es → HoldsFirst s ns es j r → HoldsAhead s es r
-        → All (IsDrawn es) lines → IsSubsequence (map event_text (drop j es)) lines
-        → HoldsFirst s ns es (length es) (state_after r lines) }
-    ensures none { (s w d : ℕ) (ns : List (List (Pair ℕ ℕ))) (es : List Event)
-        → HoldsFirst s ns es 0 (holding w (copy ns s) d)
+pub fn deliveries_lead_to_a_beginning<T: Key>()
+    ensures beginning { (s j : ℕ) (ns : List (List (Pair T T))) (es : List (Event T)) (r : State T)
+        (lines : List (List ℕ)) → IsFeedOfPairs T.cmp s ns es → All (EventFits T.texts) es
+        → HoldsFirst T.cmp s ns es j r → HoldsAhead s es r → All (IsDrawn T.texts es) lines
+        → (k : ℕ) × HoldsFirst T.cmp s ns es k (state_after T.cmp T.texts r lines)
+        × HoldsAhead s es (state_after T.cmp T.texts r lines) }
+    ensures whole { (s j : ℕ) (ns : List (List (Pair T T))) (es : List (Event T)) (r : State T)
+        (lines : List (List ℕ)) → IsFeedOfPairs T.cmp s ns es → All (EventFits T.texts) es
+        → HoldsFirst T.cmp s ns es j r → HoldsAhead s es r → All (IsDrawn T.texts es) lines
+        → IsSubsequence (map (event_text T.texts) (drop j es)) lines
+        → HoldsFirst T.cmp s ns es (length es) (state_after T.cmp T.texts r lines) }
+    ensures none { (s w d : ℕ) (ns : List (List (Pair T T))) (es : List (Event T))
+        → HoldsFirst T.cmp s ns es 0 (holding w (copy ns s) d)
         × HoldsAhead s es (holding w (copy ns s) d) }
 {}
 
@@ -83,69 +90,74 @@ pub fn deliveries_lead_to_a_beginning()
 /// be ahead of the awaited one by no more than the window when its line comes. Then nothing that
 /// comes is lost, in whatever order: after the lines it holds what the first k lead to, where k is
 /// the first from j on that never came. Where all from j on came, it holds what all lead to.
-pub fn nothing_within_the_window_is_lost()
-    ensures first { (s j : ℕ) (ns : List (List (Pair ℕ ℕ))) (es : List Event) (r : State)
-        (lines : List (List ℕ))
-        → IsFeedOfPairs s ns es → All EventFits es → HoldsFirst s ns es j r → r.early ≡ []
-        → All (IsDrawn es) lines → AreWithin r lines
-        → (k : ℕ) × HoldsFirst s ns es k (state_after r lines) × IsFirstMissing es j lines k }
-    ensures all { (s j : ℕ) (ns : List (List (Pair ℕ ℕ))) (es : List Event) (r : State)
-        (lines : List (List ℕ))
-        → IsFeedOfPairs s ns es → All EventFits es → HoldsFirst s ns es j r → r.early ≡ []
-        → All (IsDrawn es) lines → AreWithin r lines
-        → ((p : ℕ) (e : Event) → j ≤ p → slice_get es p ≡ Some e → IsAmong lines (event_text e))
-        → HoldsFirst s ns es (length es) (state_after r lines) }
+pub fn nothing_within_the_window_is_lost<T: Key>()
+    ensures first { (s j : ℕ) (ns : List (List (Pair T T))) (es : List (Event T)) (r : State T)
+        (lines : List (List ℕ)) → IsFeedOfPairs T.cmp s ns es → All (EventFits T.texts) es
+        → HoldsFirst T.cmp s ns es j r → r.early ≡ [] → All (IsDrawn T.texts es) lines
+        → AreWithin T.cmp T.texts r lines → (k : ℕ)
+        × HoldsFirst T.cmp s ns es k (state_after T.cmp T.texts r lines)
+        × IsFirstMissing T.texts es j lines k }
+    ensures all { (s j : ℕ) (ns : List (List (Pair T T))) (es : List (Event T)) (r : State T) (lines
+        : List (List ℕ)) → IsFeedOfPairs T.cmp s ns es → All (EventFits T.texts) es
+        → HoldsFirst T.cmp s ns es j r → r.early ≡ [] → All (IsDrawn T.texts es) lines
+        → AreWithin T.cmp T.texts r lines → ((p : ℕ) (e : Event T) → j ≤ p → slice_get es p ≡ Some e
+        → IsAmong lines (event_text T.texts e))
+        → HoldsFirst T.cmp s ns es (length es) (state_after T.cmp T.texts r lines) }
 {}
 
 /// The events that are held early are ahead of the awaited one by no more than the window, whatever
 /// the lines, and so they are no more than it.
-pub fn early_events_are_few()
-    ensures near { (r : State) (lines : List (List ℕ)) → HoldsNear r
-        → HoldsNear (state_after r lines) }
-    ensures few { (r : State) → HoldsNear r → length r.early ≤ r.window }
-    ensures none { (w d : ℕ) (c : Copy) → HoldsNear (holding w c d) }
+pub fn early_events_are_few<T: Key>()
+    ensures near { (r : State T) (lines : List (List ℕ)) → HoldsNear r
+        → HoldsNear (state_after T.cmp T.texts r lines) }
+    ensures few { (r : State T) → HoldsNear r → length r.early ≤ r.window }
+    ensures none { (w d : ℕ) (c : Copy T) → HoldsNear (holding w c d) }
 {}
 
 /// Without a window no event is held early: the awaited event makes its step or is refused, and any
 /// other changes nothing, and tells what is awaited.
-pub fn without_a_window_only_the_awaited_event_is_taken()
-    ensures early { (r : State) (e : Event) → r.window ≡ 0 → r.early ≡ []
-        → (after_event r e).early ≡ [] }
-    ensures held { (r : State) (e : Event) → r.window ≡ 0 → r.early ≡ []
-        → (after_event r e).held ≡ copy_after r.held e }
-    ensures next { (r : State) (e : Event) → r.window ≡ 0 → r.early ≡ []
+pub fn without_a_window_only_the_awaited_event_is_taken<T: Key>()
+    ensures early { (r : State T) (e : Event T) → r.window ≡ 0 → r.early ≡ []
+        → (after_event T.cmp r e).early ≡ [] }
+    ensures held { (r : State T) (e : Event T) → r.window ≡ 0 → r.early ≡ []
+        → (after_event T.cmp r e).held ≡ copy_after T.cmp r.held e }
+    ensures next { (r : State T) (e : Event T) → r.window ≡ 0 → r.early ≡ []
         → event_number e ≡ r.held.next
-        → apply_refusal (by_key nat_cmp) r.held.nodes r.held.next e ≡ None
-        → event_reply r e ≡ reply.Next (after_event r e).held.next }
-    ensures gap { (r : State) (e : Event) → r.window ≡ 0 → r.held.next < event_number e
-        → event_reply r e ≡ reply.Gap r.held.next }
+        → apply_refusal (by_key T.cmp) r.held.nodes r.held.next e ≡ None
+        → event_reply T.cmp r e ≡ reply.Next (after_event T.cmp r e).held.next }
+    ensures gap { (r : State T) (e : Event T) → r.window ≡ 0 → r.held.next < event_number e
+        → event_reply T.cmp r e ≡ reply.Gap r.held.next }
 {}
 
 /// The lines of a snapshot, sent to any follower, make it what its source is: the nodes, the
 /// expected number, and the greatest number of a command. Where the source holds what the first k
 /// events lead to, the other does.
-pub fn snapshot_gives_the_follower()
-    ensures { (giver : Copy) (d : ℕ) (taker : State) → IsNodeList (by_key nat_cmp) giver.nodes
-        → giver.next < 2 ^ 64 → d < 2 ^ 64 → length giver.nodes < 2 ^ 64 → All NodeFits giver.nodes
-        → state_after taker (lines_of (snapshot_text giver d)) ≡ holding taker.window giver d }
+pub fn snapshot_gives_the_follower<T: Key>()
+    ensures { (giver : Copy T) (d : ℕ) (taker : State T) → IsNodeList (by_key T.cmp) giver.nodes
+        → giver.next < 2 ^ 64 → d < 2 ^ 64 → length giver.nodes < 2 ^ 64
+        → All (NodeFits T.texts) giver.nodes → state_after T.cmp T.texts taker (lines_of
+        (snapshot_text T.texts giver d)) ≡ holding taker.window giver d }
 {}
 
 /// Nothing of a snapshot is held before its end: lines that are neither events nor such an end
 /// change nothing that is held. An end that tells another number of nodes than came, or another
 /// sum, leaves what was held and ends the snapshot.
-pub fn snapshots_are_held_whole()
-    ensures before { (s : State) (lines : List (List ℕ)) → All LacksEnd lines
-        → (state_after s lines).held ≡ s.held }
-    ensures wrong { (s : State) (came : Copy) (count sum : ℕ) → s.coming ≡ Some came
-        → ((length came.nodes ≢ count) ⊎ (sum_of came s.coming_done ≢ sum))
-        → after_mark s (Mark.End count sum) ≡ with_coming s None 0 }
+pub fn snapshots_are_held_whole<T: Key>()
+    ensures before { (s : State T) (lines : List (List ℕ)) → All (LacksEnd T.texts) lines
+        → (state_after T.cmp T.texts s lines).held ≡ s.held }
+    ensures wrong { (s : State T) (came : Copy T) (count sum : ℕ) → s.coming ≡ Some came
+        → ((length came.nodes ≢ count) ⊎ (sum_of T.texts came s.coming_done ≢ sum))
+        → after_mark T.texts s (Mark.End count sum) ≡ with_coming s None 0 }
 {}
 
 /// A follower that passes over other lines writes nothing for a reply of the first program, nor for
-/// the line that ends the answer of a leader, and no such line changes it.
-pub fn replies_are_passed_over()
-    ensures first { (reply : Reply) → ReplyFits reply → IsPassedOver (reply_text reply) }
-    ensures next { (n : ℕ) → IsPassedOver (codes "next " ++ decimal n) }
+/// the reply of a leader to a command and the line that ends it, and no such line changes it.
+pub fn replies_are_passed_over<T: Key>()
+    ensures first { (reply : Reply ℕ) → ReplyFits number_texts reply
+        → IsPassedOver nat_cmp number_texts (reply_text number_texts reply) }
+    ensures told { (t : PairTree T) (c : PairCommand T)
+        → IsPassedOver T.cmp T.texts (reply_text T.texts (change_reply T.cmp t c)) }
+    ensures next { (n : ℕ) → IsPassedOver T.cmp T.texts (codes "next " ++ decimal n) }
 {}
 
 /// The events that the first program writes, whatever lines it reads, are numbered from 0 without a
@@ -160,7 +172,7 @@ pub fn told_events_lead_to_the_nodes()
     ensures count { (lines : List (List ℕ))
         → (stores_of no_stores lines).pairs.next ≡ length (events_of_lines lines) }
     ensures fits { (lines : List (List ℕ)) → (stores_of no_stores lines).pairs.next < 2 ^ 64
-        → All EventFits (events_of_lines lines) }
+        → All (EventFits number_texts) (events_of_lines lines) }
     ensures first { (lines : List (List ℕ)) (n : ℕ)
         → take (length (events_of_lines (take n lines))) (events_of_lines lines)
         ≡ events_of_lines (take n lines) }
@@ -171,7 +183,7 @@ pub fn told_events_lead_to_the_nodes()
 pub fn output_tells_the_events()
     ensures { (lines : List (List ℕ)) → length lines < 2 ^ 64
         → (stores_of no_stores lines).pairs.next < 2 ^ 64
-        → event_lines (output_lines lines) ≡ map event_text (events_of_lines lines) }
+        → event_lines (output_lines lines) ≡ map (event_text number_texts) (events_of_lines lines) }
 {}
 
 /// Both programs together. Let the first read fewer than 2^64 lines, and write fewer than 2^64
@@ -184,30 +196,31 @@ pub fn output_tells_the_events()
 pub fn programs_agree()
     ensures beginning { (w : ℕ) (lines delivered : List (List ℕ)) → length lines < 2 ^ 64
         → (stores_of no_stores lines).pairs.next < 2 ^ 64
-        → All (IsAmong (output_lines lines)) delivered
-        → (k : ℕ)
-        × HoldsFirst 0 [] (events_of_lines lines) k (state_after (start_state w) delivered) }
+        → All (IsAmong (output_lines lines)) delivered → (k : ℕ)
+        × HoldsFirst nat_cmp 0 [] (events_of_lines lines) k (state_after nat_cmp number_texts
+        (start_state w) delivered) }
     ensures same { (w : ℕ) (lines delivered : List (List ℕ)) → length lines < 2 ^ 64
         → (stores_of no_stores lines).pairs.next < 2 ^ 64
         → All (IsAmong (output_lines lines)) delivered
-        → (n : ℕ) → (state_after (start_state w) delivered).held.next
+        → (n : ℕ) → (state_after nat_cmp number_texts (start_state w) delivered).held.next
         ≡ (stores_of no_stores (take n lines)).pairs.next
-        → (state_after (start_state w) delivered).held.nodes
+        → (state_after nat_cmp number_texts (start_state w) delivered).held.nodes
         ≡ (stores_of no_stores (take n lines)).pairs.nodes }
     ensures whole { (w : ℕ) (lines delivered : List (List ℕ)) → length lines < 2 ^ 64
         → (stores_of no_stores lines).pairs.next < 2 ^ 64
         → All (IsAmong (output_lines lines)) delivered
         → IsSubsequence (event_lines (output_lines lines)) (event_lines delivered)
-        → (state_after (start_state w) delivered).held
+        → (state_after nat_cmp number_texts (start_state w) delivered).held
         ≡ copy (stores_of no_stores lines).pairs.nodes (stores_of no_stores lines).pairs.next }
     ensures within { (w : ℕ) (lines delivered : List (List ℕ)) → length lines < 2 ^ 64
         → (stores_of no_stores lines).pairs.next < 2 ^ 64
-        → All (IsAmong (output_lines lines)) delivered → AreWithin (start_state w) delivered
+        → All (IsAmong (output_lines lines)) delivered
+        → AreWithin nat_cmp number_texts (start_state w) delivered
         → All (IsAmong delivered) (event_lines (output_lines lines))
-        → (state_after (start_state w) delivered).held
+        → (state_after nat_cmp number_texts (start_state w) delivered).held
         ≡ copy (stores_of no_stores lines).pairs.nodes (stores_of no_stores lines).pairs.next }
     ensures piped { (w : ℕ) (lines : List (List ℕ)) → length lines < 2 ^ 64
         → (stores_of no_stores lines).pairs.next < 2 ^ 64
-        → (state_after (start_state w) (output_lines lines)).held
+        → (state_after nat_cmp number_texts (start_state w) (output_lines lines)).held
         ≡ copy (stores_of no_stores lines).pairs.nodes (stores_of no_stores lines).pairs.next }
 {}

@@ -1,4 +1,4 @@
-//! A map of numbers that leads: commands change it, and their events are told.
+//! A map that leads: commands change it, and their events are told.
 
 ghost use Rattle.std.specs.Prelude.{◌≡◌, ◌≢◌, Err, IfErr, OnOk};
 ghost use Rattle.std.specs.Io.KnownBytes.{Appends, Keeps};
@@ -15,34 +15,35 @@ use crate::reads::{answer_other, answer_query};
 use crate::reply::Reply;
 use crate::write::{write_mark, write_reply};
 use indexset_bench::RunFault;
+use indexset_bench::key::Key;
 use indexset_bench::pairs::answer_pairs;
 use std::alloc::Global;
 use std::io::Write;
 
 /// Writes the answer to one line: to a read, or to a command. Where it fails for memory or for
 /// numbers, nothing is written.
-pub fn answer_leading<W: Write>(
+pub fn answer_leading<T: Key, W: Write>(
     alloc: Global,
     others: Others,
     writer: &mut W,
-    leader: &mut Leader,
+    leader: &mut Leader<T>,
     line: &[u8],
 ) -> Result<(), RunFault>
-    ensures held { OnOk result (leader.new ≡ leader_after leader.old line.now) }
+    ensures held { OnOk result (leader.new ≡ leader_after T.cmp T.texts leader.old line.now) }
     ensures told { OnOk result (Appends (W.contents writer.old) (W.contents writer.new)
-        (leading_reply others leader.old line.now)) }
+        (leading_reply T.cmp T.texts others leader.old line.now)) }
     ensures memory_refused { result ≡ Err RunFault.Memory
         → Keeps (W.contents writer.old) (W.contents writer.new) }
     ensures numbers_refused { result ≡ Err RunFault.Numbers
         → Keeps (W.contents writer.old) (W.contents writer.new) }
     ensures no_numbers { result ≡ Err RunFault.Numbers
-        → lacks (leader_after leader.old line.now).pairs }
+        → lacks (leader_after T.cmp T.texts leader.old line.now).pairs }
     ensures no_read { result ≢ Err RunFault.Read }
 {
-    if let Some(query) = read_query(line) {
-        return answer_query(alloc, writer, &leader.pairs, leader.done, query);
+    if let Some(query) = read_query(alloc, line)? {
+        return answer_query(alloc, writer, &leader.pairs, leader.done, &query);
     }
-    match read_command(line) {
+    match read_command(alloc, line)? {
         Some(command) => answer_command(writer, leader, command),
         None => answer_other(others, writer),
     }
@@ -50,28 +51,30 @@ pub fn answer_leading<W: Write>(
 
 /// Carries out a command, and writes the reply, the events of its change, the commands that are
 /// done and the next number. A failed call changes nothing, and nothing is written.
-fn answer_command<W: Write>(
+fn answer_command<T: Key, W: Write>(
     writer: &mut W,
-    leader: &mut Leader,
-    command: Command,
+    leader: &mut Leader<T>,
+    command: Command<T>,
 ) -> Result<(), RunFault>
     ensures held { OnOk result (leader.new
-        ≡ leader_of (pairs_after leader.old.pairs command.change)
+        ≡ leader_of (pairs_after T.cmp leader.old.pairs command.change)
         (done_by leader.old.done command)) }
     ensures told { OnOk result (Appends (W.contents writer.old) (W.contents writer.new)
-        (command_text leader.old command)) }
+        (command_text T.cmp T.texts leader.old command)) }
     ensures memory_refused { result ≡ Err RunFault.Memory
         → Keeps (W.contents writer.old) (W.contents writer.new) }
     ensures numbers_refused { result ≡ Err RunFault.Numbers
         → Keeps (W.contents writer.old) (W.contents writer.new) }
     ensures no_numbers { result ≡ Err RunFault.Numbers
-        → lacks (pairs_after leader.old.pairs command.change) }
+        → lacks (pairs_after T.cmp leader.old.pairs command.change) }
     ensures no_read { result ≢ Err RunFault.Read }
 {
-    answer_pairs(writer, command.echo, &mut leader.pairs, command.change)?;
-    leader.done = command.done(leader.done);
+    let done = command.done(leader.done);
+    let Command { echo, change } = command;
+    answer_pairs(writer, echo, &mut leader.pairs, change)?;
+    leader.done = done;
     let next = leader.pairs.events_issued();
-    write_done(writer, command.echo, leader.done, next)?;
+    write_done(writer, echo, done, next)?;
     write_reply(writer, Reply::Next(next))
 }
 

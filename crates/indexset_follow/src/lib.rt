@@ -1,4 +1,4 @@
-//! A program over lines that holds a map of numbers, which follows another by its events or leads.
+//! A program over lines that holds a map, which follows another by its events or leads.
 //!
 //! [`serve`] reads lines of a reader and writes the answer to each. A line is an event, as
 //! `indexset_bench` writes it, one of a snapshot, a read, or a command to a map that leads.

@@ -4,18 +4,18 @@ ghost use Rattle.std.specs.Prelude.{◌≡◌, [], ◌∷◌, ◌++◌, IfOk, On
 ghost use Rattle.std.specs.Option.{option_map};
 ghost use Rattle.indexset_follow.specs.NodeLine.{node_of, pairs_of, words};
 
-use crate::numbers::read_pair;
 use indexset_bench::RunFault;
+use indexset_bench::key::{Key, read_pair};
 use indexset_core::pair::Pair;
 use indexset_events::parts::cut;
 use std::alloc::Global;
 
 /// A whole node.
-pub type Node = Vec<Pair<u64, u64>>;
+pub type Node<T> = Vec<Pair<T, T>>;
 
 /// Returns the node that the line gives, if it gives one.
-pub fn read_node(alloc: Global, line: &[u8]) -> Result<Option<Node>, RunFault>
-    ensures node { IfOk result (λ node. option_map (λ n. n.items) node ≡ node_of line.now) }
+pub fn read_node<T: Key>(alloc: Global, line: &[u8]) -> Result<Option<Node<T>>, RunFault>
+    ensures node { IfOk result (λ node. option_map (λ n. n.items) node ≡ node_of T.texts line.now) }
     ensures fault { IfErr result (λ fault. fault ≡ RunFault.Memory) }
 {
     match cut(line, b' ') {
@@ -31,21 +31,21 @@ pub fn read_node(alloc: Global, line: &[u8]) -> Result<Option<Node>, RunFault>
 }
 
 /// Returns the pairs of a text, where each of its words is one.
-fn read_pairs(alloc: Global, text: &[u8]) -> Result<Option<Node>, RunFault>
+fn read_pairs<T: Key>(alloc: Global, text: &[u8]) -> Result<Option<Node<T>>, RunFault>
     ensures pairs { IfOk result (λ node. option_map (λ n. n.items) node
-        ≡ pairs_of (words text.now)) }
+        ≡ pairs_of T.texts (words text.now)) }
     ensures fault { IfErr result (λ fault. fault ≡ RunFault.Memory) }
 {
     let mut items = Vec::new(alloc);
     let mut left = text;
     while let Some((word, rest)) = cut(left, b' ') {
-        match read_pair(word) {
+        match read_pair(alloc, word)? {
             Some(item) => keep(&mut items, item)?,
             None => return Ok(None),
         }
         left = rest;
     }
-    match read_pair(left) {
+    match read_pair(alloc, left)? {
         Some(item) => {
             keep(&mut items, item)?;
             Ok(Some(items))
@@ -55,7 +55,7 @@ fn read_pairs(alloc: Global, text: &[u8]) -> Result<Option<Node>, RunFault>
 }
 
 /// Appends a pair.
-fn keep(items: &mut Node, item: Pair<u64, u64>) -> Result<(), RunFault>
+fn keep<T: Key>(items: &mut Node<T>, item: Pair<T, T>) -> Result<(), RunFault>
     ensures kept { OnOk result (items.new.items ≡ items.old.items ++ item ∷ []) }
     ensures fault { IfErr result (λ fault. fault ≡ RunFault.Memory) }
 {

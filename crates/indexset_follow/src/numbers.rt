@@ -1,19 +1,10 @@
 //! Numbers within a line.
 
 ghost use Rattle.std.specs.Prelude.{◌≡◌, Some};
-ghost use Rattle.indexset_follow.specs.Numbers.{pair_of, tail_text, two_numbers};
+ghost use Rattle.indexset_follow.specs.Numbers.{tail_text, two_numbers};
 
-use indexset_core::pair::Pair;
 use indexset_events::parts::{cut, read_number};
-use indexset_events::spelling::Spelled;
 use std::fmt;
-
-/// Returns the pair of two numbers with a colon between them.
-pub fn read_pair(text: &[u8]) -> Option<Pair<u64, u64>>
-    ensures { result ≡ pair_of text.now }
-{
-    Pair::read(text)
-}
 
 /// Returns two numbers with a space between them.
 pub fn read_two(text: &[u8]) -> Option<(u64, u64)>

@@ -1,18 +1,18 @@
-//! Reads of a map of numbers, whether it follows or leads.
+//! Reads of a map, whether it follows or leads.
 //!
 //! [`Reads`] is what a read needs, [`replica`] and [`logged`] have it, and [`answer_query`] answers
 //! each read by it. [`query`] says what a line asks to read, [`row`] writes pairs in a line, and
 //! [`nodes`] walks over the nodes of a snapshot.
 
-ghost use Rattle.std.specs.Prelude.{◌≡◌, ◌≢◌, ◌≤◌, ℕ, Err, OnOk, IfOk, IfErr, length, slice_get};
+ghost use Rattle.std.specs.Prelude.{◌≡◌, ◌≢◌, ℕ, true, Err, OnOk, IfOk, IfErr, length, slice_get};
 ghost use Rattle.std.specs.Io.KnownBytes.{Appends, Keeps};
 ghost use Rattle.std.specs.List.{between};
 ghost use Rattle.std.specs.Option.{option_map};
-ghost use Rattle.std.specs.Ordering.{nat_cmp};
+ghost use Rattle.std.specs.Ordering.{is_le};
 ghost use Rattle.indexset_core.specs.Nodes.{joined};
 ghost use Rattle.indexset_core.specs.Pairs.{entry_of, key_rank, pair_of};
 ghost use Rattle.indexset_follow.specs.Copy.{body_text, copy, snapshot_text, sum_of};
-ghost use Rattle.indexset_follow.specs.Reads.{PairNodes, entry_reply, head_reply, keys_from, nodes_text, page, query_text, read_reply, row_text};
+ghost use Rattle.indexset_follow.specs.Reads.{PairNodes, entry_text, head_reply, keys_from, nodes_text, page, query_text, read_reply, row_text};
 ghost use Rattle.indexset_follow.specs.Reply.{others_text, reply_ended};
 
 mod logged;
@@ -26,31 +26,36 @@ use crate::others::Others;
 use crate::reply::Reply;
 use crate::write::{write_mark, write_reply};
 use indexset_bench::RunFault;
+use indexset_bench::key::Key;
+use indexset_bench::pair_text::EntryText;
 use query::{Query, read_query};
 use std::alloc::Global;
+use std::cmp::Ordering;
 use std::io::Write;
 
-/// A map of numbers that can be read: its nodes, and the number of the next event.
-pub trait Reads {
-    ghost nodes: { Self → PairNodes };
+/// A map that can be read: its nodes, and the number of the next event.
+pub trait Reads<T: Key> {
+    ghost nodes: { Self → PairNodes T };
 
     ghost next: { Self → ℕ };
 
     /// Returns a key and its value.
-    fn entry(&self, key: u64) -> Option<(u64, u64)>
-        ensures { result ≡ option_map entry_of (pair_of nat_cmp (joined (nodes self.now)) key) };
+    fn entry(&self, key: &T) -> Option<(&T, &T)>
+        ensures { option_map (λ e. (e.0.now, e.1.now)) result
+            ≡ option_map entry_of (pair_of T.cmp (joined (nodes self.now)) key.now) };
 
     /// Returns how many pairs there are.
     fn count(&self) -> usize
         ensures { result ≡ length (joined (nodes self.now)) };
 
     /// Returns the key and the value at a position, counted from 0.
-    fn entry_at(&self, position: usize) -> Option<(u64, u64)>
-        ensures { result ≡ option_map entry_of (slice_get (joined (nodes self.now)) position) };
+    fn entry_at(&self, position: usize) -> Option<(&T, &T)>
+        ensures { option_map (λ e. (e.0.now, e.1.now)) result
+            ≡ option_map entry_of (slice_get (joined (nodes self.now)) position) };
 
     /// Returns how many keys are below this one.
-    fn rank_of(&self, key: u64) -> usize
-        ensures { result ≡ key_rank nat_cmp (joined (nodes self.now)) key };
+    fn rank_of(&self, key: &T) -> usize
+        ensures { result ≡ key_rank T.cmp (joined (nodes self.now)) key.now };
 
     /// Returns the number of the next event.
     fn next_number(&self) -> u64
@@ -63,21 +68,21 @@ pub trait Reads {
     /// Returns the sum of the nodes, the next number and the greatest number of a command.
     fn sum_of_nodes(&self, alloc: Global, done: u64) -> Result<u64, RunFault>
         ensures sum { IfOk result (λ sum. sum
-            ≡ sum_of (copy (nodes self.now) (next self.now)) done) }
+            ≡ sum_of T.texts (copy (nodes self.now) (next self.now)) done) }
         ensures fault { IfErr result (λ fault. fault ≡ RunFault.Memory) };
 
     /// Writes the lines of a snapshot before its last, where `done` is the greatest number of a
     /// command.
     fn write_snapshot_body<W: Write>(&self, writer: &mut W, done: u64) -> Result<(), RunFault>
         ensures told { OnOk result (Appends (W.contents writer.old) (W.contents writer.new)
-            (body_text (copy (nodes self.now) (next self.now)) done)) }
+            (body_text T.texts (copy (nodes self.now) (next self.now)) done)) }
         ensures fault { IfErr result (λ fault. fault ≡ RunFault.Write) };
 
     /// Writes the pairs from one key to another, both included, in one line.
-    fn write_keys<W: Write>(&self, writer: &mut W, low: u64, high: u64) -> Result<(), RunFault>
-        requires { low ≤ high }
+    fn write_keys<W: Write>(&self, writer: &mut W, low: &T, high: &T) -> Result<(), RunFault>
+        requires { is_le (T.cmp low.now high.now) ≡ true }
         ensures told { OnOk result (Appends (W.contents writer.old) (W.contents writer.new)
-            (row_text (keys_from (joined (nodes self.now)) low high))) }
+            (row_text T.texts (keys_from T.cmp (joined (nodes self.now)) low.now high.now))) }
         ensures fault { IfErr result (λ fault. fault ≡ RunFault.Write) };
 
     /// Writes the pairs from one position on, before another, in one line.
@@ -88,19 +93,19 @@ pub trait Reads {
         to: usize,
     ) -> Result<(), RunFault>
         ensures told { OnOk result (Appends (W.contents writer.old) (W.contents writer.new)
-            (row_text (between from to (joined (nodes self.now))))) }
+            (row_text T.texts (between from to (joined (nodes self.now))))) }
         ensures fault { IfErr result (λ fault. fault ≡ RunFault.Write) };
 
     /// Writes the nodes, one a line, and then the next number.
     fn write_all<W: Write>(&self, writer: &mut W) -> Result<(), RunFault>
         ensures told { OnOk result (Appends (W.contents writer.old) (W.contents writer.new)
-            (nodes_text (nodes self.now) (next self.now))) }
+            (nodes_text T.texts (nodes self.now) (next self.now))) }
         ensures fault { IfErr result (λ fault. fault ≡ RunFault.Write) };
 }
 
 /// Writes the answer to a line that may ask for a read. Any other line is as one that says nothing.
 /// Where memory runs out, nothing is written.
-pub fn answer_read<R: Reads, W: Write>(
+pub fn answer_read<T: Key, R: Reads<T>, W: Write>(
     alloc: Global,
     others: Others,
     writer: &mut W,
@@ -109,14 +114,14 @@ pub fn answer_read<R: Reads, W: Write>(
     line: &[u8],
 ) -> Result<(), RunFault>
     ensures told { OnOk result (Appends (W.contents writer.old) (W.contents writer.new)
-        (read_reply others (R.nodes map.now) (R.next map.now) done line.now)) }
+        (read_reply T.cmp T.texts others (R.nodes map.now) (R.next map.now) done line.now)) }
     ensures memory_refused { result ≡ Err RunFault.Memory
         → Keeps (W.contents writer.old) (W.contents writer.new) }
     ensures no_read { result ≢ Err RunFault.Read }
     ensures no_numbers { result ≢ Err RunFault.Numbers }
 {
-    match read_query(line) {
-        Some(query) => answer_query(alloc, writer, map, done, query),
+    match read_query(alloc, line)? {
+        Some(query) => answer_query(alloc, writer, map, done, &query),
         None => answer_other(others, writer),
     }
 }
@@ -134,15 +139,15 @@ pub fn answer_other<W: Write>(others: Others, writer: &mut W) -> Result<(), RunF
 }
 
 /// Writes the answer to a read. Where memory runs out, nothing is written.
-pub fn answer_query<R: Reads, W: Write>(
+pub fn answer_query<T: Key, R: Reads<T>, W: Write>(
     alloc: Global,
     writer: &mut W,
     map: &R,
     done: u64,
-    query: Query,
+    query: &Query<T>,
 ) -> Result<(), RunFault>
     ensures told { OnOk result (Appends (W.contents writer.old) (W.contents writer.new)
-        (query_text (R.nodes map.now) (R.next map.now) done query)) }
+        (query_text T.cmp T.texts (R.nodes map.now) (R.next map.now) done query.now)) }
     ensures memory_refused { result ≡ Err RunFault.Memory
         → Keeps (W.contents writer.old) (W.contents writer.new) }
     ensures no_read { result ≢ Err RunFault.Read }
@@ -155,11 +160,16 @@ pub fn answer_query<R: Reads, W: Write>(
         Query::Last => write_entry(writer, map.entry_at(map.count().saturating_sub(1))),
         Query::Range(low, high) => write_range(writer, map, low, high),
         Query::Rank(key) => write_reply(writer, Reply::Count(map.rank_of(key))),
-        Query::At(position) => write_entry(writer, map.entry_at(position as usize)),
-        Query::Page(position, count) => write_page(writer, map, position as usize, count as usize),
+        Query::At(position) => write_entry(writer, map.entry_at(*position as usize)),
+        Query::Page(position, count) => write_page(
+            writer,
+            map,
+            *position as usize,
+            *count as usize,
+        ),
         Query::Nodes => map.write_all(writer),
         Query::Next | Query::Compact => write_reply(writer, Reply::Next(map.next_number())),
-        Query::Head(end) => write_reply(writer, reply_to_head(map.next_number(), end)),
+        Query::Head(end) => write_reply(writer, reply_to_head(map.next_number(), *end)),
         Query::Snapshot => write_snapshot(alloc, writer, map, done),
         Query::Sum => write_sum(alloc, writer, map, done),
     }
@@ -177,45 +187,46 @@ pub fn reply_to_head(next: u64, end: u64) -> Reply
 }
 
 /// Writes a key and its value, or `none` where there is none.
-fn write_entry<W: Write>(writer: &mut W, entry: Option<(u64, u64)>) -> Result<(), RunFault>
+fn write_entry<T: Key, W: Write>(writer: &mut W, entry: Option<(&T, &T)>) -> Result<(), RunFault>
     ensures told { OnOk result (Appends (W.contents writer.old) (W.contents writer.new)
-        (reply_ended (entry_reply entry))) }
+        (entry_text T.texts (option_map (λ e. (e.0.now, e.1.now)) entry.entry))) }
     ensures fault { IfErr result (λ fault. fault ≡ RunFault.Write) }
 {
-    let reply = match entry {
-        Some((key, value)) => Reply::Item(key, value),
-        None => Reply::Nothing,
-    };
-    write_reply(writer, reply)
+    match entry {
+        Some((key, value)) => {
+            let shown = EntryText(key, value);
+            writer.writeln(shown).map_err(|_| RunFault::Write)
+        }
+        None => write_reply(writer, Reply::Nothing),
+    }
 }
 
 /// Writes the pairs from one key to another, both included, in one line.
-fn write_range<R: Reads, W: Write>(
+fn write_range<T: Key, R: Reads<T>, W: Write>(
     writer: &mut W,
     map: &R,
-    low: u64,
-    high: u64,
+    low: &T,
+    high: &T,
 ) -> Result<(), RunFault>
     ensures told { OnOk result (Appends (W.contents writer.old) (W.contents writer.new)
-        (row_text (keys_from (joined (R.nodes map.now)) low high))) }
+        (row_text T.texts (keys_from T.cmp (joined (R.nodes map.now)) low.now high.now))) }
     ensures fault { IfErr result (λ fault. fault ≡ RunFault.Write) }
 {
-    if high < low {
-        write_reply(writer, Reply::Nothing)
-    } else {
-        map.write_keys(writer, low, high)
+    match low.cmp(high) {
+        Ordering::Greater => write_reply(writer, Reply::Nothing),
+        _ => map.write_keys(writer, low, high),
     }
 }
 
 /// Writes the pairs from a position on, `count` at most, in one line.
-fn write_page<R: Reads, W: Write>(
+fn write_page<T: Key, R: Reads<T>, W: Write>(
     writer: &mut W,
     map: &R,
     position: usize,
     count: usize,
 ) -> Result<(), RunFault>
     ensures told { OnOk result (Appends (W.contents writer.old) (W.contents writer.new)
-        (row_text (page (joined (R.nodes map.now)) position count))) }
+        (row_text T.texts (page (joined (R.nodes map.now)) position count))) }
     ensures fault { IfErr result (λ fault. fault ≡ RunFault.Write) }
 {
     let end = position.saturating_add(count).min(map.count());
@@ -223,14 +234,14 @@ fn write_page<R: Reads, W: Write>(
 }
 
 /// Writes the next number, how many nodes there are, the sum, and the greatest number of a command.
-fn write_sum<R: Reads, W: Write>(
+fn write_sum<T: Key, R: Reads<T>, W: Write>(
     alloc: Global,
     writer: &mut W,
     map: &R,
     done: u64,
 ) -> Result<(), RunFault>
     ensures told { OnOk result (Appends (W.contents writer.old) (W.contents writer.new)
-        (query_text (R.nodes map.now) (R.next map.now) done Query.Sum)) }
+        (query_text T.cmp T.texts (R.nodes map.now) (R.next map.now) done Query.Sum)) }
     ensures memory_refused { result ≡ Err RunFault.Memory
         → Keeps (W.contents writer.old) (W.contents writer.new) }
     ensures no_read { result ≢ Err RunFault.Read }
@@ -244,14 +255,14 @@ fn write_sum<R: Reads, W: Write>(
 }
 
 /// Writes the lines that make another map the same.
-fn write_snapshot<R: Reads, W: Write>(
+fn write_snapshot<T: Key, R: Reads<T>, W: Write>(
     alloc: Global,
     writer: &mut W,
     map: &R,
     done: u64,
 ) -> Result<(), RunFault>
     ensures told { OnOk result (Appends (W.contents writer.old) (W.contents writer.new)
-        (snapshot_text (copy (R.nodes map.now) (R.next map.now)) done)) }
+        (snapshot_text T.texts (copy (R.nodes map.now) (R.next map.now)) done)) }
     ensures memory_refused { result ≡ Err RunFault.Memory
         → Keeps (W.contents writer.old) (W.contents writer.new) }
     ensures no_read { result ≢ Err RunFault.Read }

@@ -24,8 +24,6 @@ pub enum Reply {
     Held,
     /// The awaited number, how many nodes there are, the sum, and the greatest number of a command.
     Sum(u64, u64, u64, u64),
-    /// A key and its value.
-    Item(u64, u64),
     /// How many there are.
     Count(usize),
     /// There is none.
@@ -64,7 +62,6 @@ impl fmt::Display for Reply {
                 let tail = Tail(*done);
                 write!(f, "sum {next} {count} {sum}{tail}")
             }
-            Reply::Item(key, value) => write!(f, "{key}:{value}"),
             Reply::Count(count) => fmt::Display::fmt(count, f),
             Reply::Nothing => f.write_str("none"),
             Reply::Bad => f.write_str("bad"),

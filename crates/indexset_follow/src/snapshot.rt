@@ -13,13 +13,14 @@ use crate::reason::Reason;
 use crate::reply::Reply;
 use crate::write::Nodes;
 use indexset_bench::RunFault;
+use indexset_bench::key::Key;
 use std::alloc::Global;
 use std::mem;
 
 /// Inserts a whole node into the snapshot that is coming, and returns the reply.
-pub fn take_node(follower: &mut Follower, node: Node) -> Result<Reply, RunFault>
-    ensures held { OnOk result (follower.new ≡ after_node follower.old node.items) }
-    ensures reply { IfOk result (λ reply. reply ≡ node_reply follower.old node.items) }
+pub fn take_node<T: Key>(follower: &mut Follower<T>, node: Node<T>) -> Result<Reply, RunFault>
+    ensures held { OnOk result (follower.new ≡ after_node T.cmp follower.old node.items) }
+    ensures reply { IfOk result (λ reply. reply ≡ node_reply T.cmp follower.old node.items) }
     ensures fault { IfErr result (λ fault. fault ≡ RunFault.Memory) }
 {
     let next = follower.held.next();
@@ -34,9 +35,13 @@ pub fn take_node(follower: &mut Follower, node: Node) -> Result<Reply, RunFault>
 
 /// Begins a snapshot or ends it, or takes the greatest number of a command whose events are held,
 /// and returns the reply.
-pub fn take_mark(alloc: Global, follower: &mut Follower, mark: Mark) -> Result<Reply, RunFault>
-    ensures held { OnOk result (follower.new ≡ after_mark follower.old mark) }
-    ensures reply { IfOk result (λ reply. reply ≡ mark_reply follower.old mark) }
+pub fn take_mark<T: Key>(
+    alloc: Global,
+    follower: &mut Follower<T>,
+    mark: Mark,
+) -> Result<Reply, RunFault>
+    ensures held { OnOk result (follower.new ≡ after_mark T.texts follower.old mark) }
+    ensures reply { IfOk result (λ reply. reply ≡ mark_reply T.texts follower.old mark) }
     ensures fault { IfErr result (λ fault. fault ≡ RunFault.Memory) }
     ensures unchanged { OnErr result (follower.new ≡ follower.old) }
 {
@@ -53,9 +58,9 @@ pub fn take_mark(alloc: Global, follower: &mut Follower, mark: Mark) -> Result<R
 
 /// Takes the greatest number of a command where the events before the number `end` are held, and
 /// returns the reply.
-fn take_done(follower: &mut Follower, done: u64, end: u64) -> Reply
-    ensures held { follower.new ≡ after_mark follower.old (Mark.Done done end) }
-    ensures reply { result ≡ mark_reply follower.old (Mark.Done done end) }
+fn take_done<T: Key>(follower: &mut Follower<T>, done: u64, end: u64) -> Reply
+    ensures held { follower.new ≡ after_mark T.texts follower.old (Mark.Done done end) }
+    ensures reply { result ≡ mark_reply T.texts follower.old (Mark.Done done end) }
 {
     let next = follower.held.next();
     if next >= end {
@@ -66,9 +71,15 @@ fn take_done(follower: &mut Follower, done: u64, end: u64) -> Reply
 
 /// Puts the snapshot that came in place of all that is held, early events among it, where it is
 /// whole, and returns the reply.
-fn take_end(alloc: Global, follower: &mut Follower, count: u64, sum: u64) -> Result<Reply, RunFault>
-    ensures held { OnOk result (follower.new ≡ after_mark follower.old (Mark.End count sum)) }
-    ensures reply { IfOk result (λ reply. reply ≡ mark_reply follower.old (Mark.End count sum)) }
+fn take_end<T: Key>(
+    alloc: Global,
+    follower: &mut Follower<T>,
+    count: u64,
+    sum: u64,
+) -> Result<Reply, RunFault>
+    ensures held { OnOk result (follower.new ≡ after_mark T.texts follower.old (Mark.End count sum)) }
+    ensures reply { IfOk result (λ reply. reply
+        ≡ mark_reply T.texts follower.old (Mark.End count sum)) }
     ensures fault { IfErr result (λ fault. fault ≡ RunFault.Memory) }
     ensures unchanged { OnErr result (follower.new ≡ follower.old) }
 {
@@ -91,14 +102,15 @@ fn take_end(alloc: Global, follower: &mut Follower, count: u64, sum: u64) -> Res
 }
 
 /// Returns why the numbers at the end of a snapshot are not those of what came.
-pub fn wrong_end(
+pub fn wrong_end<T: Key>(
     alloc: Global,
-    coming: &Nodes,
+    coming: &Nodes<T>,
     done: u64,
     nodes: u64,
     sum_told: u64,
 ) -> Result<Option<Reason>, RunFault>
-    ensures reason { IfOk result (λ reason. reason ≡ end_reason nodes sum_told coming.now done) }
+    ensures reason { IfOk result (λ reason. reason
+        ≡ end_reason T.texts nodes sum_told coming.now done) }
     ensures fault { IfErr result (λ fault. fault ≡ RunFault.Memory) }
 {
     if coming.node_total() as u64 != nodes {

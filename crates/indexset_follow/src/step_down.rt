@@ -5,12 +5,13 @@ ghost use Rattle.indexset_follow.specs.Copy.{copy};
 
 use crate::write::Nodes;
 use indexset_bench::RunFault;
+use indexset_bench::key::Key;
 use indexset_bench::pairs::Pairs;
 use indexset_core::pair::Pair;
 use std::alloc::Global;
 
 /// Returns a follower of copies of the nodes, which awaits the event of the next number.
-pub fn follower_of(alloc: Global, pairs: &Pairs) -> Result<Nodes, RunFault>
+pub fn follower_of<T: Key>(alloc: Global, pairs: &Pairs<T>) -> Result<Nodes<T>, RunFault>
     ensures follower { IfOk result (λ nodes. nodes ≡ copy pairs.now.nodes pairs.now.next) }
     ensures fault { IfErr result (λ fault. fault ≡ RunFault.Memory) }
 {
@@ -23,15 +24,9 @@ pub fn follower_of(alloc: Global, pairs: &Pairs) -> Result<Nodes, RunFault>
 }
 
 /// Returns a copy of a node.
-fn copied(alloc: Global, node: &[Pair<u64, u64>]) -> Result<Vec<Pair<u64, u64>>, RunFault>
+fn copied<T: Key>(alloc: Global, node: &[Pair<T, T>]) -> Result<Vec<Pair<T, T>>, RunFault>
     ensures copy { IfOk result (λ copy. copy.items ≡ node.now) }
     ensures fault { IfErr result (λ fault. fault ≡ RunFault.Memory) }
 {
-    let mut copy = Vec::with_capacity(alloc, node.len()).map_err(|_| RunFault::Memory)?;
-    for pair in node {
-        let (key, value) = (pair.key, pair.value);
-        copy.push(Pair { key, value })
-            .map_err(|_| RunFault::Memory)?;
-    }
-    Ok(copy)
+    node.to_vec(alloc).map_err(|_| RunFault::Memory)
 }

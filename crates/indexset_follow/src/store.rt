@@ -1,4 +1,4 @@
-//! A map of numbers that follows another or leads.
+//! A map that follows another or leads.
 
 ghost use Rattle.std.specs.Prelude.{◌≡◌, ◌≢◌, ◌≤◌, if◌then◌else◌, Err, IfOk, IfErr, None, OnOk, Some};
 ghost use Rattle.std.specs.Io.KnownBytes.{Appends, Keeps};
@@ -19,6 +19,7 @@ use crate::role::Role;
 use crate::step_down::follower_of;
 use crate::write::{Nodes, write_reply};
 use indexset_bench::RunFault;
+use indexset_bench::key::Key;
 use indexset_bench::pairs::Pairs;
 use indexset_core::refusal::Refusal;
 use indexset_events::nodes::test_nodes;
@@ -29,7 +30,7 @@ use std::mem;
 
 /// A map in one of two roles, as a run has lines answered.
 #[derive(Drop)]
-pub struct Store {
+pub struct Store<T: Key> {
     /// What it allocates from.
     pub alloc: Global,
     /// Which replies it writes.
@@ -39,13 +40,13 @@ pub struct Store {
     /// The window of a follower.
     pub window: u64,
     /// The map in its role.
-    pub role: Role,
+    pub role: Role<T>,
     ghost two: { 2 ≤ size },
 }
 
-impl Store {
+impl<T: Key> Store<T> {
     /// Returns a map without nodes, which leads or follows from event 0 on.
-    pub fn new(alloc: Global, voice: Voice, size: usize, window: u64, leads: bool) -> Store
+    pub fn new(alloc: Global, voice: Voice, size: usize, window: u64, leads: bool) -> Store<T>
         requires { 2 ≤ size }
         ensures voice { result.voice ≡ voice }
         ensures held { held result.size result.window result.role ≡ first_held size window leads }
@@ -60,7 +61,7 @@ impl Store {
     }
 
     /// Returns a map in this role.
-    pub fn in_role(alloc: Global, voice: Voice, size: usize, window: u64, role: Role) -> Store
+    pub fn in_role(alloc: Global, voice: Voice, size: usize, window: u64, role: Role<T>) -> Store<T>
         requires { 2 ≤ size }
         ensures voice { result.voice ≡ voice }
         ensures held { held result.size result.window result.role ≡ held size window role }
@@ -78,12 +79,12 @@ impl Store {
     /// the reply. Early events and a snapshot that has not ended are dropped. It stays a follower
     /// where a node is larger than one of a leader.
     fn lead<W: Write>(&mut self, writer: &mut W) -> Result<(), RunFault>
-        ensures role { OnOk result (self.new.role ≡ after_lead self.old.size self.old.role) }
+        ensures role { OnOk result (self.new.role ≡ after_lead T.cmp self.old.size self.old.role) }
         ensures size { self.new.size ≡ self.old.size }
         ensures window { self.new.window ≡ self.old.window }
         ensures voice { self.new.voice ≡ self.old.voice }
         ensures told { OnOk result (Appends (W.contents writer.old) (W.contents writer.new)
-            (lead_reply self.old.size self.old.role)) }
+            (lead_reply T.cmp self.old.size self.old.role)) }
         ensures memory_refused { result ≡ Err RunFault.Memory
             → Keeps (W.contents writer.old) (W.contents writer.new) }
         ensures no_numbers { result ≢ Err RunFault.Numbers }
@@ -152,18 +153,19 @@ impl Store {
 
     /// Writes the answer to a line in the role that it has.
     fn answer_in_role<W: Write>(&mut self, writer: &mut W, line: &[u8]) -> Result<(), RunFault>
-        ensures role { OnOk result (self.new.role ≡ after_in_role self.old.role line.now) }
+        ensures role { OnOk result (self.new.role
+            ≡ after_in_role T.cmp T.texts self.old.role line.now) }
         ensures size { self.new.size ≡ self.old.size }
         ensures window { self.new.window ≡ self.old.window }
         ensures voice { self.new.voice ≡ self.old.voice }
         ensures told { OnOk result (Appends (W.contents writer.old) (W.contents writer.new)
-            (reply_in_role self.old.voice self.old.role line.now)) }
+            (reply_in_role T.cmp T.texts self.old.voice self.old.role line.now)) }
         ensures memory_refused { result ≡ Err RunFault.Memory
             → Keeps (W.contents writer.old) (W.contents writer.new) }
         ensures numbers_refused { result ≡ Err RunFault.Numbers
             → Keeps (W.contents writer.old) (W.contents writer.new) }
         ensures no_numbers { result ≡ Err RunFault.Numbers
-            → role_lacks (after_in_role self.old.role line.now) }
+            → role_lacks (after_in_role T.cmp T.texts self.old.role line.now) }
         ensures no_read { result ≢ Err RunFault.Read }
     {
         match &mut self.role {
@@ -184,7 +186,7 @@ impl Store {
     /// says nothing: it may be the beginning of another line.
     fn answer_rest<W: Write>(&self, writer: &mut W, line: &[u8]) -> Result<(), RunFault>
         ensures told { OnOk result (Appends (W.contents writer.old) (W.contents writer.new)
-            (cut_in_role self.now.voice self.now.role line.now)) }
+            (cut_in_role T.cmp T.texts self.now.voice self.now.role line.now)) }
         ensures memory_refused { result ≡ Err RunFault.Memory
             → Keeps (W.contents writer.old) (W.contents writer.new) }
         ensures no_read { result ≢ Err RunFault.Read }
@@ -206,7 +208,7 @@ impl Store {
 
 /// Returns a follower that holds these nodes and the greatest number of a command, where no
 /// snapshot has begun and no event is early.
-pub fn holding(window: u64, held: Nodes, done: u64) -> Follower
+pub fn holding<T: Key>(window: u64, held: Nodes<T>, done: u64) -> Follower<T>
     ensures { result ≡ holding window held done }
 {
     Follower {
@@ -231,10 +233,14 @@ fn starts(line: &[u8]) -> bool
 
 /// Takes the nodes for a leader of the same nodes, which goes on with the next number. Returns
 /// `None`, and takes nothing, where a node has more than `size` pairs.
-pub fn promote(alloc: Global, nodes: &mut Nodes, size: usize) -> Result<Option<Pairs>, RunFault>
+pub fn promote<T: Key>(
+    alloc: Global,
+    nodes: &mut Nodes<T>,
+    size: usize,
+) -> Result<Option<Pairs<T>>, RunFault>
     requires { 2 ≤ size }
     ensures leader { IfOk result (λ leader. leader
-        ≡ (if can_lead size nodes.old then Some (promoted size nodes.old) else None)) }
+        ≡ (if can_lead T.cmp size nodes.old then Some (promoted size nodes.old) else None)) }
     ensures kept { IfOk result (λ leader. leader ≡ None → nodes.new ≡ nodes.old) }
     ensures fault { IfErr result (λ fault. fault ≡ RunFault.Memory) }
 {
@@ -259,18 +265,18 @@ pub fn without_return(line: &[u8]) -> &[u8]
     }
 }
 
-impl Answers for Store {
+impl<T: Key> Answers for Store<T> {
     ghost use Rattle.indexset_follow.specs.Store.{Held, after_input, held, held_cut, held_lacks, input_reply};
 
-    ghost State = { Held };
+    ghost State = { Held T };
 
     ghost state = { λ store. held store.size store.window store.role };
 
-    ghost reply = { λ store. input_reply store.voice };
+    ghost reply = { λ store. input_reply T.cmp T.texts store.voice };
 
-    ghost cut_reply = { λ store. held_cut store.voice };
+    ghost cut_reply = { λ store. held_cut T.cmp T.texts store.voice };
 
-    ghost after = { after_input };
+    ghost after = { after_input T.cmp T.texts };
 
     ghost lacks_numbers = { held_lacks };
 

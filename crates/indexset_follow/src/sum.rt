@@ -7,17 +7,18 @@ use crate::mark::Mark;
 use crate::reads::nodes::WalkNodes;
 use crate::write::{write_mark, write_node_line};
 use indexset_bench::RunFault;
+use indexset_bench::key::Key;
 use sha2::{Digest, Sha256};
 use std::alloc::Global;
 
 /// Returns the first 64 bits of the SHA-256 of the lines of a snapshot before its last.
-pub fn sum<'a, N: WalkNodes<'a> + Drop>(
+pub fn sum<'a, T: Key + 'a, N: WalkNodes<'a, T> + Drop>(
     alloc: Global,
     next: u64,
     done: u64,
     nodes: N,
 ) -> Result<u64, RunFault>
-    ensures sum { IfOk result (λ sum. sum ≡ sum_of (copy (N.rest nodes) next) done) }
+    ensures sum { IfOk result (λ sum. sum ≡ sum_of T.texts (copy (N.rest nodes) next) done) }
     ensures fault { IfErr result (λ fault. fault ≡ RunFault.Memory) }
 {
     let mut walk = nodes;

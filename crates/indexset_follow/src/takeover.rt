@@ -28,58 +28,63 @@ ghost use Rattle.indexset_follow.specs.declared.reply.Reply.TheVariants as reply
 ghost use Rattle.indexset_follow.specs.declared.role.Role.{Role};
 ghost use Rattle.indexset_follow.specs.declared.role.Role.TheVariants as role;
 
+use indexset_bench::key::Key;
+
 /// A follower that is told to lead is the leader of the same nodes that goes on with the same
 /// number and the same greatest number of a command, whether a snapshot is coming or not. So it
 /// answers all further lines, and tells the events of them, as that leader does.
-pub fn follower_takes_over()
-    ensures held { (l : Leader) (w : ℕ) (s : State)
+pub fn follower_takes_over<T: Key>()
+    ensures held { (l : Leader T) (w : ℕ) (s : State T)
         → s.held ≡ copy l.pairs.nodes l.pairs.next → s.done ≡ l.done
-        → nodes_refusal (by_key nat_cmp) l.pairs.size l.pairs.nodes ≡ None
-        → after_held (held l.pairs.size w (role.Following s)) (codes "lead")
+        → nodes_refusal (by_key T.cmp) l.pairs.size l.pairs.nodes ≡ None
+        → after_held T.cmp T.texts (held l.pairs.size w (role.Following s)) (codes "lead")
         ≡ held l.pairs.size w (role.Leading l) }
-    ensures answers { (v : Voice) (l : Leader) (w : ℕ) (s : State) (lines : List (List ℕ))
+    ensures answers { (v : Voice) (l : Leader T) (w : ℕ) (s : State T) (lines : List (List ℕ))
         → s.held ≡ copy l.pairs.nodes l.pairs.next → s.done ≡ l.done
-        → nodes_refusal (by_key nat_cmp) l.pairs.size l.pairs.nodes ≡ None
-        → held_replies v (held l.pairs.size w (role.Following s)) (codes "lead" ∷ lines)
-        ≡ reply_ended (reply.Next l.pairs.next)
-        ++ held_replies v (held l.pairs.size w (role.Leading l)) lines }
+        → nodes_refusal (by_key T.cmp) l.pairs.size l.pairs.nodes ≡ None
+        → held_replies T.cmp T.texts v (held l.pairs.size w (role.Following s)) (codes "lead" ∷
+        lines) ≡ reply_ended (reply.Next l.pairs.next)
+        ++ held_replies T.cmp T.texts v (held l.pairs.size w (role.Leading l)) lines }
 {}
 
 /// The events that a leader tells, whatever lines it reads, are numbered from 0 without a gap. They
 /// lead from no nodes to the nodes that it holds after these lines, and the number that it gives
 /// next is how many they are. It leads until it is told to follow, or a line that begins a snapshot
 /// finds it without nodes.
-pub fn led_events_lead_to_the_nodes()
+pub fn led_events_lead_to_the_nodes<T: Key>()
     ensures numbered { (size : ℕ) (lines : List (List ℕ)) → 2 ≤ size → size < 2 ^ 64
-        → IsNumberedFrom 0 (events_led (fresh size) lines) }
+        → IsNumberedFrom 0 (events_led T.cmp T.texts (fresh size) lines) }
     ensures replayed { (size : ℕ) (lines : List (List ℕ)) → 2 ≤ size → size < 2 ^ 64
-        → replay (by_key nat_cmp) [] (events_led (fresh size) lines)
-        ≡ Some (tree_of (fresh size) lines).nodes }
+        → replay (by_key T.cmp) [] (events_led T.cmp T.texts (fresh size) lines)
+        ≡ Some (tree_of T.cmp T.texts (fresh size) lines).nodes }
     ensures count { (size : ℕ) (lines : List (List ℕ)) → 2 ≤ size → size < 2 ^ 64
-        → (tree_of (fresh size) lines).next ≡ length (events_led (fresh size) lines) }
-    ensures role { (size w : ℕ) (l : Leader) (lines : List (List ℕ))
+        → (tree_of T.cmp T.texts (fresh size) lines).next
+        ≡ length (events_led T.cmp T.texts (fresh size) lines) }
+    ensures role { (size w : ℕ) (l : Leader T) (lines : List (List ℕ))
         → All (λ line. (starts line || is_follow line) ≡ false) lines
-        → held_after (held size w (role.Leading l)) lines
-        ≡ held size w (role.Leading (leader_of (tree_of l.pairs lines) (done_of l.done lines))) }
+        → held_after T.cmp T.texts (held size w (role.Leading l)) lines
+        ≡ held size w (role.Leading (leader_of (tree_of T.cmp T.texts l.pairs lines) (done_of
+        T.texts l.done lines))) }
 {}
 
 /// Let a leader begin without nodes and read some lines, and let a follower hold what all events
 /// lead to that it told, and the greatest number of its commands. The follower that is told to lead
 /// is what the leader is, and answers all further lines, and tells the events of them, as the
 /// leader that goes on.
-pub fn follower_goes_on_as_the_leader()
-    ensures held { (size w : ℕ) (lines : List (List ℕ)) (s : State) → 2 ≤ size → size < 2 ^ 64
-        → HoldsFirst 0 [] (events_led (fresh size) lines) (length (events_led (fresh size) lines)) s
-        → s.done ≡ done_of 0 lines
-        → after_held (held size w (role.Following s)) (codes "lead")
-        ≡ held size w (role.Leading (leader_of (tree_of (fresh size) lines) (done_of 0 lines))) }
-    ensures answers { (v : Voice) (size w : ℕ) (lines more : List (List ℕ)) (s : State)
-        → 2 ≤ size → size < 2 ^ 64
-        → HoldsFirst 0 [] (events_led (fresh size) lines) (length (events_led (fresh size) lines)) s
-        → s.done ≡ done_of 0 lines
-        → held_replies v (held size w (role.Following s)) (codes "lead" ∷ more)
-        ≡ reply_ended (reply.Next s.held.next) ++ held_replies v (held size w
-        (role.Leading (leader_of (tree_of (fresh size) lines) (done_of 0 lines)))) more }
+pub fn follower_goes_on_as_the_leader<T: Key>()
+    ensures held { (size w : ℕ) (lines : List (List ℕ)) (s : State T) → 2 ≤ size → size < 2 ^ 64
+        → HoldsFirst T.cmp 0 [] (events_led T.cmp T.texts (fresh size) lines) (length (events_led
+        T.cmp T.texts (fresh size) lines)) s → s.done ≡ done_of T.texts 0 lines
+        → after_held T.cmp T.texts (held size w (role.Following s)) (codes "lead")
+        ≡ held size w (role.Leading (leader_of (tree_of T.cmp T.texts (fresh size) lines) (done_of
+        T.texts 0 lines))) }
+    ensures answers { (v : Voice) (size w : ℕ) (lines more : List (List ℕ)) (s : State T) → 2 ≤ size
+        → size < 2 ^ 64 → HoldsFirst T.cmp 0 [] (events_led T.cmp T.texts (fresh size) lines)
+        (length (events_led T.cmp T.texts (fresh size) lines)) s → s.done ≡ done_of T.texts 0 lines
+        → held_replies T.cmp T.texts v (held size w (role.Following s)) (codes "lead" ∷ more)
+        ≡ reply_ended (reply.Next s.held.next)
+        ++ held_replies T.cmp T.texts v (held size w (role.Leading (leader_of (tree_of T.cmp T.texts
+        (fresh size) lines) (done_of T.texts 0 lines)))) more }
 {}
 
 /// Let a leader begin without nodes and read some lines, and let a follower get any lines, with
@@ -87,34 +92,35 @@ pub fn follower_goes_on_as_the_leader()
 /// commands were done are the leader's. The greatest number of a command that it then holds is what
 /// the leader held after the first k of its lines, for some k, and it took the events of all these.
 /// So it holds no greater one than the leader.
-pub fn followers_know_what_was_done()
-    ensures known { (size : ℕ) (lines delivered : List (List ℕ)) (s : State)
-        → All (TellsDone size lines) delivered → KnowsDone size lines s
-        → KnowsDone size lines (state_after s delivered) }
-    ensures none { (size w : ℕ) (lines : List (List ℕ)) → KnowsDone size lines (start_state w) }
-    ensures less { (size : ℕ) (lines : List (List ℕ)) (s : State)
-        → KnowsDone size lines s → s.done ≤ done_of 0 lines }
+pub fn followers_know_what_was_done<T: Key>()
+    ensures known { (size : ℕ) (lines delivered : List (List ℕ)) (s : State T)
+        → All (TellsDone T.cmp T.texts size lines) delivered → KnowsDone T.cmp T.texts size lines s
+        → KnowsDone T.cmp T.texts size lines (state_after T.cmp T.texts s delivered) }
+    ensures none { (size w : ℕ) (lines : List (List ℕ))
+        → KnowsDone T.cmp T.texts size lines (start_state w) }
+    ensures less { (size : ℕ) (lines : List (List ℕ)) (s : State T)
+        → KnowsDone T.cmp T.texts size lines s → s.done ≤ done_of T.texts 0 lines }
 {}
 
 /// A read is answered by the nodes, the next number and the greatest number of a command alone,
 /// whatever the role, and changes nothing.
-pub fn reads_agree()
-    ensures follows { (v : Voice) (size w : ℕ) (s : State) (q : Query) → QueryFits q
-        → held_reply v (held size w (role.Following s)) (query_line q)
-        ≡ query_text s.held.nodes s.held.next s.done q }
-    ensures leads { (v : Voice) (size w : ℕ) (l : Leader) (q : Query) → QueryFits q
-        → held_reply v (held size w (role.Leading l)) (query_line q)
-        ≡ query_text l.pairs.nodes l.pairs.next l.done q }
-    ensures still { (size w : ℕ) (r : Role) (q : Query) → QueryFits q
-        → after_held (held size w r) (query_line q) ≡ held size w r }
+pub fn reads_agree<T: Key>()
+    ensures follows { (v : Voice) (size w : ℕ) (s : State T) (q : Query T) → QueryFits T.texts q
+        → held_reply T.cmp T.texts v (held size w (role.Following s)) (query_line T.texts q)
+        ≡ query_text T.cmp T.texts s.held.nodes s.held.next s.done q }
+    ensures leads { (v : Voice) (size w : ℕ) (l : Leader T) (q : Query T) → QueryFits T.texts q
+        → held_reply T.cmp T.texts v (held size w (role.Leading l)) (query_line T.texts q)
+        ≡ query_text T.cmp T.texts l.pairs.nodes l.pairs.next l.done q }
+    ensures still { (size w : ℕ) (r : Role T) (q : Query T) → QueryFits T.texts q
+        → after_held T.cmp T.texts (held size w r) (query_line T.texts q) ≡ held size w r }
 {}
 
 /// A line with a byte 13 before its end is answered as the line without it, and any other as it is.
-pub fn returns_belong_to_line_ends()
-    ensures held { (h : Held) (line : List ℕ)
-        → after_input h (line ++ 13 ∷ []) ≡ after_held h line }
-    ensures told { (v : Voice) (h : Held) (line : List ℕ)
-        → input_reply v h (line ++ 13 ∷ []) ≡ held_reply v h line }
+pub fn returns_belong_to_line_ends<T: Key>()
+    ensures held { (h : Held T) (line : List ℕ)
+        → after_input T.cmp T.texts h (line ++ 13 ∷ []) ≡ after_held T.cmp T.texts h line }
+    ensures told { (v : Voice) (h : Held T) (line : List ℕ)
+        → input_reply T.cmp T.texts v h (line ++ 13 ∷ []) ≡ held_reply T.cmp T.texts v h line }
     ensures others { (line : List ℕ) → ends_with_byte 13 line ≡ false
         → without_return line ≡ line }
 {}
@@ -123,15 +129,17 @@ pub fn returns_belong_to_line_ends()
 /// end: what is held after whole lines and a cut one is what is held after the whole lines. The
 /// answer to the cut line stands behind those to the whole ones. It is none where lines that say
 /// nothing are passed over and the cut one asks for no read.
-pub fn cut_lines_change_nothing()
+pub fn cut_lines_change_nothing<T: Key>()
     ensures held { (size w : ℕ) (leads : Bool) (whole rest : List ℕ) → IsWhole whole → HasNoEnd rest
-        → store_after size w leads (whole ++ rest) ≡ store_after size w leads whole }
+        → store_after T.cmp T.texts size w leads (whole ++ rest)
+        ≡ store_after T.cmp T.texts size w leads whole }
     ensures all_held { (size w : ℕ) (leads : Bool) (whole : List ℕ) → IsWhole whole
-        → store_after size w leads whole
-        ≡ held_after (first_held size w leads) (map without_return (lines_of whole)) }
+        → store_after T.cmp T.texts size w leads whole
+        ≡ held_after T.cmp T.texts (first_held size w leads) (map without_return (lines_of whole)) }
     ensures told { (v : Voice) (size w : ℕ) (leads : Bool) (whole rest : List ℕ) → IsWhole whole
-        → HasNoEnd rest → 0 < length rest → store_text v size w leads (whole ++ rest)
-        ≡ store_text v size w leads whole ++ held_cut v (store_after size w leads whole) rest }
-    ensures silent { (v : Voice) (h : Held) (rest : List ℕ) → v.others ≡ Others.Pass
-        → query_of rest ≡ None → held_cut v h rest ≡ [] }
+        → HasNoEnd rest → 0 < length rest → store_text T.cmp T.texts v size w leads (whole ++ rest)
+        ≡ store_text T.cmp T.texts v size w leads whole
+        ++ held_cut T.cmp T.texts v (store_after T.cmp T.texts size w leads whole) rest }
+    ensures silent { (v : Voice) (h : Held T) (rest : List ℕ) → v.others ≡ Others.Pass
+        → query_of T.texts rest ≡ None → held_cut T.cmp T.texts v h rest ≡ [] }
 {}

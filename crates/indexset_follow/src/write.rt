@@ -13,13 +13,14 @@ use crate::mark::Mark;
 use crate::others::Voice;
 use crate::reads::nodes::WalkNodes;
 use crate::reply::Reply;
+use indexset_bench::key::Key;
 use indexset_bench::write::write_node;
 use indexset_bench::{Replica, RunFault};
 use indexset_core::pair::Pair;
 use std::io::Write;
 
-/// The nodes that follow a map of numbers.
-pub type Nodes = Replica<Pair<u64, u64>>;
+/// The nodes that follow a map.
+pub type Nodes<T> = Replica<Pair<T, T>>;
 
 /// Writes a reply as a line.
 pub fn write_reply<W: Write>(writer: &mut W, reply: Reply) -> Result<(), RunFault>
@@ -44,13 +45,13 @@ pub fn write_voiced<W: Write>(writer: &mut W, voice: Voice, reply: Reply) -> Res
 }
 
 /// Writes the nodes, one a line, and then the next number.
-pub fn write_nodes<'a, N: WalkNodes<'a> + Drop, W: Write>(
+pub fn write_nodes<'a, T: Key + 'a, N: WalkNodes<'a, T> + Drop, W: Write>(
     writer: &mut W,
     next: u64,
     nodes: N,
 ) -> Result<(), RunFault>
     ensures told { OnOk result (Appends (W.contents writer.old) (W.contents writer.new)
-        (nodes_text (N.rest nodes) next)) }
+        (nodes_text T.texts (N.rest nodes) next)) }
     ensures fault { IfErr result (λ fault. fault ≡ RunFault.Write) }
 {
     let mut walk = nodes;
@@ -70,9 +71,12 @@ pub fn write_mark<W: Write>(writer: &mut W, mark: Mark) -> Result<(), RunFault>
 }
 
 /// Writes the line that gives a node.
-pub fn write_node_line<W: Write>(writer: &mut W, node: &[Pair<u64, u64>]) -> Result<(), RunFault>
+pub fn write_node_line<T: Key, W: Write>(
+    writer: &mut W,
+    node: &[Pair<T, T>],
+) -> Result<(), RunFault>
     ensures told { OnOk result (Appends (W.contents writer.old) (W.contents writer.new)
-        (ended (node_line node.now))) }
+        (ended (node_line T.texts node.now))) }
     ensures fault { IfErr result (λ fault. fault ≡ RunFault.Write) }
 {
     write!(writer, "node ").map_err(|_| RunFault::Write)?;
@@ -80,14 +84,14 @@ pub fn write_node_line<W: Write>(writer: &mut W, node: &[Pair<u64, u64>]) -> Res
 }
 
 /// Writes the lines of a snapshot before its last.
-pub fn write_body<'a, N: WalkNodes<'a> + Drop, W: Write>(
+pub fn write_body<'a, T: Key + 'a, N: WalkNodes<'a, T> + Drop, W: Write>(
     writer: &mut W,
     next: u64,
     done: u64,
     nodes: N,
 ) -> Result<(), RunFault>
     ensures told { OnOk result (Appends (W.contents writer.old) (W.contents writer.new)
-        (body_text (copy (N.rest nodes) next) done)) }
+        (body_text T.texts (copy (N.rest nodes) next) done)) }
     ensures fault { IfErr result (λ fault. fault ≡ RunFault.Write) }
 {
     let mut walk = nodes;

@@ -13,6 +13,7 @@ use Rattle.indexset_lines.proofs.Lines.{whole_lines-append}
 use Rattle.indexset_events.specs.Spelling.{cut_at}
 use Rattle.indexset_events.specs.Spelling.Laws.{cut_sound, none_some, some_inj}
 use Rattle.indexset_keep.specs.Told.{is_told, told_lines}
+use Rattle.indexset_bench.specs.Texts.{Texts}
 
 -- the place of the first line end, and the length where there is none
 abbrev spot : List ℕ → ℕ
@@ -65,10 +66,11 @@ module _ (done : List (List ℕ)) (left line rest : List ℕ) (cut : cut_at 10 l
   pub shorter : length rest < length left
   shorter = omega (arith, ap length (cut_sound 10 left line rest cut), length-append line (10 ∷ rest))
 
+module _ {T : Type 0} (texts : Texts T) (done : List (List ℕ)) (left line rest : List ℕ) (cut : cut_at 10 left ≡ Some (line, rest)) where
   -- the same of lines that are kept
-  pub told_more : done ++ told_lines (whole_lines left) ≡ (done ++ told_lines (line ∷ [])) ++ told_lines (whole_lines rest)
-  told_more = ap (λ ls. done ++ told_lines ls) (cut_lines left line rest cut) ∙ at (is_told line)
+  pub told_more : done ++ told_lines texts (whole_lines left) ≡ (done ++ told_lines texts (line ∷ [])) ++ told_lines texts (whole_lines rest)
+  told_more = ap (λ ls. done ++ told_lines texts ls) (cut_lines left line rest cut) ∙ at (is_told texts line)
     where
-      at : (b : Bool) → done ++ cond b (line ∷ told_lines (whole_lines rest)) (told_lines (whole_lines rest)) ≡ (done ++ cond b (line ∷ []) []) ++ told_lines (whole_lines rest)
-      at true = sym (append_assoc done (line ∷ []) (told_lines (whole_lines rest)))
-      at false = ap (λ ls. ls ++ told_lines (whole_lines rest)) (sym (append-nil done))
+      at : (b : Bool) → done ++ cond b (line ∷ told_lines texts (whole_lines rest)) (told_lines texts (whole_lines rest)) ≡ (done ++ cond b (line ∷ []) []) ++ told_lines texts (whole_lines rest)
+      at true = sym (append_assoc done (line ∷ []) (told_lines texts (whole_lines rest)))
+      at false = ap (λ ls. ls ++ told_lines texts (whole_lines rest)) (sym (append-nil done))

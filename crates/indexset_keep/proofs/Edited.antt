@@ -1,12 +1,11 @@
 -- The pairs of lawful nodes have numbers of 64 bits after an event whose numbers have, and after an attached node.
 use Rattle.std.proofs.Common.{Option, None, Some, IfSome, ◌≡◌, ℕ, zero, suc, ◌+◌, ◌==◌, Bool, true, false, if◌then◌else◌, List, [], ◌∷◌, ◌++◌, ◌&&◌, length, get_or, take, drop, insert, remove, ltb, leb, refl, sym, subst}
 use Rattle.std.proofs.lemmas.Bool.{false≢true}
-use Rattle.std.proofs.lemmas.Cmp.{nat_cmp_total}
 use Rattle.std.proofs.lemmas.List.{take-append-drop}
 use Rattle.std.specs.Cmp.{IsTotalOrder}
 use Rattle.std.specs.List.{position_or_len, splice}
 use Rattle.std.specs.Option.{option_and_then, option_map}
-use Rattle.std.specs.Ordering.{is_eq, nat_cmp}
+use Rattle.std.specs.Ordering.{is_eq}
 use Rattle.indexset_core.specs.Nodes.{IsNodeList, joined, node_at}
 use Rattle.indexset_core.specs.declared.pair.Pair.{Pair}
 use Rattle.indexset_core.proofs.CallerLemmas.{pairs_total}
@@ -18,8 +17,10 @@ use Rattle.indexset_events.specs.declared.change.ChangeEvent.TheVariants.{Insert
 use Rattle.indexset_events.proofs.Attaches.{good}
 use Rattle.indexset_events.proofs.CallerLemmas.{Each, attaches_node, each-append, each-left, each-right, last_answer, nodes_ruled, ruled_nodes, tested_ruled}
 use Rattle.indexset_follow.specs.EventLine.{Event, EventFits}
-use Rattle.indexset_follow.specs.Numbers.{PairFits}
-use Rattle.indexset_follow.proofs.Programs.{order}
+use Rattle.indexset_bench.specs.Texts.{PairFits, Texts}
+use Rattle.indexset_follow.proofs.Onwards.{order}
+use Rattle.std.specs.declared.cmp.Ordering.{Ordering}
+use Rattle.std.specs.Cmp.{IsTotalOrder}
 
 -- ---- lists
 
@@ -42,92 +43,96 @@ module _ {X : Type 0} (Q : X → Type 0) where
 
 -- ---- nodes
 
-abbrev pub Nodes : Type 0
-Nodes = List (List (Pair ℕ ℕ))
+abbrev pub Nodes : Type 0 → Type 0
+Nodes T = List (List (Pair T T))
 
--- the pairs of each node fit
-abbrev pub NodesFit : Nodes → Type 0
-NodesFit = Each (Each PairFits)
+module _ {T : Type 0} (texts : Texts T) where
+  -- the pairs of each node fit
+  abbrev pub NodesFit : Nodes T → Type 0
+  NodesFit = Each (Each (PairFits texts))
 
-node_fits : (ns : Nodes) (k : ℕ) → NodesFit ns → Each PairFits (node_at ns k)
-node_fits [] k h = tt
-node_fits (n ∷ ns) zero h = h.0
-node_fits (n ∷ ns) (suc k) h = node_fits ns k h.1
+  node_fits : (ns : Nodes T) (k : ℕ) → NodesFit ns → Each (PairFits texts) (node_at ns k)
+  node_fits [] k h = tt
+  node_fits (n ∷ ns) zero h = h.0
+  node_fits (n ∷ ns) (suc k) h = node_fits ns k h.1
 
--- what a test lets pass
-tested_fit : (b : Bool) (ns : Nodes) → NodesFit ns → IfSome (if b then Some ns else None) NodesFit
-tested_fit true ns h = h
-tested_fit false ns h = tt
+  -- what a test lets pass
+  tested_fit : (b : Bool) (ns : Nodes T) → NodesFit ns → IfSome (if b then Some ns else None) NodesFit
+  tested_fit true ns h = h
+  tested_fit false ns h = tt
 
--- ---- the edit that an event names
+module _ {T : Type 0} (cmp : T → T → Ordering) (texts : Texts T) where
+  -- ---- the edit that an event names
 
-module _ (ns : Nodes) (h : NodesFit ns) where
-  spliced_fit : (i j : ℕ) (parts : Nodes) → NodesFit parts → NodesFit (splice ns i j parts)
-  spliced_fit i j parts new = each-append (Each PairFits) (take i ns) (parts ++ drop j ns) (each_front (Each PairFits) i ns h) (each-append (Each PairFits) parts (drop j ns) new (each_back (Each PairFits) j ns h))
+  module _ (ns : Nodes T) (h : NodesFit texts ns) where
+    spliced_fit : (i j : ℕ) (parts : Nodes T) → NodesFit texts parts → NodesFit texts (splice ns i j parts)
+    spliced_fit i j parts new = each-append (Each (PairFits texts)) (take i ns) (parts ++ drop j ns) (each_front (Each (PairFits texts)) i ns h) (each-append (Each (PairFits texts)) parts (drop j ns) new (each_back (Each (PairFits texts)) j ns h))
 
-  parts_fit : (p : ℕ) (parts : Option Nodes) → IfSome parts NodesFit → IfSome (option_map (splice ns p (p + 1)) parts) NodesFit
-  parts_fit p None new = tt
-  parts_fit p (Some parts) new = spliced_fit p (p + 1) parts new
+    parts_fit : (p : ℕ) (parts : Option (Nodes T)) → IfSome parts (NodesFit texts) → IfSome (option_map (splice ns p (p + 1)) parts) (NodesFit texts)
+    parts_fit p None new = tt
+    parts_fit p (Some parts) new = spliced_fit p (p + 1) parts new
 
-  -- a node made into the parts that f makes of it
-  named_fit : (place : Option ℕ) (f : List (Pair ℕ ℕ) → Option Nodes) → ((n : List (Pair ℕ ℕ)) → Each PairFits n → IfSome (f n) NodesFit) → IfSome (option_and_then (λ p. option_map (splice ns p (p + 1)) (f (node_at ns p))) place) NodesFit
-  named_fit None f made = tt
-  named_fit (Some p) f made = parts_fit p (f (node_at ns p)) (made (node_at ns p) (node_fits ns p h))
+    -- a node made into the parts that f makes of it
+    named_fit : (place : Option ℕ) (f : List (Pair T T) → Option (Nodes T)) → ((n : List (Pair T T)) → Each (PairFits texts) n → IfSome (f n) (NodesFit texts)) → IfSome (option_and_then (λ p. option_map (splice ns p (p + 1)) (f (node_at ns p))) place) (NodesFit texts)
+    named_fit None f made = tt
+    named_fit (Some p) f made = parts_fit p (f (node_at ns p)) (made (node_at ns p) (node_fits texts ns p h))
 
-  merged_fit : (first second : Option ℕ) → IfSome (option_and_then (λ p. option_and_then (λ q. if q == p + 1 then Some (with_joined ns p) else None) second) first) NodesFit
-  merged_fit None second = tt
-  merged_fit (Some p) None = tt
-  merged_fit (Some p) (Some q) =
-      let both = each-append PairFits (node_at ns p) (node_at ns (p + 1)) (node_fits ns p h) (node_fits ns (p + 1) h) in
-      tested_fit (q == p + 1) (with_joined ns p) (spliced_fit p (p + 2) ((node_at ns p ++ node_at ns (p + 1)) ∷ []) (both, tt))
+    merged_fit : (first second : Option ℕ) → IfSome (option_and_then (λ p. option_and_then (λ q. if q == p + 1 then Some (with_joined ns p) else None) second) first) (NodesFit texts)
+    merged_fit None second = tt
+    merged_fit (Some p) None = tt
+    merged_fit (Some p) (Some q) =
+        let both = each-append (PairFits texts) (node_at ns p) (node_at ns (p + 1)) (node_fits texts ns p h) (node_fits texts ns (p + 1) h) in
+        tested_fit texts (q == p + 1) (with_joined ns p) (spliced_fit p (p + 2) ((node_at ns p ++ node_at ns (p + 1)) ∷ []) (both, tt))
 
-  edited_fit : (e : Event) → EventFits e → IfSome (edit order ns (unassigned e)) NodesFit
-  edited_fit (InsertAt id m v i) fit =
-      named_fit (node_named order ns m) (λ n. if leb i (length n) then Some (insert n i v ∷ []) else None) (λ n k. tested_fit (leb i (length n)) (insert n i v ∷ []) (each_more PairFits n i v k fit.2, tt))
-  edited_fit (RemoveAt id m v i) fit =
-      named_fit (node_named order ns m) (λ n. if (leb 2 (length n) && ltb i (length n)) && is_eq (order (get_or n i v) v) then Some (remove n i ∷ []) else None)
-      (λ n k. tested_fit ((leb 2 (length n) && ltb i (length n)) && is_eq (order (get_or n i v) v)) (remove n i ∷ []) (each_fewer PairFits n i k, tt))
-  edited_fit (CreateNode id m) fit = each_more (Each PairFits) ns (position_or_len (reaches order m) ns) (m ∷ []) h (fit.1, tt)
-  edited_fit (RemoveNode id m) fit = named_fit (node_named order ns m) (λ n. Some []) (λ n k. tt)
-  edited_fit (SplitNode id m i) fit =
-      named_fit (node_named order ns m) (λ n. if ltb 0 i && ltb i (length n) then Some (take i n ∷ drop i n ∷ []) else None)
-      (λ n k. tested_fit (ltb 0 i && ltb i (length n)) (take i n ∷ drop i n ∷ []) (each_front PairFits i n k, (each_back PairFits i n k, tt)))
-  edited_fit (MergeNodes id m w) fit = merged_fit (node_named order ns m) (node_named order ns w)
+    edited_fit : (e : Event T) → EventFits texts e → IfSome (edit (order cmp) ns (unassigned e)) (NodesFit texts)
+    edited_fit (InsertAt id m v i) fit =
+        named_fit (node_named (order cmp) ns m) (λ n. if leb i (length n) then Some (insert n i v ∷ []) else None) (λ n k. tested_fit texts (leb i (length n)) (insert n i v ∷ []) (each_more (PairFits texts) n i v k fit.2, tt))
+    edited_fit (RemoveAt id m v i) fit =
+        named_fit (node_named (order cmp) ns m) (λ n. if (leb 2 (length n) && ltb i (length n)) && is_eq (order cmp (get_or n i v) v) then Some (remove n i ∷ []) else None)
+        (λ n k. tested_fit texts ((leb 2 (length n) && ltb i (length n)) && is_eq (order cmp (get_or n i v) v)) (remove n i ∷ []) (each_fewer (PairFits texts) n i k, tt))
+    edited_fit (CreateNode id m) fit = each_more (Each (PairFits texts)) ns (position_or_len (reaches (order cmp) m) ns) (m ∷ []) h (fit.1, tt)
+    edited_fit (RemoveNode id m) fit = named_fit (node_named (order cmp) ns m) (λ n. Some []) (λ n k. tt)
+    edited_fit (SplitNode id m i) fit =
+        named_fit (node_named (order cmp) ns m) (λ n. if ltb 0 i && ltb i (length n) then Some (take i n ∷ drop i n ∷ []) else None)
+        (λ n k. tested_fit texts (ltb 0 i && ltb i (length n)) (take i n ∷ drop i n ∷ []) (each_front (PairFits texts) i n k, (each_back (PairFits texts) i n k, tt)))
+    edited_fit (MergeNodes id m w) fit = merged_fit (node_named (order cmp) ns m) (node_named (order cmp) ns w)
 
--- ---- what an event leaves
+  -- ---- what an event leaves
 
--- the nodes are lawful, and their pairs fit
-pub record SoundNodes (ns : Nodes) : Type 0 where
-  pub nodes : IsNodeList order ns
-  pub fit : NodesFit ns
+  -- the nodes are lawful, and their pairs fit
+  pub record SoundNodes (ns : Nodes T) : Type 0 where
+    pub nodes : IsNodeList (order cmp) ns
+    pub fit : NodesFit texts ns
 
-pub step_sound : (ns : Nodes) → NodesFit ns → (e : Event) → EventFits e → IfSome (step order ns e) SoundNodes
-unfolding step_plain
-step_sound ns h e fit = at (edit order ns (unassigned e)) (edited_fit ns h e fit)
-  where
-    tested : (r : Nodes) → NodesFit r → (b : Bool) → are_nodes order r ≡ b → IfSome (if b then Some r else None) SoundNodes
-    tested r k true is = record { nodes = ruled_nodes order r (tested_ruled order r is); fit = k }
-    tested r k false is = tt
+  pub step_sound : (ns : Nodes T) → NodesFit texts ns → (e : Event T) → EventFits texts e → IfSome (step (order cmp) ns e) SoundNodes
+  unfolding step_plain
+  step_sound ns h e fit = at (edit (order cmp) ns (unassigned e)) (edited_fit ns h e fit)
+    where
+      tested : (r : Nodes T) → NodesFit texts r → (b : Bool) → are_nodes (order cmp) r ≡ b → IfSome (if b then Some r else None) SoundNodes
+      tested r k true is = record { nodes = ruled_nodes (order cmp) r (tested_ruled (order cmp) r is); fit = k }
+      tested r k false is = tt
 
-    at : (o : Option Nodes) → IfSome o NodesFit → IfSome (option_and_then (λ r. if are_nodes order r then Some r else None) o) SoundNodes
-    at None k = tt
-    at (Some r) k = tested r k (are_nodes order r) refl
+      at : (o : Option (Nodes T)) → IfSome o (NodesFit texts) → IfSome (option_and_then (λ r. if are_nodes (order cmp) r then Some r else None) o) SoundNodes
+      at None k = tt
+      at (Some r) k = tested r k (are_nodes (order cmp) r) refl
 
--- ---- what an attached node leaves
+module _ {T : Type 0} (cmp : T → T → Ordering) (total : IsTotalOrder cmp) where
+  -- ---- what an attached node leaves
 
-pub total : IsTotalOrder order
-total = pairs_total nat_cmp nat_cmp_total
+  pub ordered : IsTotalOrder (order cmp)
+  ordered = pairs_total cmp total
 
-attached_nodes : (ns : Nodes) → IsNodeList order ns → (n : List (Pair ℕ ℕ)) → attach_refusal order (length n) ns n ≡ None → IsNodeList order (attached order ns n)
-attached_nodes ns law [] none = let it = good order total 0 ns [] none in absurd (false≢true it.full)
-attached_nodes ns law (p ∷ n) none =
-    let it = good order total (length (p ∷ n)) ns (p ∷ n) none in
-    let last = last_of n p in
-    let made = attaches_node order total ns (nodes_ruled order ns law) (p ∷ n) p last refl (last_answer (p ∷ n) last) it.up in
-    ruled_nodes order (attached order ns (p ∷ n)) (made.rule it.apart)
+  attached_nodes : (ns : Nodes T) → IsNodeList (order cmp) ns → (n : List (Pair T T)) → attach_refusal (order cmp) (length n) ns n ≡ None → IsNodeList (order cmp) (attached (order cmp) ns n)
+  attached_nodes ns law [] none = let it = good (order cmp) ordered 0 ns [] none in absurd (false≢true it.full)
+  attached_nodes ns law (p ∷ n) none =
+      let it = good (order cmp) ordered (length (p ∷ n)) ns (p ∷ n) none in
+      let last = last_of n p in
+      let made = attaches_node (order cmp) ordered ns (nodes_ruled (order cmp) ns law) (p ∷ n) p last refl (last_answer (p ∷ n) last) it.up in
+      ruled_nodes (order cmp) (attached (order cmp) ns (p ∷ n)) (made.rule it.apart)
 
-pub attached_sound : (ns : Nodes) → SoundNodes ns → (n : List (Pair ℕ ℕ)) → Each PairFits n → attach_refusal order (length n) ns n ≡ None → SoundNodes (attached order ns n)
-attached_sound ns s n fit none = record {
-  nodes = attached_nodes ns s.nodes n none;
-  fit = each_more (Each PairFits) ns (attach_index order ns n) n s.fit fit;
-}
+module _ {T : Type 0} (cmp : T → T → Ordering) (texts : Texts T) (total : IsTotalOrder cmp) where
+  pub attached_sound : (ns : Nodes T) → SoundNodes cmp texts ns → (n : List (Pair T T)) → Each (PairFits texts) n → attach_refusal (order cmp) (length n) ns n ≡ None → SoundNodes cmp texts (attached (order cmp) ns n)
+  attached_sound ns s n fit none = record {
+    nodes = attached_nodes cmp total ns s.nodes n none;
+    fit = each_more (Each (PairFits texts)) ns (attach_index (order cmp) ns n) n s.fit fit;
+  }

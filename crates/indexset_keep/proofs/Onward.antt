@@ -8,7 +8,7 @@ use Rattle.std.specs.Option.{option_map_or}
 use Rattle.std.specs.Prelude.{is_some, slice_get}
 use Rattle.indexset_lines.specs.Run.{left_by}
 use Rattle.indexset_lines.specs.Lines.{whole_lines}
-use Rattle.indexset_bench.specs.PairCommand.{PairFitsU64}
+use Rattle.indexset_bench.specs.PairCommand.{CommandFits}
 use Rattle.indexset_bench.specs.PairText.{event_text}
 use Rattle.indexset_bench.specs.Pairs.{PairTree, pairs_after, told_events}
 use Rattle.indexset_core.specs.Nodes.{joined}
@@ -26,7 +26,7 @@ use Rattle.indexset_follow.specs.Follow.{State, after_line, event_taken, holding
 use Rattle.indexset_follow.specs.Leading.{after_leading, command_text, done_after, events_led, leader_after, leader_of, leading_events, leading_reply, tree_of}
 use Rattle.indexset_follow.specs.Mark.{mark_line}
 use Rattle.indexset_follow.specs.NodeLine.{node_of}
-use Rattle.indexset_follow.specs.Numbers.{PairFits}
+use Rattle.indexset_bench.specs.Texts.{AreWords, PairFits, Texts}
 use Rattle.indexset_follow.specs.Query.{query_of}
 use Rattle.indexset_follow.specs.Reads.{query_text}
 use Rattle.indexset_follow.specs.Reply.{others_text}
@@ -41,38 +41,43 @@ use Rattle.indexset_follow.proofs.EventLines.{event_told}
 use Rattle.indexset_follow.proofs.Leads.{leading_onward, lines_led}
 use Rattle.indexset_follow.proofs.MarkLines.{done_cut, mark_told}
 use Rattle.indexset_follow.proofs.NoWindow.{alone}
-use Rattle.indexset_follow.proofs.Programs.{Good, order}
+use Rattle.indexset_follow.proofs.Onwards.{Good, order}
 use Rattle.indexset_keep.specs.Leads.{IsSound}
 use Rattle.indexset_keep.specs.Told.{answer_kept, told_lines}
 use Rattle.indexset_keep.proofs.Soundness.{max_fits}
 use Rattle.indexset_keep.proofs.States.{more_lines, nothing_after}
 use Rattle.indexset_keep.proofs.Told.{EchoFits, command_keeps, done_alone, done_lines, number_fits, others_keep}
+use Rattle.std.specs.declared.cmp.Ordering.{Ordering}
+use Rattle.std.specs.Cmp.{IsTotalOrder}
 
--- ---- a sound leader
+module _ {T : Type 0} (cmp : T → T → Ordering) (texts : Texts T) where
+  -- ---- a sound leader
 
-pub good : (l : Leader) → IsSound l → Good l.pairs
-good l s = record { two = s.two; few = s.few; lawful = s.lawful; held = all_each PairFits (joined l.pairs.nodes) s.fits }
+  pub good : (l : Leader T) → IsSound cmp texts l → Good cmp texts l.pairs
+  good l s = record { two = s.two; few = s.few; lawful = s.lawful; held = all_each (PairFits texts) (joined l.pairs.nodes) s.fits }
 
-sound : (l : Leader) → Good l.pairs → l.done < 2 ^ 64 → IsSound l
-sound l g known = record { two = g.two; few = g.few; lawful = g.lawful; fits = each_all PairFits (joined l.pairs.nodes) g.held; done = known }
+  sound : (l : Leader T) → Good cmp texts l.pairs → l.done < 2 ^ 64 → IsSound cmp texts l
+  sound l g known = record { two = g.two; few = g.few; lawful = g.lawful; fits = each_all (PairFits texts) (joined l.pairs.nodes) g.held; done = known }
 
-pub begins : (size : ℕ) → 2 ≤ size → size < 2 ^ 64 → IsSound (leader_of (fresh size) 0)
-begins size two few = sound (leader_of (fresh size) 0) (record { two = two; few = few; lawful = none_lawful order size; held = tt }) (omega arith)
+  pub begins : (size : ℕ) → 2 ≤ size → size < 2 ^ 64 → IsSound cmp texts (leader_of (fresh size) 0)
+  begins size two few = sound (leader_of (fresh size) 0) (record { two = two; few = few; lawful = none_lawful (order cmp) size; held = tt }) (omega arith)
 
 number_kept : (d : ℕ) → d < 2 ^ 64 → (echo : Option ℕ) → EchoFits echo → option_map_or (max d) echo d < 2 ^ 64
 number_kept d known None fit = known
 number_kept d known (Some n) fit = max_fits d n known fit
 
-done_kept : (d : ℕ) → d < 2 ^ 64 → (line : List ℕ) → done_after d line < 2 ^ 64
-done_kept d known line = at (query_of line) (command_of line) (number_fits line)
-  where
-    at : (q : Option Query) (o : Option Command) → ((c : Command) → o ≡ Some c → EchoFits c.echo) → option_map_or (λ q. d) q (option_map_or (done_by d) o d) < 2 ^ 64
-    at (Some q) o fit = known
-    at None None fit = known
-    at None (Some c) fit = number_kept d known c.echo (fit c refl)
+module _ {T : Type 0} (texts : Texts T) where
+  done_kept : (d : ℕ) → d < 2 ^ 64 → (line : List ℕ) → done_after texts d line < 2 ^ 64
+  done_kept d known line = at (query_of texts line) (command_of texts line) (number_fits texts line)
+    where
+      at : (q : Option (Query T)) (o : Option (Command T)) → ((c : Command T) → o ≡ Some c → EchoFits c.echo) → option_map_or (λ q. d) q (option_map_or (done_by d) o d) < 2 ^ 64
+      at (Some q) o fit = known
+      at None None fit = known
+      at None (Some c) fit = number_kept d known c.echo (fit c refl)
 
-pub line_sound : (l : Leader) (line : List ℕ) → IsSound l → IsSound (leader_after l line)
-line_sound l line s = sound (leader_after l line) (leading_onward l.pairs (good l s) line).good (done_kept l.done s.done line)
+module _ {T : Type 0} (cmp : T → T → Ordering) (texts : Texts T) (total : IsTotalOrder cmp) (spelled : AreWords texts) where
+  pub line_sound : (l : Leader T) (line : List ℕ) → IsSound cmp texts l → IsSound cmp texts (leader_after cmp texts l line)
+  line_sound l line s = sound cmp texts (leader_after cmp texts l line) (leading_onward cmp texts total spelled l.pairs (good cmp texts l s) line).good (done_kept texts l.done s.done line)
 
 -- ---- the lines of events
 
@@ -80,121 +85,130 @@ in_order : {X : Type 0} (xs : List X) → IsSubsequence xs xs
 in_order [] = tt
 in_order (x ∷ xs) = inl (refl, in_order xs)
 
-text_at : (es : List Event) (k : ℕ) (d : List ℕ) → k < length (map event_text es) → (e : Event) × (slice_get es k ≡ Some e) × (get_or (map event_text es) k d ≡ event_text e)
-text_at [] k d lt = absurd (omega (arith, lt))
-text_at (e ∷ es) zero d lt = (e, refl, refl)
-text_at (e ∷ es) (suc k) d lt = text_at es k d (omega (arith, lt))
+module _ {T : Type 0} (texts : Texts T) where
+  text_at : (es : List (Event T)) (k : ℕ) (d : List ℕ) → k < length (map (event_text texts) es) → (e : Event T) × (slice_get es k ≡ Some e) × (get_or (map (event_text texts) es) k d ≡ event_text texts e)
+  text_at [] k d lt = absurd (omega (arith, lt))
+  text_at (e ∷ es) zero d lt = (e, refl, refl)
+  text_at (e ∷ es) (suc k) d lt = text_at es k d (omega (arith, lt))
 
-own_texts : (es : List Event) → All (IsDrawn es) (map event_text es)
-own_texts es k d lt = let it = text_at es k d lt in record { place = k; event = it.0; at = it.1; text = it.2 }
+  own_texts : (es : List (Event T)) → All (IsDrawn texts es) (map (event_text texts) es)
+  own_texts es k d lt = let it = text_at es k d lt in record { place = k; event = it.0; at = it.1; text = it.2 }
 
--- a follower without a window takes the line of an event, and holds nothing besides
-pub one_taken : (c : Copy) (n : ℕ) (e : Event) → EventFits e → after_line (holding 0 c n) (event_text e) ≡ holding 0 (copy_after c e) n
-one_taken c n e fit =
-    let told = event_told e fit in
-    let it = alone (holding 0 c n) e refl refl in
-    rw told (λ i. with_taken (holding 0 c n) (record { held = it.1 i; early = it.0 i; reply = (event_taken (holding 0 c n) e).reply }))
+module _ {T : Type 0} (cmp : T → T → Ordering) (texts : Texts T) (spelled : AreWords texts) where
+  -- a follower without a window takes the line of an event, and holds nothing besides
+  pub one_taken : (c : Copy T) (n : ℕ) (e : Event T) → EventFits texts e → after_line cmp texts (holding 0 c n) (event_text texts e) ≡ holding 0 (copy_after cmp c e) n
+  one_taken c n e fit =
+      let told = event_told texts spelled e fit in
+      let it = alone cmp (holding 0 c n) e refl refl in
+      rw told (λ i. with_taken (holding 0 c n) (record { held = it.1 i; early = it.0 i; reply = (event_taken cmp (holding 0 c n) e).reply }))
 
-nothing_besides : (c : Copy) (n : ℕ) (es : List Event) → Each EventFits es → state_after (holding 0 c n) (map event_text es) ≡ holding 0 (state_after (holding 0 c n) (map event_text es)).held n
-unfolding left_by
-nothing_besides c n [] fit = refl
-nothing_besides c n (e ∷ es) fit =
-    let one = one_taken c n e fit.0 in
-    ap (λ r. state_after r (map event_text es)) one ∙ nothing_besides (copy_after c e) n es fit.1 ∙ ap (λ r. holding 0 (state_after r (map event_text es)).held n) (sym one)
+  nothing_besides : (c : Copy T) (n : ℕ) (es : List (Event T)) → Each (EventFits texts) es → state_after cmp texts (holding 0 c n) (map (event_text texts) es) ≡ holding 0 (state_after cmp texts (holding 0 c n) (map (event_text texts) es)).held n
+  unfolding left_by
+  nothing_besides c n [] fit = refl
+  nothing_besides c n (e ∷ es) fit =
+      let one = one_taken c n e fit.0 in
+      ap (λ r. state_after cmp texts r (map (event_text texts) es)) one ∙ nothing_besides (copy_after cmp c e) n es fit.1 ∙ ap (λ r. holding 0 (state_after cmp texts r (map (event_text texts) es)).held n) (sym one)
 
--- what a follower holds of a tree
-abbrev copied : PairTree → Copy
-copied t = copy t.nodes t.next
+module _ {T : Type 0} where
+  -- what a follower holds of a tree
+  abbrev copied : PairTree T → Copy T
+  copied t = copy t.nodes t.next
 
-module _ (l : Leader) (s : IsSound l) (lines : List (List ℕ)) (less : (tree_of l.pairs lines).next < 2 ^ 64) where
-  abbrev events : List Event
-  events = events_led l.pairs lines
+module _ {T : Type 0} (cmp : T → T → Ordering) (texts : Texts T) (total : IsTotalOrder cmp) (spelled : AreWords texts) where
+  module _ (l : Leader T) (s : IsSound cmp texts l) (lines : List (List ℕ)) (less : (tree_of cmp texts l.pairs lines).next < 2 ^ 64) where
+    abbrev events : List (Event T)
+    events = events_led cmp texts l.pairs lines
 
-  abbrev begun : State
-  begun = holding 0 (copied l.pairs) l.done
+    abbrev begun : State T
+    begun = holding 0 (copied l.pairs) l.done
 
-  first_held : (state_after begun (map event_text events)).held ≡ copied (tree_of l.pairs lines)
-  first_held =
-      let on = lines_led l.pairs (good l s) lines in
-      let fit : All EventFits events = each_all EventFits events (on.fits (omega (arith, less))) in
-      let feed : IsFeedOfPairs l.pairs.next l.pairs.nodes events = record { numbered = on.numbered; defined = ap is_some on.replayed; fits = omega (arith, on.next, less) } in
-      let at : HoldsFirst l.pairs.next l.pairs.nodes events 0 begun = record { within = omega arith; nodes = refl; next = omega arith } in
-      let done = whole l.pairs.next l.pairs.nodes events feed fit 0 begun (map event_text events) at tt (own_texts events) (in_order (map event_text events)) in
-      let nodes : (state_after begun (map event_text events)).held.nodes ≡ (tree_of l.pairs lines).nodes = some_inj _ _ (sym done.nodes ∙ ap (replay order l.pairs.nodes) (take_all (length events) events (omega arith)) ∙ on.replayed) in
-      let next : (state_after begun (map event_text events)).held.next ≡ (tree_of l.pairs lines).next = omega (arith, done.next, on.next) in
-      λ i. copy (nodes i) (next i)
+    first_held : (state_after cmp texts begun (map (event_text texts) events)).held ≡ copied (tree_of cmp texts l.pairs lines)
+    first_held =
+        let on = lines_led cmp texts total spelled l.pairs (good cmp texts l s) lines in
+        let fit : All (EventFits texts) events = each_all (EventFits texts) events (on.fits (omega (arith, less))) in
+        let feed : IsFeedOfPairs cmp l.pairs.next l.pairs.nodes events = record { numbered = on.numbered; defined = ap is_some on.replayed; fits = omega (arith, on.next, less) } in
+        let at : HoldsFirst cmp l.pairs.next l.pairs.nodes events 0 begun = record { within = omega arith; nodes = refl; next = omega arith } in
+        let done = whole cmp texts spelled l.pairs.next l.pairs.nodes events feed fit 0 begun (map (event_text texts) events) at tt (own_texts texts events) (in_order (map (event_text texts) events)) in
+        let nodes : (state_after cmp texts begun (map (event_text texts) events)).held.nodes ≡ (tree_of cmp texts l.pairs lines).nodes = some_inj _ _ (sym done.nodes ∙ ap (replay (order cmp) l.pairs.nodes) (take_all (length events) events (omega arith)) ∙ on.replayed) in
+        let next : (state_after cmp texts begun (map (event_text texts) events)).held.next ≡ (tree_of cmp texts l.pairs lines).next = omega (arith, done.next, on.next) in
+        λ i. copy (nodes i) (next i)
 
-  pub onward : state_after begun (map event_text events) ≡ holding 0 (copied (tree_of l.pairs lines)) l.done
-  onward =
-      let fit = (lines_led l.pairs (good l s) lines).fits (omega (arith, less)) in
-      nothing_besides (copied l.pairs) l.done events fit ∙ ap (λ c. holding 0 c l.done) first_held
+    pub onward : state_after cmp texts begun (map (event_text texts) events) ≡ holding 0 (copied (tree_of cmp texts l.pairs lines)) l.done
+    onward =
+        let fit = (lines_led cmp texts total spelled l.pairs (good cmp texts l s) lines).fits (omega (arith, less)) in
+        nothing_besides cmp texts spelled (copied l.pairs) l.done events fit ∙ ap (λ c. holding 0 c l.done) first_held
 
--- ---- one line
+module _ {T : Type 0} (cmp : T → T → Ordering) (texts : Texts T) where
+  -- ---- one line
 
-one_led : (l : Leader) (line : List ℕ) → events_led l.pairs (line ∷ []) ≡ leading_events l.pairs line
-unfolding events_led
-one_led l line = append-nil (leading_events l.pairs line)
+  one_led : (l : Leader T) (line : List ℕ) → events_led cmp texts l.pairs (line ∷ []) ≡ leading_events cmp texts l.pairs line
+  unfolding events_led
+  one_led l line = append-nil (leading_events cmp texts l.pairs line)
 
-one_left : (l : Leader) (line : List ℕ) → tree_of l.pairs (line ∷ []) ≡ after_leading l.pairs line
-unfolding left_by
-one_left l line = refl
+  one_left : (l : Leader T) (line : List ℕ) → tree_of cmp texts l.pairs (line ∷ []) ≡ after_leading cmp texts l.pairs line
+  unfolding left_by
+  one_left l line = refl
 
--- what a follower holds that has read all that the leader told
-abbrev followed : Leader → State
-followed l = holding 0 (copied l.pairs) l.done
+module _ {T : Type 0} where
+  -- what a follower holds that has read all that the leader told
+  abbrev followed : Leader T → State T
+  followed l = holding 0 (copied l.pairs) l.done
 
--- the events of a line alone
-events_onward : (l : Leader) → IsSound l → (line : List ℕ) → (after_leading l.pairs line).next < 2 ^ 64 → state_after (followed l) (map event_text (leading_events l.pairs line)) ≡ holding 0 (copied (after_leading l.pairs line)) l.done
-events_onward l s line less =
-    let left = one_left l line in
-    ap (λ es. state_after (followed l) (map event_text es)) (sym (one_led l line))
-    ∙ onward l s (line ∷ []) (subst (λ t. t.next < 2 ^ 64) (sym left) less)
-    ∙ ap (λ t. holding 0 (copied t) l.done) left
+module _ {T : Type 0} (cmp : T → T → Ordering) (texts : Texts T) (total : IsTotalOrder cmp) (spelled : AreWords texts) where
+  -- the events of a line alone
+  events_onward : (l : Leader T) → IsSound cmp texts l → (line : List ℕ) → (after_leading cmp texts l.pairs line).next < 2 ^ 64 → state_after cmp texts (followed l) (map (event_text texts) (leading_events cmp texts l.pairs line)) ≡ holding 0 (copied (after_leading cmp texts l.pairs line)) l.done
+  events_onward l s line less =
+      let left = one_left cmp texts l line in
+      ap (λ es. state_after cmp texts (followed l) (map (event_text texts) es)) (sym (one_led cmp texts l line))
+      ∙ onward cmp texts total spelled l s (line ∷ []) (subst (λ t. t.next < 2 ^ 64) (sym left) less)
+      ∙ ap (λ t. holding 0 (copied t) l.done) left
 
 -- the greatest number of a command takes the place of a smaller one
 max_twice : (d n : ℕ) → max d (max d n) ≡ max d n
 max_twice d n = max-eq_right (le-max_left d n)
 
--- a follower that awaits the number of a done line takes it
-done_taken : (t : PairTree) (d n : ℕ) → max d n < 2 ^ 64 → t.next < 2 ^ 64 → after_line (holding 0 (copied t) d) (mark_line (Done (max d n) t.next)) ≡ holding 0 (copied t) (max d n)
-done_taken t d n small less =
-    let event = done_alone (max d n) t.next in
-    let mark = mark_told (Done (max d n) t.next) (small, less) in
-    let cut = done_cut (max d n) t.next in
-    let node : node_of (mark_line (Done (max d n) t.next)) ≡ None = rw cut refl in
-    let near = le-ltb t.next t.next (omega arith) in
-    rw (event, node, mark, near) (ap (holding 0 (copied t)) (max_twice d n))
+module _ {T : Type 0} (cmp : T → T → Ordering) (texts : Texts T) where
+  -- a follower that awaits the number of a done line takes it
+  done_taken : (t : PairTree T) (d n : ℕ) → max d n < 2 ^ 64 → t.next < 2 ^ 64 → after_line cmp texts (holding 0 (copied t) d) (mark_line (Done (max d n) t.next)) ≡ holding 0 (copied t) (max d n)
+  done_taken t d n small less =
+      let event = done_alone texts (max d n) t.next in
+      let mark = mark_told (Done (max d n) t.next) (small, less) in
+      let cut = done_cut (max d n) t.next in
+      let node : node_of texts (mark_line (Done (max d n) t.next)) ≡ None = rw cut refl in
+      let near = le-ltb t.next t.next (omega arith) in
+      rw (event, node, mark, near) (ap (holding 0 (copied t)) (max_twice d n))
 
-done_onward : (t : PairTree) (d : ℕ) (echo : Option ℕ) → EchoFits echo → d < 2 ^ 64 → t.next < 2 ^ 64
-    → state_after (holding 0 (copied t) d) (done_lines echo (option_map_or (max d) echo d) t.next) ≡ holding 0 (copied t) (option_map_or (max d) echo d)
-unfolding left_by
-done_onward t d None fit small less = refl
-done_onward t d (Some n) fit small less = done_taken t d n (max_fits d n small fit) less
+module _ {T : Type 0} (cmp : T → T → Ordering) (texts : Texts T) (total : IsTotalOrder cmp) (spelled : AreWords texts) where
+  done_onward : (t : PairTree T) (d : ℕ) (echo : Option ℕ) → EchoFits echo → d < 2 ^ 64 → t.next < 2 ^ 64
+      → state_after cmp texts (holding 0 (copied t) d) (done_lines echo (option_map_or (max d) echo d) t.next) ≡ holding 0 (copied t) (option_map_or (max d) echo d)
+  unfolding left_by
+  done_onward t d None fit small less = refl
+  done_onward t d (Some n) fit small less = done_taken cmp texts t d n (max_fits d n small fit) less
 
--- the answer to a command
-command_leads : (l : Leader) → IsSound l → (line : List ℕ) (c : Command) → PairFitsU64 c.change → EchoFits c.echo → leading_events l.pairs line ≡ told_events l.pairs c.change → after_leading l.pairs line ≡ pairs_after l.pairs c.change
-    → (pairs_after l.pairs c.change).next < 2 ^ 64 → state_after (followed l) (told_lines (whole_lines (command_text l c))) ≡ holding 0 (copied (pairs_after l.pairs c.change)) (done_by l.done c)
-command_leads l s line c fit small told after less =
-    let t = pairs_after l.pairs c.change in
-    let events = map event_text (told_events l.pairs c.change) in
-    let done = done_lines c.echo (done_by l.done c) t.next in
-    let known = number_kept l.done s.done c.echo small in
-    let on : state_after (followed l) events ≡ holding 0 (copied t) l.done
-    = ap (λ es. state_after (followed l) (map event_text es)) (sym told) ∙ events_onward l s line (subst (λ u. u.next < 2 ^ 64) (sym after) less) ∙ ap (λ u. holding 0 (copied u) l.done) after in
-    ap (state_after (followed l)) (command_keeps l (good l s) c fit small known (omega (arith, less)))
-    ∙ more_lines (followed l) events done
-    ∙ ap (λ r. state_after r done) on
-    ∙ done_onward t l.done c.echo small s.done less
+  -- the answer to a command
+  command_leads : (l : Leader T) → IsSound cmp texts l → (line : List ℕ) (c : Command T) → CommandFits texts c.change → EchoFits c.echo → leading_events cmp texts l.pairs line ≡ told_events cmp l.pairs c.change → after_leading cmp texts l.pairs line ≡ pairs_after cmp l.pairs c.change
+      → (pairs_after cmp l.pairs c.change).next < 2 ^ 64 → state_after cmp texts (followed l) (told_lines texts (whole_lines (command_text cmp texts l c))) ≡ holding 0 (copied (pairs_after cmp l.pairs c.change)) (done_by l.done c)
+  command_leads l s line c fit small told after less =
+      let t = pairs_after cmp l.pairs c.change in
+      let events = map (event_text texts) (told_events cmp l.pairs c.change) in
+      let done = done_lines c.echo (done_by l.done c) t.next in
+      let known = number_kept l.done s.done c.echo small in
+      let on : state_after cmp texts (followed l) events ≡ holding 0 (copied t) l.done
+      = ap (λ es. state_after cmp texts (followed l) (map (event_text texts) es)) (sym told) ∙ events_onward cmp texts total spelled l s line (subst (λ u. u.next < 2 ^ 64) (sym after) less) ∙ ap (λ u. holding 0 (copied u) l.done) after in
+      ap (state_after cmp texts (followed l)) (command_keeps cmp texts total spelled l (good cmp texts l s) c fit small known (omega (arith, less)))
+      ∙ more_lines cmp texts (followed l) events done
+      ∙ ap (λ r. state_after cmp texts r done) on
+      ∙ done_onward t l.done c.echo small s.done less
 
-pub line_leads : (o : Others) (l : Leader) → IsSound l → (line : List ℕ) → (after_leading l.pairs line).next < 2 ^ 64 → state_after (followed l) (answer_kept line (leading_reply o l line)) ≡ followed (leader_after l line)
-line_leads o l s line less = at (query_of line) refl (command_of line) refl
-  where
-    at : (q : Option Query) → query_of line ≡ q → (m : Option Command) → command_of line ≡ m
-        → state_after (followed l) (option_map_or {U = List (List ℕ)} (λ q. []) q (told_lines (whole_lines (option_map_or {U = List ℕ} (query_text l.pairs.nodes l.pairs.next l.done) q (option_map_or {U = List ℕ} (command_text l) m (others_text o))))))
-        ≡ holding 0 (copied (option_map_or {U = PairTree} (λ q. l.pairs) q (option_map_or {U = PairTree} (λ c. pairs_after l.pairs c.change) m l.pairs))) (option_map_or (λ q. l.done) q (option_map_or (done_by l.done) m l.done))
-    at (Some q) asked m is = nothing_after (followed l)
-    at None asked None is = ap (state_after (followed l)) (others_keep o) ∙ nothing_after (followed l)
-    at None asked (Some c) is =
-        let after : after_leading l.pairs line ≡ pairs_after l.pairs c.change = rw (asked, is) refl in
-        let told : leading_events l.pairs line ≡ told_events l.pairs c.change = rw (asked, is) refl in
-        command_leads l s line c (command_fits line c is) (number_fits line c is) told after (subst (λ u. u.next < 2 ^ 64) after less)
+  pub line_leads : (o : Others) (l : Leader T) → IsSound cmp texts l → (line : List ℕ) → (after_leading cmp texts l.pairs line).next < 2 ^ 64 → state_after cmp texts (followed l) (answer_kept texts line (leading_reply cmp texts o l line)) ≡ followed (leader_after cmp texts l line)
+  line_leads o l s line less = at (query_of texts line) refl (command_of texts line) refl
+    where
+      at : (q : Option (Query T)) → query_of texts line ≡ q → (m : Option (Command T)) → command_of texts line ≡ m
+          → state_after cmp texts (followed l) (option_map_or {U = List (List ℕ)} (λ q. []) q (told_lines texts (whole_lines (option_map_or {U = List ℕ} (query_text cmp texts l.pairs.nodes l.pairs.next l.done) q (option_map_or {U = List ℕ} (command_text cmp texts l) m (others_text o))))))
+          ≡ holding 0 (copied (option_map_or {U = PairTree T} (λ q. l.pairs) q (option_map_or {U = PairTree T} (λ c. pairs_after cmp l.pairs c.change) m l.pairs))) (option_map_or (λ q. l.done) q (option_map_or (done_by l.done) m l.done))
+      at (Some q) asked m is = nothing_after cmp texts (followed l)
+      at None asked None is = ap (state_after cmp texts (followed l)) (others_keep texts o) ∙ nothing_after cmp texts (followed l)
+      at None asked (Some c) is =
+          let after : after_leading cmp texts l.pairs line ≡ pairs_after cmp l.pairs c.change = rw (asked, is) refl in
+          let told : leading_events cmp texts l.pairs line ≡ told_events cmp l.pairs c.change = rw (asked, is) refl in
+          command_leads l s line c (command_fits texts spelled line c is) (number_fits texts line c is) told after (subst (λ u. u.next < 2 ^ 64) after less)

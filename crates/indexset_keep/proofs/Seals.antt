@@ -10,31 +10,34 @@ use Rattle.indexset_events.specs.Spelling.Laws.{cut_told, lacks_tested}
 use Rattle.indexset_follow.specs.Follow.{State, after_line, start_state, state_after}
 use Rattle.indexset_follow.proofs.Readings.{no_number}
 use Rattle.indexset_keep.specs.Roles.{LeadsTo}
-use Rattle.indexset_journal.specs.Kept.{texts}
+use Rattle.indexset_journal.specs.Kept.{texts as lines_texts}
 use Rattle.indexset_keep.specs.Seal.{seal_after, seal_line, seal_of, seal_read}
 use Rattle.indexset_keep.proofs.States.{more_lines}
+use Rattle.std.specs.declared.cmp.Ordering.{Ordering}
+use Rattle.indexset_bench.specs.Texts.{Texts}
 
-seal_still : (s : State) (n : ℕ) → after_line s (seal_line n) ≡ s
-seal_still s n =
-    let cut : cut_at 32 (codes "seal " ++ decimal n) ≡ Some (codes "seal", decimal n) = cut_told 32 (codes "seal") (decimal n) (lacks_tested 32 (codes "seal") refl) in
-    rw (cut, no_number 115 (codes "eal") (omega arith)) refl
+module _ {T : Type 0} (cmp : T → T → Ordering) (texts : Texts T) where
+  seal_still : (s : State T) (n : ℕ) → after_line cmp texts s (seal_line n) ≡ s
+  seal_still s n =
+      let cut : cut_at 32 (codes "seal " ++ decimal n) ≡ Some (codes "seal", decimal n) = cut_told 32 (codes "seal") (decimal n) (lacks_tested 32 (codes "seal") refl) in
+      rw (cut, no_number 115 (codes "eal") (omega arith)) refl
 
-pub sealed_alike : (s : State) (lines : List (List ℕ)) (n : ℕ) → state_after s (lines ++ seal_line n ∷ []) ≡ state_after s lines
-unfolding left_by
-sealed_alike s lines n = more_lines s lines (seal_line n ∷ []) ∙ seal_still (state_after s lines) n
+  pub sealed_alike : (s : State T) (lines : List (List ℕ)) (n : ℕ) → state_after cmp texts s (lines ++ seal_line n ∷ []) ≡ state_after cmp texts s lines
+  unfolding left_by
+  sealed_alike s lines n = more_lines cmp texts s lines (seal_line n ∷ []) ∙ seal_still (state_after cmp texts s lines) n
 
--- lines and their seal behind others
-pub appended : (before after told put : List (List ℕ)) (n : ℕ) (from to : State) → after ≡ before ++ put → put ≡ told ++ seal_line n ∷ [] → LeadsTo before from → state_after from told ≡ to → LeadsTo after to
-appended before after told put n from to is all was on =
-    ap (state_after (start_state 0)) (is ∙ ap (λ ls. before ++ ls) all)
-    ∙ more_lines (start_state 0) before (told ++ seal_line n ∷ [])
-    ∙ ap (λ s. state_after s (told ++ seal_line n ∷ [])) was
-    ∙ sealed_alike from told n
-    ∙ on
+  -- lines and their seal behind others
+  pub appended : (before after told put : List (List ℕ)) (n : ℕ) (from to : State T) → after ≡ before ++ put → put ≡ told ++ seal_line n ∷ [] → LeadsTo cmp texts before from → state_after cmp texts from told ≡ to → LeadsTo cmp texts after to
+  appended before after told put n from to is all was on =
+      ap (state_after cmp texts (start_state 0)) (is ∙ ap (λ ls. before ++ ls) all)
+      ∙ more_lines cmp texts (start_state 0) before (told ++ seal_line n ∷ [])
+      ∙ ap (λ s. state_after cmp texts s (told ++ seal_line n ∷ [])) was
+      ∙ sealed_alike from told n
+      ∙ on
 
--- lines and their seal in place of others
-pub replaced : (after told put : List (List ℕ)) (n : ℕ) (to : State) → after ≡ put → put ≡ told ++ seal_line n ∷ [] → LeadsTo told to → LeadsTo after to
-replaced after told put n to is all leads = ap (state_after (start_state 0)) (is ∙ all) ∙ sealed_alike (start_state 0) told n ∙ leads
+  -- lines and their seal in place of others
+  pub replaced : (after told put : List (List ℕ)) (n : ℕ) (to : State T) → after ≡ put → put ≡ told ++ seal_line n ∷ [] → LeadsTo cmp texts told to → LeadsTo cmp texts after to
+  replaced after told put n to is all leads = ap (state_after cmp texts (start_state 0)) (is ∙ all) ∙ sealed_alike (start_state 0) told n ∙ leads
 
 -- ---- the last seal
 
@@ -66,16 +69,16 @@ between_is lines from i le = sym (drop-take from (i - from) lines) ∙ ap (λ n.
 
 -- what is left from a line on, and what is behind the last seal with it
 module _ (lines : List (Vec ℕ Global)) (i : ℕ) (item : Vec ℕ Global) (is : item ≡ get_or lines i item) (inside : i < length lines) where
-  pub left_lines : texts (drop i lines) ≡ item.items ∷ texts (drop (i + 1) lines)
-  left_lines = ap texts (drop_more lines i item inside) ∙ ap (λ v. v.items ∷ texts (drop (i + 1) lines)) (sym is)
+  pub left_lines : lines_texts (drop i lines) ≡ item.items ∷ lines_texts (drop (i + 1) lines)
+  left_lines = ap lines_texts (drop_more lines i item inside) ∙ ap (λ v. v.items ∷ lines_texts (drop (i + 1) lines)) (sym is)
 
-  pub behind_lines : (from : ℕ) → from ≤ i → texts (drop from (take (i + 1) lines)) ≡ texts (drop from (take i lines)) ++ item.items ∷ []
+  pub behind_lines : (from : ℕ) → from ≤ i → lines_texts (drop from (take (i + 1) lines)) ≡ lines_texts (drop from (take i lines)) ++ item.items ∷ []
   behind_lines from le =
-      let few : from ≤ length (texts (take i lines)) = omega (arith, le, inside, length-map (take i lines) (λ v. v.items), length-take-le i lines (omega (arith, inside))) in
+      let few : from ≤ length (lines_texts (take i lines)) = omega (arith, le, inside, length-map (take i lines) (λ v. v.items), length-take-le i lines (omega (arith, inside))) in
       sym (drop-map (λ v. v.items) from (take (i + 1) lines))
-      ∙ ap (drop from) (map_more (λ v. v.items) lines i item inside ∙ ap (λ v. texts (take i lines) ++ v.items ∷ []) (sym is))
-      ∙ drop-append-le from (texts (take i lines)) (item.items ∷ []) few
+      ∙ ap (drop from) (map_more (λ v. v.items) lines i item inside ∙ ap (λ v. lines_texts (take i lines) ++ v.items ∷ []) (sym is))
+      ∙ drop-append-le from (lines_texts (take i lines)) (item.items ∷ []) few
       ∙ ap (λ ls. ls ++ item.items ∷ []) (drop-map (λ v. v.items) from (take i lines))
 
-  pub none_behind : texts (drop (i + 1) (take (i + 1) lines)) ≡ []
-  none_behind = ap texts (drop_all (i + 1) (take (i + 1) lines) (omega (arith, length-take-le (i + 1) lines (omega (arith, inside)))))
+  pub none_behind : lines_texts (drop (i + 1) (take (i + 1) lines)) ≡ []
+  none_behind = ap lines_texts (drop_all (i + 1) (take (i + 1) lines) (omega (arith, length-take-le (i + 1) lines (omega (arith, inside)))))

@@ -28,7 +28,7 @@ use Rattle.indexset_follow.specs.Follow.{State, after_event, after_line, after_m
 use Rattle.indexset_follow.specs.Leading.{leader_of}
 use Rattle.indexset_follow.specs.Mark.{MarkFits, mark_of}
 use Rattle.indexset_follow.specs.NodeLine.{NodeFits, node_of}
-use Rattle.indexset_follow.specs.Numbers.{PairFits}
+use Rattle.indexset_bench.specs.Texts.{AreWords, PairFits, Texts}
 use Rattle.indexset_follow.specs.Store.{can_lead, promoted}
 use Rattle.indexset_follow.specs.declared.leader.Leader.{Leader}
 use Rattle.indexset_follow.specs.declared.mark.Mark.{Mark}
@@ -41,11 +41,13 @@ use Rattle.indexset_follow.proofs.EventLines.{event_sound}
 use Rattle.indexset_follow.proofs.Fits.{each_apart}
 use Rattle.indexset_follow.proofs.MarkLines.{mark_sound}
 use Rattle.indexset_follow.proofs.NodeLines.{node_sound}
-use Rattle.indexset_follow.proofs.Programs.{order}
+use Rattle.indexset_follow.proofs.Onwards.{order}
 use Rattle.indexset_follow.proofs.Snapshots.{snapshot_taken}
 use Rattle.indexset_keep.specs.Leads.{IsSound}
 use Rattle.indexset_keep.specs.Sound.{IsSoundCopy, IsSoundFollower}
-use Rattle.indexset_keep.proofs.Edited.{Nodes, SoundNodes, attached_sound, each_together, step_sound, total}
+use Rattle.indexset_keep.proofs.Edited.{Nodes, SoundNodes, attached_sound, each_together, step_sound, ordered}
+use Rattle.std.specs.declared.cmp.Ordering.{Ordering}
+use Rattle.std.specs.Cmp.{IsTotalOrder}
 
 -- the greater of two numbers of 64 bits is one
 pub max_fits : (d n : ℕ) → d < 2 ^ 64 → n < 2 ^ 64 → max d n < 2 ^ 64
@@ -55,194 +57,204 @@ max_fits d n first second = at (nat_le n d) refl
     at true le = subst (λ x. x < 2 ^ 64) (sym (max-eq_left (leb-true n d le))) first
     at false gt = subst (λ x. x < 2 ^ 64) (sym (max-eq_right (let lt = leb-false n d gt in omega (arith, lt)))) second
 
--- ---- a copy
+module _ {T : Type 0} (cmp : T → T → Ordering) (texts : Texts T) where
+  -- ---- a copy
 
--- what the proof of an edit asks of the nodes
-copy_nodes : (c : Copy) → IsSoundCopy c → SoundNodes c.nodes
-copy_nodes c s = record { nodes = s.nodes; fit = each_apart PairFits c.nodes (all_each PairFits (joined c.nodes) s.fits) }
+  -- what the proof of an edit asks of the nodes
+  copy_nodes : (c : Copy T) → IsSoundCopy cmp texts c → SoundNodes cmp texts c.nodes
+  copy_nodes c s = record { nodes = s.nodes; fit = each_apart (PairFits texts) c.nodes (all_each (PairFits texts) (joined c.nodes) s.fits) }
 
-copy_made : (ns : Nodes) (n : ℕ) → SoundNodes ns → n < 2 ^ 64 → IsSoundCopy (copy ns n)
-copy_made ns n s small = record { nodes = s.nodes; fits = each_all PairFits (joined ns) (each_together PairFits ns s.fit); next = small }
+  copy_made : (ns : Nodes T) (n : ℕ) → SoundNodes cmp texts ns → n < 2 ^ 64 → IsSoundCopy cmp texts (copy ns n)
+  copy_made ns n s small = record { nodes = s.nodes; fits = each_all (PairFits texts) (joined ns) (each_together (PairFits texts) ns s.fit); next = small }
 
-no_nodes : (n : ℕ) → n < 2 ^ 64 → IsSoundCopy (copy [] n)
-no_nodes n small = record { nodes = (none_lawful order 2).nodes; fits = All-nil PairFits; next = small }
+  no_nodes : (n : ℕ) → n < 2 ^ 64 → IsSoundCopy cmp texts (copy [] n)
+  no_nodes n small = record { nodes = (none_lawful (order cmp) 2).nodes; fits = All-nil (PairFits texts); next = small }
 
-pub copy_sound : (l : Leader) → IsSound l → l.pairs.next < 2 ^ 64 → IsSoundCopy (copy l.pairs.nodes l.pairs.next)
-copy_sound l s small = record { nodes = s.lawful.nodes; fits = s.fits; next = small }
+  pub copy_sound : (l : Leader T) → IsSound cmp texts l → l.pairs.next < 2 ^ 64 → IsSoundCopy cmp texts (copy l.pairs.nodes l.pairs.next)
+  copy_sound l s small = record { nodes = s.lawful.nodes; fits = s.fits; next = small }
 
--- ---- the awaited event
+  -- ---- the awaited event
 
-step_taken : (c : Copy) (e : Event) → EventFits e → IsSoundCopy c → IsSoundCopy (copy_after c e)
-unfolding delivered
-step_taken c e fit s = at (event_number e == c.next) (c.next == MAX) refl (step order c.nodes e) (step_sound c.nodes (copy_nodes c s).fit e fit)
-  where
-    at : (b d : Bool) → (c.next == MAX) ≡ d → (o : Option Nodes) → IfSome o SoundNodes → IsSoundCopy (unwrap_or (if b then (if d then None else option_map {U = Copy} (λ ns. copy ns (c.next + 1)) o) else Some c) c)
-    at true true is o made = s
-    at true false other None made = s
-    at true false other (Some ns) made = let ne = eqb-false c.next MAX other in copy_made ns (c.next + 1) made (omega (arith, s.next, ne))
-    at false d is o made = s
-
--- ---- early events
-
--- the numbers of an early event are of 64 bits
-abbrev EarlyFits : Pair ℕ Event → Type 0
-EarlyFits p = EventFits p.value
-
-module _ (n : ℕ) (e : Event) (new : EventFits e) where
-  set_fit : (early : EarlyEvents) → All EarlyFits early → All EarlyFits (set_value nat_cmp early n e)
-  unfolding set_value
-  set_fit [] fit = fit
-  set_fit (p ∷ early) fit = at (is_eq (nat_cmp p.key n)) (set_fit early (All-tail EarlyFits p early fit))
+  step_taken : (c : Copy T) (e : Event T) → EventFits texts e → IsSoundCopy cmp texts c → IsSoundCopy cmp texts (copy_after cmp c e)
+  unfolding delivered
+  step_taken c e fit s = at (event_number e == c.next) (c.next == MAX) refl (step (order cmp) c.nodes e) (step_sound cmp texts c.nodes (copy_nodes c s).fit e fit)
     where
-      at : (b : Bool) → All EarlyFits (set_value nat_cmp early n e) → All EarlyFits (if b then valued p e ∷ early else p ∷ set_value nat_cmp early n e)
-      at true rest = All-cons EarlyFits (valued p e) early new (All-tail EarlyFits p early fit)
-      at false rest = All-cons EarlyFits p (set_value nat_cmp early n e) (All-head EarlyFits p early fit) rest
+      at : (b d : Bool) → (c.next == MAX) ≡ d → (o : Option (Nodes T)) → IfSome o (SoundNodes cmp texts) → IsSoundCopy cmp texts (unwrap_or (if b then (if d then None else option_map {U = Copy T} (λ ns. copy ns (c.next + 1)) o) else Some c) c)
+      at true true is o made = s
+      at true false other None made = s
+      at true false other (Some ns) made = let ne = eqb-false c.next MAX other in copy_made ns (c.next + 1) made (omega (arith, s.next, ne))
+      at false d is o made = s
 
-  put_fit : (early : EarlyEvents) → All EarlyFits early → All EarlyFits (put_value nat_cmp early n e)
-  unfolding put_value put
-  put_fit early fit = at (has_key nat_cmp early n)
+module _ {T : Type 0} (texts : Texts T) where
+  -- ---- early events
+
+  -- the numbers of an early event are of 64 bits
+  abbrev EarlyFits : Pair ℕ (Event T) → Type 0
+  EarlyFits p = EventFits texts p.value
+
+module _ {T : Type 0} (cmp : T → T → Ordering) (texts : Texts T) where
+  module _ (n : ℕ) (e : Event T) (new : EventFits texts e) where
+    set_fit : (early : EarlyEvents T) → All (EarlyFits texts) early → All (EarlyFits texts) (set_value nat_cmp early n e)
+    unfolding set_value
+    set_fit [] fit = fit
+    set_fit (p ∷ early) fit = at (is_eq (nat_cmp p.key n)) (set_fit early (All-tail (EarlyFits texts) p early fit))
+      where
+        at : (b : Bool) → All (EarlyFits texts) (set_value nat_cmp early n e) → All (EarlyFits texts) (if b then valued p e ∷ early else p ∷ set_value nat_cmp early n e)
+        at true rest = All-cons (EarlyFits texts) (valued p e) early new (All-tail (EarlyFits texts) p early fit)
+        at false rest = All-cons (EarlyFits texts) p (set_value nat_cmp early n e) (All-head (EarlyFits texts) p early fit) rest
+
+    put_fit : (early : EarlyEvents T) → All (EarlyFits texts) early → All (EarlyFits texts) (put_value nat_cmp early n e)
+    unfolding put_value put
+    put_fit early fit = at (has_key nat_cmp early n)
+      where
+        low : EarlyEvents T
+        low = below (by_key nat_cmp) early (pair n e)
+
+        high : EarlyEvents T
+        high = above (by_key nat_cmp) early (pair n e)
+
+        at : (b : Bool) → All (EarlyFits texts) (if b then set_value nat_cmp early n e else low ++ pair n e ∷ high)
+        at true = set_fit early fit
+        at false =
+            let first = All-filter (λ p. is_lt (by_key nat_cmp p (pair n e))) (EarlyFits texts) early fit in
+            let rest = All-filter (λ p. is_gt (by_key nat_cmp p (pair n e))) (EarlyFits texts) early fit in
+            All-append (EarlyFits texts) low (pair n e ∷ high) first (All-cons (EarlyFits texts) (pair n e) high new rest)
+
+  -- what is held, and the events that are early
+  record SoundTaken (t : Taken T) : Type 0 where
+    held : IsSoundCopy cmp texts t.held
+    early : All (EarlyFits texts) t.early
+
+  caught_sound : (c : Copy T) (early : EarlyEvents T) → IsSoundCopy cmp texts c → All (EarlyFits texts) early → SoundTaken (caught_up cmp c early)
+  unfolding caught_up
+  caught_sound c [] s fit = record { held = s; early = fit }
+  caught_sound c (p ∷ early) s fit =
+      by (p.key == c.next) (apply_refusal (order cmp) c.nodes c.next p.value)
+      (caught_sound (copy_after cmp c p.value) early (step_taken cmp texts c p.value (All-head (EarlyFits texts) p early fit) s) (All-tail (EarlyFits texts) p early fit))
     where
-      low : EarlyEvents
-      low = below (by_key nat_cmp) early (pair n e)
+      by : (b : Bool) (o : Option Refusal) → SoundTaken (caught_up cmp (copy_after cmp c p.value) early)
+          → SoundTaken (if b then option_map_or (λ cause. taken c early (reply.Unfit c.next (Refused cause))) o (caught_up cmp (copy_after cmp c p.value) early) else taken c (p ∷ early) (reply.Next c.next))
+      by true None more = more
+      by true (Some cause) more = record { held = s; early = All-tail (EarlyFits texts) p early fit }
+      by false o more = record { held = s; early = fit }
 
-      high : EarlyEvents
-      high = above (by_key nat_cmp) early (pair n e)
+module _ {T : Type 0} (cmp : T → T → Ordering) (texts : Texts T) (total : IsTotalOrder cmp) where
+  -- ---- a line
 
-      at : (b : Bool) → All EarlyFits (if b then set_value nat_cmp early n e else low ++ pair n e ∷ high)
-      at true = set_fit early fit
-      at false =
-          let first = All-filter (λ p. is_lt (by_key nat_cmp p (pair n e))) EarlyFits early fit in
-          let rest = All-filter (λ p. is_gt (by_key nat_cmp p (pair n e))) EarlyFits early fit in
-          All-append EarlyFits low (pair n e ∷ high) first (All-cons EarlyFits (pair n e) high new rest)
+  module _ (s : State T) (f : IsSoundFollower cmp texts s) where
+    same_taken : (answer : Reply) → SoundTaken cmp texts (taken s.held s.early answer)
+    same_taken answer = record { held = f.held; early = f.early }
 
--- what is held, and the events that are early
-record SoundTaken (t : Taken) : Type 0 where
-  held : IsSoundCopy t.held
-  early : All EarlyFits t.early
+    event_taken_sound : (e : Event T) → EventFits texts e → SoundTaken cmp texts (event_taken cmp s e)
+    event_taken_sound e fit = at (event_number e == s.held.next) (nat_lt (event_number e) s.held.next) (nat_le (event_number e) (s.held.next + s.window))
+      where
+        n : ℕ
+        n = event_number e
 
-caught_sound : (c : Copy) (early : EarlyEvents) → IsSoundCopy c → All EarlyFits early → SoundTaken (caught_up c early)
-unfolding caught_up
-caught_sound c [] s fit = record { held = s; early = fit }
-caught_sound c (p ∷ early) s fit =
-    by (p.key == c.next) (apply_refusal order c.nodes c.next p.value)
-    (caught_sound (copy_after c p.value) early (step_taken c p.value (All-head EarlyFits p early fit) s) (All-tail EarlyFits p early fit))
-  where
-    by : (b : Bool) (o : Option Refusal) → SoundTaken (caught_up (copy_after c p.value) early)
-        → SoundTaken (if b then option_map_or (λ cause. taken c early (reply.Unfit c.next (Refused cause))) o (caught_up (copy_after c p.value) early) else taken c (p ∷ early) (reply.Next c.next))
-    by true None more = more
-    by true (Some cause) more = record { held = s; early = All-tail EarlyFits p early fit }
-    by false o more = record { held = s; early = fit }
+        at : (a b d : Bool)
+            → SoundTaken cmp texts (if a then caught_up cmp s.held (pair n e ∷ s.early) else if b then taken s.held s.early (reply.Had s.held.next) else if d then taken s.held (with_early s.early e) (reply.Missing s.held.next (first_number (with_early s.early e) n)) else taken s.held s.early (reply.Gap s.held.next))
+        at true b d = caught_sound cmp texts s.held (pair n e ∷ s.early) f.held (All-cons (EarlyFits texts) (pair n e) s.early fit f.early)
+        at false true d = same_taken (reply.Had s.held.next)
+        at false false true = record { held = f.held; early = put_fit cmp texts n e fit s.early f.early }
+        at false false false = same_taken (reply.Gap s.held.next)
 
--- ---- a line
+    after_event_sound : (e : Event T) → EventFits texts e → IsSoundFollower cmp texts (after_event cmp s e)
+    after_event_sound e fit =
+        let t = event_taken_sound e fit in
+        record { held = t.held; done = f.done; coming = f.coming; coming_done = f.coming_done; early = t.early }
 
-module _ (s : State) (f : IsSoundFollower s) where
-  same_taken : (answer : Reply) → SoundTaken (taken s.held s.early answer)
-  same_taken answer = record { held = f.held; early = f.early }
+    with_node_sound : (n : List (Pair T T)) → NodeFits texts n → (c : Copy T) → IsSoundCopy cmp texts c → IsSoundCopy cmp texts (with_node cmp n c)
+    with_node_sound n fit c came = at (node_refusal cmp c n) refl
+      where
+        at : (o : Option Refusal) → node_refusal cmp c n ≡ o → IsSoundCopy cmp texts (if is_none o then copy (attached (order cmp) c.nodes n) c.next else c)
+        at None is = copy_made cmp texts (attached (order cmp) c.nodes n) c.next (attached_sound cmp texts total c.nodes (copy_nodes cmp texts c came) n (all_each (PairFits texts) n fit.1) is) came.next
+        at (Some cause) is = came
 
-  event_taken_sound : (e : Event) → EventFits e → SoundTaken (event_taken s e)
-  event_taken_sound e fit = at (event_number e == s.held.next) (nat_lt (event_number e) s.held.next) (nat_le (event_number e) (s.held.next + s.window))
+    after_node_sound : (n : List (Pair T T)) → NodeFits texts n → IsSoundFollower cmp texts (after_node cmp s n)
+    after_node_sound n fit = record { held = f.held; done = f.done; coming = at s.coming f.coming; coming_done = f.coming_done; early = f.early }
+      where
+        at : (o : Option (Copy T)) → IfSome o (IsSoundCopy cmp texts) → IfSome (option_map (with_node cmp n) o) (IsSoundCopy cmp texts)
+        at None came = tt
+        at (Some c) came = with_node_sound n fit c came
+
+    coming_sound : (o : Option (Copy T)) (d : ℕ) → IfSome o (IsSoundCopy cmp texts) → d < 2 ^ 64 → IsSoundFollower cmp texts (with_coming s o d)
+    coming_sound o d came less = record { held = f.held; done = f.done; coming = came; coming_done = less; early = f.early }
+
+module _ {T : Type 0} (cmp : T → T → Ordering) (texts : Texts T) where
+  pub holding_sound : (w d : ℕ) (c : Copy T) → IsSoundCopy cmp texts c → d < 2 ^ 64 → IsSoundFollower cmp texts (holding w c d)
+  holding_sound w d c s less = record { held = s; done = less; coming = tt; coming_done = omega arith; early = All-nil (EarlyFits texts) }
+
+  pub start_sound : (w : ℕ) → IsSoundFollower cmp texts (start_state w)
+  start_sound w = holding_sound w 0 (copy [] 0) (no_nodes cmp texts 0 (omega arith)) (omega arith)
+
+module _ {T : Type 0} (cmp : T → T → Ordering) (texts : Texts T) (total : IsTotalOrder cmp) where
+  after_mark_sound : (s : State T) → IsSoundFollower cmp texts s → (m : Mark) → MarkFits m → IsSoundFollower cmp texts (after_mark texts s m)
+  after_mark_sound s f (Start n d) fit = coming_sound cmp texts total s f (Some (copy [] n)) d (no_nodes cmp texts n fit.0) fit.1
+  after_mark_sound s f (End count sum) fit = at s.coming f.coming
     where
-      n : ℕ
-      n = event_number e
+      whole : (c : Copy T) → IsSoundCopy cmp texts c → (o : Option Reason) → IsSoundFollower cmp texts (if is_none o then holding s.window c s.coming_done else with_coming s None 0)
+      whole c came None = holding_sound cmp texts s.window s.coming_done c came f.coming_done
+      whole c came (Some reason) = coming_sound cmp texts total s f None 0 tt (omega arith)
 
-      at : (a b d : Bool)
-          → SoundTaken (if a then caught_up s.held (pair n e ∷ s.early) else if b then taken s.held s.early (reply.Had s.held.next) else if d then taken s.held (with_early s.early e) (reply.Missing s.held.next (first_number (with_early s.early e) n)) else taken s.held s.early (reply.Gap s.held.next))
-      at true b d = caught_sound s.held (pair n e ∷ s.early) f.held (All-cons EarlyFits (pair n e) s.early fit f.early)
-      at false true d = same_taken (reply.Had s.held.next)
-      at false false true = record { held = f.held; early = put_fit n e fit s.early f.early }
-      at false false false = same_taken (reply.Gap s.held.next)
-
-  after_event_sound : (e : Event) → EventFits e → IsSoundFollower (after_event s e)
-  after_event_sound e fit =
-      let t = event_taken_sound e fit in
-      record { held = t.held; done = f.done; coming = f.coming; coming_done = f.coming_done; early = t.early }
-
-  with_node_sound : (n : List (Pair ℕ ℕ)) → NodeFits n → (c : Copy) → IsSoundCopy c → IsSoundCopy (with_node n c)
-  with_node_sound n fit c came = at (node_refusal c n) refl
+      at : (o : Option (Copy T)) → IfSome o (IsSoundCopy cmp texts) → IsSoundFollower cmp texts (option_map_or (put_in_place texts count sum s) o s)
+      at None came = f
+      at (Some c) came = whole c came (end_reason texts count sum c s.coming_done)
+  after_mark_sound s f (Done d n) fit = at (nat_lt s.held.next n)
     where
-      at : (o : Option Refusal) → node_refusal c n ≡ o → IsSoundCopy (if is_none o then copy (attached order c.nodes n) c.next else c)
-      at None is = copy_made (attached order c.nodes n) c.next (attached_sound c.nodes (copy_nodes c came) n (all_each PairFits n fit.1) is) came.next
-      at (Some cause) is = came
+      at : (b : Bool) → IsSoundFollower cmp texts (if b then s else with_done s d)
+      at true = f
+      at false = record { held = f.held; done = max_fits s.done d f.done fit.0; coming = f.coming; coming_done = f.coming_done; early = f.early }
 
-  after_node_sound : (n : List (Pair ℕ ℕ)) → NodeFits n → IsSoundFollower (after_node s n)
-  after_node_sound n fit = record { held = f.held; done = f.done; coming = at s.coming f.coming; coming_done = f.coming_done; early = f.early }
+module _ {T : Type 0} (cmp : T → T → Ordering) (texts : Texts T) (total : IsTotalOrder cmp) (spelled : AreWords texts) where
+  pub line_sound : (s : State T) (line : List ℕ) → IsSoundFollower cmp texts s → IsSoundFollower cmp texts (after_line cmp texts s line)
+  line_sound s line f = at (event_of texts line) (λ e is. (event_sound texts spelled line e is).1) (node_of texts line) (λ n is. (node_sound texts spelled line n is).1) (mark_of line) (λ m is. (mark_sound line m is).1)
     where
-      at : (o : Option Copy) → IfSome o IsSoundCopy → IfSome (option_map (with_node n) o) IsSoundCopy
-      at None came = tt
-      at (Some c) came = with_node_sound n fit c came
+      at : (e : Option (Event T)) → ((x : Event T) → e ≡ Some x → EventFits texts x) → (n : Option (List (Pair T T))) → ((x : List (Pair T T)) → n ≡ Some x → NodeFits texts x) → (m : Option Mark) → ((x : Mark) → m ≡ Some x → MarkFits x)
+          → IsSoundFollower cmp texts (option_map_or {U = State T} (after_event cmp s) e (option_map_or (after_node cmp s) n (option_map_or (after_mark texts s) m s)))
+      at (Some e) fit n _ m _ = after_event_sound cmp texts total s f e (fit e refl)
+      at None _ (Some n) fit m _ = after_node_sound cmp texts total s f n (fit n refl)
+      at None _ None _ (Some m) fit = after_mark_sound cmp texts total s f m (fit m refl)
+      at None _ None _ None _ = f
 
-  coming_sound : (o : Option Copy) (d : ℕ) → IfSome o IsSoundCopy → d < 2 ^ 64 → IsSoundFollower (with_coming s o d)
-  coming_sound o d came less = record { held = f.held; done = f.done; coming = came; coming_done = less; early = f.early }
+  pub lines_sound : (s : State T) (lines : List (List ℕ)) → IsSoundFollower cmp texts s → IsSoundFollower cmp texts (state_after cmp texts s lines)
+  unfolding left_by
+  lines_sound s [] f = f
+  lines_sound s (line ∷ lines) f = lines_sound (after_line cmp texts s line) lines (line_sound s line f)
 
-pub holding_sound : (w d : ℕ) (c : Copy) → IsSoundCopy c → d < 2 ^ 64 → IsSoundFollower (holding w c d)
-holding_sound w d c s less = record { held = s; done = less; coming = tt; coming_done = omega arith; early = All-nil EarlyFits }
+module _ {T : Type 0} (cmp : T → T → Ordering) (texts : Texts T) (total : IsTotalOrder cmp) where
+  -- ---- a follower leads
 
-pub start_sound : (w : ℕ) → IsSoundFollower (start_state w)
-start_sound w = holding_sound w 0 (copy [] 0) (no_nodes 0 (omega arith)) (omega arith)
+  pub leader_sound : (size d : ℕ) (c : Copy T) → 2 ≤ size → size < 2 ^ 64 → IsSoundCopy cmp texts c → d < 2 ^ 64 → can_lead cmp size c ≡ true → IsSound cmp texts (leader_of (promoted size c) d)
+  leader_sound size d c two few s less can = record {
+    two = two;
+    few = few;
+    lawful = follow_lawful (order cmp) (ordered cmp total) size c.nodes (none (nodes_refusal (order cmp) size c.nodes) can);
+    fits = s.fits;
+    done = less;
+  }
+    where
+      none : (o : Option Refusal) → is_none o ≡ true → o ≡ None
+      none None is = refl
+      none (Some cause) is = absurd (cc)
 
-after_mark_sound : (s : State) → IsSoundFollower s → (m : Mark) → MarkFits m → IsSoundFollower (after_mark s m)
-after_mark_sound s f (Start n d) fit = coming_sound s f (Some (copy [] n)) d (no_nodes n fit.0) fit.1
-after_mark_sound s f (End count sum) fit = at s.coming f.coming
-  where
-    whole : (c : Copy) → IsSoundCopy c → (o : Option Reason) → IsSoundFollower (if is_none o then holding s.window c s.coming_done else with_coming s None 0)
-    whole c came None = holding_sound s.window s.coming_done c came f.coming_done
-    whole c came (Some reason) = coming_sound s f None 0 tt (omega arith)
+module _ {T : Type 0} (texts : Texts T) where
+  -- ---- a snapshot
 
-    at : (o : Option Copy) → IfSome o IsSoundCopy → IsSoundFollower (option_map_or (put_in_place count sum s) o s)
-    at None came = f
-    at (Some c) came = whole c came (end_reason count sum c s.coming_done)
-after_mark_sound s f (Done d n) fit = at (nat_lt s.held.next n)
-  where
-    at : (b : Bool) → IsSoundFollower (if b then s else with_done s d)
-    at true = f
-    at false = record { held = f.held; done = max_fits s.done d f.done fit.0; coming = f.coming; coming_done = f.coming_done; early = f.early }
+  filled_fit : (ns : Nodes T) → Each (Each (PairFits texts)) ns → Each (λ n. 1 ≤ length n) ns → Each (NodeFits texts) ns
+  filled_fit [] fit filled = tt
+  filled_fit (n ∷ ns) fit filled = ((omega (arith, filled.0), each_all (PairFits texts) n fit.0), filled_fit ns fit.1 filled.1)
 
-pub line_sound : (s : State) (line : List ℕ) → IsSoundFollower s → IsSoundFollower (after_line s line)
-line_sound s line f = at (event_of line) (λ e is. (event_sound line e is).1) (node_of line) (λ n is. (node_sound line n is).1) (mark_of line) (λ m is. (mark_sound line m is).1)
-  where
-    at : (e : Option Event) → ((x : Event) → e ≡ Some x → EventFits x) → (n : Option (List (Pair ℕ ℕ))) → ((x : List (Pair ℕ ℕ)) → n ≡ Some x → NodeFits x) → (m : Option Mark) → ((x : Mark) → m ≡ Some x → MarkFits x)
-        → IsSoundFollower (option_map_or {U = State} (after_event s) e (option_map_or (after_node s) n (option_map_or (after_mark s) m s)))
-    at (Some e) fit n _ m _ = after_event_sound s f e (fit e refl)
-    at None _ (Some n) fit m _ = after_node_sound s f n (fit n refl)
-    at None _ None _ (Some m) fit = after_mark_sound s f m (fit m refl)
-    at None _ None _ None _ = f
+  snapshot_whole : (c : Copy T) (d : ℕ) → whole_lines (snapshot_text texts c d) ≡ lines_of (snapshot_text texts c d)
+  snapshot_whole c d =
+      let text = snapshot_text texts c d in
+      let front = body_text texts c d in
+      let last = end_line texts c d in
+      let end : (front ++ last) ++ 10 ∷ [] ≡ text = append_assoc front last (10 ∷ []) in
+      sym (ap whole_lines (append-nil text)) ∙ whole_lines-append [] (All-nil (λ x. x ≢ 10)) text (subst IsWhole end (IsWhole-end (front ++ last)))
 
-pub lines_sound : (s : State) (lines : List (List ℕ)) → IsSoundFollower s → IsSoundFollower (state_after s lines)
-unfolding left_by
-lines_sound s [] f = f
-lines_sound s (line ∷ lines) f = lines_sound (after_line s line) lines (line_sound s line f)
-
--- ---- a follower leads
-
-pub leader_sound : (size d : ℕ) (c : Copy) → 2 ≤ size → size < 2 ^ 64 → IsSoundCopy c → d < 2 ^ 64 → can_lead size c ≡ true → IsSound (leader_of (promoted size c) d)
-leader_sound size d c two few s less can = record {
-  two = two;
-  few = few;
-  lawful = follow_lawful order total size c.nodes (none (nodes_refusal order size c.nodes) can);
-  fits = s.fits;
-  done = less;
-}
-  where
-    none : (o : Option Refusal) → is_none o ≡ true → o ≡ None
-    none None is = refl
-    none (Some cause) is = absurd (cc)
-
--- ---- a snapshot
-
-filled_fit : (ns : Nodes) → Each (Each PairFits) ns → Each (λ n. 1 ≤ length n) ns → Each NodeFits ns
-filled_fit [] fit filled = tt
-filled_fit (n ∷ ns) fit filled = ((omega (arith, filled.0), each_all PairFits n fit.0), filled_fit ns fit.1 filled.1)
-
-snapshot_whole : (c : Copy) (d : ℕ) → whole_lines (snapshot_text c d) ≡ lines_of (snapshot_text c d)
-snapshot_whole c d =
-    let text = snapshot_text c d in
-    let front = body_text c d in
-    let last = end_line c d in
-    let end : (front ++ last) ++ 10 ∷ [] ≡ text = append_assoc front last (10 ∷ []) in
-    sym (ap whole_lines (append-nil text)) ∙ whole_lines-append [] (All-nil (λ x. x ≢ 10)) text (subst IsWhole end (IsWhole-end (front ++ last)))
-
-pub snapshot_leads : (taker : State) (c : Copy) (d : ℕ) → IsSoundCopy c → d < 2 ^ 64 → length c.nodes < 2 ^ 64 → state_after taker (whole_lines (snapshot_text c d)) ≡ holding taker.window c d
-snapshot_leads taker c d s less few =
-    let filled = nodes_each (λ n. 1 ≤ n) c.nodes s.nodes.filled in
-    ap (state_after taker) (snapshot_whole c d)
-    ∙ snapshot_taken c d s.next less few (each_all NodeFits c.nodes (filled_fit c.nodes (copy_nodes c s).fit filled)) taker s.nodes
+module _ {T : Type 0} (cmp : T → T → Ordering) (texts : Texts T) (spelled : AreWords texts) where
+  pub snapshot_leads : (taker : State T) (c : Copy T) (d : ℕ) → IsSoundCopy cmp texts c → d < 2 ^ 64 → length c.nodes < 2 ^ 64 → state_after cmp texts taker (whole_lines (snapshot_text texts c d)) ≡ holding taker.window c d
+  snapshot_leads taker c d s less few =
+      let filled = nodes_each (λ n. 1 ≤ n) c.nodes s.nodes.filled in
+      ap (state_after cmp texts taker) (snapshot_whole texts c d)
+      ∙ snapshot_taken cmp texts spelled c d s.next less few (each_all (NodeFits texts) c.nodes (filled_fit texts c.nodes (copy_nodes cmp texts c s).fit filled)) taker s.nodes

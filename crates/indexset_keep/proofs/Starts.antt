@@ -20,87 +20,98 @@ use Rattle.indexset_keep.specs.Keep.{IsSame}
 use Rattle.indexset_keep.specs.Roles.{IsSoundRole, LeadsTo, copy_held, done_held, role_of, settled, snapshot_of}
 use Rattle.indexset_keep.specs.Sound.{IsSoundCopy, IsSoundFollower}
 use Rattle.indexset_keep.proofs.Soundness.{copy_sound, holding_sound, leader_sound, lines_sound, snapshot_leads, start_sound}
+use Rattle.std.specs.declared.cmp.Ordering.{Ordering}
+use Rattle.indexset_bench.specs.Texts.{AreWords, Texts}
+use Rattle.std.specs.Cmp.{IsTotalOrder}
 
--- ---- a snapshot
+module _ {T : Type 0} (cmp : T → T → Ordering) (texts : Texts T) where
+  -- ---- a snapshot
 
-role_copy : (r : Role) → IsSoundRole r → IsSoundCopy (copy_held r) × (done_held r < 2 ^ 64)
-role_copy (Following s) sound = (sound.held, sound.done)
-role_copy (Leading l) sound = (copy_sound l sound.0 sound.1, sound.0.done)
+  role_copy : (r : Role T) → IsSoundRole cmp texts r → IsSoundCopy cmp texts (copy_held r) × (done_held r < 2 ^ 64)
+  role_copy (Following s) sound = (sound.held, sound.done)
+  role_copy (Leading l) sound = (copy_sound cmp texts l sound.0 sound.1, sound.0.done)
 
-pub snapshot_on : (r : Role) → IsSoundRole r → length (copy_held r).nodes < 2 ^ 64 → LeadsTo (snapshot_of r) (settled r)
-snapshot_on r sound few = let it = role_copy r sound in snapshot_leads (start_state 0) (copy_held r) (done_held r) it.0 it.1 few
+module _ {T : Type 0} (cmp : T → T → Ordering) (texts : Texts T) (spelled : AreWords texts) where
+  pub snapshot_on : (r : Role T) → IsSoundRole cmp texts r → length (copy_held r).nodes < 2 ^ 64 → LeadsTo cmp texts (snapshot_of texts r) (settled r)
+  snapshot_on r sound few = let it = role_copy cmp texts r sound in snapshot_leads cmp texts spelled (start_state 0) (copy_held r) (done_held r) it.0 it.1 few
 
--- ---- the first role
+module _ {T : Type 0} (cmp : T → T → Ordering) (texts : Texts T) (total : IsTotalOrder cmp) (spelled : AreWords texts) where
+  -- ---- the first role
 
-pub first_sound : (size window : ℕ) (leads : Bool) (lines : List (List ℕ)) → 2 ≤ size → size < 2 ^ 64 → (leads ≡ true → can_lead size (state_after (start_state 0) lines).held ≡ true) → IsSoundRole (role_of size window leads (state_after (start_state 0) lines))
-first_sound size window leads lines two few can = at leads can
-  where
-    sound : IsSoundFollower (state_after (start_state 0) lines)
-    sound = lines_sound (start_state 0) lines (start_sound 0)
+  pub first_sound : (size window : ℕ) (leads : Bool) (lines : List (List ℕ)) → 2 ≤ size → size < 2 ^ 64 → (leads ≡ true → can_lead cmp size (state_after cmp texts (start_state 0) lines).held ≡ true) → IsSoundRole cmp texts (role_of size window leads (state_after cmp texts (start_state 0) lines))
+  first_sound size window leads lines two few can = at leads can
+    where
+      sound : IsSoundFollower cmp texts (state_after cmp texts (start_state 0) lines)
+      sound = lines_sound cmp texts total spelled (start_state 0) lines (start_sound cmp texts 0)
 
-    at : (b : Bool) → (b ≡ true → can_lead size (state_after (start_state 0) lines).held ≡ true) → IsSoundRole (role_of size window b (state_after (start_state 0) lines))
-    at true can = (leader_sound size (state_after (start_state 0) lines).done (state_after (start_state 0) lines).held two few sound.held sound.done (can refl), sound.held.next)
-    at false can = holding_sound window (state_after (start_state 0) lines).done (state_after (start_state 0) lines).held sound.held sound.done
+      at : (b : Bool) → (b ≡ true → can_lead cmp size (state_after cmp texts (start_state 0) lines).held ≡ true) → IsSoundRole cmp texts (role_of size window b (state_after cmp texts (start_state 0) lines))
+      at true can = (leader_sound cmp texts total size (state_after cmp texts (start_state 0) lines).done (state_after cmp texts (start_state 0) lines).held two few sound.held sound.done (can refl), sound.held.next)
+      at false can = holding_sound cmp texts window (state_after cmp texts (start_state 0) lines).done (state_after cmp texts (start_state 0) lines).held sound.held sound.done
 
-pub first_same : (size window : ℕ) (leads : Bool) (s : State) → IsSame s (settled (role_of size window leads s))
-first_same size window true s = record { held = refl; done = refl }
-first_same size window false s = record { held = refl; done = refl }
+module _ {T : Type 0} where
+  pub first_same : (size window : ℕ) (leads : Bool) (s : State T) → IsSame s (settled (role_of size window leads s))
+  first_same size window true s = record { held = refl; done = refl }
+  first_same size window false s = record { held = refl; done = refl }
 
-first_settled : (size window : ℕ) (leads : Bool) (s : State) → settled (role_of size window leads s) ≡ holding 0 s.held s.done
-first_settled size window true s = refl
-first_settled size window false s = refl
+  first_settled : (size window : ℕ) (leads : Bool) (s : State T) → settled (role_of size window leads s) ≡ holding 0 s.held s.done
+  first_settled size window true s = refl
+  first_settled size window false s = refl
 
--- what lines led to is held again
-pub again_held : (size window : ℕ) (leads : Bool) (lines : List (List ℕ)) (r : Role) → LeadsTo lines (settled r) → copy_held (role_of size window leads (state_after (start_state 0) lines)) ≡ copy_held r
-again_held size window leads lines r led = ap (λ s. s.held) (first_settled size window leads (state_after (start_state 0) lines)) ∙ ap (λ s. s.held) led
+module _ {T : Type 0} (cmp : T → T → Ordering) (texts : Texts T) where
+  -- what lines led to is held again
+  pub again_held : (size window : ℕ) (leads : Bool) (lines : List (List ℕ)) (r : Role T) → LeadsTo cmp texts lines (settled r) → copy_held (role_of size window leads (state_after cmp texts (start_state 0) lines)) ≡ copy_held r
+  again_held size window leads lines r led = ap (λ s. s.held) (first_settled size window leads (state_after cmp texts (start_state 0) lines)) ∙ ap (λ s. s.held) led
 
-pub again_done : (size window : ℕ) (leads : Bool) (lines : List (List ℕ)) (r : Role) → LeadsTo lines (settled r) → done_held (role_of size window leads (state_after (start_state 0) lines)) ≡ done_held r
-again_done size window leads lines r led = ap (λ s. s.done) (first_settled size window leads (state_after (start_state 0) lines)) ∙ ap (λ s. s.done) led
+  pub again_done : (size window : ℕ) (leads : Bool) (lines : List (List ℕ)) (r : Role T) → LeadsTo cmp texts lines (settled r) → done_held (role_of size window leads (state_after cmp texts (start_state 0) lines)) ≡ done_held r
+  again_done size window leads lines r led = ap (λ s. s.done) (first_settled size window leads (state_after cmp texts (start_state 0) lines)) ∙ ap (λ s. s.done) led
 
-pub again_leads : (window : ℕ) (lines : List (List ℕ)) (l : Leader) → LeadsTo lines (settled (Leading l)) → role_of l.pairs.size window true (state_after (start_state 0) lines) ≡ Leading l
-again_leads window lines l led = ap (role_of l.pairs.size window true) led
+  pub again_leads : (window : ℕ) (lines : List (List ℕ)) (l : Leader T) → LeadsTo cmp texts lines (settled (Leading l)) → role_of l.pairs.size window true (state_after cmp texts (start_state 0) lines) ≡ Leading l
+  again_leads window lines l led = ap (role_of l.pairs.size window true) led
 
--- ---- a follower that began without a window
+module _ {T : Type 0} where
+  -- ---- a follower that began without a window
 
--- it holds no early event
-abbrev IsPlain : State → Type 0
-IsPlain s = (s.window ≡ 0) × (s.early ≡ [])
+  -- it holds no early event
+  abbrev IsPlain : State T → Type 0
+  IsPlain s = (s.window ≡ 0) × (s.early ≡ [])
 
-mark_plain : (s : State) → IsPlain s → (m : Mark) → IsPlain (after_mark s m)
-mark_plain s it (Start n d) = it
-mark_plain s it (End count sum) = at s.coming
-  where
-    in_place : (c : Copy) (b : Bool) → IsPlain (cond b (holding s.window c s.coming_done) (with_coming s None 0))
-    in_place c true = (it.0, refl)
-    in_place c false = it
+module _ {T : Type 0} (texts : Texts T) where
+  mark_plain : (s : State T) → IsPlain s → (m : Mark) → IsPlain (after_mark texts s m)
+  mark_plain s it (Start n d) = it
+  mark_plain s it (End count sum) = at s.coming
+    where
+      in_place : (c : Copy T) (b : Bool) → IsPlain (cond b (holding s.window c s.coming_done) (with_coming s None 0))
+      in_place c true = (it.0, refl)
+      in_place c false = it
 
-    at : (o : Option Copy) → IsPlain (option_map_or (put_in_place count sum s) o s)
-    at None = it
-    at (Some c) = in_place c (is_none (end_reason count sum c s.coming_done))
-mark_plain s it (Done d n) = at (nat_lt s.held.next n)
-  where
-    at : (b : Bool) → IsPlain (cond b s (with_done s d))
-    at true = it
-    at false = it
+      at : (o : Option (Copy T)) → IsPlain (option_map_or (put_in_place texts count sum s) o s)
+      at None = it
+      at (Some c) = in_place c (is_none (end_reason texts count sum c s.coming_done))
+  mark_plain s it (Done d n) = at (nat_lt s.held.next n)
+    where
+      at : (b : Bool) → IsPlain (cond b s (with_done s d))
+      at true = it
+      at false = it
 
-line_plain : (s : State) → IsPlain s → (line : List ℕ) → IsPlain (after_line s line)
-line_plain s it line = at (event_of line) (node_of line) (mark_of line)
-  where
-    at : (e : Option Event) (n : Option (List (Pair ℕ ℕ))) (m : Option Mark) → IsPlain (option_map_or (after_event s) e (option_map_or (after_node s) n (option_map_or (after_mark s) m s)))
-    at (Some e) n m = (it.0, (alone s e it.0 it.1).0)
-    at None (Some n) m = it
-    at None None (Some m) = mark_plain s it m
-    at None None None = it
+module _ {T : Type 0} (cmp : T → T → Ordering) (texts : Texts T) where
+  line_plain : (s : State T) → IsPlain s → (line : List ℕ) → IsPlain (after_line cmp texts s line)
+  line_plain s it line = at (event_of texts line) (node_of texts line) (mark_of line)
+    where
+      at : (e : Option (Event T)) (n : Option (List (Pair T T))) (m : Option Mark) → IsPlain (option_map_or (after_event cmp s) e (option_map_or (after_node cmp s) n (option_map_or (after_mark texts s) m s)))
+      at (Some e) n m = (it.0, (alone cmp s e it.0 it.1).0)
+      at None (Some n) m = it
+      at None None (Some m) = mark_plain texts s it m
+      at None None None = it
 
-lines_plain : (s : State) → IsPlain s → (lines : List (List ℕ)) → IsPlain (state_after s lines)
-unfolding left_by
-lines_plain s it [] = it
-lines_plain s it (line ∷ lines) = lines_plain (after_line s line) (line_plain s it line) lines
+  lines_plain : (s : State T) → IsPlain s → (lines : List (List ℕ)) → IsPlain (state_after cmp texts s lines)
+  unfolding left_by
+  lines_plain s it [] = it
+  lines_plain s it (line ∷ lines) = lines_plain (after_line cmp texts s line) (line_plain s it line) lines
 
--- where no snapshot has begun, it is what the map of a run is at first
-pub first_whole : (size window : ℕ) (leads : Bool) (lines : List (List ℕ)) → (state_after (start_state 0) lines).coming ≡ None → (state_after (start_state 0) lines).coming_done ≡ 0
-    → state_after (start_state 0) lines ≡ settled (role_of size window leads (state_after (start_state 0) lines))
-first_whole size window leads lines coming done =
-    let s = state_after (start_state 0) lines in
-    let plain = lines_plain (start_state 0) (refl, refl) lines in
-    (λ i. record { held = s.held; done = s.done; coming = coming i; coming_done = done i; window = plain.0 i; early = plain.1 i }) ∙ sym (first_settled size window leads s)
+  -- where no snapshot has begun, it is what the map of a run is at first
+  pub first_whole : (size window : ℕ) (leads : Bool) (lines : List (List ℕ)) → (state_after cmp texts (start_state 0) lines).coming ≡ None → (state_after cmp texts (start_state 0) lines).coming_done ≡ 0
+      → state_after cmp texts (start_state 0) lines ≡ settled (role_of size window leads (state_after cmp texts (start_state 0) lines))
+  first_whole size window leads lines coming done =
+      let s = state_after cmp texts (start_state 0) lines in
+      let plain = lines_plain (start_state 0) (refl, refl) lines in
+      (λ i. record { held = s.held; done = s.done; coming = coming i; coming_done = done i; window = plain.0 i; early = plain.1 i }) ∙ sym (first_settled size window leads s)

@@ -11,23 +11,29 @@ use Rattle.indexset_follow.specs.Follow.{State, after_event, end_reason}
 use Rattle.indexset_follow.specs.Mark.{mark_of}
 use Rattle.indexset_follow.specs.declared.mark.Mark.{Mark}
 use Rattle.indexset_follow.specs.declared.mark.Mark.TheVariants.{Start, End, Done}
+use Rattle.std.specs.declared.cmp.Ordering.{Ordering}
+use Rattle.indexset_bench.specs.Texts.{Texts}
 
--- how many steps the event makes, with the early ones whose turn has come
-abbrev pub step_count : State → Event → ℕ
-step_count s e = (after_event s e).held.next - s.held.next
+module _ {T : Type 0} (cmp : T → T → Ordering) where
+  -- how many steps the event makes, with the early ones whose turn has come
+  abbrev pub step_count : State T → Event T → ℕ
+  step_count s e = (after_event cmp s e).held.next - s.held.next
 
--- the lines of the awaited event and of the early ones that are taken with it
-abbrev pub event_kept : State → Event → List (List ℕ)
-event_kept s e = if event_number e == s.held.next then map event_text (take (step_count s e) (e ∷ consecutive (s.held.next + 1) s.early)) else []
+module _ {T : Type 0} (cmp : T → T → Ordering) (texts : Texts T) where
+  -- the lines of the awaited event and of the early ones that are taken with it
+  abbrev pub event_kept : State T → Event T → List (List ℕ)
+  event_kept s e = if event_number e == s.held.next then map (event_text texts) (take (step_count cmp s e) (e ∷ consecutive (s.held.next + 1) s.early)) else []
 
--- a snapshot that is whole, as its giver would write it
-abbrev pub end_kept : ℕ → ℕ → ℕ → Copy → List (List ℕ)
-end_kept count sum d c = if is_none (end_reason count sum c d) then whole_lines (snapshot_text c d) else []
+module _ {T : Type 0} (texts : Texts T) where
+  -- a snapshot that is whole, as its giver would write it
+  abbrev pub end_kept : ℕ → ℕ → ℕ → Copy T → List (List ℕ)
+  end_kept count sum d c = if is_none (end_reason texts count sum c d) then whole_lines (snapshot_text texts c d) else []
 
-abbrev pub mark_kept : State → List ℕ → Mark → List (List ℕ)
-mark_kept s line (Start n d) = []
-mark_kept s line (End count sum) = option_map_or (end_kept count sum s.coming_done) s.coming []
-mark_kept s line (Done d n) = if nat_lt s.held.next n then [] else line ∷ []
+  abbrev pub mark_kept : State T → List ℕ → Mark → List (List ℕ)
+  mark_kept s line (Start n d) = []
+  mark_kept s line (End count sum) = option_map_or (end_kept count sum s.coming_done) s.coming []
+  mark_kept s line (Done d n) = if nat_lt s.held.next n then [] else line ∷ []
 
-abbrev pub line_kept : State → List ℕ → List (List ℕ)
-line_kept s line = option_map_or (event_kept s) (event_of line) (option_map_or (mark_kept s line) (mark_of line) [])
+module _ {T : Type 0} (cmp : T → T → Ordering) (texts : Texts T) where
+  abbrev pub line_kept : State T → List ℕ → List (List ℕ)
+  line_kept s line = option_map_or (event_kept cmp texts s) (event_of texts line) (option_map_or (mark_kept texts s line) (mark_of line) [])

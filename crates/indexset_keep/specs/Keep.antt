@@ -13,89 +13,95 @@ use Rattle.indexset_keep.specs.declared.answer.End.{End}
 use Rattle.indexset_keep.specs.declared.answer.End.TheVariants.{Whole, Cut}
 use Rattle.sqlite_trees.specs.Tree.{Trees}
 use Rattle.sqlite_trees.specs.View.{View, IsClean, doubt}
+use Rattle.std.specs.declared.cmp.Ordering.{Ordering}
+use Rattle.indexset_bench.specs.Texts.{Texts}
 
--- what is held after whole lines
-abbrev pub map_after : Held → List ℕ → Held
-map_after h whole = left_by after_input h (lines_of whole)
+module _ {T : Type 0} (cmp : T → T → Ordering) (texts : Texts T) where
+  -- what is held after whole lines
+  abbrev pub map_after : Held T → List ℕ → Held T
+  map_after h whole = left_by (after_input cmp texts) h (lines_of whole)
 
--- the state to which lines should lead then
-abbrev pub state_held : Held → State
-state_held h = settled h.role
+module _ {T : Type 0} where
+  -- the state to which lines should lead then
+  abbrev pub state_held : Held T → State T
+  state_held h = settled h.role
 
 -- what stands behind the last line end
 abbrev pub rest_behind : End → List ℕ → List ℕ
 rest_behind Whole line = []
 rest_behind Cut line = line
 
--- the lines are more than 4,096 and than ten for each pair; or, beside one for each node, more than 2,000,000 and than one for five pairs
-abbrev pub is_long : ℕ → List (List (Pair ℕ ℕ)) → Bool
-is_long lines nodes =
-    let pairs = length (joined nodes) in
-    let events = lines - length nodes in
-    (nat_lt 4096 lines && nat_lt pairs (lines / 10)) || (nat_lt 2000000 events && nat_lt (pairs / 5) events)
+module _ {T : Type 0} where
+  -- the lines are more than 4,096 and than ten for each pair; or, beside one for each node, more than 2,000,000 and than one for five pairs
+  abbrev pub is_long : ℕ → List (List (Pair T T)) → Bool
+  is_long lines nodes =
+      let pairs = length (joined nodes) in
+      let events = lines - length nodes in
+      (nat_lt 4096 lines && nat_lt pairs (lines / 10)) || (nat_lt 2000000 events && nat_lt (pairs / 5) events)
 
--- the same nodes, next number and greatest number of a command
-pub record IsSame (s t : State) : Type 0 where
-  pub held : s.held ≡ t.held
-  pub done : s.done ≡ t.done
+  -- the same nodes, next number and greatest number of a command
+  pub record IsSame (s t : State T) : Type 0 where
+    pub held : s.held ≡ t.held
+    pub done : s.done ≡ t.done
 
--- ---- lines that are kept
+module _ {T : Type 0} (cmp : T → T → Ordering) (texts : Texts T) where
+  -- ---- lines that are kept
 
-module _ {S : Type 0} (view : S → View) (recovers : S → Trees → Type 0) (old new : S) where
-  -- a crash leaves lines that lead to this; or what it could leave before, where that is the same
-  abbrev pub IsLeft : State → State → Trees → Type 0
-  IsLeft from to db = (recovers old db × IsSame from to) ⊎ LeadsTo (lines_in db) to
+  module _ {S : Type 0} (view : S → View) (recovers : S → Trees → Type 0) (old new : S) where
+    -- a crash leaves lines that lead to this; or what it could leave before, where that is the same
+    abbrev pub IsLeft : State T → State T → Trees → Type 0
+    IsLeft from to db = (recovers old db × IsSame from to) ⊎ LeadsTo cmp texts (lines_in db) to
 
-  -- the lines led to the first, and now lead to the second
-  pub record Leads (from to : State) : Type 0 where
-    pub clean : doubt (view old).is_clean ≤ doubt (view new).is_clean
-    pub kept : IsClean (view new) → LeadsTo (lines_in (view old).committed) from → LeadsTo (lines_in (view new).committed) to
-    pub crash : IsClean (view new) → LeadsTo (lines_in (view old).committed) from → (db : Trees) → recovers new db → IsLeft from to db
+    -- the lines led to the first, and now lead to the second
+    pub record Leads (from to : State T) : Type 0 where
+      pub clean : doubt (view old).is_clean ≤ doubt (view new).is_clean
+      pub kept : IsClean (view new) → LeadsTo cmp texts (lines_in (view old).committed) from → LeadsTo cmp texts (lines_in (view new).committed) to
+      pub crash : IsClean (view new) → LeadsTo cmp texts (lines_in (view old).committed) from → (db : Trees) → recovers new db → IsLeft from to db
 
-  -- the lines led to the first, and a crash leaves some that lead to the second, or to the third
-  pub record MayLead (from to more : State) : Type 0 where
-    pub clean : doubt (view old).is_clean ≤ doubt (view new).is_clean
-    pub crash : IsClean (view new) → LeadsTo (lines_in (view old).committed) from → (db : Trees) → recovers new db → IsLeft from to db ⊎ LeadsTo (lines_in db) more
+    -- the lines led to the first, and a crash leaves some that lead to the second, or to the third
+    pub record MayLead (from to more : State T) : Type 0 where
+      pub clean : doubt (view old).is_clean ≤ doubt (view new).is_clean
+      pub crash : IsClean (view new) → LeadsTo cmp texts (lines_in (view old).committed) from → (db : Trees) → recovers new db → IsLeft from to db ⊎ LeadsTo cmp texts (lines_in db) more
 
--- ---- a run
+  -- ---- a run
 
-module _ (reply cut : Held → List ℕ → List ℕ) (h : Held) {S : Type 0} (view : S → View) (recovers : S → Trees → Type 0) (old new : S) (reader reader' writer writer' : Option (List ℕ)) (from : State) where
-  -- the answers to whole lines
-  abbrev pub answers_to : List ℕ → List ℕ
-  answers_to whole = replies_to reply after_input h (lines_of whole)
+  module _ (reply cut : Held T → List ℕ → List ℕ) (h : Held T) {S : Type 0} (view : S → View) (recovers : S → Trees → Type 0) (old new : S) (reader reader' writer writer' : Option (List ℕ)) (from : State T) where
+    -- the answers to whole lines
+    abbrev pub answers_to : List ℕ → List ℕ
+    answers_to whole = replies_to reply (after_input cmp texts) h (lines_of whole)
 
-  -- the reader gave whole lines and such a rest, and the writer got the answers to the lines; what is kept leads to what is held then
-  pub record AnswersWhole (rest : List ℕ) (now : Held) : Type 0 where
-    pub whole : List ℕ
-    pub is_whole : IsWhole whole
-    pub read : Consumes reader reader' (whole ++ rest)
-    pub written : Appends writer writer' (answers_to whole)
-    pub left : now ≡ map_after h whole
-    pub leads : Leads view recovers old new from (state_held (map_after h whole))
+    -- the reader gave whole lines and such a rest, and the writer got the answers to the lines; what is kept leads to what is held then
+    pub record AnswersWhole (rest : List ℕ) (now : Held T) : Type 0 where
+      pub whole : List ℕ
+      pub is_whole : IsWhole whole
+      pub read : Consumes reader reader' (whole ++ rest)
+      pub written : Appends writer writer' (answers_to whole)
+      pub left : now ≡ map_after cmp texts h whole
+      pub leads : Leads view recovers old new from (state_held (map_after cmp texts h whole))
 
-  -- the reader gave an input, to its end, and the writer got the text for it; what is kept leads to what is held then
-  pub record AnswersAll : Type 0 where
+    -- the reader gave an input, to its end, and the writer got the text for it; what is kept leads to what is held then
+    pub record AnswersAll : Type 0 where
+      pub input : List ℕ
+      pub read : Consumes reader reader' input
+      pub at_end : OnSome reader (IsAtEnd reader')
+      pub written : Appends writer writer' (text_of reply (after_input cmp texts) cut h input)
+      pub leads : Leads view recovers old new from (state_held (left_by (after_input cmp texts) h (whole_lines input)))
+
+    -- the reader gave whole lines that have their answers, whole lines that were carried out alone, and a rest: a crash leaves what leads to what was held after the first, or after both
+    pub record AnswersSome (IsOut : Type 0) : Type 0 where
+      pub whole : List ℕ
+      pub more : List ℕ
+      pub rest : List ℕ
+      pub is_whole : IsWhole whole
+      pub is_more : IsWhole more
+      pub read : Consumes reader reader' (whole ++ (more ++ rest))
+      pub written : IsOut → Appends writer writer' (answers_to whole)
+      pub crash : MayLead view recovers old new from (state_held (map_after cmp texts h whole)) (state_held (map_after cmp texts (map_after cmp texts h whole) more))
+
+  -- the map begins with some lines; the reader gave an input, to its end, and the writer got the text for it
+  pub record AnswersFrom (reply cut : Held T → List ℕ → List ℕ) (first : List (List ℕ) → Held T) (reader reader' writer writer' : Option (List ℕ)) : Type 0 where
+    pub lines : List (List ℕ)
     pub input : List ℕ
     pub read : Consumes reader reader' input
     pub at_end : OnSome reader (IsAtEnd reader')
-    pub written : Appends writer writer' (text_of reply after_input cut h input)
-    pub leads : Leads view recovers old new from (state_held (left_by after_input h (whole_lines input)))
-
-  -- the reader gave whole lines that have their answers, whole lines that were carried out alone, and a rest: a crash leaves what leads to what was held after the first, or after both
-  pub record AnswersSome (IsOut : Type 0) : Type 0 where
-    pub whole : List ℕ
-    pub more : List ℕ
-    pub rest : List ℕ
-    pub is_whole : IsWhole whole
-    pub is_more : IsWhole more
-    pub read : Consumes reader reader' (whole ++ (more ++ rest))
-    pub written : IsOut → Appends writer writer' (answers_to whole)
-    pub crash : MayLead view recovers old new from (state_held (map_after h whole)) (state_held (map_after (map_after h whole) more))
-
--- the map begins with some lines; the reader gave an input, to its end, and the writer got the text for it
-pub record AnswersFrom (reply cut : Held → List ℕ → List ℕ) (first : List (List ℕ) → Held) (reader reader' writer writer' : Option (List ℕ)) : Type 0 where
-  pub lines : List (List ℕ)
-  pub input : List ℕ
-  pub read : Consumes reader reader' input
-  pub at_end : OnSome reader (IsAtEnd reader')
-  pub written : Appends writer writer' (text_of reply after_input cut (first lines) input)
+    pub written : Appends writer writer' (text_of reply (after_input cmp texts) cut (first lines) input)

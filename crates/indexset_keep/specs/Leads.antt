@@ -1,16 +1,17 @@
 -- What a leader can hold.
 use Rattle.std.specs.Prelude.{◌<◌, ◌≤◌, ◌^◌}
 use Rattle.std.specs.List.{All}
-use Rattle.std.specs.Ordering.{nat_cmp}
 use Rattle.indexset_core.specs.Nodes.{IsLawful, joined}
 use Rattle.indexset_core.specs.Pairs.{by_key}
-use Rattle.indexset_follow.specs.Numbers.{PairFits}
+use Rattle.indexset_bench.specs.Texts.{PairFits, Texts}
 use Rattle.indexset_follow.specs.declared.leader.Leader.{Leader}
+use Rattle.std.specs.declared.cmp.Ordering.{Ordering}
 
--- its nodes are lawful, and its numbers are of 64 bits
-pub record IsSound (l : Leader) : Type 0 where
-  pub two : 2 ≤ l.pairs.size
-  pub few : l.pairs.size < 2 ^ 64
-  pub lawful : IsLawful (by_key nat_cmp) l.pairs.size l.pairs.nodes
-  pub fits : All PairFits (joined l.pairs.nodes)
-  pub done : l.done < 2 ^ 64
+module _ {T : Type 0} (cmp : T → T → Ordering) (texts : Texts T) where
+  -- its nodes are lawful, and its numbers are of 64 bits
+  pub record IsSound (l : Leader T) : Type 0 where
+    pub two : 2 ≤ l.pairs.size
+    pub few : l.pairs.size < 2 ^ 64
+    pub lawful : IsLawful (by_key cmp) l.pairs.size l.pairs.nodes
+    pub fits : All (PairFits texts) (joined l.pairs.nodes)
+    pub done : l.done < 2 ^ 64

@@ -9,39 +9,46 @@ use Rattle.indexset_follow.specs.declared.role.Role.{Role}
 use Rattle.indexset_follow.specs.declared.role.Role.TheVariants.{Following, Leading}
 use Rattle.indexset_keep.specs.Leads.{IsSound}
 use Rattle.indexset_keep.specs.Sound.{IsSoundFollower}
+use Rattle.std.specs.declared.cmp.Ordering.{Ordering}
+use Rattle.indexset_bench.specs.Texts.{Texts}
 
--- the nodes and the next number
-abbrev pub copy_held : Role → Copy
-copy_held (Following s) = s.held
-copy_held (Leading l) = copy l.pairs.nodes l.pairs.next
+module _ {T : Type 0} where
+  -- the nodes and the next number
+  abbrev pub copy_held : Role T → Copy T
+  copy_held (Following s) = s.held
+  copy_held (Leading l) = copy l.pairs.nodes l.pairs.next
 
--- the greatest number of a command
-abbrev pub done_held : Role → ℕ
-done_held (Following s) = s.done
-done_held (Leading l) = l.done
+  -- the greatest number of a command
+  abbrev pub done_held : Role T → ℕ
+  done_held (Following s) = s.done
+  done_held (Leading l) = l.done
 
--- a follower of what is held, without a window
-abbrev pub settled : Role → State
-settled r = holding 0 (copy_held r) (done_held r)
+  -- a follower of what is held, without a window
+  abbrev pub settled : Role T → State T
+  settled r = holding 0 (copy_held r) (done_held r)
 
--- the lines lead a follower from nothing to this
-abbrev pub LeadsTo : List (List ℕ) → State → Type 0
-LeadsTo lines s = state_after (start_state 0) lines ≡ s
+module _ {T : Type 0} (cmp : T → T → Ordering) (texts : Texts T) where
+  -- the lines lead a follower from nothing to this
+  abbrev pub LeadsTo : List (List ℕ) → State T → Type 0
+  LeadsTo lines s = state_after cmp texts (start_state 0) lines ≡ s
 
--- the lines that make a follower of nothing the same
-abbrev pub snapshot_of : Role → List (List ℕ)
-snapshot_of r = whole_lines (snapshot_text (copy_held r) (done_held r))
+module _ {T : Type 0} (texts : Texts T) where
+  -- the lines that make a follower of nothing the same
+  abbrev pub snapshot_of : Role T → List (List ℕ)
+  snapshot_of r = whole_lines (snapshot_text texts (copy_held r) (done_held r))
 
--- the role in which a map begins of what a follower holds
-abbrev pub role_of : ℕ → ℕ → Bool → State → Role
-role_of size window leads s = if leads then Leading (leader_of (promoted size s.held) s.done) else Following (holding window s.held s.done)
+module _ {T : Type 0} where
+  -- the role in which a map begins of what a follower holds
+  abbrev pub role_of : ℕ → ℕ → Bool → State T → Role T
+  role_of size window leads s = if leads then Leading (leader_of (promoted size s.held) s.done) else Following (holding window s.held s.done)
 
--- a map that the program can hold: its nodes are lawful, and its numbers are of 64 bits
-abbrev pub IsSoundRole : Role → Type 0
-IsSoundRole (Following s) = IsSoundFollower s
-IsSoundRole (Leading l) = IsSound l × (l.pairs.next < 2 ^ 64)
+module _ {T : Type 0} (cmp : T → T → Ordering) (texts : Texts T) where
+  -- a map that the program can hold: its nodes are lawful, and its numbers are of 64 bits
+  abbrev pub IsSoundRole : Role T → Type 0
+  IsSoundRole (Following s) = IsSoundFollower cmp texts s
+  IsSoundRole (Leading l) = IsSound cmp texts l × (l.pairs.next < 2 ^ 64)
 
-pub record IsSoundMap (h : Held) : Type 0 where
-  pub two : 2 ≤ h.size
-  pub few : h.size < 2 ^ 64
-  pub role : IsSoundRole h.role
+  pub record IsSoundMap (h : Held T) : Type 0 where
+    pub two : 2 ≤ h.size
+    pub few : h.size < 2 ^ 64
+    pub role : IsSoundRole h.role

@@ -1,24 +1,25 @@
 -- What a follower can hold that began from nothing, or from what a leader held.
 use Rattle.std.specs.Prelude.{◌<◌, ◌^◌, IfSome}
 use Rattle.std.specs.List.{All}
-use Rattle.std.specs.Ordering.{nat_cmp}
 use Rattle.indexset_core.specs.Nodes.{IsNodeList, joined}
 use Rattle.indexset_core.specs.Pairs.{by_key}
 use Rattle.indexset_follow.specs.Copy.{Copy}
 use Rattle.indexset_follow.specs.EventLine.{EventFits}
 use Rattle.indexset_follow.specs.Follow.{State}
-use Rattle.indexset_follow.specs.Numbers.{PairFits}
+use Rattle.indexset_bench.specs.Texts.{PairFits, Texts}
+use Rattle.std.specs.declared.cmp.Ordering.{Ordering}
 
--- the nodes are lawful, and the numbers are of 64 bits
-pub record IsSoundCopy (c : Copy) : Type 0 where
-  pub nodes : IsNodeList (by_key nat_cmp) c.nodes
-  pub fits : All PairFits (joined c.nodes)
-  pub next : c.next < 2 ^ 64
+module _ {T : Type 0} (cmp : T → T → Ordering) (texts : Texts T) where
+  -- the nodes are lawful, and the numbers are of 64 bits
+  pub record IsSoundCopy (c : Copy T) : Type 0 where
+    pub nodes : IsNodeList (by_key cmp) c.nodes
+    pub fits : All (PairFits texts) (joined c.nodes)
+    pub next : c.next < 2 ^ 64
 
--- what is held and what is coming are sound, and so are the numbers of early events
-pub record IsSoundFollower (s : State) : Type 0 where
-  pub held : IsSoundCopy s.held
-  pub done : s.done < 2 ^ 64
-  pub coming : IfSome s.coming IsSoundCopy
-  pub coming_done : s.coming_done < 2 ^ 64
-  pub early : All (λ p. EventFits p.value) s.early
+  -- what is held and what is coming are sound, and so are the numbers of early events
+  pub record IsSoundFollower (s : State T) : Type 0 where
+    pub held : IsSoundCopy s.held
+    pub done : s.done < 2 ^ 64
+    pub coming : IfSome s.coming IsSoundCopy
+    pub coming_done : s.coming_done < 2 ^ 64
+    pub early : All (λ p. EventFits texts p.value) s.early

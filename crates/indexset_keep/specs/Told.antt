@@ -11,6 +11,8 @@ use Rattle.indexset_follow.specs.declared.mark.Mark.TheVariants.{Start, End, Don
 use Rattle.indexset_follow.specs.declared.role.Role.{Role}
 use Rattle.indexset_follow.specs.declared.role.Role.TheVariants.{Following, Leading}
 use Rattle.indexset_keep.specs.Followed.{line_kept}
+use Rattle.std.specs.declared.cmp.Ordering.{Ordering}
+use Rattle.indexset_bench.specs.Texts.{Texts}
 
 -- the mark tells which commands were done
 abbrev pub is_done : Option Mark → Bool
@@ -19,23 +21,25 @@ is_done (Some (Start n d)) = false
 is_done (Some (End count sum)) = false
 is_done (Some (Done d n)) = true
 
--- the line tells an event, or which commands were done
-abbrev pub is_told : List ℕ → Bool
-is_told line = is_some (event_of line) || is_done (mark_of line)
+module _ {T : Type 0} (texts : Texts T) where
+  -- the line tells an event, or which commands were done
+  abbrev pub is_told : List ℕ → Bool
+  is_told line = is_some (event_of texts line) || is_done (mark_of line)
 
--- those of the lines that do
-abbrev pub told_lines : List (List ℕ) → List (List ℕ)
-told_lines lines = filter is_told lines
+  -- those of the lines that do
+  abbrev pub told_lines : List (List ℕ) → List (List ℕ)
+  told_lines lines = filter is_told lines
 
--- those of the answer to a line of a leader: a read has none
-abbrev pub answer_kept : List ℕ → List ℕ → List (List ℕ)
-answer_kept line answer = option_map_or (λ q. []) (query_of line) (told_lines (whole_lines answer))
+  -- those of the answer to a line of a leader: a read has none
+  abbrev pub answer_kept : List ℕ → List ℕ → List (List ℕ)
+  answer_kept line answer = option_map_or (λ q. []) (query_of texts line) (told_lines (whole_lines answer))
 
--- of a line that a map reads in a role, where this is its answer
-abbrev pub kept_in : Role → List ℕ → List ℕ → List (List ℕ)
-kept_in (Following s) line answer = line_kept s line
-kept_in (Leading l) line answer = answer_kept line answer
+module _ {T : Type 0} (cmp : T → T → Ordering) (texts : Texts T) where
+  -- of a line that a map reads in a role, where this is its answer
+  abbrev pub kept_in : Role T → List ℕ → List ℕ → List (List ℕ)
+  kept_in (Following s) line answer = line_kept cmp texts s line
+  kept_in (Leading l) line answer = answer_kept texts line answer
 
--- of a line of an input, which these replies answer
-abbrev pub kept_by : (Held → List ℕ → List ℕ) → Held → List ℕ → List (List ℕ)
-kept_by reply h line = kept_in h.role (without_return line) (reply h line)
+  -- of a line of an input, which these replies answer
+  abbrev pub kept_by : (Held T → List ℕ → List ℕ) → Held T → List ℕ → List (List ℕ)
+  kept_by reply h line = kept_in h.role (without_return line) (reply h line)

@@ -11,7 +11,7 @@ ghost use Rattle.indexset_keep.specs.Roles.{IsSoundMap, settled};
 use crate::batch::Batch;
 use crate::fault::KeepFault;
 use crate::kept::Kept;
-use indexset_follow::reads::query::{Query, read_query};
+use indexset_bench::key::Key;
 use indexset_follow::store::{Store as Map, without_return};
 use indexset_lines::RunFault;
 use indexset_lines::line::{Part, next_line};
@@ -43,10 +43,7 @@ pub enum End {
 
 /// Returns whether a line asks for a snapshot in place of the kept lines.
 fn asks_to_compact(line: &[u8]) -> bool {
-    match read_query(line) {
-        Some(Query::Compact) => true,
-        _ => false,
-    }
+    line == b"compact".as_slice()
 }
 
 /// Answers each line of the reader, and keeps what changed the map before it writes the answers.
@@ -56,27 +53,27 @@ fn asks_to_compact(line: &[u8]) -> bool {
 ///
 /// A fault ends the run at once, and nothing is written of the lines since the last commit. A last
 /// line that lacks its end changes nothing; where it is a read it is answered.
-pub fn answer<S: Store, R: BufRead + HasLine, W: Write>(
+pub fn answer<T: Key, S: Store, R: BufRead + HasLine, W: Write>(
     kept: &mut Kept<S>,
-    map: &mut Map,
+    map: &mut Map<T>,
     reader: &mut R,
     writer: &mut W,
 ) -> Result<(), KeepFault>
-    requires { IsSoundMap (map_held map.old) }
+    requires { IsSoundMap T.cmp T.texts (map_held map.old) }
 
     // All was read and answered, and what is kept leads to what is held.
-    ensures all { OnOk result (AnswersAll (input_reply map.old.voice) (held_cut map.old.voice)
-        (map_held map.old) S.view S.recovers kept.old.journal kept.new.journal
-        (R.remaining reader.old) (R.remaining reader.new)
-        (W.contents writer.old) (W.contents writer.new) (settled map.old.role)) }
+    ensures all { OnOk result (AnswersAll T.cmp T.texts (input_reply T.cmp T.texts map.old.voice)
+        (held_cut T.cmp T.texts map.old.voice) (map_held map.old) S.view S.recovers kept.old.journal
+        kept.new.journal (R.remaining reader.old) (R.remaining reader.new) (W.contents writer.old)
+        (W.contents writer.new) (settled map.old.role)) }
 
     // A crash leaves what leads to what was held after the lines whose answers were written, or
     // after further ones. After a failed write nothing is said of what was written.
-    ensures some { IfErr result (λ fault. AnswersSome (input_reply map.old.voice)
-        (held_cut map.old.voice) (map_held map.old) S.view S.recovers kept.old.journal
-        kept.new.journal (R.remaining reader.old) (R.remaining reader.new)
-        (W.contents writer.old) (W.contents writer.new) (settled map.old.role)
-        (fault ≢ KeepFault.Run RunFault.Write)) }
+    ensures some { IfErr result (λ fault. AnswersSome T.cmp T.texts (input_reply T.cmp T.texts
+        map.old.voice) (held_cut T.cmp T.texts map.old.voice) (map_held map.old) S.view S.recovers
+        kept.old.journal kept.new.journal (R.remaining reader.old) (R.remaining reader.new)
+        (W.contents writer.old) (W.contents writer.new) (settled map.old.role) (fault
+        ≢ KeepFault.Run RunFault.Write)) }
 {
     let mut line = Vec::new(map.alloc);
     let end = answer_whole(kept, map, reader, writer, &mut line)?;
@@ -87,9 +84,13 @@ pub fn answer<S: Store, R: BufRead + HasLine, W: Write>(
 }
 
 /// Writes the answer to a last line that lacks its end, and flushes the writer.
-fn answer_cut<W: Write>(map: &mut Map, writer: &mut W, line: &[u8]) -> Result<(), RunFault>
+fn answer_cut<T: Key, W: Write>(
+    map: &mut Map<T>,
+    writer: &mut W,
+    line: &[u8],
+) -> Result<(), RunFault>
     ensures told { OnOk result (Appends (W.contents writer.old) (W.contents writer.new)
-        (held_cut map.old.voice (map_held map.old) line.now)) }
+        (held_cut T.cmp T.texts map.old.voice (map_held map.old) line.now)) }
     ensures memory_refused { result ≡ Err RunFault.Memory
         → Keeps (W.contents writer.old) (W.contents writer.new) }
     ensures numbers_refused { result ≡ Err RunFault.Numbers
@@ -101,29 +102,30 @@ fn answer_cut<W: Write>(map: &mut Map, writer: &mut W, line: &[u8]) -> Result<()
 }
 
 /// Answers each line that has its end, and leaves a last line that lacks it in `line`.
-fn answer_whole<S: Store, R: BufRead + HasLine, W: Write>(
+fn answer_whole<T: Key, S: Store, R: BufRead + HasLine, W: Write>(
     kept: &mut Kept<S>,
-    map: &mut Map,
+    map: &mut Map<T>,
     reader: &mut R,
     writer: &mut W,
     line: &mut Vec<u8>,
 ) -> Result<End, KeepFault>
-    requires { IsSoundMap (map_held map.old) }
-    ensures whole { IfOk result (λ end. AnswersWhole (input_reply map.old.voice)
-        (held_cut map.old.voice) (map_held map.old) S.view S.recovers kept.old.journal
-        kept.new.journal (R.remaining reader.old) (R.remaining reader.new)
-        (W.contents writer.old) (W.contents writer.new) (settled map.old.role)
-        (rest_behind end line.new.items) (map_held map.new)) }
-    ensures cut_alike { OnOk result (held_cut map.new.voice ≡ held_cut map.old.voice) }
+    requires { IsSoundMap T.cmp T.texts (map_held map.old) }
+    ensures whole { IfOk result (λ end. AnswersWhole T.cmp T.texts (input_reply T.cmp T.texts
+        map.old.voice) (held_cut T.cmp T.texts map.old.voice) (map_held map.old) S.view S.recovers
+        kept.old.journal kept.new.journal (R.remaining reader.old) (R.remaining reader.new)
+        (W.contents writer.old) (W.contents writer.new) (settled map.old.role) (rest_behind end
+        line.new.items) (map_held map.new)) }
+    ensures cut_alike { OnOk result (held_cut T.cmp T.texts map.new.voice
+        ≡ held_cut T.cmp T.texts map.old.voice) }
     ensures end { IfOk result (λ end. OnSome (R.remaining reader.old)
         (IsAtEnd (R.remaining reader.new))) }
     ensures rest { IfOk result (λ end. HasNoEnd (rest_behind end line.new.items)) }
     ensures cut { result ≡ Ok End.Cut → 0 < length line.new.items }
-    ensures some { IfErr result (λ fault. AnswersSome (input_reply map.old.voice)
-        (held_cut map.old.voice) (map_held map.old) S.view S.recovers kept.old.journal
-        kept.new.journal (R.remaining reader.old) (R.remaining reader.new)
-        (W.contents writer.old) (W.contents writer.new) (settled map.old.role)
-        (fault ≢ KeepFault.Run RunFault.Write)) }
+    ensures some { IfErr result (λ fault. AnswersSome T.cmp T.texts (input_reply T.cmp T.texts
+        map.old.voice) (held_cut T.cmp T.texts map.old.voice) (map_held map.old) S.view S.recovers
+        kept.old.journal kept.new.journal (R.remaining reader.old) (R.remaining reader.new)
+        (W.contents writer.old) (W.contents writer.new) (settled map.old.role) (fault
+        ≢ KeepFault.Run RunFault.Write)) }
 {
     let mut batch = Batch::new(map.alloc);
     for _ in 0..u64::MAX {

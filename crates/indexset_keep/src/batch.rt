@@ -17,6 +17,7 @@ use crate::followed::{Tells, followed};
 use crate::kept::Kept;
 use crate::role::next_number;
 use crate::text::push_told_lines;
+use indexset_bench::key::Key;
 use indexset_follow::reads::query::read_query;
 use indexset_follow::role::Role;
 use indexset_follow::store::{Store as Map, without_return};
@@ -48,14 +49,18 @@ impl Batch {
     }
 
     /// Carries out a line. Its answer waits, and what is to be kept of it.
-    pub fn answer(&mut self, map: &mut Map, line: &[u8]) -> Result<(), RunFault>
-        ensures map { OnOk result (map_held map.new ≡ after_input (map_held map.old) line.now) }
-        ensures alike { OnOk result (input_reply map.new.voice ≡ input_reply map.old.voice) }
-        ensures cut_alike { OnOk result (held_cut map.new.voice ≡ held_cut map.old.voice) }
+    pub fn answer<T: Key>(&mut self, map: &mut Map<T>, line: &[u8]) -> Result<(), RunFault>
+        ensures map { OnOk result (map_held map.new
+            ≡ after_input T.cmp T.texts (map_held map.old) line.now) }
+        ensures alike { OnOk result (input_reply T.cmp T.texts map.new.voice
+            ≡ input_reply T.cmp T.texts map.old.voice) }
+        ensures cut_alike { OnOk result (held_cut T.cmp T.texts map.new.voice
+            ≡ held_cut T.cmp T.texts map.old.voice) }
         ensures answers { OnOk result (self.new.answers.items ≡ self.old.answers.items
-            ++ input_reply map.old.voice (map_held map.old) line.now) }
+            ++ input_reply T.cmp T.texts map.old.voice (map_held map.old) line.now) }
         ensures told { OnOk result (texts self.new.told.items ≡ texts self.old.told.items
-            ++ kept_by (input_reply map.old.voice) (map_held map.old) line.now) }
+            ++ kept_by T.cmp T.texts (input_reply T.cmp T.texts map.old.voice) (map_held map.old)
+            line.now) }
         ensures next { OnOk result ((copy_held map.new.role).next < 2 ^ 64) }
     {
         let kept = match &map.role {
@@ -74,33 +79,45 @@ impl Batch {
 
     /// Carries out a line of a leader: the lines of its answer are kept that tell events, or which
     /// commands were done.
-    fn answer_leading(&mut self, map: &mut Map, line: &[u8]) -> Result<(), RunFault>
-        ensures map { OnOk result (map_held map.new ≡ after_input (map_held map.old) line.now) }
-        ensures alike { OnOk result (input_reply map.new.voice ≡ input_reply map.old.voice) }
-        ensures cut_alike { OnOk result (held_cut map.new.voice ≡ held_cut map.old.voice) }
+    fn answer_leading<T: Key>(&mut self, map: &mut Map<T>, line: &[u8]) -> Result<(), RunFault>
+        ensures map { OnOk result (map_held map.new
+            ≡ after_input T.cmp T.texts (map_held map.old) line.now) }
+        ensures alike { OnOk result (input_reply T.cmp T.texts map.new.voice
+            ≡ input_reply T.cmp T.texts map.old.voice) }
+        ensures cut_alike { OnOk result (held_cut T.cmp T.texts map.new.voice
+            ≡ held_cut T.cmp T.texts map.old.voice) }
         ensures answers { OnOk result (self.new.answers.items ≡ self.old.answers.items
-            ++ input_reply map.old.voice (map_held map.old) line.now) }
+            ++ input_reply T.cmp T.texts map.old.voice (map_held map.old) line.now) }
         ensures told { OnOk result (texts self.new.told.items ≡ texts self.old.told.items
-            ++ answer_kept (without_return line.now)
-            (input_reply map.old.voice (map_held map.old) line.now)) }
+            ++ answer_kept T.texts (without_return line.now)
+            (input_reply T.cmp T.texts map.old.voice (map_held map.old) line.now)) }
     {
         let from = self.answers.len();
         map.answer(&mut self.answers, line)?;
-        if read_query(without_return(line)).is_none() {
-            push_told_lines(map.alloc, &mut self.told, &self.answers[from..])?;
+        if read_query::<T>(map.alloc, without_return(line))?.is_none() {
+            push_told_lines::<T>(map.alloc, &mut self.told, &self.answers[from..])?;
         }
         Ok(())
     }
 
     /// Carries out a line of a follower, of which this is kept.
-    fn answer_following(&mut self, map: &mut Map, line: &[u8], kept: Tells) -> Result<(), RunFault>
-        ensures map { OnOk result (map_held map.new ≡ after_input (map_held map.old) line.now) }
-        ensures alike { OnOk result (input_reply map.new.voice ≡ input_reply map.old.voice) }
-        ensures cut_alike { OnOk result (held_cut map.new.voice ≡ held_cut map.old.voice) }
+    fn answer_following<T: Key>(
+        &mut self,
+        map: &mut Map<T>,
+        line: &[u8],
+        kept: Tells,
+    ) -> Result<(), RunFault>
+        ensures map { OnOk result (map_held map.new
+            ≡ after_input T.cmp T.texts (map_held map.old) line.now) }
+        ensures alike { OnOk result (input_reply T.cmp T.texts map.new.voice
+            ≡ input_reply T.cmp T.texts map.old.voice) }
+        ensures cut_alike { OnOk result (held_cut T.cmp T.texts map.new.voice
+            ≡ held_cut T.cmp T.texts map.old.voice) }
         ensures answers { OnOk result (self.new.answers.items ≡ self.old.answers.items
-            ++ input_reply map.old.voice (map_held map.old) line.now) }
+            ++ input_reply T.cmp T.texts map.old.voice (map_held map.old) line.now) }
         ensures told { OnOk result (texts self.new.told.items ≡ texts self.old.told.items
-            ++ lines_told kept (without_return line.now) (copy_held map.old.role).next map.new.role) }
+            ++ lines_told T.texts kept (without_return line.now) (copy_held map.old.role).next
+            map.new.role) }
     {
         let next = next_number(&map.role);
         map.answer(&mut self.answers, line)?;
@@ -110,27 +127,27 @@ impl Batch {
 
     /// Keeps what waits to be kept, with one commit where there is any, and then puts a snapshot in
     /// place of the kept lines where this is asked for or they are many.
-    fn keep<S: Store>(
+    fn keep<T: Key, S: Store>(
         &mut self,
         kept: &mut Kept<S>,
-        map: &Map,
+        map: &Map<T>,
         is_asked: bool,
     ) -> Result<(), KeepFault>
-        ensures leads { OnOk result ((from : State)
-            → state_after from (texts self.old.told.items) ≡ settled map.now.role
-            → IsSoundRole map.now.role
-            → Leads S.view S.recovers kept.old.journal kept.new.journal from
+        ensures leads { OnOk result ((from : State T)
+            → state_after T.cmp T.texts from (texts self.old.told.items) ≡ settled map.now.role
+            → IsSoundRole T.cmp T.texts map.now.role
+            → Leads T.cmp T.texts S.view S.recovers kept.old.journal kept.new.journal from
             (settled map.now.role)) }
-        ensures failed { OnErr result ((from : State)
-            → state_after from (texts self.old.told.items) ≡ settled map.now.role
-            → IsSoundRole map.now.role
-            → MayLead S.view S.recovers kept.old.journal kept.new.journal from from
+        ensures failed { OnErr result ((from : State T)
+            → state_after T.cmp T.texts from (texts self.old.told.items) ≡ settled map.now.role
+            → IsSoundRole T.cmp T.texts map.now.role
+            → MayLead T.cmp T.texts S.view S.recovers kept.old.journal kept.new.journal from from
             (settled map.now.role)) }
         ensures emptied { OnOk result (texts self.new.told.items ≡ []) }
         ensures answers { self.new.answers.items ≡ self.old.answers.items }
         ensures no_write { result ≢ Err (KeepFault.Run RunFault.Write) }
     {
-        kept.append(map.alloc, &mut self.told)?;
+        kept.append::<T>(map.alloc, &mut self.told)?;
         if is_asked || kept.is_long(&map.role) {
             kept.compact(map.alloc, &map.role)?;
         }
@@ -157,33 +174,33 @@ impl Batch {
 
     /// Keeps what waits to be kept, and then writes the answers. Where that could not be kept,
     /// nothing is written.
-    pub fn put<S: Store, W: Write>(
+    pub fn put<T: Key, S: Store, W: Write>(
         &mut self,
         kept: &mut Kept<S>,
-        map: &Map,
+        map: &Map<T>,
         is_asked: bool,
         writer: &mut W,
     ) -> Result<(), KeepFault>
-        ensures leads { OnOk result ((from : State)
-            → state_after from (texts self.old.told.items) ≡ settled map.now.role
-            → IsSoundRole map.now.role
-            → Leads S.view S.recovers kept.old.journal kept.new.journal from
+        ensures leads { OnOk result ((from : State T)
+            → state_after T.cmp T.texts from (texts self.old.told.items) ≡ settled map.now.role
+            → IsSoundRole T.cmp T.texts map.now.role
+            → Leads T.cmp T.texts S.view S.recovers kept.old.journal kept.new.journal from
             (settled map.now.role)) }
         ensures written { OnOk result (Appends (W.contents writer.old) (W.contents writer.new)
             self.old.answers.items) }
         ensures emptied { OnOk result (self.new.answers.items ≡ []) }
         ensures none_told { OnOk result (texts self.new.told.items ≡ []) }
         ensures keep_failed { IfErr result (λ fault. fault ≢ KeepFault.Run RunFault.Write
-            → ((from : State)
-            → state_after from (texts self.old.told.items) ≡ settled map.now.role
-            → IsSoundRole map.now.role
-            → MayLead S.view S.recovers kept.old.journal kept.new.journal from from
+            → ((from : State T)
+            → state_after T.cmp T.texts from (texts self.old.told.items) ≡ settled map.now.role
+            → IsSoundRole T.cmp T.texts map.now.role
+            → MayLead T.cmp T.texts S.view S.recovers kept.old.journal kept.new.journal from from
             (settled map.now.role))
             × Keeps (W.contents writer.old) (W.contents writer.new)) }
-        ensures write_failed { result ≡ Err (KeepFault.Run RunFault.Write) → (from : State)
-            → state_after from (texts self.old.told.items) ≡ settled map.now.role
-            → IsSoundRole map.now.role
-            → Leads S.view S.recovers kept.old.journal kept.new.journal from
+        ensures write_failed { result ≡ Err (KeepFault.Run RunFault.Write) → (from : State T)
+            → state_after T.cmp T.texts from (texts self.old.told.items) ≡ settled map.now.role
+            → IsSoundRole T.cmp T.texts map.now.role
+            → Leads T.cmp T.texts S.view S.recovers kept.old.journal kept.new.journal from
             (settled map.now.role) }
     {
         self.keep(kept, map, is_asked)?;

@@ -10,6 +10,7 @@ ghost use Rattle.indexset_keep.specs.Tells.{lines_told};
 
 use crate::role::{next_number, push_snapshot};
 use crate::text::{push_first, push_line};
+use indexset_bench::key::Key;
 use indexset_follow::event::{Event, read_event};
 use indexset_follow::follower::Follower;
 use indexset_follow::mark::{Mark, read_mark};
@@ -32,12 +33,17 @@ pub enum Tells {
 }
 
 /// Returns what is kept of a line that a follower is about to read.
-pub fn followed(alloc: Global, follower: &Follower, line: &[u8]) -> Result<Tells, RunFault>
-    ensures tells { IfOk result (λ tells. lines_told tells line.now follower.now.held.next
-        (role.Following (after_line follower.now line.now)) ≡ line_kept follower.now line.now) }
+pub fn followed<T: Key>(
+    alloc: Global,
+    follower: &Follower<T>,
+    line: &[u8],
+) -> Result<Tells, RunFault>
+    ensures tells { IfOk result (λ tells. lines_told T.texts tells line.now follower.now.held.next
+        (role.Following (after_line T.cmp T.texts follower.now line.now))
+        ≡ line_kept T.cmp T.texts follower.now line.now) }
     ensures fault { IfErr result (λ fault. fault ≡ RunFault.Memory) }
 {
-    if let Some(event) = read_event(line) {
+    if let Some(event) = read_event(alloc, line)? {
         return steps(alloc, follower, &event, line);
     }
     match read_mark(line) {
@@ -49,10 +55,16 @@ pub fn followed(alloc: Global, follower: &Follower, line: &[u8]) -> Result<Tells
 
 /// Returns the line of the awaited event and those of the early ones whose turn then comes, or
 /// nothing for another event.
-fn steps(alloc: Global, follower: &Follower, event: &Event, line: &[u8]) -> Result<Tells, RunFault>
-    requires { event_of line.now ≡ Some event.now }
-    ensures tells { IfOk result (λ tells. lines_told tells line.now follower.now.held.next
-        (role.Following (after_event follower.now event.now)) ≡ event_kept follower.now event.now) }
+fn steps<T: Key>(
+    alloc: Global,
+    follower: &Follower<T>,
+    event: &Event<T>,
+    line: &[u8],
+) -> Result<Tells, RunFault>
+    requires { event_of T.texts line.now ≡ Some event.now }
+    ensures tells { IfOk result (λ tells. lines_told T.texts tells line.now follower.now.held.next
+        (role.Following (after_event T.cmp follower.now event.now))
+        ≡ event_kept T.cmp T.texts follower.now event.now) }
     ensures fault { IfErr result (λ fault. fault ≡ RunFault.Memory) }
 {
     let next = follower.held.next();
@@ -69,10 +81,15 @@ fn steps(alloc: Global, follower: &Follower, event: &Event, line: &[u8]) -> Resu
 }
 
 /// Returns a snapshot where these numbers end one that is whole.
-fn snapshot(alloc: Global, follower: &Follower, count: u64, sum: u64) -> Result<Tells, RunFault>
-    ensures tells { (line : List ℕ) → IfOk result (λ tells. lines_told tells line follower.now.held.next
-        (role.Following (after_mark follower.now (Mark.End count sum)))
-        ≡ mark_kept follower.now line (Mark.End count sum)) }
+fn snapshot<T: Key>(
+    alloc: Global,
+    follower: &Follower<T>,
+    count: u64,
+    sum: u64,
+) -> Result<Tells, RunFault>
+    ensures tells { (line : List ℕ) → IfOk result (λ tells. lines_told T.texts tells line
+        follower.now.held.next (role.Following (after_mark T.texts follower.now (Mark.End count
+        sum))) ≡ mark_kept T.texts follower.now line (Mark.End count sum)) }
     ensures fault { IfErr result (λ fault. fault ≡ RunFault.Memory) }
 {
     let Some(coming) = &follower.coming else {
@@ -86,16 +103,16 @@ fn snapshot(alloc: Global, follower: &Follower, count: u64, sum: u64) -> Result<
 
 impl Tells {
     /// Appends what is kept, once the line is read: `next` was awaited before.
-    pub fn push(
+    pub fn push<T: Key>(
         self,
         alloc: Global,
         told: &mut Vec<Vec<u8>>,
         line: &[u8],
         next: u64,
-        role: &Role,
+        role: &Role<T>,
     ) -> Result<(), RunFault>
         ensures told { OnOk result (texts told.new.items
-            ≡ texts told.old.items ++ lines_told self line.now next role.now) }
+            ≡ texts told.old.items ++ lines_told T.texts self line.now next role.now) }
         ensures fault { IfErr result (λ fault. fault ≡ RunFault.Memory) }
     {
         match self {

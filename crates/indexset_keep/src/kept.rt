@@ -12,6 +12,7 @@ ghost use Rattle.indexset_keep.specs.Seal.{last_seal, seal_line, seal_of};
 use crate::fault::KeepFault;
 use crate::role::{node_count, pair_count, push_snapshot};
 use crate::seal::{last_seal, seal_line, seal_of};
+use indexset_bench::key::Key;
 use indexset_follow::role::Role;
 use indexset_journal::{Journal, JournalError};
 use indexset_lines::RunFault;
@@ -67,7 +68,7 @@ impl<S: Store + Drop> Kept<S> {
 impl<S: Store> Kept<S> {
     /// Returns whether more lines are kept than 4,096 and than ten for each pair; or, beside a line
     /// for each node, as a snapshot has, more than 2,000,000 and than one for five pairs.
-    pub fn is_long(&self, role: &Role) -> bool
+    pub fn is_long<T: Key>(&self, role: &Role<T>) -> bool
         ensures { result ≡ is_long self.now.lines (copy_held role.now).nodes }
     {
         let pairs = pair_count(role);
@@ -78,12 +79,18 @@ impl<S: Store> Kept<S> {
 
     /// Keeps more lines and their seal, with one commit, where there is a line. Where that fails, a
     /// crash leaves all of them or none.
-    pub fn append(&mut self, alloc: Global, told: &mut Vec<Vec<u8>>) -> Result<(), KeepFault>
-        ensures leads { OnOk result ((from to : State) → state_after from (texts told.old.items) ≡ to
-            → Leads S.view S.recovers self.old.journal self.new.journal from to) }
-        ensures failed { OnErr result ((from to : State)
-            → state_after from (texts told.old.items) ≡ to
-            → MayLead S.view S.recovers self.old.journal self.new.journal from from to) }
+    pub fn append<T: Key>(
+        &mut self,
+        alloc: Global,
+        told: &mut Vec<Vec<u8>>,
+    ) -> Result<(), KeepFault>
+        ensures leads { OnOk result ((from to : State T)
+            → state_after T.cmp T.texts from (texts told.old.items) ≡ to
+            → Leads T.cmp T.texts S.view S.recovers self.old.journal self.new.journal from to) }
+        ensures failed { OnErr result ((from to : State T)
+            → state_after T.cmp T.texts from (texts told.old.items) ≡ to
+            → MayLead T.cmp T.texts S.view S.recovers self.old.journal self.new.journal from from
+            to) }
         ensures emptied { OnOk result (texts told.new.items ≡ []) }
         ensures no_write { result ≢ Err (KeepFault.Run RunFault.Write) }
         ensures seal { OnOk result (self.new.seal ≡ (if is_filled (texts told.old.items)
@@ -102,15 +109,15 @@ impl<S: Store> Kept<S> {
 
     /// Puts the lines of a snapshot and their seal in place of the kept lines, with one commit. A
     /// crash before leaves the old lines, or the snapshot.
-    pub fn compact(&mut self, alloc: Global, role: &Role) -> Result<(), KeepFault>
-        ensures leads { OnOk result (IsSoundRole role.now → (from : State)
-            → Leads S.view S.recovers self.old.journal self.new.journal from (settled role.now)) }
-        ensures failed { OnErr result (IsSoundRole role.now → (from : State)
-            → IsSame from (settled role.now)
-            → MayLead S.view S.recovers self.old.journal self.new.journal from (settled role.now)
-            (settled role.now)) }
+    pub fn compact<T: Key>(&mut self, alloc: Global, role: &Role<T>) -> Result<(), KeepFault>
+        ensures leads { OnOk result (IsSoundRole T.cmp T.texts role.now → (from : State T)
+            → Leads T.cmp T.texts S.view S.recovers self.old.journal self.new.journal from (settled
+            role.now)) }
+        ensures failed { OnErr result (IsSoundRole T.cmp T.texts role.now → (from : State T)
+            → IsSame from (settled role.now) → MayLead T.cmp T.texts S.view S.recovers
+            self.old.journal self.new.journal from (settled role.now) (settled role.now)) }
         ensures no_write { result ≢ Err (KeepFault.Run RunFault.Write) }
-        ensures seal { OnOk result (self.new.seal ≡ seal_of 0 (snapshot_of role.now)) }
+        ensures seal { OnOk result (self.new.seal ≡ seal_of 0 (snapshot_of T.texts role.now)) }
     {
         // Their number fits.
         let _nodes = node_count(role);

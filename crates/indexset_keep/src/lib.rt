@@ -1,4 +1,4 @@
-//! A map of numbers that follows or leads, and keeps what changed it in a journal before it says so.
+//! A map that follows or leads, and keeps what changed it in a journal before it says so.
 //!
 //! What is kept is what a follower reads: the lines of a snapshot, and after it those that tell
 //! events and which commands were done.

@@ -7,6 +7,8 @@ ghost use Rattle.indexset_journal.specs.Kept.{texts};
 ghost use Rattle.indexset_keep.specs.Roles.{role_of};
 
 use crate::fault::KeepFault;
+use crate::seal::read_seal;
+use indexset_bench::key::Key;
 use indexset_follow::answer::answer_line;
 use indexset_follow::follower::Follower;
 use indexset_follow::leader::Leader;
@@ -14,31 +16,41 @@ use indexset_follow::others::{Others, Voice};
 use indexset_follow::role::Role;
 use indexset_follow::store::{holding, promote};
 use indexset_follow::write::Nodes;
-use indexset_lines::RunFault;
+use indexset_journal::JournalError;
 use std::alloc::Global;
 
-/// A follower that writes as little as it can.
-const QUIET: Voice = Voice {
-    others: Others::Pass,
-    is_quiet: true,
+/// A follower that tells of each line.
+const TELLING: Voice = Voice {
+    others: Others::Tell,
+    is_quiet: false,
 };
 
-/// Returns a follower that has read these lines, with no window.
-pub fn follow(alloc: Global, lines: &[Vec<u8>]) -> Result<Follower, RunFault>
+/// Returns whether a kept line was taken, by the reply to it. A seal says nothing to a follower.
+fn is_taken(reply: &[u8], line: &[u8]) -> bool {
+    let is_told = reply.starts_with(b"next ") || reply == b"held\n".as_slice();
+    is_told || read_seal(line).is_some()
+}
+
+/// Returns a follower that has read these lines, with no window. Fails with `Damaged` where one
+/// was not taken, as where the keys of the map were others.
+pub fn follow<T: Key>(alloc: Global, lines: &[Vec<u8>]) -> Result<Follower<T>, KeepFault>
     ensures follower { IfOk result (λ follower.
-        follower ≡ state_after (start_state 0) (texts lines.now)) }
+        follower ≡ state_after T.cmp T.texts (start_state 0) (texts lines.now)) }
 {
     let mut follower = holding(0, Nodes::new(alloc, 0), 0);
     let mut told = Vec::new(alloc);
     for line in lines {
         told.clear();
-        answer_line(alloc, QUIET, &mut told, &mut follower, line.as_slice())?;
+        answer_line(alloc, TELLING, &mut told, &mut follower, line.as_slice())?;
+        if !is_taken(told.as_slice(), line.as_slice()) {
+            return Err(KeepFault::Journal(JournalError::Damaged));
+        }
     }
     Ok(follower)
 }
 
 /// Returns whether a follower has no snapshot that has begun and not ended.
-pub fn is_settled(follower: &Follower) -> bool
+pub fn is_settled<T: Key>(follower: &Follower<T>) -> bool
     ensures coming { IsTrue result → follower.now.coming ≡ None }
     ensures done { IsTrue result → follower.now.coming_done ≡ 0 }
 {
@@ -48,16 +60,16 @@ pub fn is_settled(follower: &Follower) -> bool
 /// Returns a role of the nodes that a follower holds: a leader that goes on with the number that it
 /// awaits, or a follower with this window. Takes no copy of the nodes. Fails with `NodeSize` where a
 /// leader would have a node of more than `size` pairs.
-pub fn begin(
+pub fn begin<T: Key>(
     alloc: Global,
-    follower: Follower,
+    follower: Follower<T>,
     size: usize,
     window: u64,
     leads: bool,
-) -> Result<Role, KeepFault>
+) -> Result<Role<T>, KeepFault>
     requires { 2 ≤ size }
     ensures role { IfOk result (λ role. role ≡ role_of size window leads follower) }
-    ensures fits { IfOk result (λ role. IsTrue leads → can_lead size follower.held ≡ true) }
+    ensures fits { IfOk result (λ role. IsTrue leads → can_lead T.cmp size follower.held ≡ true) }
 {
     let done = follower.done;
     let mut held = follower.held;

@@ -7,6 +7,7 @@ ghost use Rattle.indexset_journal.specs.Kept.{texts};
 ghost use Rattle.indexset_keep.specs.Roles.{copy_held, done_held, snapshot_of};
 
 use crate::text::push_text_lines;
+use indexset_bench::key::Key;
 use indexset_follow::reads::query::Query;
 use indexset_follow::reads::{Reads, answer_query};
 use indexset_follow::role::Role;
@@ -14,7 +15,7 @@ use indexset_lines::RunFault;
 use std::alloc::Global;
 
 /// Returns the number of the next event.
-pub fn next_number(role: &Role) -> u64
+pub fn next_number<T: Key>(role: &Role<T>) -> u64
     ensures { result ≡ (copy_held role.now).next }
 {
     match role {
@@ -24,7 +25,7 @@ pub fn next_number(role: &Role) -> u64
 }
 
 /// Returns how many pairs there are.
-pub fn pair_count(role: &Role) -> usize
+pub fn pair_count<T: Key>(role: &Role<T>) -> usize
     ensures { result ≡ length (joined (copy_held role.now).nodes) }
 {
     match role {
@@ -34,7 +35,7 @@ pub fn pair_count(role: &Role) -> usize
 }
 
 /// Returns how many nodes there are.
-pub fn node_count(role: &Role) -> usize
+pub fn node_count<T: Key>(role: &Role<T>) -> usize
     ensures { result ≡ length (copy_held role.now).nodes }
 {
     match role {
@@ -44,9 +45,13 @@ pub fn node_count(role: &Role) -> usize
 }
 
 /// Appends the lines of a snapshot.
-pub fn push_snapshot(alloc: Global, lines: &mut Vec<Vec<u8>>, role: &Role) -> Result<(), RunFault>
+pub fn push_snapshot<T: Key>(
+    alloc: Global,
+    lines: &mut Vec<Vec<u8>>,
+    role: &Role<T>,
+) -> Result<(), RunFault>
     ensures lines { OnOk result
-        (texts lines.new.items ≡ texts lines.old.items ++ snapshot_of role.now) }
+        (texts lines.new.items ≡ texts lines.old.items ++ snapshot_of T.texts role.now) }
     ensures fault { IfErr result (λ fault. fault ≡ RunFault.Memory) }
 {
     let mut text = Vec::new(alloc);
@@ -55,17 +60,17 @@ pub fn push_snapshot(alloc: Global, lines: &mut Vec<Vec<u8>>, role: &Role) -> Re
 }
 
 /// Writes the lines of a snapshot.
-fn write_snapshot(alloc: Global, text: &mut Vec<u8>, role: &Role) -> Result<(), RunFault>
+fn write_snapshot<T: Key>(alloc: Global, text: &mut Vec<u8>, role: &Role<T>) -> Result<(), RunFault>
     ensures text { OnOk result (text.new.items ≡ text.old.items
-        ++ snapshot_text (copy_held role.now) (done_held role.now)) }
+        ++ snapshot_text T.texts (copy_held role.now) (done_held role.now)) }
     ensures fault { IfErr result (λ fault. fault ≡ RunFault.Memory) }
 {
     let asked = Query::Snapshot;
     let written = match role {
         Role::Following(follower) => {
-            answer_query(alloc, text, &follower.held, follower.done, asked)
+            answer_query(alloc, text, &follower.held, follower.done, &asked)
         }
-        Role::Leading(leader) => answer_query(alloc, text, &leader.pairs, leader.done, asked),
+        Role::Leading(leader) => answer_query(alloc, text, &leader.pairs, leader.done, &asked),
     };
     written.map_err(|_| RunFault::Memory)
 }

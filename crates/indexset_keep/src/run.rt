@@ -13,6 +13,7 @@ use crate::fault::KeepFault;
 use crate::kept::Kept;
 use crate::manner::Manner;
 use crate::restore::{begin, follow, is_settled};
+use indexset_bench::key::Key;
 use indexset_follow::role::Role;
 use indexset_follow::store::Store as Map;
 use indexset_lines::RunFault;
@@ -22,7 +23,7 @@ use std::io::{BufRead, Write};
 
 /// Goes on from these lines, which are kept: makes the map that they lead to, puts a snapshot in
 /// their place where they are many or end within one, and answers each line of the reader.
-pub fn run<S: Store, R: BufRead + HasLine, W: Write>(
+pub fn run<T: Key, S: Store, R: BufRead + HasLine, W: Write>(
     alloc: Global,
     manner: Manner,
     kept: &mut Kept<S>,
@@ -31,23 +32,23 @@ pub fn run<S: Store, R: BufRead + HasLine, W: Write>(
     writer: &mut W,
 ) -> Result<(), KeepFault>
     // All was read and answered, and what is kept leads to what is held.
-    ensures all { OnOk result (AnswersAll (input_reply manner.voice) (held_cut manner.voice)
-        (first_map manner (texts lines.now)) S.view S.recovers kept.old.journal kept.new.journal
-        (R.remaining reader.old) (R.remaining reader.new)
-        (W.contents writer.old) (W.contents writer.new)
-        (state_after (start_state 0) (texts lines.now))) }
+    ensures all { OnOk result (AnswersAll T.cmp T.texts (input_reply T.cmp T.texts manner.voice)
+        (held_cut T.cmp T.texts manner.voice) (first_map T.cmp T.texts manner (texts lines.now))
+        S.view S.recovers kept.old.journal kept.new.journal (R.remaining reader.old) (R.remaining
+        reader.new) (W.contents writer.old) (W.contents writer.new) (state_after T.cmp T.texts
+        (start_state 0) (texts lines.now))) }
 
     // A crash leaves what leads to what was held after the lines whose answers were written, or
     // after further ones. After a failed write nothing is said of what was written.
-    ensures some { IfErr result (λ fault. AnswersSome (input_reply manner.voice)
-        (held_cut manner.voice) (first_map manner (texts lines.now)) S.view S.recovers
-        kept.old.journal kept.new.journal (R.remaining reader.old) (R.remaining reader.new)
-        (W.contents writer.old) (W.contents writer.new)
-        (state_after (start_state 0) (texts lines.now)) (fault ≢ KeepFault.Run RunFault.Write)) }
+    ensures some { IfErr result (λ fault. AnswersSome T.cmp T.texts (input_reply T.cmp T.texts
+        manner.voice) (held_cut T.cmp T.texts manner.voice) (first_map T.cmp T.texts manner (texts
+        lines.now)) S.view S.recovers kept.old.journal kept.new.journal (R.remaining reader.old)
+        (R.remaining reader.new) (W.contents writer.old) (W.contents writer.new) (state_after T.cmp
+        T.texts (start_state 0) (texts lines.now)) (fault ≢ KeepFault.Run RunFault.Write)) }
 {
     // It fits.
     let _size = manner.node_size();
-    let follower = follow(alloc, lines)?;
+    let follower = follow::<T>(alloc, lines)?;
     let is_whole = is_settled(&follower);
     let role = begin(alloc, follower, manner.size, manner.window, manner.leads)?;
     shorten(alloc, kept, &role, is_whole)?;
@@ -56,35 +57,36 @@ pub fn run<S: Store, R: BufRead + HasLine, W: Write>(
 }
 
 /// Opens the journal of a store, and goes on from its lines, as `run` does.
-pub fn run_over<S: Store + Drop, R: BufRead + HasLine, W: Write>(
+pub fn run_over<T: Key, S: Store + Drop, R: BufRead + HasLine, W: Write>(
     alloc: Global,
     manner: Manner,
     store: S,
     reader: &mut R,
     writer: &mut W,
 ) -> Result<(), KeepFault>
-    ensures { OnOk result (AnswersFrom (input_reply manner.voice) (held_cut manner.voice)
-        (first_map manner) (R.remaining reader.old) (R.remaining reader.new)
+    ensures { OnOk result (AnswersFrom T.cmp T.texts (input_reply T.cmp T.texts manner.voice)
+        (held_cut T.cmp T.texts manner.voice) (first_map T.cmp T.texts manner)
+        (R.remaining reader.old) (R.remaining reader.new)
         (W.contents writer.old) (W.contents writer.new)) }
 {
     let (mut kept, lines) = Kept::open(alloc, store)?;
-    run(alloc, manner, &mut kept, lines.as_slice(), reader, writer)
+    run::<T, S, R, W>(alloc, manner, &mut kept, lines.as_slice(), reader, writer)
 }
 
 /// Puts a snapshot in place of the kept lines where they are many, or not whole.
-fn shorten<S: Store>(
+fn shorten<T: Key, S: Store>(
     alloc: Global,
     kept: &mut Kept<S>,
-    role: &Role,
+    role: &Role<T>,
     is_whole: bool,
 ) -> Result<(), KeepFault>
-    ensures leads { OnOk result (IsSoundRole role.now → (from : State)
+    ensures leads { OnOk result (IsSoundRole T.cmp T.texts role.now → (from : State T)
         → (IsTrue is_whole → from ≡ settled role.now)
-        → Leads S.view S.recovers kept.old.journal kept.new.journal from (settled role.now)) }
-    ensures failed { OnErr result (IsSoundRole role.now → (from : State)
-        → IsSame from (settled role.now)
-        → MayLead S.view S.recovers kept.old.journal kept.new.journal from (settled role.now)
-        (settled role.now)) }
+        → Leads T.cmp T.texts S.view S.recovers kept.old.journal kept.new.journal from (settled
+        role.now)) }
+    ensures failed { OnErr result (IsSoundRole T.cmp T.texts role.now → (from : State T)
+        → IsSame from (settled role.now) → MayLead T.cmp T.texts S.view S.recovers kept.old.journal
+        kept.new.journal from (settled role.now) (settled role.now)) }
 {
     if !is_whole || kept.is_long(role) {
         kept.compact(alloc, role)?;

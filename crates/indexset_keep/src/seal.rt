@@ -50,7 +50,7 @@ pub fn seal_line(alloc: Global, seal: u64) -> Result<Vec<u8>, RunFault>
 }
 
 /// Returns the seal that a line gives, if it gives one.
-fn read_seal(line: &[u8]) -> Option<u64>
+pub(crate) fn read_seal(line: &[u8]) -> Option<u64>
     ensures { result ≡ seal_read line.now }
 {
     let (word, digits) = cut(line, b' ')?;

@@ -5,6 +5,7 @@ ghost use Rattle.indexset_journal.specs.Kept.{texts};
 ghost use Rattle.indexset_lines.specs.Lines.{whole_lines};
 ghost use Rattle.indexset_keep.specs.Told.{is_done, is_told, told_lines};
 
+use indexset_bench::key::Key;
 use indexset_events::parts::cut;
 use indexset_follow::event::read_event;
 use indexset_follow::mark::{Mark, read_mark};
@@ -26,36 +27,46 @@ pub fn push_text_lines(alloc: Global, lines: &mut Vec<Vec<u8>>, text: &[u8]) -> 
 }
 
 /// Appends the lines of a text that have their ends, and tell an event or which commands were done.
-pub fn push_told_lines(alloc: Global, lines: &mut Vec<Vec<u8>>, text: &[u8]) -> Result<(), RunFault>
-    ensures lines { OnOk result
-        (texts lines.new.items ≡ texts lines.old.items ++ told_lines (whole_lines text.now)) }
+pub fn push_told_lines<T: Key>(
+    alloc: Global,
+    lines: &mut Vec<Vec<u8>>,
+    text: &[u8],
+) -> Result<(), RunFault>
+    ensures lines { OnOk result (texts lines.new.items ≡ texts lines.old.items
+        ++ told_lines T.texts (whole_lines text.now)) }
     ensures fault { IfErr result (λ fault. fault ≡ RunFault.Memory) }
 {
     let mut left = text;
     while let Some((line, rest)) = cut(left, b'\n') {
-        push_told_line(alloc, lines, line)?;
+        push_told_line::<T>(alloc, lines, line)?;
         left = rest;
     }
     Ok(())
 }
 
 /// Appends a copy of a line, where it tells an event or which commands were done.
-fn push_told_line(alloc: Global, lines: &mut Vec<Vec<u8>>, line: &[u8]) -> Result<(), RunFault>
+fn push_told_line<T: Key>(
+    alloc: Global,
+    lines: &mut Vec<Vec<u8>>,
+    line: &[u8],
+) -> Result<(), RunFault>
     ensures lines { OnOk result
-        (texts lines.new.items ≡ texts lines.old.items ++ told_lines (line.now ∷ [])) }
+        (texts lines.new.items ≡ texts lines.old.items ++ told_lines T.texts (line.now ∷ [])) }
     ensures fault { IfErr result (λ fault. fault ≡ RunFault.Memory) }
 {
-    if is_told(line) {
+    if is_told::<T>(alloc, line)? {
         push_line(alloc, lines, line)?;
     }
     Ok(())
 }
 
 /// Returns whether a line tells an event, or which commands were done.
-fn is_told(line: &[u8]) -> bool
-    ensures { result ≡ is_told line.now }
+fn is_told<T: Key>(alloc: Global, line: &[u8]) -> Result<bool, RunFault>
+    ensures told { IfOk result (λ told. told ≡ is_told T.texts line.now) }
+    ensures fault { IfErr result (λ fault. fault ≡ RunFault.Memory) }
 {
-    read_event(line).is_some() || is_done(read_mark(line))
+    let event = read_event::<T>(alloc, line)?;
+    Ok(event.is_some() || is_done(read_mark(line)))
 }
 
 /// Returns whether a mark tells which commands were done.

@@ -9,15 +9,17 @@ use std::io::ErrorKind;
 use std::{env, io};
 
 /// How the program is called.
-pub const USAGE: &str = "usage: indexset_store [--follow | --lead] [--keep FILE] [--node-size N] \
-[--window N] [--pass-others] [--quiet] | --help | --version";
+pub const USAGE: &str =
+    "usage: indexset_store [--follow | --lead] [--keys numbers|text] [--keep FILE] \
+[--node-size N] [--window N] [--pass-others] [--quiet] | --help | --version";
 
 /// What the arguments mean.
 pub const HELP: &str = "
-Keeps a map of numbers, and answers each line of standard input on standard output.
+Keeps a map of numbers or texts, and answers each line of standard input on standard output.
 
   --follow       begin as a follower, which takes the events of another map (unless said)
   --lead         begin as a leader, which carries out commands and prints their events
+  --keys KEYS    numbers (unless said), or text: keys and values are percent-encoded
   --keep FILE    go on from this SQLite file, and keep each change there before it is answered
   --node-size N  at most N pairs a node of a leader, 2 to 65535 (256 unless said)
   --window N     as a follower, hold events up to N ahead of the awaited one (4096 unless said)
@@ -56,11 +58,22 @@ pub enum Asked {
     Version,
 }
 
+/// What keys and values are.
+#[derive(Clone, Copy, Debug)]
+pub enum Keys {
+    /// Numbers of 64 bits.
+    Numbers,
+    /// Texts, percent-encoded in each line.
+    Text,
+}
+
 /// What is asked for.
 #[derive(Drop)]
 pub struct Settings {
     /// What is to be written.
     pub asked: Asked,
+    /// What keys and values are.
+    pub keys: Keys,
     /// The file in which changes are kept.
     pub file: Option<String>,
     /// How lines are answered.
@@ -71,6 +84,7 @@ pub struct Settings {
 #[derive(Clone, Copy, Debug)]
 enum Wanted {
     File,
+    Keys,
     NodeSize,
     Window,
 }
@@ -81,6 +95,7 @@ struct Given {
     file: Option<String>,
     asked: Option<Asked>,
     leads: Option<bool>,
+    keys: Option<Keys>,
     others: Option<Others>,
     is_quiet: Option<bool>,
     node_size: Option<NodeSize>,
@@ -123,6 +138,7 @@ impl Given {
                 self.file = Some(argument);
                 is_new
             }
+            Wanted::Keys => keep(&mut self.keys, read_keys(argument.as_str())),
             Wanted::NodeSize => { keep(&mut self.node_size, read_node_size(argument.as_bytes())) }
             Wanted::Window => keep(&mut self.window, read_number(argument.as_bytes())),
         }
@@ -135,6 +151,7 @@ impl Given {
         }
         Some(Settings {
             asked: self.asked.unwrap_or(Asked::Answers),
+            keys: self.keys.unwrap_or(Keys::Numbers),
             file: self.file,
             manner: Manner {
                 voice: Voice {
@@ -156,6 +173,8 @@ impl Given {
 fn wanted_by(word: &str) -> Option<Wanted> {
     if word == "--keep" {
         Some(Wanted::File)
+    } else if word == "--keys" {
+        Some(Wanted::Keys)
     } else if word == "--node-size" {
         Some(Wanted::NodeSize)
     } else if word == "--window" {
@@ -191,6 +210,7 @@ pub fn read_settings(rt: &HostRuntime) -> io::Result<Option<Settings>> {
     let mut given = Given {
         asked: None,
         leads: None,
+        keys: None,
         file: None,
         others: None,
         is_quiet: None,
@@ -204,6 +224,17 @@ pub fn read_settings(rt: &HostRuntime) -> io::Result<Option<Settings>> {
         }
     }
     Ok(given.settings())
+}
+
+/// Returns what a word says that keys and values are.
+fn read_keys(word: &str) -> Option<Keys> {
+    if word == "numbers" {
+        Some(Keys::Numbers)
+    } else if word == "text" {
+        Some(Keys::Text)
+    } else {
+        None
+    }
 }
 
 /// Returns the node size of a text, if it is one.

@@ -1,7 +1,8 @@
-//! Keeps a map of numbers that follows another by its events, or leads by commands and tells its
-//! events, and writes the answer to each line of its input.
+//! Keeps a map of numbers, or of texts, that follows another by its events, or leads by commands and
+//! tells its events, and writes the answer to each line of its input.
 //!
 //! The arguments are `--follow` or `--lead`, the role that it begins in (it follows unless said),
+//! `--keys`, what keys and values are: `numbers` (unless said) or `text`, percent-encoded in lines,
 //! `--node-size N`, how many pairs a node of a leader holds at most (2 to 65,535; 256 unless said),
 //! `--window N`, how far ahead of the awaited event a follower holds others (4,096 unless said),
 //! `--keep FILE`, a SQLite file from which it goes on, and in which each change is kept before it is
@@ -12,13 +13,15 @@
 
 mod arguments;
 
-use arguments::{Asked, HELP, Settings, USAGE, VERSION, read_settings};
+use arguments::{Asked, HELP, Keys, Settings, USAGE, VERSION, read_settings};
+use indexset_bench::key::Key;
 use indexset_follow::serve;
 use indexset_journal::JournalError;
 use indexset_keep::KeepFault;
 use indexset_keep::manner::Manner;
 use indexset_keep::run::run_over;
 use indexset_lines::RunFault;
+use indexset_text::Name;
 use sqlite::{Connection, File, FileStore};
 use std::io::{self, BufReader, BufWriter};
 use std::process::ExitCode;
@@ -42,24 +45,24 @@ fn store_at(rt: &HostRuntime, path: &str) -> Result<FileStore<File>, JournalErro
 }
 
 /// Runs from standard input to standard output, and keeps what changes in a file.
-fn run_kept(rt: &HostRuntime, manner: Manner, path: &str) -> Result<(), KeepFault> {
+fn run_kept<T: Key>(rt: &HostRuntime, manner: Manner, path: &str) -> Result<(), KeepFault> {
     let alloc = rt.alloc();
     let reader = BufReader::with_capacity(alloc, BUFFERED, rt.reader());
     let mut reader = reader.map_err(|_| RunFault::Memory)?;
     let writer = BufWriter::with_capacity(alloc, BUFFERED, io::writer(rt));
     let mut writer = writer.map_err(|_| RunFault::Memory)?;
     let store = store_at(rt, path)?;
-    run_over(alloc, manner, store, &mut reader, &mut writer)
+    run_over::<T, _, _, _>(alloc, manner, store, &mut reader, &mut writer)
 }
 
 /// Runs from standard input to standard output.
-fn run_alone(rt: &HostRuntime, manner: Manner) -> Result<(), RunFault> {
+fn run_alone<T: Key>(rt: &HostRuntime, manner: Manner) -> Result<(), RunFault> {
     let alloc = rt.alloc();
     let reader = BufReader::with_capacity(alloc, BUFFERED, rt.reader());
     let mut reader = reader.map_err(|_| RunFault::Memory)?;
     let writer = BufWriter::with_capacity(alloc, BUFFERED, io::writer(rt));
     let mut writer = writer.map_err(|_| RunFault::Memory)?;
-    serve(
+    serve::<T, _, _>(
         alloc,
         manner.voice,
         manner.size,
@@ -75,12 +78,21 @@ fn tell(rt: &HostRuntime, text: &str) -> Result<(), RunFault> {
     println!(rt; "{text}").map_err(|_| RunFault::Write)
 }
 
+/// Answers the lines of standard input, by a map of such keys and values.
+fn run<T: Key>(rt: &HostRuntime, settings: &Settings) -> Result<(), KeepFault> {
+    match &settings.file {
+        Some(path) => run_kept::<T>(rt, settings.manner, path.as_str())?,
+        None => run_alone::<T>(rt, settings.manner)?,
+    }
+    Ok(())
+}
+
 /// Does what is asked for.
 fn answer(rt: &HostRuntime, settings: &Settings) -> Result<(), KeepFault> {
     match settings.asked {
-        Asked::Answers => match &settings.file {
-            Some(path) => run_kept(rt, settings.manner, path.as_str())?,
-            None => run_alone(rt, settings.manner)?,
+        Asked::Answers => match settings.keys {
+            Keys::Numbers => run::<u64>(rt, settings)?,
+            Keys::Text => run::<Name>(rt, settings)?,
         },
         Asked::Help => {
             tell(rt, USAGE)?;

@@ -37,7 +37,7 @@ fn answers_to(alloc: Global, leads: bool, text: &[u8]) -> Result<Vec<u8>, RunFau
     let mut answers = Vec::new(alloc);
     let mut reader = text;
     let written = &mut answers;
-    serve(alloc, VOICE, SIZE, WINDOW, leads, &mut reader, written)?;
+    serve::<u64, _, _>(alloc, VOICE, SIZE, WINDOW, leads, &mut reader, written)?;
     Ok(answers)
 }
 

@@ -171,7 +171,7 @@ fn run_on<D: Disk + Drop>(
     };
     let mut reader = BufReader::with_capacity(alloc, way.at_hand, text)?;
     let lines = found.as_slice();
-    let told = run(alloc, manner, &mut kept, lines, &mut reader, &mut answers);
+    let told = run::<u64, _, _, _>(alloc, manner, &mut kept, lines, &mut reader, &mut answers);
     Ok(Ended {
         answers,
         told,

@@ -6,6 +6,7 @@ use super::row::{Walk, write_row};
 use crate::sum::sum;
 use crate::write::{write_body, write_nodes};
 use indexset_bench::RunFault;
+use indexset_bench::key::Key;
 use indexset_bench::pairs::Pairs;
 use indexset_core::pair::Pair;
 use indexset_log::map::iter::Iter;
@@ -14,27 +15,25 @@ use std::alloc::Global;
 use std::io::Write;
 use std::ops::Bound;
 
-impl Reads for Pairs {
+impl<T: Key> Reads<T> for Pairs<T> {
     ghost nodes = { λ t. t.nodes };
 
     ghost next = { λ t. t.next };
 
-    fn entry(&self, key: u64) -> Option<(u64, u64)> {
-        let (key, value) = self.get_key_value(&key)?;
-        Some((*key, *value))
+    fn entry(&self, key: &T) -> Option<(&T, &T)> {
+        self.get_key_value(key)
     }
 
     fn count(&self) -> usize {
         self.len()
     }
 
-    fn entry_at(&self, position: usize) -> Option<(u64, u64)> {
-        let (key, value) = self.get_index(position)?;
-        Some((*key, *value))
+    fn entry_at(&self, position: usize) -> Option<(&T, &T)> {
+        self.get_index(position)
     }
 
-    fn rank_of(&self, key: u64) -> usize {
-        self.rank(&key)
+    fn rank_of(&self, key: &T) -> usize {
+        self.rank(key)
     }
 
     fn next_number(&self) -> u64 {
@@ -53,10 +52,10 @@ impl Reads for Pairs {
         write_body(writer, self.events_issued(), done, self.iter_nodes())
     }
 
-    fn write_keys<W: Write>(&self, writer: &mut W, low: u64, high: u64) -> Result<(), RunFault> {
+    fn write_keys<W: Write>(&self, writer: &mut W, low: &T, high: &T) -> Result<(), RunFault> {
         write_row(
             writer,
-            self.range((Bound::Included(&low), Bound::Included(&high))),
+            self.range((Bound::Included(low), Bound::Included(high))),
         )
     }
 
@@ -77,21 +76,20 @@ impl Reads for Pairs {
     }
 }
 
-impl<'a> Walk for Iter<'a, u64, u64, Vec<Pair<u64, u64>>> {
+impl<'a, T: Key + 'a> Walk<'a, T> for Iter<'a, T, T, Vec<Pair<T, T>>> {
     ghost rest = { λ pairs. pairs };
 
-    fn next_entry(&mut self) -> Option<(u64, u64)> {
-        let (key, value) = self.next()?;
-        Some((*key, *value))
+    fn next_entry(&mut self) -> Option<(&'a T, &'a T)> {
+        self.next()
     }
 }
 
-impl<'a> WalkNodes<'a> for Nodes<'a, Vec<Pair<u64, u64>>> {
+impl<'a, T: Key + 'a> WalkNodes<'a, T> for Nodes<'a, Vec<Pair<T, T>>> {
     ghost use Rattle.indexset_core.specs.Nodes.{vec_items};
 
     ghost rest = { λ nodes. vec_items nodes };
 
-    fn next_node(&mut self) -> Option<&'a [Pair<u64, u64>]> {
+    fn next_node(&mut self) -> Option<&'a [Pair<T, T>]> {
         let node = self.next()?;
         Some(node.as_slice())
     }

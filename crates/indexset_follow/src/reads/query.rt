@@ -1,16 +1,19 @@
 //! What a line asks to read.
 
-ghost use Rattle.std.specs.Prelude.{◌≡◌};
-ghost use Rattle.indexset_follow.specs.Query.{numbered_query, query_of, word_query};
+ghost use Rattle.std.specs.Prelude.{◌≡◌, IfErr, IfOk};
+ghost use Rattle.indexset_follow.specs.Query.{keyed_query, numbered_query, query_of, word_query};
 
 use crate::numbers::read_two;
+use indexset_bench::RunFault;
+use indexset_bench::key::{Key, read_key, read_two_keys};
 use indexset_events::parts::{cut, read_number};
+use std::alloc::Global;
 
-/// A read of a map of numbers. Positions are counted from 0, in the order of the keys.
-#[derive(Clone, Copy, Debug, PartialEq, Eq)]
-pub enum Query {
+/// A read of a map. Positions are counted from 0, in the order of the keys.
+#[derive(Clone, Copy, Debug, PartialEq, Eq, Drop)]
+pub enum Query<T> {
     /// The pair of this key.
-    Get(u64),
+    Get(T),
     /// How many pairs there are.
     Len,
     /// The pair of the least key.
@@ -18,9 +21,9 @@ pub enum Query {
     /// The pair of the greatest key.
     Last,
     /// The pairs from one key to another, both included.
-    Range(u64, u64),
+    Range(T, T),
     /// How many keys are below this one.
-    Rank(u64),
+    Rank(T),
     /// The pair at this position.
     At(u64),
     /// The pairs from a position on, so many at most.
@@ -40,17 +43,18 @@ pub enum Query {
 }
 
 /// Returns the read that the line asks for, if it asks for one.
-pub fn read_query(line: &[u8]) -> Option<Query>
-    ensures { result ≡ query_of line.now }
+pub fn read_query<T: Key>(alloc: Global, line: &[u8]) -> Result<Option<Query<T>>, RunFault>
+    ensures query { IfOk result (λ query. query ≡ query_of T.texts line.now) }
+    ensures fault { IfErr result (λ fault. fault ≡ RunFault.Memory) }
 {
     match cut(line, b' ') {
-        Some((word, rest)) => read_numbered(word, rest),
-        None => read_word(line),
+        Some((word, rest)) => read_keyed(alloc, word, rest),
+        None => Ok(read_word(line)),
     }
 }
 
 /// Returns the read of one word.
-fn read_word(word: &[u8]) -> Option<Query>
+fn read_word<T>(word: &[u8]) -> Option<Query<T>>
     ensures { result ≡ word_query word.now }
 {
     if word == b"len".as_slice() {
@@ -74,22 +78,34 @@ fn read_word(word: &[u8]) -> Option<Query>
     }
 }
 
-/// Returns the read of a word and a number behind it, or two.
-fn read_numbered(word: &[u8], rest: &[u8]) -> Option<Query>
-    ensures { result ≡ numbered_query word.now rest.now }
+/// Returns the read of a word and a key behind it, or two.
+fn read_keyed<T: Key>(alloc: Global, word: &[u8], rest: &[u8]) -> Result<Option<Query<T>>, RunFault>
+    ensures query { IfOk result (λ query. query ≡ keyed_query T.texts word.now rest.now) }
+    ensures fault { IfErr result (λ fault. fault ≡ RunFault.Memory) }
 {
     if word == b"get".as_slice() {
-        read_number(rest).map(Query::Get)
+        Ok(read_key(alloc, rest)?.map(Query::Get))
     } else if word == b"rank".as_slice() {
-        read_number(rest).map(Query::Rank)
-    } else if word == b"at".as_slice() {
-        read_number(rest).map(Query::At)
-    } else if word == b"head".as_slice() {
-        read_number(rest).map(Query::Head)
+        Ok(read_key(alloc, rest)?.map(Query::Rank))
     } else if word == b"range".as_slice() {
-        read_two(rest).map(|keys| Query::Range(keys.0, keys.1))
+        let keys = read_two_keys(alloc, rest)?;
+        Ok(keys.map(|keys| Query::Range(keys.0, keys.1)))
+    } else {
+        Ok(read_numbered(word, rest))
+    }
+}
+
+/// Returns the read of a word and a number behind it, or two.
+fn read_numbered<T>(word: &[u8], rest: &[u8]) -> Option<Query<T>>
+    ensures { result ≡ numbered_query word.now rest.now }
+{
+    if word == b"at".as_slice() {
+        Some(Query::At(read_number(rest)?))
+    } else if word == b"head".as_slice() {
+        Some(Query::Head(read_number(rest)?))
     } else if word == b"page".as_slice() {
-        read_two(rest).map(|page| Query::Page(page.0, page.1))
+        let (position, count) = read_two(rest)?;
+        Some(Query::Page(position, count))
     } else {
         None
     }

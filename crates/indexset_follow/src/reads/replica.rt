@@ -6,6 +6,7 @@ use super::row::{Walk, write_row};
 use crate::sum::sum;
 use crate::write::{Nodes, write_body, write_nodes};
 use indexset_bench::RunFault;
+use indexset_bench::key::Key;
 use indexset_core::pair::Pair;
 use indexset_replica::iter::Iter;
 use std::alloc::Global;
@@ -13,27 +14,27 @@ use std::io::Write;
 use std::ops::Bound;
 use std::slice;
 
-impl Reads for Nodes {
+impl<T: Key> Reads<T> for Nodes<T> {
     ghost nodes = { λ r. r.nodes };
 
     ghost next = { λ r. r.next };
 
-    fn entry(&self, key: u64) -> Option<(u64, u64)> {
-        let pair = self.get(&key)?;
-        Some((pair.key, pair.value))
+    fn entry(&self, key: &T) -> Option<(&T, &T)> {
+        let pair = self.get(key)?;
+        Some((&pair.key, &pair.value))
     }
 
     fn count(&self) -> usize {
         self.len()
     }
 
-    fn entry_at(&self, position: usize) -> Option<(u64, u64)> {
+    fn entry_at(&self, position: usize) -> Option<(&T, &T)> {
         let pair = self.get_index(position)?;
-        Some((pair.key, pair.value))
+        Some((&pair.key, &pair.value))
     }
 
-    fn rank_of(&self, key: u64) -> usize {
-        self.rank(&key)
+    fn rank_of(&self, key: &T) -> usize {
+        self.rank(key)
     }
 
     fn next_number(&self) -> u64 {
@@ -52,10 +53,10 @@ impl Reads for Nodes {
         write_body(writer, self.next(), done, self.nodes().iter())
     }
 
-    fn write_keys<W: Write>(&self, writer: &mut W, low: u64, high: u64) -> Result<(), RunFault> {
+    fn write_keys<W: Write>(&self, writer: &mut W, low: &T, high: &T) -> Result<(), RunFault> {
         write_row(
             writer,
-            self.range((Bound::Included(&low), Bound::Included(&high))),
+            self.range((Bound::Included(low), Bound::Included(high))),
         )
     }
 
@@ -76,22 +77,22 @@ impl Reads for Nodes {
     }
 }
 
-impl<'a> Walk for Iter<'a, Pair<u64, u64>> {
+impl<'a, T: Key + 'a> Walk<'a, T> for Iter<'a, Pair<T, T>> {
     ghost rest = { λ pairs. pairs };
 
-    fn next_entry(&mut self) -> Option<(u64, u64)> {
+    fn next_entry(&mut self) -> Option<(&'a T, &'a T)> {
         let pair = self.next()?;
-        Some((pair.key, pair.value))
+        Some((&pair.key, &pair.value))
     }
 }
 
-impl<'a> WalkNodes<'a> for slice::Iter<'a, Vec<Pair<u64, u64>>> {
+impl<'a, T: Key + 'a> WalkNodes<'a, T> for slice::Iter<'a, Vec<Pair<T, T>>> {
     ghost use Rattle.std.specs.Slice.Iter.{iter_rest};
     ghost use Rattle.indexset_core.specs.Nodes.{vec_items};
 
     ghost rest = { λ nodes. vec_items (iter_rest nodes) };
 
-    fn next_node(&mut self) -> Option<&'a [Pair<u64, u64>]> {
+    fn next_node(&mut self) -> Option<&'a [Pair<T, T>]> {
         let node = self.next()?;
         Some(node.as_slice())
     }

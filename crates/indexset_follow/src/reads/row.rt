@@ -1,6 +1,6 @@
 //! Pairs that are walked over, written in one line.
 
-ghost use Rattle.std.specs.Prelude.{◌≡◌, ℕ, List, [], ◌∷◌, OnOk, IfErr, MatchOption};
+ghost use Rattle.std.specs.Prelude.{◌≡◌, List, [], ◌∷◌, OnOk, IfErr, MatchOption};
 ghost use Rattle.std.specs.Io.KnownBytes.{Appends};
 ghost use Rattle.indexset_core.specs.Pairs.{pair};
 ghost use Rattle.indexset_core.specs.declared.pair.Pair.{Pair};
@@ -9,32 +9,34 @@ ghost use Rattle.indexset_follow.specs.Reads.{row_text};
 use crate::reply::Reply;
 use crate::write::write_reply;
 use indexset_bench::RunFault;
-use indexset_bench::pair_text::PairText;
-use indexset_core::pair::Pair;
+use indexset_bench::key::Key;
+use indexset_bench::pair_text::EntryText;
 use std::io::Write;
 
 /// Pairs that are walked over, one after another.
-pub trait Walk {
+pub trait Walk<'a, T> {
     /// The pairs that are left.
-    ghost rest: { Self → List (Pair ℕ ℕ) };
+    ghost rest: { Self → List (Pair T T) };
 
     /// Returns the key and the value of the next pair.
-    fn next_entry(&mut self) -> Option<(u64, u64)>
+    fn next_entry(&mut self) -> Option<(&'a T, &'a T)>
         ensures { MatchOption result (rest self.old ≡ [])
-            (λ e. rest self.old ≡ pair e.0 e.1 ∷ rest self.new) };
+            (λ e. rest self.old ≡ pair e.0.now e.1.now ∷ rest self.new) };
 }
 
 /// Writes the pairs that are left in one line, or `none` where there is none.
-pub fn write_row<P: Walk + Drop, W: Write>(writer: &mut W, pairs: P) -> Result<(), RunFault>
+pub fn write_row<'a, T: Key + 'a, P: Walk<'a, T> + Drop, W: Write>(
+    writer: &mut W,
+    pairs: P,
+) -> Result<(), RunFault>
     ensures told { OnOk result (Appends (W.contents writer.old) (W.contents writer.new)
-        (row_text (P.rest pairs))) }
+        (row_text T.texts (P.rest pairs))) }
     ensures fault { IfErr result (λ fault. fault ≡ RunFault.Write) }
 {
     let mut walk = pairs;
     let mut lead = "";
     while let Some((key, value)) = walk.next_entry() {
-        let pair = Pair { key, value };
-        let shown = PairText(&pair);
+        let shown = EntryText(key, value);
         write!(writer, "{lead}{shown}").map_err(|_| RunFault::Write)?;
         lead = " ";
     }

@@ -1,7 +1,8 @@
-use Rattle.std.proofs.Common.{rules, arith, ◌≡◌, take}
+use Rattle.std.proofs.Common.{rules, arith, ◌≡◌, subst, take}
 use Rattle.std.proofs.KnownBytes.{Appends-nil}
 use Rattle.std.proofs.lemmas.List.{take_all}
-use Rattle.indexset_bench.specs.PairText.{event_text}
+use Rattle.std.specs.Io.KnownBytes.{Appends}
+use Rattle.indexset_bench.specs.PairText.{ended, event_text}
 use Rattle.indexset_bench.proofs.Written.{more_lines, on_ok_given}
 use Rattle.indexset_bench.proofs.write.write_events.Goals as goal
 
@@ -11,7 +12,8 @@ loop-event-init g c = Appends-nil _
 pub loop-event-preserved : goal.loop-event-preserved
 loop-event-preserved g c =
     let told = on_ok_given _ c.writeln.result _ c.writeln.ensures.bytes (search rules) in
-    more_lines event_text c.args.events.now c.loop-event.event-index _ (omega arith) _ _ _ c.loop-event.invariant told
+    let line = subst (λ e. Appends (g.W.Write.contents c.loop-event.writer) (g.W.Write.contents c.writeln.new.self) (ended (event_text g.T.Key.texts e))) c.event-item.is told in
+    more_lines (event_text g.T.Key.texts) c.args.events.now c.loop-event.event-index c.event-item.result (omega arith) _ _ _ c.loop-event.invariant line
 
 pub returns-clause-told : goal.returns-clause-told
 returns-clause-told g c =

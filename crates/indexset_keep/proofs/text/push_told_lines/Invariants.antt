@@ -6,7 +6,7 @@ use Rattle.indexset_keep.specs.Told.{told_lines}
 use Rattle.indexset_keep.proofs.text.push_told_lines.Given as goal
 
 abbrev pub invariant-loop-line : goal.invariant-loop-line
-invariant-loop-line l = texts l.fn.lines.items ++ told_lines (whole_lines l.text) ≡ texts l.lines.items ++ told_lines (whole_lines l.left)
+invariant-loop-line g l = texts l.fn.lines.items ++ told_lines g.T.Key.texts (whole_lines l.text) ≡ texts l.lines.items ++ told_lines g.T.Key.texts (whole_lines l.left)
 
 abbrev pub decreases-loop-line : goal.decreases-loop-line
-decreases-loop-line l = length l.left
+decreases-loop-line g l = length l.left

@@ -13,13 +13,13 @@ use Rattle.indexset_keep.proofs.batch.Batch.answer.Goals.{in-Leading, in-Followi
 use Rattle.indexset_keep.proofs.batch.Batch.answer.Goals as goal
 
 pub returns-clause-told : goal.returns-clause-told
-returns-clause-told c =
+returns-clause-told g c =
     let h = map_held c.args.map.now in
-    let reply = input_reply c.args.map.now.voice in
+    let reply = input_reply g.T.Ord.cmp g.T.Key.texts c.args.map.now.voice in
     let line = c.args.line.now in
     elim c.match-map.branch [
       | in-Leading w ↦ elim c.match-kept.branch [
-        | in-None+in_ok-answer_leading-in-None v ↦ rw v.self-is (v.in_ok-answer_leading-in-None.ensures.told ∙ ap (λ ls. texts c.args.self.now.told.items ++ ls) (leading_told reply h line _ w.in-Leading.is))
+        | in-None+in_ok-answer_leading-in-None v ↦ rw v.self-is (v.in_ok-answer_leading-in-None.ensures.told ∙ ap (λ ls. texts c.args.self.now.told.items ++ ls) (leading_told g.T.Ord.cmp g.T.Key.texts reply h line _ w.in-Leading.is))
         | in-Some+in_ok-answer_following-in-Some v ↦ absurd (cc (w.kept-is, v.in-Some.is))
       ]
       | in-Following+in_ok-followed-in-Following w ↦ elim c.match-kept.branch [
@@ -27,10 +27,10 @@ returns-clause-told c =
         | in-Some+in_ok-answer_following-in-Some v ↦
             let s = w.in-Following.follower in
             let tells = w.in_ok-followed-in-Following.field-0 in
-            let told = subst (λ b. lines_told tells b s.held.next (Following (after_line s b)) ≡ line_kept s b) w.without_return.ensures w.in_ok-followed-in-Following.ensures.tells in
+            let told = subst (λ b. lines_told g.T.Key.texts tells b s.held.next (Following (after_line g.T.Ord.cmp g.T.Key.texts s b)) ≡ line_kept g.T.Ord.cmp g.T.Key.texts s b) w.without_return.ensures w.in_ok-followed-in-Following.ensures.tells in
             let same : v.in-Some.kept ≡ tells = some_inj v.in-Some.kept tells (sym v.in-Some.is ∙ w.kept-is) in
             rw v.self-is (v.in_ok-answer_following-in-Some.ensures.told
-            ∙ ap (λ k. texts c.args.self.now.told.items ++ lines_told k (without_return line) (copy_held c.args.map.now.role).next v.answer_following.new.map.role) same
-            ∙ ap (λ ls. texts c.args.self.now.told.items ++ ls) (following_told reply h line (map_held v.answer_following.new.map) s tells w.in-Following.is v.in_ok-answer_following-in-Some.ensures.map told))
+            ∙ ap (λ k. texts c.args.self.now.told.items ++ lines_told g.T.Key.texts k (without_return line) (copy_held c.args.map.now.role).next v.answer_following.new.map.role) same
+            ∙ ap (λ ls. texts c.args.self.now.told.items ++ ls) (following_told g.T.Ord.cmp g.T.Key.texts reply h line (map_held v.answer_following.new.map) s tells w.in-Following.is v.in_ok-answer_following-in-Some.ensures.map told))
       ]
     ]

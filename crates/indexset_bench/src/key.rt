@@ -1,0 +1,93 @@
+//! Keys and values that may stand in lines.
+
+ghost use Rattle.std.specs.Prelude.{◌≡◌, Bool, false, IfErr, IfOk, IsOk, Some, refl};
+ghost use Rattle.indexset_bench.specs.Texts.{AreWords, Texts, number_texts, number_words, pair_of, two_keys};
+
+use indexset_core::pair::Pair;
+use indexset_events::parts::{cut, read_number};
+use indexset_lines::RunFault;
+use std::alloc::{AllocError, Global};
+use std::fmt;
+
+/// A type of keys and values, each of which has one text: the bytes that `{}` writes.
+pub trait Key: Ord + Clone + fmt::Display + Drop {
+    /// The texts of the values, and how they are read.
+    ghost texts: { Texts Self };
+
+    /// Whether a value asks for memory when it is read.
+    ghost allocates: { Bool };
+
+    /// Returns the value of which this is the text, or `None` where it is that of no value.
+    fn read_key(alloc: Global, text: &[u8]) -> Result<Option<Self>, AllocError>
+        ensures value { IfOk result (λ value. value ≡ texts.reading text.now) }
+        ensures never { allocates ≡ false → IsOk result };
+
+    /// `{}` writes the text.
+    ghost shown: { (x : Self) → Self.output x ≡ Some (texts.spelling x) };
+
+    /// The texts are words, and are read as what they are written of.
+    ghost words: { AreWords texts };
+
+    /// A clone is the identical value.
+    ghost identical: { (x y : Self) → Self.is_clone x y → y ≡ x };
+}
+
+impl Key for u64 {
+    ghost texts = { number_texts };
+
+    ghost allocates = { false };
+
+    ghost shown = { λ n. refl };
+
+    ghost words = { number_words };
+
+    ghost identical = { λ x y same. same };
+
+    fn read_key(_alloc: Global, text: &[u8]) -> Result<Option<u64>, AllocError> {
+        Ok(read_number(text))
+    }
+}
+
+/// Returns the key of which this is the text, or `None` where it is that of no key.
+pub fn read_key<T: Key>(alloc: Global, text: &[u8]) -> Result<Option<T>, RunFault>
+    ensures value { IfOk result (λ value. value ≡ T.texts.reading text.now) }
+    ensures fault { IfErr result (λ fault. fault ≡ RunFault.Memory) }
+    ensures never { T.allocates ≡ false → IsOk result }
+{
+    T::read_key(alloc, text).map_err(|_| RunFault::Memory)
+}
+
+/// Returns the two keys of which this is the text, with a space between them.
+pub fn read_two_keys<T: Key>(alloc: Global, text: &[u8]) -> Result<Option<(T, T)>, RunFault>
+    ensures keys { IfOk result (λ keys. keys ≡ two_keys T.texts text.now) }
+    ensures fault { IfErr result (λ fault. fault ≡ RunFault.Memory) }
+    ensures never { T.allocates ≡ false → IsOk result }
+{
+    let Some((first, second)) = cut(text, b' ') else {
+        return Ok(None);
+    };
+    let Some(first) = read_key(alloc, first)? else {
+        return Ok(None);
+    };
+    let Some(second) = read_key(alloc, second)? else {
+        return Ok(None);
+    };
+    Ok(Some((first, second)))
+}
+
+/// Returns the pair of which this is the text, with a colon between the key and the value.
+pub fn read_pair<T: Key>(alloc: Global, text: &[u8]) -> Result<Option<Pair<T, T>>, RunFault>
+    ensures pair { IfOk result (λ pair. pair ≡ pair_of T.texts text.now) }
+    ensures fault { IfErr result (λ fault. fault ≡ RunFault.Memory) }
+{
+    let Some((key, value)) = cut(text, b':') else {
+        return Ok(None);
+    };
+    let Some(key) = read_key(alloc, key)? else {
+        return Ok(None);
+    };
+    let Some(value) = read_key(alloc, value)? else {
+        return Ok(None);
+    };
+    Ok(Some(Pair { key, value }))
+}
