@@ -1,11 +1,12 @@
 #!/usr/bin/env python3
 """Times a map that is kept in a file, beside SQLite with the same commits, and Redis with its append-only file.
 
-usage: speed.py [--seconds S] [--folder FOLDER]. Commands go out one after each answer, in groups that are answered
-together, and from a pipe at full speed. SQLite, by Python's module, gets the same rows in the same transactions, with
-synchronous=FULL; Redis syncs its file at each group (appendfsync always), and is left out where it is not installed.
-The files stand in a folder of the disk that is measured. Recovery is the time from the start of the program to its
-first answer, the least of three.
+usage: speed.py [--seconds S] [--rounds R] [--folder FOLDER]. Commands go out one after each answer, in groups that are
+answered together, and from a pipe at full speed. SQLite, by Python's module, gets the same rows in the same
+transactions, with synchronous=FULL; Redis syncs its file at each group (appendfsync always), and is left out where it
+is not installed. What goes out is made before the clock starts. A disk is now quick and now slow, so they take turns:
+a rate is the median of R turns of S seconds. The files stand in a folder of the disk that is measured. Recovery is the
+time from the start of the program to its first answer, the least of three.
 
 It needs the built `indexset_store`, proved where the figures are to be told.
 """
@@ -14,19 +15,19 @@ from __future__ import annotations
 
 import argparse
 import contextlib
-import functools
 import os
 import pathlib
 import random
 import shutil
 import socket
 import sqlite3
+import statistics
 import subprocess
 import sys
 import tempfile
 import time
-from collections.abc import Callable, Iterator
-from typing import IO
+from collections.abc import Iterator
+from typing import IO, Any, Protocol
 
 TOP = pathlib.Path(__file__).resolve().parent.parent.parent
 sys.dont_write_bytecode = True
@@ -40,17 +41,32 @@ PIPED = 300_000  # commands at full speed
 KEPT = (10**4, 10**5, 10**6)  # lines
 TABLE = "CREATE TABLE kept (number INTEGER PRIMARY KEY, line TEXT NOT NULL) STRICT"
 
-Send = Callable[[int], None]  # a group of so many, up to its answers
+class Sender(Protocol):
+    """What commands are sent to."""
+
+    name: str
+
+    def made(self, group: int) -> Any:
+        """A group of so many."""
+
+    def send(self, group: Any) -> None:
+        """Sends a group, and waits for its answers."""
 
 
-def rate(send: Send, group: int, seconds: float) -> float:
-    """How many commands a second are answered, in groups."""
-    send(group)
-    began, count = time.perf_counter(), 0
-    while (spent := time.perf_counter() - began) < seconds:
-        send(group)
-        count += group
-    return count / spent
+def turn(sender: Sender, group: int, count: int) -> float:
+    """How many commands a second are answered, in so many groups."""
+    groups = [sender.made(group) for _ in range(count)]
+    began = time.perf_counter()
+    for it in groups:
+        sender.send(it)
+    return count * group / (time.perf_counter() - began)
+
+
+def rates(senders: list[Sender], group: int, seconds: float, rounds: int) -> list[str]:
+    """The median rate of each, in groups."""
+    counts = [max(1, round(turn(it, group, 5) * seconds / group)) for it in senders]
+    found = [[turn(it, group, count) for it, count in zip(senders, counts)] for _ in range(rounds)]
+    return [f"{statistics.median(each):,.0f}" for each in zip(*found)]
 
 
 def commands(count: int, chance: random.Random) -> list[str]:
@@ -60,22 +76,34 @@ def commands(count: int, chance: random.Random) -> list[str]:
 class Store:
     """The program, which leads over a file."""
 
+    name = "`indexset_store`"
+
     def __init__(self, folder: pathlib.Path) -> None:
         self.file, self.chance = folder / "map.db", random.Random(1)
         self.words = [str(built("indexset_store")), "--keep", str(self.file), "--lead"]
+        self.put: IO[bytes] | None = None
+        self.told: Any = None
 
     @contextlib.contextmanager
-    def sender(self) -> Iterator[Send]:
+    def running(self) -> Iterator[Store]:
         with subprocess.Popen(self.words, stdin=subprocess.PIPE, stdout=subprocess.PIPE) as run:
-            assert run.stdin and run.stdout
-            yield functools.partial(self.send, run.stdin, run.stdout)
-            run.stdin.close()
+            self.put, self.told = run.stdin, run.stdout
+            yield self
+            assert self.put
+            self.put.close()
 
-    def send(self, put: IO[bytes], told: IO[bytes], group: int) -> None:
-        put.write("".join(f"{it}\n" for it in commands(group, self.chance)).encode())
-        put.flush()
-        while group:
-            group -= told.readline().startswith(b"next ")
+    def made(self, group: int) -> tuple[int, bytes]:
+        return group, "".join(f"{it}\n" for it in commands(group, self.chance)).encode()
+
+    def send(self, group: tuple[int, bytes]) -> None:
+        assert self.put
+        left, text = group
+        self.put.write(text)
+        self.put.flush()
+        came = b"\n"
+        while left or came[-1:] != b"\n":
+            came = came[-5:] + self.told.read1(1 << 20)
+            left -= came.count(b"\nnext ")
 
     def piped(self, lines: list[str]) -> float:
         """The seconds of a run over lines from a file, with what it tells thrown away."""
@@ -103,31 +131,49 @@ class Store:
         return (copy / "map.db").stat().st_size
 
 
-def sqlite_sender(mode: str, made: sqlite3.Connection) -> Send:
-    """Rows as the program keeps them, in the same transactions."""
-    made.execute(f"PRAGMA journal_mode={mode}")
-    made.execute("PRAGMA synchronous=FULL")
-    made.execute(TABLE)
-    number, chance = 0, random.Random(1)
+class Rows:
+    """SQLite, which gets rows as the program keeps them, in the same transactions."""
 
-    def pair() -> str:
-        return f"{chance.getrandbits(KEY_BITS)}:{chance.randrange(10**6)}"
+    def __init__(self, mode: str, file: pathlib.Path) -> None:
+        self.name = f"SQLite, {mode}"
+        self.kept = sqlite3.connect(file, isolation_level=None)
+        self.kept.execute(f"PRAGMA journal_mode={mode}")
+        self.kept.execute("PRAGMA synchronous=FULL")
+        self.kept.execute(TABLE)
+        self.number, self.chance = 0, random.Random(1)
 
-    def send(group: int) -> None:
-        nonlocal number
-        rows = [(number + it, f"{number + it} insert {pair()} {pair()} 117") for it in range(group)]
-        rows.append((number + group, "seal 11149498871045915152"))
-        number += group + 1
-        made.execute("BEGIN")
-        made.executemany("INSERT INTO kept VALUES (?, ?)", rows)
-        made.execute("COMMIT")
+    def pair(self) -> str:
+        return f"{self.chance.getrandbits(KEY_BITS)}:{self.chance.randrange(10**6)}"
 
-    return send
+    def made(self, group: int) -> list[tuple[int, str]]:
+        rows = [(self.number + it, f"{self.number + it} insert {self.pair()} {self.pair()} 117") for it in range(group)]
+        rows.append((self.number + group, "seal 11149498871045915152"))
+        self.number += group + 1
+        return rows
+
+    def send(self, group: list[tuple[int, str]]) -> None:
+        self.kept.execute("BEGIN")
+        self.kept.executemany("INSERT INTO kept VALUES (?, ?)", group)
+        self.kept.execute("COMMIT")
+
+
+class Remote:
+    """Redis, which syncs before it answers."""
+
+    name = "Redis"
+
+    def __init__(self, client: Redis) -> None:
+        self.client, self.chance = client, random.Random(1)
+
+    def made(self, group: int) -> list[list[Word]]:
+        return [["SET", *it.split(" ")[1:]] for it in commands(group, self.chance)]
+
+    def send(self, group: list[list[Word]]) -> None:
+        self.client.replies(group)
 
 
 @contextlib.contextmanager
-def redis(folder: pathlib.Path) -> Iterator[Send]:
-    """Redis, which syncs before it answers."""
+def redis(folder: pathlib.Path) -> Iterator[Remote]:
     with socket.socket() as found:
         found.bind(("127.0.0.1", 0))
         port = found.getsockname()[1]
@@ -143,13 +189,7 @@ def redis(folder: pathlib.Path) -> Iterator[Send]:
                     if time.monotonic() > until:
                         raise
                     time.sleep(0.05)
-            chance = random.Random(1)
-
-            def send(group: int) -> None:
-                puts: list[list[Word]] = [["SET", *it.split(" ")[1:]] for it in commands(group, chance)]
-                client.replies(puts)
-
-            yield send
+            yield Remote(client)
             client.close()
         finally:
             run.terminate()
@@ -159,28 +199,22 @@ def row(name: str, cells: list[str]) -> None:
     print("|" + "|".join([name, *cells]) + "|", flush=True)
 
 
-def rates(name: str, send: Send, seconds: float, piped: str = "-") -> None:
-    row(name, [f"{rate(send, group, seconds):,.0f}" for group in GROUPS] + [piped])
-
-
-def answers(folder: pathlib.Path, seconds: float) -> None:
+def answers(folder: pathlib.Path, seconds: float, rounds: int) -> None:
     """Commands a second, each kept before it is answered."""
-    row("Commands a second", ["one after each answer", *(f"groups of {it:,}" for it in GROUPS[1:]), "from a pipe"])
-    row("---", ["---:"] * 5)
-    store = Store(fresh(folder, "store"))
-    lines = commands(PIPED, store.chance)
-    piped = f"{PIPED / Store(fresh(folder, 'piped')).piped(lines):,.0f}"
-    with store.sender() as send:
-        rates("indexset_store", send, seconds, piped)
-    for mode in ("DELETE", "WAL"):
-        made = sqlite3.connect(fresh(folder, mode) / "rows.db", isolation_level=None)
-        rates(f"SQLite, {mode}", sqlite_sender(mode, made), seconds)
-        made.close()
-    if not shutil.which("redis-server"):
-        print("redis-server is not installed: left out")
-        return
-    with redis(fresh(folder, "redis")) as send:
-        rates("Redis, appendfsync always", send, seconds)
+    piped = Store(fresh(folder, "piped"))
+    pace = f"{PIPED / piped.piped(commands(PIPED, piped.chance)):,.0f}"
+    with contextlib.ExitStack() as open_senders:
+        senders: list[Sender] = [open_senders.enter_context(Store(fresh(folder, "store")).running())]
+        senders += [Rows(mode, fresh(folder, mode) / "rows.db") for mode in ("DELETE", "WAL")]
+        if shutil.which("redis-server"):
+            senders.append(open_senders.enter_context(redis(fresh(folder, "redis"))))
+        else:
+            print("redis-server is not installed: left out")
+        columns = [rates(senders, group, seconds, rounds) for group in GROUPS]
+    row("commands a second", ["one at a time", f"groups of {GROUPS[1]}", *(f"of {it:,}" for it in GROUPS[2:]), "from a pipe"])
+    row("---", ["---"] * 5)
+    for at, sender in enumerate(senders):
+        row(sender.name, [column[at] for column in columns] + ["–" if at else pace])
 
 
 def recoveries(folder: pathlib.Path) -> None:
@@ -221,12 +255,13 @@ def fresh(folder: pathlib.Path, name: str) -> pathlib.Path:
 
 def main() -> int:
     ask = argparse.ArgumentParser(description="Times a map that is kept in a file.")
-    ask.add_argument("--seconds", type=float, default=5, help="for each rate")
+    ask.add_argument("--seconds", type=float, default=0.5, help="for each turn")
+    ask.add_argument("--rounds", type=int, default=11, help="turns of each")
     ask.add_argument("--folder", type=pathlib.Path, default=pathlib.Path(tempfile.gettempdir()), help="on the disk that is measured")
     given = ask.parse_args()
     with tempfile.TemporaryDirectory(dir=given.folder) as folder:
         print(f"SQLite {sqlite3.sqlite_version}, {os.cpu_count()} processors\n")
-        answers(pathlib.Path(folder), given.seconds)
+        answers(pathlib.Path(folder), given.seconds, given.rounds)
         recoveries(pathlib.Path(folder))
     return 0
 
