@@ -2,7 +2,8 @@
 """Has each request of the follower fail in turn, and compares what it does with what it should.
 
 `indexset_store` gets the lines of `follower_lines`, to which `follower_replies` has the replies, those to
-one line parted by ` / `; and as a leader those of `leader_lines`. Where a request for memory, a read or a
+one line parted by ` / `; as a leader those of `leader_lines`; and over texts those of `text_follower_lines` and
+`text_leader_lines`. Where a request for memory, a read or a
 write fails, it must write the replies to the lines before, the fault's word and nothing else, end with the
 fault's status, and free all memory. Three more things are tried. The reply to a last line without an end is
 written by the last flush alone: where that fails, the run fails. Where memory runs out and the last flush
@@ -71,17 +72,24 @@ def read_in_time(descriptor: int, length: int) -> bytes:
     return came
 
 
+def lines_and_replies(name: str) -> tuple[bytes, list[bytes]]:
+    """Some lines, and the replies to the first of them."""
+    return (HERE / f"{name}_lines").read_bytes(), replies_to_first(f"{name}_replies")
+
+
 def main() -> int:
     ask = argparse.ArgumentParser(description="Has each request of the follower fail in turn.")
     ask.add_argument("--follower", type=pathlib.Path, help="the program indexset_store")
     ask.add_argument("--linked", action="store_true", help="refuse.c stands in the program")
     arguments = ask.parse_args()
     follower = (arguments.follower or built("indexset_store")).resolve()
-    given, replies = (HERE / "follower_lines").read_bytes(), replies_to_first("follower_replies")
+    given, replies = lines_and_replies("follower")
+    leads, of_texts = ["--lead", "--node-size", "2"], ["--keys", "text"]
     with sweeping(arguments.linked) as sweep:
         sweep.each_request(follower, given, replies)
-        led = (HERE / "leader_lines").read_bytes()
-        sweep.each_request(follower, led, replies_to_first("leader_replies"), "--lead", "--node-size", "2")
+        sweep.each_request(follower, *lines_and_replies("leader"), *leads)
+        sweep.each_request(follower, *lines_and_replies("text_follower"), *of_texts)
+        sweep.each_request(follower, *lines_and_replies("text_leader"), *leads, *of_texts)
         last_flush(sweep, follower, b"len", b"0\n")
         first_fault(sweep, follower, given, replies)
         waits(sweep, follower)

@@ -5,24 +5,64 @@ from __future__ import annotations
 import dataclasses
 import hashlib
 import re
-from collections.abc import Sequence
+import urllib.parse
+from collections.abc import Callable, Sequence
+from typing import Any
 
 MOST = 2**64 - 1
 WINDOW = 4096  # unless it is told another
 NUMBER = rb"(0|[1-9][0-9]*)"
-PAIR = rb"(?:0|[1-9][0-9]*):(?:0|[1-9][0-9]*)"
-EVENT = re.compile(
-    NUMBER + rb" (?:(create|drop) (PAIR)|(split) (PAIR) NUM|(merge) (PAIR) (PAIR)|(insert|remove) (PAIR) (PAIR) NUM)".replace(
-        b"PAIR", PAIR
-    ).replace(b"NUM", NUMBER)
-)
-NODE = re.compile(rb"node (PAIR(?: PAIR)*)".replace(b"PAIR", PAIR))
+
+Key = Any  # a number, or the bytes of a text
+Pair = tuple[Key, Key]
+Node = list[Pair]
+
+
+def number(text: bytes) -> int:
+    """The number of a text, which must not have more than 64 bits."""
+    value = int(text)
+    if value > MOST:
+        raise OverflowError
+    return value
+
+
+def spelled(key: Key) -> bytes:
+    """The text of a key or a value."""
+    return b"%d" % key if isinstance(key, int) else urllib.parse.quote_from_bytes(key, safe="").encode()
+
+
+def unescaped(text: bytes) -> bytes:
+    """The bytes of a text, which must be spelled as it has to be."""
+    value = urllib.parse.unquote_to_bytes(text)
+    if spelled(value) != text:
+        raise OverflowError
+    return value
+
+
+class Spelling:
+    """How the keys and values of a map are spelled: the form of a text, and what is read from one, where it is one."""
+
+    def __init__(self, form: bytes, key: Callable[[bytes], Key]) -> None:
+        self.form, self.key = form, key
+        pair = form + b":" + form
+        parts = rb" (?:(create|drop) (PAIR)|(split) (PAIR) NUM|(merge) (PAIR) (PAIR)|(insert|remove) (PAIR) (PAIR) NUM)"
+        self.event = re.compile(NUMBER + parts.replace(b"PAIR", pair).replace(b"NUM", NUMBER))
+        self.node = re.compile(rb"node (PAIR(?: PAIR)*)".replace(b"PAIR", pair))
+
+    def is_key(self, text: bytes) -> bool:
+        return re.fullmatch(self.form, text) is not None
+
+    def pair(self, text: bytes) -> Pair:
+        """The pair of a text."""
+        key, value = text.split(b":")
+        return self.key(key), self.key(value)
+
+
+NUMBERS = Spelling(rb"(?:0|[1-9][0-9]*)", number)
+TEXTS = Spelling(rb"(?:[A-Za-z0-9._~-]|%[0-9A-F]{2})*", unescaped)
 START = re.compile(rb"start " + NUMBER + rb"(?: ([1-9][0-9]*))?")
 END = re.compile(rb"end " + NUMBER + rb" " + NUMBER)
 DONE = re.compile(rb"done " + NUMBER + rb" " + NUMBER)
-
-Pair = tuple[int, int]
-Node = list[Pair]
 
 
 @dataclasses.dataclass(frozen=True)
@@ -36,33 +76,19 @@ class Event:
     index: int
 
 
-def number(text: bytes) -> int:
-    """The number of a text, which must not have more than 64 bits."""
-    value = int(text)
-    if value > MOST:
-        raise OverflowError
-    return value
-
-
-def pair(text: bytes) -> Pair:
-    """The pair of a text."""
-    key, value = text.split(b":")
-    return number(key), number(value)
-
-
 def is_number(text: bytes) -> bool:
     return re.fullmatch(NUMBER, text) is not None
 
 
 def shown(items: Sequence[Pair]) -> bytes:
     """The text of some pairs."""
-    return b" ".join(b"%d:%d" % item for item in items)
+    return b" ".join(spelled(key) + b":" + spelled(value) for key, value in items)
 
 
-def event_of(told: re.Match[bytes]) -> Event:
+def event_of(told: re.Match[bytes], spelling: Spelling) -> Event:
     """The event of a line that has the form of one."""
     at, word, *parts = [part for part in told.groups() if part is not None]
-    pairs = [pair(part) for part in parts if b":" in part]
+    pairs = [spelling.pair(part) for part in parts if b":" in part]
     places = [number(part) for part in parts if b":" not in part]
     return Event(number(at), word, pairs[0], pairs[-1], places[0] if places else 0)
 
@@ -89,7 +115,7 @@ def told_sum(lines: list[bytes]) -> int:
     return int.from_bytes(hashlib.sha256(b"".join(line + b"\n" for line in lines)).digest()[:8], "big")
 
 
-def with_node(nodes: list[Node], node: Node, key: int) -> list[Node]:
+def with_node(nodes: list[Node], node: Node, key: Key) -> list[Node]:
     """The nodes with another one before the first that ends above or at a key."""
     place = sum(it[-1][0] < key for it in nodes)
     return [*nodes[:place], node, *nodes[place:]]
@@ -100,8 +126,9 @@ class Model:
 
     leads = False
 
-    def __init__(self, is_quiet: bool = False, window: int = WINDOW) -> None:
+    def __init__(self, is_quiet: bool = False, window: int = WINDOW, spelling: Spelling = NUMBERS) -> None:
         self.is_quiet = is_quiet
+        self.spelling = spelling
         self.nodes: list[Node] = []
         self.next = 0
         self.done = 0
@@ -250,17 +277,17 @@ class Model:
                 return shown(items[:1]) or b"none"
             case [b"last"]:
                 return shown(items[-1:]) or b"none"
-            case [b"get", key] if is_number(key):
-                wanted = number(key)
+            case [b"get", key] if self.spelling.is_key(key):
+                wanted = self.spelling.key(key)
                 return shown([item for item in items if item[0] == wanted]) or b"none"
-            case [b"rank", key] if is_number(key):
-                bound = number(key)
+            case [b"rank", key] if self.spelling.is_key(key):
+                bound = self.spelling.key(key)
                 return b"%d" % sum(item[0] < bound for item in items)
             case [b"at", place] if is_number(place):
                 at = number(place)
                 return shown(items[at : at + 1]) or b"none"
-            case [b"range", first, last] if is_number(first) and is_number(last):
-                low, high = number(first), number(last)
+            case [b"range", first, last] if self.spelling.is_key(first) and self.spelling.is_key(last):
+                low, high = self.spelling.key(first), self.spelling.key(last)
                 return shown([item for item in items if low <= item[0] <= high]) or b"none"
             case [b"page", place, count] if is_number(place) and is_number(count):
                 at, many = number(place), number(count)
@@ -274,10 +301,10 @@ class Model:
     def told(self, line: bytes) -> bytes:
         """The answer to a line without its end."""
         try:
-            if event := EVENT.fullmatch(line):
-                return self.event(event_of(event))
-            if node := NODE.fullmatch(line):
-                return self.node([pair(part) for part in node[1].split(b" ")])
+            if event := self.spelling.event.fullmatch(line):
+                return self.event(event_of(event, self.spelling))
+            if node := self.spelling.node.fullmatch(line):
+                return self.node([self.spelling.pair(part) for part in node[1].split(b" ")])
             if start := START.fullmatch(line):
                 return self.start(number(start[1]), number(start[2] or b"0"))
             if end := END.fullmatch(line):

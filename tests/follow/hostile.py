@@ -1,6 +1,6 @@
 #!/usr/bin/env python3
-"""Fuzzes the follower with adversarial lines, 100,000 at its window and 10,000 at each of others, and compares each
-answer with that of a model.
+"""Fuzzes the follower with adversarial lines, 100,000 at its window and 10,000 at each of others, and 20,000 of a map of
+texts, and compares each answer with that of a model.
 
 The lines are events in turn and out of turn, events with a number, a name, an item, an index or a word
 altered, whole nodes that do not fit, snapshots cut short, requests, and bytes of any kind. The model is
@@ -28,7 +28,7 @@ from collections.abc import Callable
 HERE = pathlib.Path(__file__).resolve().parent
 sys.dont_write_bytecode = True
 sys.path.insert(0, str(HERE.parent.parent / "tools"))
-from answers import MOST, WINDOW, Model, shown, snapshot  # noqa: E402
+from answers import MOST, NUMBERS, TEXTS, WINDOW, Key, Model, shown, snapshot, spelled  # noqa: E402
 from programs import built  # noqa: E402
 
 LINES = 100_000
@@ -55,9 +55,20 @@ class Hostile:
     def some_number(self) -> int:
         return self.random.choice([0, 1, 2, 3, 7, self.random.randrange(60), MOST, MOST + 1, 10**30])
 
+    def key(self, number: int) -> Key:
+        """The key that stands for a number. The keys ascend with the numbers."""
+        return number
+
+    def value(self) -> Key:
+        return self.key(self.random.randrange(9))
+
+    def some_key(self) -> bytes:
+        """The text of a key."""
+        return spelled(self.key(self.some_number()))
+
     def some_pair(self) -> bytes:
-        key = self.random.randrange(60) if self.random.random() < 0.9 else self.some_number()
-        return b"%d:%d" % (key, self.random.randrange(5))
+        number = self.random.randrange(60) if self.random.random() < 0.9 else self.some_number()
+        return shown([(self.key(number), self.key(self.random.randrange(5)))])
 
     def likely(self) -> bytes:
         """An event that is probably a step."""
@@ -69,10 +80,9 @@ class Hostile:
         name, place = shown([node[-1]]), random.randrange(len(node))
         kind = random.random()
         if kind < 0.45:
-            low = self.key_below(at, place)
-            if node[place][0] - low > 1:
-                item = b"%d:%d" % (random.randrange(low + 1, node[place][0]), random.randrange(9))
-                return b"insert %b %b %d" % (name, item, place)
+            key = self.key_between(self.key_below(at, place), node[place][0])
+            if key is not None:
+                return b"insert %b %b %d" % (name, shown([(key, self.value())]), place)
         if kind < 0.65:
             return b"remove %b %b %d" % (name, shown([node[place]]), place)
         if kind < 0.75:
@@ -81,11 +91,16 @@ class Hostile:
             return b"split %b %d" % (name, place)
         return b"merge %b %b" % (name, shown([model.nodes[at + 1][-1]]))
 
-    def key_below(self, at: int, place: int) -> int:
-        """The key before a place of a node, or -1."""
+    def key_below(self, at: int, place: int) -> Key | None:
+        """The key before a place of a node, or None."""
         if place:
             return self.model.nodes[at][place - 1][0]
-        return self.model.nodes[at - 1][-1][0] if at else -1
+        return self.model.nodes[at - 1][-1][0] if at else None
+
+    def key_between(self, low: Key | None, high: Key) -> Key | None:
+        """A key above the one, where there is one, and below the other, or None."""
+        first = 0 if low is None else low + 1
+        return self.random.randrange(first, high) if first < high else None
 
     def altered(self, line: bytes) -> bytes:
         """A line with one of its words changed, doubled or left out, or one of its bytes changed."""
@@ -111,7 +126,7 @@ class Hostile:
         keys = [self.random.randrange(60) for _ in range(self.random.randrange(1, 4))]
         if self.random.random() < 0.7:
             keys = sorted(set(keys))
-        return b"node " + shown([(key, self.random.randrange(5)) for key in keys])
+        return b"node " + shown([(self.key(number), self.key(self.random.randrange(5))) for number in keys])
 
     def end(self) -> bytes:
         """The end of a snapshot, most often the right one."""
@@ -125,10 +140,10 @@ class Hostile:
         return b"done %d %d" % (max(done, 0), max(end, 0))
 
     def read(self) -> bytes:
-        number = self.some_number
+        number, key = self.some_number, self.some_key
         words = [b"nodes", b"len", b"first", b"last", b"next", b"sum"]
-        asked = [b"get %d" % number(), b"rank %d" % number(), b"at %d" % number(), self.head()]
-        return self.random.choice(words + asked * 2 + [b"range %d %d" % (number(), number()), b"page %d %d" % (number(), number())] * 3)
+        asked = [b"get " + key(), b"rank " + key(), b"at %d" % number(), self.head()]
+        return self.random.choice(words + asked * 2 + [b"range %b %b" % (key(), key()), b"page %d %d" % (number(), number())] * 3)
 
     def head(self) -> bytes:
         return b"head %d" % self.random.choice([self.some_number(), self.model.next, self.model.next + 1])
@@ -170,6 +185,25 @@ class Hostile:
         return bytes(random.choices(range(256), k=random.randrange(40))).replace(b"\n", b"")
 
 
+class HostileTexts(Hostile):
+    """The same for a map of texts."""
+
+    def key(self, number: int) -> bytes:
+        return b"" if number == 0 else bytes([4 * number]) if number < 60 else b"\xff" + number.to_bytes(16, "big")
+
+    def key_between(self, low: Key | None, high: Key) -> Key | None:
+        keys = [key for key in map(self.key, range(60)) if (low is None or low < key) and key < high]
+        return self.random.choice(keys) if keys else None
+
+    def altered(self, line: bytes) -> bytes:
+        """A line altered as before, or with one of its texts spelled in another way."""
+        at = line.find(b"%", self.random.randrange(len(line)))
+        if at < 0 or self.random.random() < 0.6:
+            return super().altered(line)
+        code = self.random.choice([line[at : at + 3].lower(), line[at : at + 2], b"%41", b"%2D", b"%%", b"%", b"+", b"%3A", b"%20"])
+        return line[:at] + code + line[at + 3 :]
+
+
 LIMITED = """
 import resource, subprocess, sys
 resource.setrlimit(resource.RLIMIT_AS, (int(sys.argv[2]), int(sys.argv[2])))
@@ -209,9 +243,9 @@ def kind(answer: bytes) -> str:
     return answer.split(b" ")[0].decode() if answer[:1].isalpha() else "others"
 
 
-def told(program: pathlib.Path, window: int, lines: list[bytes], answers: list[bytes]) -> Counts:
+def told(program: pathlib.Path, words: list[str], window: int, lines: list[bytes], answers: list[bytes]) -> Counts:
     """Counts of lines that a follower answers so, and of others."""
-    done = subprocess.run([program, "--window", str(window)], input=joined(lines), capture_output=True, timeout=SECONDS)
+    done = subprocess.run([program, *words, "--window", str(window)], input=joined(lines), capture_output=True, timeout=SECONDS)
     kinds = collections.Counter(map(kind, answers))
     print(f"window {window}: " + ", ".join(f"{word} {count}" for word, count in sorted(kinds.items())))
     if (done.returncode, done.stdout, done.stderr) == (0, joined(answers), b""):
@@ -219,16 +253,16 @@ def told(program: pathlib.Path, window: int, lines: list[bytes], answers: list[b
     return Counts(agreed(lines, answers, done.stdout.split(b"\n")), 1)
 
 
-def compare(program: pathlib.Path, window: int, count: int, seed: int) -> Counts:
+def compare(program: pathlib.Path, window: int, count: int, seed: int, of_texts: bool = False) -> Counts:
     """Counts of lines whose answer is as the model's, and of others."""
-    model = Model(window=window)
-    hostile = Hostile(model, seed)
+    model = Model(window=window, spelling=TEXTS if of_texts else NUMBERS)
+    hostile = HostileTexts(model, seed) if of_texts else Hostile(model, seed)
     lines: list[bytes] = []
     answers: list[bytes] = []
     for _ in range(count):
         lines.append(hostile.given())
         answers.append(model.answer(lines[-1]))
-    return told(program, window, lines, answers)
+    return told(program, ["--keys", "text"] if of_texts else [], window, lines, answers)
 
 
 def of_one_map(count: int, seed: int) -> list[bytes]:
@@ -265,7 +299,7 @@ def disordered(program: pathlib.Path, window: int, count: int, seed: int) -> Cou
             return Counts(len(lines) - 1, 1)
     lines.append(b"sum")
     answers.append(model.answer(lines[-1]))
-    return told(program, window, lines, answers)
+    return told(program, [], window, lines, answers)
 
 
 def long_lines(program: pathlib.Path, run: Run) -> Counts:
@@ -313,6 +347,7 @@ def main() -> int:
     program = built("indexset_store")
     lines = (HERE.parent / "faults" / "follower_lines").read_bytes()
     counts = [compare(program, window, LINES if window == WINDOW else LINES // 10, given.seed) for window in WINDOWS]
+    counts += [compare(program, window, LINES // 10, given.seed, True) for window in (1, WINDOW)]
     counts += [disordered(program, window, LINES // len(WINDOWS), given.seed + window) for window in WINDOWS]
     counts += [cuts(program, lines, [], Model), long_lines(program, sanitized if given.sanitized else limited)]
     passed, failed = sum(it.passed for it in counts), sum(it.failed for it in counts)

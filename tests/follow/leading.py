@@ -22,7 +22,7 @@ from collections.abc import Sequence
 sys.dont_write_bytecode = True
 HERE = pathlib.Path(__file__).resolve().parent
 sys.path[:0] = [str(HERE.parent.parent / "tools"), str(HERE.parent / "model")]
-from answers import DONE, EVENT, MOST, START, Model, is_number, number, snapshot  # noqa: E402
+from answers import DONE, MOST, NUMBERS, START, Model, is_number, number, snapshot  # noqa: E402
 from hostile import Counts, Hostile, agreed, cuts, joined  # noqa: E402
 from items import PAIRS, Item  # noqa: E402
 from logged import Tree, texts  # noqa: E402
@@ -175,7 +175,7 @@ def take_over(program: pathlib.Path, size: int, seed: int) -> Counts:
     whole = run(program, ["--lead", "--node-size", str(size)], lines)
     at = chance.randrange(len(lines))
     before = b"\n".join(answers[:at]).split(b"\n")
-    told = [line for line in before if EVENT.fullmatch(line) or DONE.fullmatch(line)]
+    told = [line for line in before if NUMBERS.event.fullmatch(line) or DONE.fullmatch(line)]
     following = Store(size, leads=False)
     for line in told:
         following.answer(line)
@@ -239,16 +239,16 @@ def no_number(program: pathlib.Path) -> Counts:
 
 def arguments(program: pathlib.Path) -> Counts:
     """Arguments that the program knows, and others."""
-    usage = b"usage: indexset_store [--follow | --lead] [--keep FILE] [--node-size N] [--window N] [--pass-others] [--quiet] | --help | --version"
+    usage = b"usage: indexset_store [--follow | --lead] [--keys numbers|text] [--keep FILE] [--node-size N] [--window N] [--pass-others] [--quiet] | --help | --version"
     project = (HERE.parent.parent / "bindings/python/pyproject.toml").read_text()
     version = f"indexset_store {project.split('version = ')[1].split()[0].strip(chr(34))}".encode()
     bad: list[Sequence[str | bytes]] = [["--node-size"], ["--lead", "--node-size"], ["--node-size", "1"], ["--node-size", "65536"], ["--node-size", "x"]]
     bad += [["--leads"], ["--lead", "-"], ["--node-size", "--quiet"], [b"--lead\xff"], [""], ["--lead", "--help="]]
     bad += [it * 2 for it in (["--lead"], ["--follow"], ["--pass-others"], ["--quiet"], ["--node-size", "2"])]
     bad += [["--window"], ["--window", "x"], ["--window", str(MOST + 1)], ["--window", "1", "--window", "1"]]
-    bad += [["--lead", "--follow"], ["--follow", "--lead"]]
+    bad += [["--lead", "--follow"], ["--follow", "--lead"], ["--keys"], ["--keys", "x"], ["--keys", "text", "--keys", "text"]]
     good = [["--lead"], ["--follow"], ["--quiet", "--lead"], ["--node-size", "2"], ["--node-size", "65535", "--pass-others"]]
-    good += [["--window", "0"], ["--window", str(MOST)]]
+    good += [["--window", "0"], ["--window", str(MOST)], ["--keys", "text"], ["--keys", "numbers", "--lead"]]
     told = {("--help",): usage, ("--lead", "--help"): usage, ("--version",): version, ("--quiet", "--version"): version}
     failed = 0
     for words, wanted in [(it, (5, b"", usage)) for it in bad] + [(it, (0, b"", b"")) for it in good] + [([*it], (0, line, b"")) for it, line in told.items()]:
