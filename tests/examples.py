@@ -1,6 +1,12 @@
 #!/usr/bin/env python3
 """Runs each example of the documentation, without proofs. The last line is 'N passed, M failed'.
 
+    tests/examples.py [PART..]      with no names: all
+
+Examples in Rust are built with the tests of a crate, and these run too, since each build takes a minute: the parts
+`indexset_tests` and, with what needs SQLite, `indexset_drill`. `shell` is the blocks of shell, and what is asked of
+blocks without a run.
+
 Doc comments: an example stands between two lines ``` and is the body of a test, in which a line that
 starts with `# ` is not shown. Pages: each block of Rust, and each block of shell with the block of text
 after it, which must be its output. A block of Rust with a `use` or a `fn` at the margin is a module, any
@@ -35,13 +41,20 @@ from collections.abc import Iterator
 TOP = pathlib.Path(__file__).resolve().parent.parent
 sys.dont_write_bytecode = True
 sys.path.insert(0, str(TOP / "tools"))
-import kit  # noqa: E402
+import checked  # noqa: E402
 import lay  # noqa: E402
 
-CRATES = ["core", "spine", "set", "map", "events", "log", "multi", "replica", "journal"]
+# The crates of tests that examples are built with, and the crates whose doc comments they are from.
+HOSTS = {
+    "indexset_tests": ["core", "spine", "set", "map", "events", "log", "multi", "replica"],
+    "indexset_drill": ["journal"],
+}
+WITH_PAGES = "indexset_tests"  # the one that the blocks of pages go with
+SHELL = "shell"
 PROVED = "indexset_uses"
+SECONDS = "240"  # for one test, on a busy machine
 PAGES = ["*.md", "docs/*.md", "bindings/*.md", "crates/*/README.md", "examples/**/*.md"]
-HEAD = "//! The examples of the documentation.\n#![tactic(auto)]\n"
+HEAD = "//! The examples of the documentation.\n"
 NAMES = """use indexset::base::multipair::MultiPair;
 use indexset::base::pair::Pair;
 use indexset::base::refusal::Refusal;
@@ -53,7 +66,7 @@ use indexset::{BTreeMap, BTreeSet};
 use std::ops::Bound;
 use std::test::Fail;
 """
-LISTS = "anyhow bytes sqlite sqlite_disk sqlite_trees std_collections indexset " + " ".join(f"indexset_{it}" for it in CRATES)
+LISTS = ["anyhow", "bytes", "std_collections", "indexset"]
 
 
 @dataclasses.dataclass(frozen=True)
@@ -69,7 +82,7 @@ class Block:
 
 @dataclasses.dataclass
 class Sources:
-    """The text of the crate of examples: its root, its modules, and how many tests they have."""
+    """The text of the module of examples: its root, its modules, and how many tests they have."""
 
     root: list[str]
     modules: dict[str, str]
@@ -125,7 +138,7 @@ def test_of(name: str, lines: list[str]) -> str:
 
 
 def add_rust(block: Block, sources: Sources) -> None:
-    """Adds a block of Rust to the crate of examples."""
+    """Adds a block of Rust to the module of examples."""
     sources.tests += 1
     if not any(re.match(r"(pub )?(use|fn) ", it) for it in block.lines):
         sources.root.append(test_of(block.name, block.given + block.lines))
@@ -136,10 +149,10 @@ def add_rust(block: Block, sources: Sources) -> None:
     sources.root.insert(1, f"mod {block.name};\n")
 
 
-def written(blocks: list[Block]) -> Sources:
-    """The crate of all examples."""
+def written(host: str, blocks: list[Block]) -> Sources:
+    """The module of the examples that go with a crate of tests."""
     sources = Sources([HEAD, NAMES], {})
-    for crate in CRATES:
+    for crate in HOSTS[host]:
         src = TOP / f"crates/indexset_{crate}/src"
         for file in sorted(src.rglob("*.rt")):
             place = "_".join(file.relative_to(src).with_suffix("").parts)
@@ -147,7 +160,7 @@ def written(blocks: list[Block]) -> Sources:
                 sources.tests += 1
                 name = f"{crate}_{place}_{item}_{sources.tests}".lower()
                 sources.root.append(test_of(name, lines))
-    for block in blocks:
+    for block in blocks if host == WITH_PAGES else []:
         if block.language == "rust":
             add_rust(block, sources)
     return sources
@@ -208,41 +221,55 @@ def shell_faults(blocks: list[Block], room: str) -> tuple[int, list[str]]:
     return passed, faults
 
 
-def run_tests(sources: Sources, room: str, show: bool) -> int:
-    """Runs the crate of examples, and returns how many of its tests passed."""
-    crate = pathlib.Path(room, "crates/indexset_examples/src")
-    crate.mkdir(parents=True)
-    (crate / "lib.rt").write_text("\n".join(sources.root), encoding="utf-8")
+def add_libraries(lists: pathlib.Path, crate: str) -> None:
+    """Adds what examples use to the line of a crate."""
+    text = lists.read_text(encoding="utf-8")
+    wanted = [*LISTS, *(f"indexset_{it}" for it in HOSTS[crate])]
+    line = next(it for it in text.splitlines() if it.startswith(f"{crate}:"))
+    more = " ".join(it for it in wanted if it not in line.split())
+    lists.write_text(text.replace(line, f"{line} {more}"), encoding="utf-8")
+
+
+def run_tests(host: str, sources: Sources, room: pathlib.Path) -> tuple[int, list[str]]:
+    """Runs the tests of a crate with the examples as a module of it: how many passed, and what is wrong."""
+    src = room / f"crates/{host}/src"
+    with open(src / "lib.rt", "a", encoding="utf-8") as root:
+        root.write("#[cfg(test)]\nmod examples;\n")
+    (src / "examples").mkdir()
+    (src / "examples.rt").write_text("\n".join(sources.root), encoding="utf-8")
     for name, text in sources.modules.items():
-        (crate / f"{name}.rt").write_text(text, encoding="utf-8")
-    with open(f"{room}/crates.txt", "a", encoding="utf-8") as lists:
-        lists.write(f"indexset_examples: {LISTS}\n")
-    run = kit.tried(crate.parent, ["--test"])
+        (src / f"examples/{name}.rt").write_text(text, encoding="utf-8")
+    add_libraries(room / "crates.txt", host)
+    run = checked.tried(src.parent, ["--test", "--seconds", SECONDS])
     said = run.communicate()[0]
-    passed = len(re.findall(r"(?m)^test .* \.\.\. ok$", said))
-    if run.returncode or passed != sources.tests:
-        print("\n".join([*sources.root, *sources.modules.values()]) if show else "")
-        print(said[-9000:])
-    return passed if run.returncode == 0 else min(passed, sources.tests - 1)
+    results = re.findall(r"(?m)^test (\S+) \.\.\. (.*)$", said)
+    passed = [name for name, result in results if result == "ok"]
+    examples = sum(name.startswith("examples::") for name in passed)
+    if run.returncode or examples != sources.tests or len(passed) != len(results):
+        return len(passed), [f"{host}: {examples} of {sources.tests} examples passed\n{said[-9000:]}"]
+    return len(passed), []
 
 
 def main() -> int:
     parser = argparse.ArgumentParser(description="Runs each example of the documentation, without proofs.")
-    parser.add_argument("--show", action="store_true", help="print the tests where one fails")
-    show = parser.parse_args().show
+    parser.add_argument("parts", nargs="*", metavar="PART", help=f"{', '.join(HOSTS)} or {SHELL} (default: all)")
+    parts = parser.parse_args().parts or [*HOSTS, SHELL]
     pages = sorted({page for it in PAGES for page in TOP.glob(it)})
     every = [block for page in pages for block in page_blocks(page)]
     blocks = [it for it in every if not it.left_out]
-    sources = written(blocks)
-    with tempfile.TemporaryDirectory() as room:
-        lay.lay(pathlib.Path(room), lay.every())
-        printed, faults = shell_faults(blocks, room)
-        passed = run_tests(sources, room, show)
-    faults += unproved(blocks) + no_program(every)
-    print(*(f"{it.name} is not run: {it.left_out}" for it in every if it.left_out), *faults, sep="\n")
-    failed = sources.tests - passed + len(faults)
-    print(f"{passed + printed} passed, {failed} failed")
-    return int(failed > 0)
+    passed, faults = 0, list[str]()
+    for part in parts:
+        with tempfile.TemporaryDirectory() as room:
+            lay.lay(pathlib.Path(room), lay.every())
+            ran = shell_faults(blocks, room) if part == SHELL else run_tests(part, written(part, blocks), pathlib.Path(room))
+        passed += ran[0]
+        faults += ran[1]
+    if SHELL in parts:
+        faults += unproved(blocks) + no_program(every)
+        print(*(f"{it.name} is not run: {it.left_out}" for it in every if it.left_out), sep="\n")
+    print(*faults, sep="\n")
+    print(f"{passed} passed, {len(faults)} failed")
+    return int(bool(faults))
 
 
 if __name__ == "__main__":
