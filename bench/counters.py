@@ -13,7 +13,7 @@ from tables import Programs, shown, table
 
 LOOK_UPS = ["contains", "contains, absent", "element at a position", "rank", "map, get", "map, get_mut"]
 COUNT = 100_000  # look-ups of a run, as many as a program prepares
-WHAT = "instructions / misses of the first level / of the last level / mispredicted branches"
+WHAT = "instructions/misses of the first level/of the last level/mispredicted branches"
 # Each counter is the sum of events.
 OF_PERF = [["instructions:u"], ["L1-dcache-load-misses:u"], ["LLC-load-misses:u"], ["branch-misses:u"]]
 OF_CACHEGRIND = [["Ir"], ["D1mr", "D1mw"], ["DLmr", "DLmw"], ["Bcm", "Bim"]]
@@ -57,7 +57,7 @@ def cell(counter: Counter, counted: list[list[str]], program: pathlib.Path, row:
         return "–"
     some, none = (counter(words(program, row, keys, count)) for count in (COUNT, 0))
     each = [sum(some[it] - none[it] for it in events) / COUNT if set(events) <= some.keys() & none.keys() else None for events in counted]
-    return " / ".join(shown(it if it is None else max(it, 0)) for it in each)
+    return "/".join(shown(it if it is None else max(it, 0)) for it in each)
 
 
 def of_counters(programs: Programs, keys: list[int]) -> str | None:
@@ -71,7 +71,7 @@ def of_counters(programs: Programs, keys: list[int]) -> str | None:
     for name in programs.keys() - able.keys():
         print(f"{name} is left out: its program runs no row alone")
     by = "`perf stat`" if is_real else "cachegrind"
-    parts = [f"Counters of a look-up, with the read of its key from a list, by {by}, the mean of {COUNT:,} in no order: {WHAT}.\n"]
+    parts = [f"A look-up by {by}, with the read of its key from a list, the mean of {COUNT:,} in no order: {WHAT}.\n"]
     for k in keys:
         lines = [[row, *(cell(counter, counted, program, row, k) for program in able.values())] for row in LOOK_UPS]
         parts.append(f"### {k:,} keys, counters\n\n" + table(["call", *able], lines))

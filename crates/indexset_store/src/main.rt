@@ -35,13 +35,23 @@ const BUFFERED: usize = 65_536;
 /// The table of a file: its rows are the lines that are kept.
 const TABLE: &str = "CREATE TABLE kept (number INTEGER PRIMARY KEY, line TEXT NOT NULL) STRICT";
 
+/// Returns the store of an open file, and makes the table where it has none.
+fn with_table(conn: Connection<FileStore<File>>) -> Result<FileStore<File>, JournalError> {
+    let mut conn = conn;
+    if !conn.schema().tables.as_slice().is_empty() {
+        return Ok(conn.into_store());
+    }
+    let made = conn.execute(TABLE, &[]);
+    let store = conn.into_store();
+    match made {
+        Ok(_) => Ok(store),
+        Err(error) => Err(JournalError::from(error)),
+    }
+}
+
 /// Opens the file, and makes it where it is missing. One that has tables stays as it is.
 fn store_at(rt: &HostRuntime, path: &str) -> Result<FileStore<File>, JournalError> {
-    let mut conn = Connection::open(rt, path)?;
-    if conn.schema().tables.as_slice().is_empty() {
-        conn.execute(TABLE, &[])?;
-    }
-    Ok(conn.into_store())
+    with_table(Connection::open(rt, path)?)
 }
 
 /// Runs from standard input to standard output, and keeps what changes in a file.

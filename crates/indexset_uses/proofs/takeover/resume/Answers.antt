@@ -1,8 +1,8 @@
-use Rattle.std.proofs.Common.{rules, ◌≡◌, ℕ, List, [], ◌∷◌, Some, false, true, unwrap_or, ap, sym, subst, arith, ◌∙◌}
+use Rattle.std.proofs.Common.{rules, ◌≡◌, ℕ, List, [], ◌∷◌, Some, unwrap_or, ap, sym, subst, arith, ◌∙◌}
 use Rattle.std.proofs.lemmas.Grind.{common_steps}
 use Rattle.std.proofs.lemmas.Option.{option_and_then_some}
 use Rattle.std.specs.Ordering.{nat_cmp}
-use Rattle.indexset.specs.Words.{replay, step, ChangeEvent, IsNodeList}
+use Rattle.indexset.specs.Words.{replay, step, ChangeEvent, IsAt, IsBeginning, IsNodeList, ReplicaState}
 use Rattle.indexset_uses.proofs.takeover.resume.Goals as goal
 
 -- where each step leads to nodes, events lead from nodes to nodes
@@ -31,3 +31,16 @@ returns-clause-delivered c =
     let made = c.in_ok-copy.ensures.replica in
     c.in_ok-follow.ensures.delivery (λ x y same. same) 0 c.args.next [] c.requires.feed
     (record { within = c.requires.within; nodes = c.requires.snapshot ∙ ap (λ r. Some r.nodes) (sym made); next = omega (arith, ap (λ r. r.next) made) })
+
+-- what the first n events lead to is a beginning
+begins : (es : List (ChangeEvent ℕ)) (n : ℕ) (copy : ReplicaState ℕ) → IsAt nat_cmp 0 [] es n copy → IsBeginning nat_cmp 0 [] es copy
+begins es n copy at = subst (λ m. IsAt nat_cmp 0 [] es m copy) (omega (arith, at.next)) at
+
+pub returns-clause-beginning : goal.returns-clause-beginning
+returns-clause-beginning c =
+    let made = c.in_ok-copy.ensures.replica in
+    c.in_ok-follow.ensures.beginning (λ x y same. same) 0 [] c.requires.feed
+    (begins _ c.args.next _ (record { within = c.requires.within; nodes = c.requires.snapshot ∙ ap (λ r. Some r.nodes) (sym made); next = omega (arith, ap (λ r. r.next) made) }))
+
+pub returns-clause-onwards : goal.returns-clause-onwards
+returns-clause-onwards c = omega (arith, ap (λ r. r.next) c.in_ok-copy.ensures.replica, c.in_ok-follow.ensures.onwards)
