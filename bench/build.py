@@ -29,20 +29,25 @@ def ran(*words: str, folder: pathlib.Path | None = None) -> bool:
     return done.returncode == 0
 
 
+def laid(to: pathlib.Path) -> pathlib.Path:
+    """The folder of our benchmark, laid into a folder beside the crates that it measures. It is no crate of the
+    gate, which reads every file named .rt: its sources are named .rt.in."""
+    lay.lay(to, [f"indexset_{name}" for name in CRATES])
+    crate = to / "crates/indexset_speed"
+    shutil.rmtree(crate / "src", ignore_errors=True)
+    shutil.copytree(HERE / "ours/src", crate / "src")
+    for source in (crate / "src").glob("*.rt.in"):
+        source.rename(source.with_suffix(""))
+    with open(to / "crates.txt", "a", encoding="utf-8") as crates:
+        crates.write("indexset_speed: indexset_core indexset_set indexset_map indexset_events indexset_log indexset_replica indexset_bench\n")
+    return crate
+
+
 def ours() -> pathlib.Path | str:
-    """The benchmark is no crate of the gate, which reads every file named .rt: its sources are named .rt.in.
-    They and the crates that they measure are laid side by side in out/, where `rt` proves what changed since
-    the last run, and builds it."""
+    """In out/, `rt` proves what changed since the last run, and builds it."""
     if not shutil.which("rt"):
         return "needs `rt`"
-    lay.lay(OUT, [f"indexset_{name}" for name in CRATES])
-    shutil.rmtree(OUT / "crates/indexset_speed/src", ignore_errors=True)
-    shutil.copytree(HERE / "ours/src", OUT / "crates/indexset_speed/src")
-    for source in (OUT / "crates/indexset_speed/src").glob("*.rt.in"):
-        source.rename(source.with_suffix(""))
-    with open(OUT / "crates.txt", "a", encoding="utf-8") as crates:
-        crates.write("indexset_speed: indexset_core indexset_set indexset_map indexset_events indexset_log indexset_replica indexset_bench\n")
-    crate = OUT / "crates/indexset_speed"
+    crate = laid(OUT)
     return crate / "out/indexset_speed" if ran("rt", "run", folder=crate) else "did not build"
 
 

@@ -1,0 +1,33 @@
+#!/usr/bin/env python3
+"""Builds our benchmark without proofs, so that a change can be timed before it is proved.
+
+    bench/unproved.py PROGRAM
+
+The crates of this checkout are compiled in a minute, without the checks that `rt try` puts in, and optimized as proved
+code is. `bench/versions.py` compares two such programs. Nothing is known of what one of them answers: it is for times.
+"""
+
+from __future__ import annotations
+
+import argparse
+import pathlib
+import sys
+import tempfile
+
+import build
+
+sys.dont_write_bytecode = True
+sys.path.insert(0, str(build.TOP / "tools"))
+import checked  # noqa: E402
+
+
+def main() -> None:
+    words = argparse.ArgumentParser(description=__doc__, formatter_class=argparse.RawDescriptionHelpFormatter)
+    words.add_argument("program", type=pathlib.Path, help="where it is built")
+    to = words.parse_args().program.resolve()
+    with tempfile.TemporaryDirectory() as room:
+        checked.program(build.laid(pathlib.Path(room)), to, is_bare=True)
+
+
+if __name__ == "__main__":
+    main()
