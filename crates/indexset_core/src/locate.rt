@@ -143,8 +143,8 @@ pub fn locate_by<T, Node, R: ReadNode<T, Node>, P: Probe<T>>(
     }
     let node = node_by::<T, Node, R, P>(nodes, probe);
     let items = R::items_of(&nodes[node]);
-    let offset = search::first_not_less(items, probe);
-    if search::is_equal_at(items, offset, probe) {
+    let (offset, found) = search::first_not_less_near(items, probe);
+    if found {
         Ok((node, offset))
     } else {
         Err((node, offset))
