@@ -71,7 +71,7 @@ def of_counters(programs: Programs, keys: list[int]) -> str | None:
     for name in programs.keys() - able.keys():
         print(f"{name} is left out: its program runs no row alone")
     by = "`perf stat`" if is_real else "cachegrind"
-    parts = [f"A look-up by {by}, with the read of its key from a list: {WHAT}.\n"]
+    parts = [f"A look-up by {by}: {WHAT}.\n"]
     for k in keys:
         lines = [[row, *(cell(counter, counted, program, row, k) for program in able.values())] for row in LOOK_UPS]
         parts.append(f"### {k:,} keys, counters\n\n" + table(["call", *able], lines))
