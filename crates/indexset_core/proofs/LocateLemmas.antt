@@ -47,7 +47,7 @@ module _ {X : Type 0} (answer : X → Ordering) where
       count_parted (λ y. is_lt (answer y)) xs 0 (omega arith) (λ k d low high. absurd (omega arith))
       (λ k d low high. rw (← get_or-append-add n xs k d) (fails (length n + k) d (omega arith) (omega (arith, length-append n xs))))
 
-  filled_at : (ns : List (List X)) → All (λ n. 1 ≤ n) (node_lengths ns) → (k : ℕ) → k < length ns → 0 < length (get_or ns k [])
+  pub filled_at : (ns : List (List X)) → All (λ n. 1 ≤ n) (node_lengths ns) → (k : ℕ) → k < length ns → 0 < length (get_or ns k [])
   filled_at ns h k lt = omega (arith, subst (λ m. 1 ≤ m) (get_or-map (λ n. length n) ns k [] 0 lt) (h k 0 (omega (arith, length-map ns (λ n. length n)))))
 
   first : (n : List X) → 0 < length n → ((d : X) → is_lt (answer (get_or n (length n - 1) d)) ≡ true) → ends_less answer n ≡ true

@@ -1,5 +1,5 @@
 -- Parts of a list, by position.
-use Rattle.std.proofs.Common.{◌≡◌, ℕ, zero, suc, ◌+◌, ◌-◌, ◌≤◌, min, List, [], length, take, drop, Ordering, refl, ap, sym, inl, inr, ◌∙◌, arith, length-drop, length-take}
+use Rattle.std.proofs.Common.{◌≡◌, ℕ, zero, suc, ◌+◌, ◌-◌, min, List, [], length, take, drop, Ordering, refl, ap, sym, inl, inr, ◌∙◌, arith, length-drop, length-take}
 use Rattle.std.specs.List.{between}
 use Rattle.std.proofs.Math.ListN.{drop_of_length-le}
 use Rattle.std.proofs.lemmas.Bool.{cases_lt}

@@ -8,14 +8,60 @@ ghost use Rattle.indexset_core.specs.Parted.{IsParted, less_count};
 ghost use Rattle.indexset_core.specs.Places.{IsPlace, items_before, located};
 
 use crate::probe::{Past, Probe};
-use crate::search;
+use crate::search::{self, choose};
 use crate::walk::ReadNode;
 use std::ops::Bound;
+
+// Up to how many nodes a search among them does without branches: the last items of more would not
+// stay in the cache.
+const NEAR_NODES: usize = 1 << 9;
 
 /// Returns the place of the first node whose last item is not found Less, else of the last node, by
 /// one binary search over the nodes' last items. There must be a node, and none may be empty but an
 /// only one; the probe must find the items in order.
 pub fn node_by<T, Node, R: ReadNode<T, Node>, P: Probe<T>>(nodes: &[Node], probe: &mut P) -> usize
+    requires some { 1 ≤ length nodes.now }
+    requires filled { 2 ≤ length nodes.now → All (λ n. 1 ≤ n)
+        (node_lengths (map R.list nodes.now)) }
+    requires parted { IsParted (P.answer probe.old) (joined (map R.list nodes.now)) }
+    ensures node { result ≡ node_for (P.answer probe.old) (map R.list nodes.now) }
+    ensures fixed { P.answer probe.new ≡ P.answer probe.old }
+    ensures few { P.asked probe.new ≤ P.asked probe.old + digits (length nodes.now) }
+{
+    if nodes.len() <= NEAR_NODES {
+        node_near::<T, Node, R, P>(nodes, probe)
+    } else {
+        node_far::<T, Node, R, P>(nodes, probe)
+    }
+}
+
+// Returns the same by a search without branches on comparisons, as `first_not_less_near` does it.
+fn node_near<T, Node, R: ReadNode<T, Node>, P: Probe<T>>(nodes: &[Node], probe: &mut P) -> usize
+    requires some { 1 ≤ length nodes.now }
+    requires filled { 2 ≤ length nodes.now → All (λ n. 1 ≤ n)
+        (node_lengths (map R.list nodes.now)) }
+    requires parted { IsParted (P.answer probe.old) (joined (map R.list nodes.now)) }
+    ensures node { result ≡ node_for (P.answer probe.old) (map R.list nodes.now) }
+    ensures fixed { P.answer probe.new ≡ P.answer probe.old }
+    ensures few { P.asked probe.new ≤ P.asked probe.old + digits (length nodes.now) }
+{
+    let last = nodes.len() - 1;
+    let mut low = 0;
+    let mut left = last;
+    let mut equal = last;
+    while left > 0 {
+        let middle = low + left / 2;
+        let node = R::items_of(&nodes[middle]);
+        let answer = probe.place(&node[node.len() - 1]);
+        equal = choose(answer.is_eq(), middle, equal);
+        low = choose(answer.is_lt(), middle + left % 2, low);
+        left /= 2;
+    }
+    choose(equal < last, equal, low)
+}
+
+// Returns the same by a search whose predicted branches fetch ahead.
+fn node_far<T, Node, R: ReadNode<T, Node>, P: Probe<T>>(nodes: &[Node], probe: &mut P) -> usize
     requires some { 1 ≤ length nodes.now }
     requires filled { 2 ≤ length nodes.now → All (λ n. 1 ≤ n)
         (node_lengths (map R.list nodes.now)) }
@@ -143,8 +189,8 @@ pub fn locate_by<T, Node, R: ReadNode<T, Node>, P: Probe<T>>(
     }
     let node = node_by::<T, Node, R, P>(nodes, probe);
     let items = R::items_of(&nodes[node]);
-    let offset = search::first_not_less(items, probe);
-    if search::is_equal_at(items, offset, probe) {
+    let (offset, found) = search::first_not_less_near(items, probe);
+    if found {
         Ok((node, offset))
     } else {
         Err((node, offset))

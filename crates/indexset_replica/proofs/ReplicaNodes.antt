@@ -1,22 +1,20 @@
 -- Where a value stands in the nodes of a replica.
-use Rattle.std.proofs.Common.{◌≡◌, ℕ, zero, suc, ◌+◌, ◌-◌, ◌<◌, ◌≤◌, ◌==◌, Bool, true, false, not, List, [], ◌∷◌, ◌++◌, length, map, get_or, slice_get, take, drop, insert, Option, Some, None, Ordering, All, inl, inr, refl, ap, sym, ◌∙◌, subst, arith, append_assoc, length-append}
+use Rattle.std.proofs.Common.{◌≡◌, ℕ, zero, suc, ◌+◌, ◌-◌, ◌<◌, ◌≤◌, ◌==◌, Bool, true, false, List, [], ◌∷◌, ◌++◌, length, map, get_or, slice_get, take, drop, insert, Option, Some, None, Ordering, All, inl, inr, refl, ap, sym, ◌∙◌, subst, arith, append_assoc, length-append}
 use Rattle.std.specs.Borrow.{Bor}
 use Rattle.std.specs.Cmp.{IsTotalOrder}
 use Rattle.std.specs.List.{position_or_len, splice, take-map}
-use Rattle.std.specs.List.Sorted.{IsPartitionedBy, IsPartitionPoint}
 use Rattle.std.specs.Option.{option_copied, option_map_or, option_or}
 use Rattle.std.specs.Ordering.{is_lt, is_eq}
 use Rattle.std.specs.declared.cmp.Ordering.TheVariants.{Less}
-use Rattle.std.proofs.lemmas.Bool.{false≢true, and_from, and_parts, cases_lt, le-ltb, ne_eqb, not-true, not-false}
-use Rattle.std.proofs.lemmas.List.{append-nil, take-append-drop, get_or-map, length-map, nil_from_length}
-use Rattle.std.proofs.lemmas.Option.{slice_get-map, slice_get_within}
-use Rattle.std.proofs.lemmas.List.Sums.{fails_before_first, position_or_len_is}
-use Rattle.std.proofs.Math.Seq.{drop-append_seam, get_or-append_seam, get_or-append_right}
-use Rattle.indexset_core.specs.Nodes.{joined, node_at, node_lengths}
-use Rattle.indexset_core.proofs.CallerLemmas.{joined-append, joined-splice, joined_around, less_from, slice_get-right}
+use Rattle.std.proofs.lemmas.Bool.{false≢true, and_from, and_parts, cases_lt, le-ltb, ne_eqb}
+use Rattle.std.proofs.lemmas.List.{append-nil, take-append-drop, get_or_default, length-map, nil_from_length}
+use Rattle.std.proofs.lemmas.Option.{slice_get-map, slice_get_read, slice_get_within}
+use Rattle.std.proofs.Math.Seq.{drop-append_seam, get_or-append_seam}
+use Rattle.indexset_core.specs.Nodes.{joined, node_at, node_for, node_lengths}
+use Rattle.indexset_core.proofs.CallerLemmas.{equal_from, joined-append, joined-splice, joined_around, less_from, node_read, slice_get-right}
 use Rattle.indexset_events.specs.Nodes.{is_filled, last_of, is_ascending}
 use Rattle.indexset_events.specs.Replay.{has_name, node_named, reaches}
-use Rattle.indexset_events.proofs.CallerLemmas.{Ruled, Each, Up, at_place, each-append, each-left, each-map, each-right, each_all, each_last, greater, last_some, node_is, length_filled, not_reaching, over_rest, place_none, position_at, reached, reaching, true_up, unnamed, up-between, up-left, up-right, up_put, up_true, upto_last, nodes_each}
+use Rattle.indexset_events.proofs.CallerLemmas.{Ruled, Each, Up, at_place, each-append, each-left, each-map, each-right, each_last, greater, last_some, min_place_here, min_place_past, node_is, length_filled, not_reaching, over_rest, place_none, position_at, reaching, true_up, unnamed, up-between, up-left, up-right, up_put, up_true, upto_last, nodes_each}
 use Rattle.indexset_replica.specs.Replica.{first_item, is_between, last_item}
 
 pub filled_each : {T : Type 0} (ns : List (List T)) → All (λ n. 1 ≤ n) (node_lengths ns) → Each (λ n. is_filled n ≡ true) ns
@@ -40,11 +38,6 @@ bool_same : (a b : Bool) → (a ≡ true → b ≡ true) → (b ≡ true → a �
 bool_same true b f g = sym (f refl)
 bool_same false true f g = g refl
 bool_same false false f g = refl
-
--- a list with a place has a first item
-first_of : {X P : Type 0} (xs : List X) (k : ℕ) → k < length xs → (X → P) → P
-first_of [] k lt f = absurd (omega arith)
-first_of (x ∷ xs) k lt f = f x
 
 -- the test of a node's name, as the code asks it
 pub named_by : {T : Type 0} (cmp : T → T → Ordering) (n : List T) (m x : T) → slice_get n (length n - 1) ≡ Some x → has_name cmp m n ≡ is_eq (cmp x m)
@@ -134,41 +127,6 @@ module _ {T : Type 0} (cmp : T → T → Ordering) (o : IsTotalOrder cmp) (v : T
             ns (record { filled = rule.filled.1; up = up-right cmp n (joined ns) rule.up }))
       ] refl
 
-  all_reached : (a : List (List T)) → Each (λ n. is_filled n ≡ true) a → Reached a → Each (λ n. reaches cmp v n ≡ true) a
-  all_reached [] full on = tt
-  all_reached (n ∷ a) full on = (on.0, reached cmp o v a full.1 on.2)
-
-  -- from that place on every node reaches v
-  on_reached : (ns : List (List T)) → Ruled cmp ns → (j : ℕ) (d : List T) → position_or_len (reaches cmp v) ns ≤ j → j < length ns → reaches cmp v (get_or ns j d) ≡ true
-  on_reached ns rule =
-      parted (λ q k. Each (λ n. is_filled n ≡ true) q → (j : ℕ) (d : List T) → k ≤ j → j < length q → reaches cmp v (get_or q j d) ≡ true)
-      (λ b a low on full j d from inside.
-      let full_on = all_reached a (each-right _ b a full) on in
-      let size = length-append b a in
-      rw (get_or-append_right b a j d from) (each_all _ a full_on (j - length b) d (omega arith)))
-      ns rule rule.filled
-
-  -- the search over nodes as the code holds them
-  module _ {N : Type 0} (f : N → List T) (items : List N) (rule : Ruled cmp (map f items)) where
-    read : (k : ℕ) (d : N) → k < length items → get_or (map f items) k (f d) ≡ f (get_or items k d)
-    read k d lt = get_or-map f items k d (f d) lt
-
-    pub nodes_parted : IsPartitionedBy (λ n. not (reaches cmp v (f n))) items
-    nodes_parted i j d le lt later =
-        let place = position_or_len (reaches cmp v) (map f items) in
-        let long = length-map items f in
-        elim (cases_lt j place) [
-          | inl before ↦ rw (sym (read i d (omega arith)), fails_before_first (reaches cmp v) (map f items) i (f d) (omega arith)) refl
-          | inr from ↦ absurd (false≢true (rw (sym (read j d lt), on_reached (map f items) rule j (f d) from (omega arith)) at later))
-        ]
-
-    pub place_is : (k : ℕ) → k ≤ length items → IsPartitionPoint (λ n. not (reaches cmp v (f n)) ≡ true) (λ n. not (reaches cmp v (f n)) ≡ false) items k → position_or_len (reaches cmp v) (map f items) ≡ k
-    place_is k le point =
-        let long = length-map items f in
-        position_or_len_is (reaches cmp v) (map f items) k [] (omega arith)
-        (λ j lt. first_of items j (omega arith) (λ d. rw (get_or-map f items j d [] (omega arith)) (not-true _ (point.0 j d (omega arith) lt))))
-        (λ lt. first_of items k (omega arith) (λ d. rw (get_or-map f items k d [] (omega arith)) (not-false _ (point.1 k d (omega arith) (omega arith)))))
-
   -- ---- the node of that name
 
   -- nodes above v have other names
@@ -219,6 +177,42 @@ module _ {T : Type 0} (cmp : T → T → Ordering) (o : IsTotalOrder cmp) (v : T
 
     pub unnamed_past : length items ≤ k → node_named cmp (map f items) v ≡ None
     unnamed_past past = named_not (map f items) rule (λ inside. absurd (omega (arith, inside, is, length-map items f)))
+
+  -- the same of the node that a search by the last items ends in
+  module _ {N : Type 0} (f : N → List T) (items : List N) (rule : Ruled cmp (map f items)) (k : ℕ) (is : k ≡ node_for (λ x. cmp x v) (map f items)) (n : N) (some : 1 ≤ length items) (read : n ≡ get_or items k n) where
+    inside : k < length items
+    inside = omega (arith, some, is, length-map items f)
+
+    node_it : node_at (map f items) k ≡ f n
+    node_it = node_read f items k n inside read []
+
+    named_reaches : (m : List T) → has_name cmp v m ≡ true → reaches cmp v m ≡ true
+    named_reaches [] own = absurd (false≢true own)
+    named_reaches (x ∷ xs) own =
+        let m = x ∷ xs in
+        let end = get_or m (length m - 1) v in
+        let read : slice_get m (length m - 1) ≡ Some end = slice_get_read m (length m) (length m - 1) end refl (omega arith) (get_or_default m (length m - 1) v end (omega arith)) in
+        let equal : is_eq (cmp end v) ≡ true = rw (last_some m v end read) at own in
+        rw read (rw (equal_from (cmp end v) equal) refl)
+
+    some_lists : 1 ≤ length (map f items)
+    some_lists = omega (arith, some, length-map items f)
+
+    pub place_here : reaches cmp v (f n) ≡ true → k ≡ position_or_len (reaches cmp v) (map f items)
+    place_here on = is ∙ min_place_here (reaches cmp v) (map f items) [] some_lists (rw (← is, node_it) on)
+
+    pub place_past : reaches cmp v (f n) ≡ false → k + 1 ≡ position_or_len (reaches cmp v) (map f items)
+    place_past below = ap (λ j. j + 1) is ∙ min_place_past (reaches cmp v) (map f items) [] some_lists (rw (← is, node_it) below)
+
+    pub named_there : has_name cmp v (f n) ≡ true → node_named cmp (map f items) v ≡ Some k
+    named_there own = named_when f items rule k (place_here (named_reaches (f n) own)) n inside read own
+
+    pub unnamed_there : has_name cmp v (f n) ≡ false → node_named cmp (map f items) v ≡ None
+    unnamed_there other =
+        elim (cases_lt (position_or_len (reaches cmp v) (map f items)) (length items)) [
+          | inl within ↦ unnamed_when f items rule k (omega (arith, is, within, length-map items f)) n inside read other
+          | inr past ↦ unnamed_past f items rule (position_or_len (reaches cmp v) (map f items)) refl past
+        ]
 
   -- ---- the items before a place and after it
 

@@ -8,7 +8,10 @@ ghost use Rattle.indexset_events.specs.Attach.{attach_index, attach_refusal};
 ghost use Rattle.indexset_events.specs.Nodes.{is_ascending};
 ghost use Rattle.indexset_events.specs.Replay.{has_name, node_named, reaches};
 
+use indexset_core::locate::node_by;
+use indexset_core::probe::ByItem;
 use indexset_core::refusal::Refusal;
+use indexset_core::walk::ReadVec;
 
 /// Returns the place of the first node whose last item is not below the value, or the number of
 /// nodes.
@@ -17,7 +20,15 @@ pub(super) fn first_reaching<T: Ord>(nodes: &[Vec<T>], value: &T) -> usize
     ensures place { result ≡ position_or_len (reaches T.cmp value.now) (vec_items nodes.now) }
     ensures within { result ≤ length nodes.now }
 {
-    nodes.partition_point(|node| ends_less(node.as_slice(), value))
+    if nodes.is_empty() {
+        return 0;
+    }
+    let place = node_by::<T, Vec<T>, ReadVec, ByItem<'_, T>>(nodes, &mut ByItem::new(value));
+    if ends_less(nodes[place].as_slice(), value) {
+        place + 1
+    } else {
+        place
+    }
 }
 
 /// Returns whether the last item is below the value.
@@ -38,8 +49,11 @@ pub(super) fn place_named<T: Ord>(nodes: &[Vec<T>], name: &T) -> Result<usize, R
     ensures absent { IfErr result (λ e. node_named T.cmp (vec_items nodes.now) name.now ≡ None) }
     ensures refusal { IfErr result (λ e. e ≡ Refusal.NoSuchNode) }
 {
-    let place = first_reaching(nodes, name);
-    if place < nodes.len() && is_named(nodes[place].as_slice(), name) {
+    if nodes.is_empty() {
+        return Err(Refusal::NoSuchNode);
+    }
+    let place = node_by::<T, Vec<T>, ReadVec, ByItem<'_, T>>(nodes, &mut ByItem::new(name));
+    if is_named(nodes[place].as_slice(), name) {
         Ok(place)
     } else {
         Err(Refusal::NoSuchNode)

@@ -2,7 +2,7 @@ use Rattle.std.proofs.Common.{◌≡◌, ◌-◌, length, map, [], arith, ◌∙
 use Rattle.std.proofs.lemmas.List.{length-map}
 use Rattle.indexset_core.proofs.DigitsLemmas.{digits-left, digits-mono, digits-right}
 use Rattle.indexset_core.proofs.LocateLemmas.{ends_until, node_ends, node_found, node_some}
-use Rattle.indexset_core.proofs.locate.node_by.Goals as goal
+use Rattle.indexset_core.proofs.locate.node_far.Goals as goal
 
 pub overflow_sub-node : goal.overflow_sub-node
 overflow_sub-node g c =

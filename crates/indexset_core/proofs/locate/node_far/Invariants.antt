@@ -2,7 +2,7 @@ use Rattle.std.proofs.Common.{◌-◌, ◌≡◌, ◌+◌, ◌<◌, ◌≤◌, l
 use Rattle.std.specs.List.{AllWithin, HoldsAt}
 use Rattle.indexset_core.specs.Digits.{digits}
 use Rattle.indexset_core.specs.Nodes.{ends_less}
-use Rattle.indexset_core.proofs.locate.node_by.Given as goal
+use Rattle.indexset_core.proofs.locate.node_far.Given as goal
 
 abbrev pub invariant-loop-low : goal.invariant-loop-low
 invariant-loop-low g l =
