@@ -6,6 +6,7 @@
 struct Absl {
     using Set = absl::btree_set<uint64_t>;
     using Map = absl::btree_map<uint64_t, uint64_t>;
+    using TextMap = absl::btree_map<std::string, uint64_t>;
     static constexpr bool has_positions = false, has_split = false, has_equality = true, appends_any = true;
 
     static void append(Set &set, Set &other) { set.merge(other); }

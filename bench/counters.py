@@ -1,4 +1,4 @@
-"""The tables of what a look-up costs by counters: of the processor where `perf stat` reads them, else of
+"""The tables of what a call costs by counters: of the processor where `perf stat` reads them, else of
 cachegrind, which simulates them."""
 
 from __future__ import annotations
@@ -11,8 +11,11 @@ from collections.abc import Callable
 
 from tables import Programs, shown, table
 
-LOOK_UPS = ["contains", "contains, absent", "element at a position", "rank", "map, get", "map, get_mut"]
-COUNT = 100_000  # look-ups of a run, as many as a program prepares
+WHOLE = ["clone", "equality"]  # an operation is an element
+CHANGES = ["insert", "remove", "pop_last", "pop_first", "map, insert", "texts, insert", "texts, remove"]
+LOOK_UPS = ["contains", "contains, absent", "element at a position", "rank", "range of 100", "map, get", "map, get_mut", "texts, get"]
+ROWS = [*LOOK_UPS, *CHANGES, *WHOLE]
+COUNT = 100_000  # calls of a run, as many as a program prepares; changes of no more than there are keys
 WHAT = "instructions/misses of the first level/of the last level/mispredicted branches"
 # Each counter is the sum of events.
 OF_PERF = [["instructions:u"], ["L1-dcache-load-misses:u"], ["LLC-load-misses:u"], ["branch-misses:u"]]
@@ -43,20 +46,30 @@ def has_counters() -> bool:
 
 
 def words(program: pathlib.Path, row: str, keys: int, count: int) -> list[str]:
-    return [str(program), "look_ups", str(keys), row, str(count)]
+    return [str(program), "calls", str(keys), row, str(count)]
 
 
 def has_row(program: pathlib.Path, row: str) -> bool:
     """Whether a program has the words to run a row alone, and the row."""
-    return subprocess.run(words(program, row, 1000, 0), capture_output=True, text=True).stdout.startswith("looked up\n")
+    return subprocess.run(words(program, row, 1000, 0), capture_output=True, text=True).stdout.startswith("called\n")
+
+
+def counts(row: str, keys: int) -> tuple[int, int]:
+    """How often a row is called, and how many operations these are."""
+    if row in WHOLE:
+        times = max(COUNT // keys, 1)
+        return times, times * keys
+    count = min(COUNT, keys) if row in CHANGES else COUNT
+    return count, count
 
 
 def cell(counter: Counter, counted: list[list[str]], program: pathlib.Path, row: str, keys: int) -> str:
-    """What one look-up counts: the difference between a run with look-ups and one without them."""
+    """What one call counts: the difference between a run with calls and one without them."""
     if not has_row(program, row):
         return "–"
-    some, none = (counter(words(program, row, keys, count)) for count in (COUNT, 0))
-    each = [sum(some[it] - none[it] for it in events) / COUNT if set(events) <= some.keys() & none.keys() else None for events in counted]
+    count, operations = counts(row, keys)
+    some, none = (counter(words(program, row, keys, it)) for it in (count, 0))
+    each = [sum(some[it] - none[it] for it in events) / operations if set(events) <= some.keys() & none.keys() else None for events in counted]
     return "/".join(shown(it if it is None else max(it, 0)) for it in each)
 
 
@@ -67,12 +80,12 @@ def of_counters(programs: Programs, keys: list[int]) -> str | None:
         print("counters need `perf stat` with counters, or `valgrind`")
         return None
     counter, counted = (by_perf, OF_PERF) if is_real else (by_cachegrind, OF_CACHEGRIND)
-    able = {name: program for name, program in programs.items() if any(has_row(program, row) for row in LOOK_UPS)}
+    able = {name: program for name, program in programs.items() if any(has_row(program, row) for row in ROWS)}
     for name in programs.keys() - able.keys():
         print(f"{name} is left out: its program runs no row alone")
     by = "`perf stat`" if is_real else "cachegrind"
-    parts = [f"A look-up by {by}: {WHAT}.\n"]
+    parts = [f"A call by {by}: {WHAT}.\n"]
     for k in keys:
-        lines = [[row, *(cell(counter, counted, program, row, k) for program in able.values())] for row in LOOK_UPS]
+        lines = [[row, *(cell(counter, counted, program, row, k) for program in able.values())] for row in ROWS]
         parts.append(f"### {k:,} keys, counters\n\n" + table(["call", *able], lines))
     return "\n".join(parts)

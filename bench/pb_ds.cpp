@@ -3,13 +3,14 @@
 #include <ext/pb_ds/assoc_container.hpp>
 #include <ext/pb_ds/tree_policy.hpp>
 
-template <class Value>
-using Tree = __gnu_pbds::tree<uint64_t, Value, std::less<uint64_t>, __gnu_pbds::rb_tree_tag,
+template <class Key, class Value>
+using Tree = __gnu_pbds::tree<Key, Value, std::less<Key>, __gnu_pbds::rb_tree_tag,
                               __gnu_pbds::tree_order_statistics_node_update>;
 
 struct PbDs {
-    using Set = Tree<__gnu_pbds::null_type>;
-    using Map = Tree<uint64_t>;
+    using Set = Tree<uint64_t, __gnu_pbds::null_type>;
+    using Map = Tree<uint64_t, uint64_t>;
+    using TextMap = Tree<std::string, uint64_t>;
     static constexpr bool has_positions = true, has_split = true, has_equality = false, appends_any = false;
 
     static void split(Set &set, uint64_t last, Set &upper) { set.split(last, upper); }

@@ -1,12 +1,12 @@
 // What the programs of C++ have in common: they time the calls of an ordered set and map of u64 keys. One
 // line a row: its name, a tab, nanoseconds an operation. `rows KEYS` prints the rows; `hold KEYS COPIES
 // ascending|mixed` makes that many sets, prints a line and waits for one, so that its memory can be read;
-// `look_ups KEYS ROW COUNT` prepares 100,000 look-ups and does the first COUNT of them, so that what one
-// costs is the difference between two runs.
+// `calls KEYS ROW COUNT` prepares 100,000 calls and makes the first COUNT of them, so that what one costs is
+// the difference between two runs.
 //
 // A library is a type with these members; a row for which it has no call is left out.
 //
-//   Set, Map                   its set and map
+//   Set, Map, TextMap          its set, its map, and its map from texts
 //   has_positions              whether it has `find_by_order` and `order_of_key`
 //   has_split                  whether it has `split(set, last, upper)`: what is above a key moves to `upper`
 //   has_equality               whether it has `==`
@@ -20,11 +20,13 @@
 #include <cstdlib>
 #include <cstring>
 #include <optional>
+#include <string>
 #include <utility>
 #include <vector>
 
 using Clock = std::chrono::steady_clock;
 using Keys = std::vector<uint64_t>;
+using Texts = std::vector<std::string>;
 
 static volatile uint64_t sink;
 
@@ -96,10 +98,23 @@ static uint64_t ranks(const Set &set, const Keys &keys) {
     return sum;
 }
 
+// The keys in decimal.
+static Texts texts_of(const Keys &keys) {
+    Texts texts;
+    for (auto key : keys) texts.push_back(std::to_string(key));
+    return texts;
+}
+
 template <class Map>
-static uint64_t looked_up(const Map &map, const Keys &keys) {
+static uint64_t inserted_texts(Map &map, Texts texts) {
+    for (auto &text : texts) map.insert({std::move(text), 1});
+    return map.size();
+}
+
+template <class Map, class List>
+static uint64_t looked_up(const Map &map, const List &keys) {
     uint64_t sum = 0;
-    for (auto key : keys) sum += map.find(key)->second;
+    for (auto &key : keys) sum += map.find(key)->second;
     return sum;
 }
 
@@ -156,10 +171,10 @@ static uint64_t united(const Set &set, const Set &other) {
     return sum;
 }
 
-template <class Set>
-static uint64_t removed(Set &set, const Keys &keys) {
+template <class Set, class List>
+static uint64_t removed(Set &set, const List &keys) {
     uint64_t count = 0;
-    for (auto key : keys) count += set.erase(key);
+    for (auto &key : keys) count += set.erase(key);
     return count;
 }
 
@@ -265,6 +280,16 @@ static void measure_map(const Lists &lists) {
     });
 }
 
+template <class Map>
+static void measure_texts(const Lists &lists) {
+    uint64_t keys = lists.mixed.size();
+    Texts texts = texts_of(lists.mixed), sought = texts_of(lists.sought);
+    Map map;
+    row("texts, insert", keys, [&] { return inserted_texts(map, std::move(texts)); });
+    row("texts, get", keys, [&] { return looked_up(map, sought); });
+    row("texts, remove", keys, [&] { return removed(map, sought); });
+}
+
 template <class Library>
 static void measure(uint64_t keys) {
     Lists lists(keys);
@@ -275,6 +300,7 @@ static void measure(uint64_t keys) {
     measure_from<typename Library::Set>("from, ascending", ascending);
     measure_from<typename Library::Set>("from", lists.mixed);
     measure_map<typename Library::Map>(lists);
+    measure_texts<typename Library::TextMap>(lists);
 }
 
 template <class Set>
@@ -287,36 +313,89 @@ static void hold(uint64_t keys, uint64_t copies, bool is_mixed) {
     sink = getchar() + sets.size();
 }
 
-static constexpr uint64_t PREPARED = 100000;  // look-ups, of which a run does the first ones
+static constexpr uint64_t PREPARED = 100000;  // calls, of which a run makes the first ones
 
-// What a row looks up, in no order that comes again.
-static Keys prepared(const char *name, uint64_t keys, uint64_t count) {
+// What a row asks for.
+static Keys prepared(const std::string &name, uint64_t keys, uint64_t count) {
+    bool is_insert = name == "insert" || name == "map, insert" || name == "texts, insert";
+    bool is_remove = name == "remove" || name == "texts, remove";
     Keys list = listed(PREPARED, [=](uint64_t i) {
-        if (!strcmp(name, "contains, absent")) return key(keys + i);
+        if (is_insert || name == "contains, absent") return key(keys + i);
+        if (is_remove) return key(i * 7919 % keys);
         uint64_t position = key(i) % keys;
-        return strcmp(name, "element at a position") ? key(position) : position;
+        return name == "element at a position" ? position : key(position);
     });
     list.resize(std::min(count, PREPARED));
     return list;
 }
 
-// Whether the library has the row.
+// Whether the library has the row, of a set.
 template <class Library>
-static bool look_up(const char *name, uint64_t keys, uint64_t count) {
-    Keys mixed = listed(keys, key), asked = prepared(name, keys, count);
+static bool call_set(const std::string &name, uint64_t keys, const Keys &asked) {
     typename Library::Set set;
-    typename Library::Map map;
-    bool is_of_map = !strncmp(name, "map, ", 5);
-    sink = is_of_map ? inserted_pairs(map, mixed) : inserted(set, mixed);
-    auto is = [&](const char *row) { return !strcmp(name, row); };
-    if (is("contains") || is("contains, absent")) return sink = contained(set, asked), true;
-    if (is("map, get")) return sink = looked_up(map, asked), true;
-    if (is("map, get_mut")) return sink = written(map, asked), true;
+    sink = inserted(set, listed(keys, key));
+    if (name == "contains" || name == "contains, absent") return sink = contained(set, asked), true;
+    if (name == "range of 100") return sink = ranges(set, keys, asked.size()), true;
+    if (name == "insert") return sink = inserted(set, asked), true;
+    if (name == "remove") return sink = removed(set, asked), true;
     if constexpr (Library::has_positions) {
-        if (is("element at a position")) return sink = by_position(set, asked), true;
-        if (is("rank")) return sink = ranks(set, asked), true;
+        if (name == "element at a position") return sink = by_position(set, asked), true;
+        if (name == "rank") return sink = ranks(set, asked), true;
     }
     return false;
+}
+
+// The same of a set of ascending keys.
+template <class Library>
+static bool call_whole(const std::string &name, uint64_t keys, uint64_t count) {
+    using Set = typename Library::Set;
+    Set set;
+    sink = inserted(set, listed(keys, [](uint64_t i) { return i; }));
+    std::optional<Set> copy(set);
+    for (uint64_t i = 0; i < count; i++) {
+        if (name == "clone") copy.emplace(set);
+        if (name == "pop_last") set.erase(--set.end());
+        if (name == "pop_first") set.erase(set.begin());
+        if constexpr (Library::has_equality) {
+            if (name == "equality") sink = set == *copy;
+        }
+    }
+    sink = copy->size() + set.size();
+    return name != "equality" || Library::has_equality;
+}
+
+// The same of a map.
+template <class Map>
+static bool call_map(const std::string &name, uint64_t keys, const Keys &asked) {
+    Map map;
+    sink = inserted_pairs(map, listed(keys, key));
+    if (name == "map, insert") return sink = inserted_pairs(map, asked), true;
+    if (name == "map, get") return sink = looked_up(map, asked), true;
+    if (name == "map, get_mut") return sink = written(map, asked), true;
+    return false;
+}
+
+// The same of a map from texts.
+template <class Map>
+static bool call_texts(const std::string &name, uint64_t keys, const Keys &asked) {
+    Map map;
+    sink = inserted_texts(map, texts_of(listed(keys, key)));
+    Texts texts = texts_of(asked);
+    if (name == "texts, insert") return sink = inserted_texts(map, std::move(texts)), true;
+    if (name == "texts, get") return sink = looked_up(map, texts), true;
+    if (name == "texts, remove") return sink = removed(map, texts), true;
+    return false;
+}
+
+// Whether the library has the row.
+template <class Library>
+static bool call(const std::string &name, uint64_t keys, uint64_t count) {
+    Keys asked = prepared(name, keys, count);
+    for (auto whole : {"clone", "equality", "pop_last", "pop_first"})
+        if (name == whole) return call_whole<Library>(name, keys, count);
+    if (name.rfind("map, ", 0) == 0) return call_map<typename Library::Map>(name, keys, asked);
+    if (name.rfind("texts, ", 0) == 0) return call_texts<typename Library::TextMap>(name, keys, asked);
+    return call_set<Library>(name, keys, asked);
 }
 
 // The program of a library.
@@ -328,10 +407,10 @@ static int run(int count, char **words) {
         measure<Library>(number(2));
     } else if (is(5, "hold")) {
         hold<typename Library::Set>(number(2), number(3), !strcmp(words[4], "mixed"));
-    } else if (is(5, "look_ups")) {
-        puts(look_up<Library>(words[3], number(2), number(4)) ? "looked up" : "no such row");
+    } else if (is(5, "calls")) {
+        puts(call<Library>(words[3], number(2), number(4)) ? "called" : "no such row");
     } else {
-        puts("usage: rows KEYS | hold KEYS COPIES ascending|mixed | look_ups KEYS ROW COUNT");
+        puts("usage: rows KEYS | hold KEYS COPIES ascending|mixed | calls KEYS ROW COUNT");
     }
     return 0;
 }

@@ -2,8 +2,8 @@
 //! feature says so. One line a row: its name, a tab, nanoseconds an operation.
 //!
 //! `rows KEYS` prints the rows; `hold KEYS COPIES ascending|mixed` makes that many sets, prints a line,
-//! and waits for one, so that its memory can be read; `look_ups KEYS ROW COUNT` prepares 100,000 look-ups
-//! and does the first COUNT of them, so that what one costs is the difference between two runs.
+//! and waits for one, so that its memory can be read; `calls KEYS ROW COUNT` prepares 100,000 calls and makes
+//! the first COUNT of them, so that what one costs is the difference between two runs.
 
 #[cfg(feature = "of_the_crate")]
 use indexset::{BTreeMap, BTreeSet};
@@ -29,6 +29,19 @@ fn row(name: &str, since: Instant, operations: u64) {
 
 fn every_second(first: u64, keys: u64) -> BTreeSet<u64> {
     (0..keys / 2).map(|i| 2 * i + first).collect()
+}
+
+fn insert_all(set: &mut BTreeSet<u64>, keys: impl Iterator<Item = u64>) -> usize {
+    for key in keys {
+        set.insert(key);
+    }
+    set.len()
+}
+
+fn insert_pairs(map: &mut BTreeMap<u64, u64>, keys: impl Iterator<Item = u64>) {
+    for key in keys {
+        map.insert(key, key);
+    }
 }
 
 fn contained(set: &BTreeSet<u64>, keys: &[u64]) -> usize {
@@ -129,9 +142,7 @@ fn measure_walks(set: &mut BTreeSet<u64>, keys: u64) {
 fn measure_set(mixed: &[u64], sought: &[u64], absent: &[u64], positions: &[u64], keys: u64) {
     let start = Instant::now();
     let mut set = BTreeSet::new();
-    for key in mixed {
-        set.insert(*key);
-    }
+    insert_all(&mut set, mixed.iter().copied());
     row("insert", start, keys);
     measure_look_ups(&set, sought, absent, keys);
     measure_positions(&set, sought, positions, keys);
@@ -145,9 +156,7 @@ fn measure_set(mixed: &[u64], sought: &[u64], absent: &[u64], positions: &[u64],
 fn measure_whole(mixed: &[u64], keys: u64) {
     let start = Instant::now();
     let mut set = BTreeSet::new();
-    for key in 0..keys {
-        set.insert(key);
-    }
+    insert_all(&mut set, 0..keys);
     row("insert, ascending", start, keys);
     let start = Instant::now();
     let mut copy = set.clone();
@@ -185,9 +194,7 @@ fn measure_whole(mixed: &[u64], keys: u64) {
 fn measure_map(mixed: &[u64], sought: &[u64], keys: u64) {
     let start = Instant::now();
     let mut map = BTreeMap::new();
-    for key in mixed {
-        map.insert(*key, *key);
-    }
+    insert_pairs(&mut map, mixed.iter().copied());
     row("map, insert", start, keys);
     let start = Instant::now();
     black_box(looked_up(&map, sought));
@@ -200,6 +207,39 @@ fn measure_map(mixed: &[u64], sought: &[u64], keys: u64) {
     row("map, iterate", start, keys);
 }
 
+/// The keys in decimal.
+fn texts_of(keys: impl Iterator<Item = u64>) -> Vec<String> {
+    keys.map(|key| key.to_string()).collect()
+}
+
+fn insert_texts(map: &mut BTreeMap<String, u64>, texts: Vec<String>) {
+    for text in texts {
+        map.insert(text, 1);
+    }
+}
+
+fn looked_up_texts(map: &BTreeMap<String, u64>, texts: &[String]) -> u64 {
+    texts.iter().filter_map(|text| map.get(text)).sum()
+}
+
+fn remove_texts(map: &mut BTreeMap<String, u64>, texts: &[String]) -> usize {
+    texts.iter().filter(|text| map.remove(*text).is_some()).count()
+}
+
+fn measure_texts(mixed: &[u64], sought: &[u64], keys: u64) {
+    let (texts, asked) = (texts_of(mixed.iter().copied()), texts_of(sought.iter().copied()));
+    let start = Instant::now();
+    let mut map = BTreeMap::new();
+    insert_texts(&mut map, texts);
+    row("texts, insert", start, keys);
+    let start = Instant::now();
+    black_box(looked_up_texts(&map, &asked));
+    row("texts, get", start, keys);
+    let start = Instant::now();
+    black_box(remove_texts(&mut map, &asked));
+    row("texts, remove", start, keys);
+}
+
 fn measure(keys: u64) {
     let mixed: Vec<u64> = (0..keys).map(key).collect();
     let sought: Vec<u64> = (0..keys).map(|i| key(i * 7919 % keys.max(1))).collect();
@@ -208,6 +248,7 @@ fn measure(keys: u64) {
     measure_set(&mixed, &sought, &absent, &positions, keys);
     measure_whole(&mixed, keys);
     measure_map(&mixed, &sought, keys);
+    measure_texts(&mixed, &sought, keys);
 }
 
 fn hold(keys: u64, copies: u64, is_mixed: bool) {
@@ -225,15 +266,16 @@ fn hold(keys: u64, copies: u64, is_mixed: bool) {
     black_box(sets.len());
 }
 
-/// The look-ups that are prepared.
+/// The calls that are prepared.
 const PREPARED: u64 = 100_000;
 
-/// What a row looks up, in no order that comes again.
+/// What a row asks for.
 fn prepared(name: &str, keys: u64, count: u64) -> Vec<u64> {
     let mut list: Vec<u64> = (0..PREPARED)
         .map(|i| match name {
-            "contains, absent" => key(keys + i),
+            "contains, absent" | "insert" | "map, insert" | "texts, insert" => key(keys + i),
             "element at a position" => key(i) % keys.max(1),
+            "remove" | "texts, remove" => key(i * 7919 % keys.max(1)),
             _ => key(key(i) % keys.max(1)),
         })
         .collect();
@@ -242,7 +284,7 @@ fn prepared(name: &str, keys: u64, count: u64) -> Vec<u64> {
 }
 
 #[cfg(feature = "of_the_crate")]
-fn look_up_position(name: &str, set: &BTreeSet<u64>, asked: &[u64]) -> bool {
+fn call_by_position(name: &str, set: &BTreeSet<u64>, asked: &[u64]) -> bool {
     match name {
         "element at a position" => black_box(by_position(set, asked)),
         "rank" => black_box(ranks(set, asked) as u64),
@@ -252,28 +294,46 @@ fn look_up_position(name: &str, set: &BTreeSet<u64>, asked: &[u64]) -> bool {
 }
 
 #[cfg(not(feature = "of_the_crate"))]
-fn look_up_position(_name: &str, _set: &BTreeSet<u64>, _asked: &[u64]) -> bool {
+fn call_by_position(_name: &str, _set: &BTreeSet<u64>, _asked: &[u64]) -> bool {
     false
 }
 
-fn look_up_in_set(name: &str, keys: u64, asked: &[u64]) -> bool {
-    let mut set = BTreeSet::new();
-    for i in 0..keys {
-        set.insert(key(i));
-    }
+fn call_set(name: &str, keys: u64, asked: &[u64]) -> bool {
+    let mut set: BTreeSet<u64> = BTreeSet::new();
+    insert_all(&mut set, (0..keys).map(key));
     match name {
         "contains" | "contains, absent" => black_box(contained(&set, asked)),
-        _ => return look_up_position(name, &set, asked),
+        "range of 100" => black_box(ranges(&set, keys, asked.len() as u64) as usize),
+        "insert" => insert_all(&mut set, asked.iter().copied()),
+        "remove" => black_box(asked.iter().filter(|key| set.remove(*key)).count()),
+        _ => return call_by_position(name, &set, asked),
     };
     true
 }
 
-fn look_up_in_map(name: &str, keys: u64, asked: &[u64]) -> bool {
-    let mut map = BTreeMap::new();
-    for i in 0..keys {
-        map.insert(key(i), key(i));
+/// Calls of a set of ascending keys.
+fn call_whole(name: &str, keys: u64, count: u64) -> bool {
+    let mut set: BTreeSet<u64> = BTreeSet::new();
+    insert_all(&mut set, 0..keys);
+    let copy = set.clone();
+    for _ in 0..count {
+        match name {
+            "clone" => drop(black_box(set.clone())),
+            "equality" => drop(black_box(set == copy)),
+            "pop_last" => drop(black_box(set.pop_last())),
+            "pop_first" => drop(black_box(set.pop_first())),
+            _ => return false,
+        }
     }
+    black_box(set.len());
+    true
+}
+
+fn call_map(name: &str, keys: u64, asked: &[u64]) -> bool {
+    let mut map = BTreeMap::new();
+    insert_pairs(&mut map, (0..keys).map(key));
     match name {
+        "map, insert" => insert_pairs(&mut map, asked.iter().copied()),
         "map, get" => {
             black_box(looked_up(&map, asked));
         }
@@ -284,13 +344,32 @@ fn look_up_in_map(name: &str, keys: u64, asked: &[u64]) -> bool {
     true
 }
 
+fn call_texts(name: &str, keys: u64, asked: &[u64]) -> bool {
+    let mut map = BTreeMap::new();
+    insert_texts(&mut map, texts_of((0..keys).map(key)));
+    let texts = texts_of(asked.iter().copied());
+    match name {
+        "texts, insert" => insert_texts(&mut map, texts),
+        "texts, get" => {
+            black_box(looked_up_texts(&map, &texts));
+        }
+        "texts, remove" => {
+            black_box(remove_texts(&mut map, &texts));
+        }
+        _ => return false,
+    }
+    black_box(map.len());
+    true
+}
+
 /// Whether there is such a row.
-fn look_up(name: &str, keys: u64, count: u64) -> bool {
+fn call(name: &str, keys: u64, count: u64) -> bool {
     let asked = prepared(name, keys, count);
-    if name.starts_with("map, ") {
-        look_up_in_map(name, keys, &asked)
-    } else {
-        look_up_in_set(name, keys, &asked)
+    match name {
+        "clone" | "equality" | "pop_last" | "pop_first" => call_whole(name, keys, count),
+        _ if name.starts_with("map, ") => call_map(name, keys, &asked),
+        _ if name.starts_with("texts, ") => call_texts(name, keys, &asked),
+        _ => call_set(name, keys, &asked),
     }
 }
 
@@ -300,10 +379,10 @@ fn main() {
     match words.get(1).map(String::as_str) {
         Some("rows") => measure(number(2)),
         Some("hold") => hold(number(2), number(3), words.get(4).is_some_and(|word| word == "mixed")),
-        Some("look_ups") => {
+        Some("calls") => {
             let name = words.get(3).map_or("", String::as_str);
-            println!("{}", if look_up(name, number(2), number(4)) { "looked up" } else { "no such row" });
+            println!("{}", if call(name, number(2), number(4)) { "called" } else { "no such row" });
         }
-        _ => println!("usage: rows KEYS | hold KEYS COPIES ascending|mixed | look_ups KEYS ROW COUNT"),
+        _ => println!("usage: rows KEYS | hold KEYS COPIES ascending|mixed | calls KEYS ROW COUNT"),
     }
 }

@@ -112,7 +112,7 @@ def logged_tables(nodes: list[str], calls: list[str], found: Mapping[int, Rows])
 
 def of_sizes(program: pathlib.Path, keys: list[int], times: int) -> str:
     """A table for each number of keys, a line for each size of nodes."""
-    parts = ["A logged set and its replica by the size of their nodes, nanoseconds an operation.\n"]
+    parts = ["A set, and a logged set and its replica, by the size of their nodes, nanoseconds an operation.\n"]
     for k in keys:
         rows = medians({"ours": program}, "sizes", k, times)["ours"]
         sizes, calls = (list(dict.fromkeys(row.partition(": ")[at] for row in rows)) for at in (0, 2))

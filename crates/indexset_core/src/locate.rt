@@ -12,9 +12,8 @@ use crate::search::{self, choose};
 use crate::walk::ReadNode;
 use std::ops::Bound;
 
-// Up to how many nodes a search among them does without branches: the last items of more would not
-// stay in the cache.
-const NEAR_NODES: usize = 1 << 9;
+// Up to how many nodes a search does without branches: those of more would not stay in the cache.
+const NEAR_NODES: usize = 1 << 10;
 
 /// Returns the place of the first node whose last item is not found Less, else of the last node, by
 /// one binary search over the nodes' last items. There must be a node, and none may be empty but an
@@ -189,7 +188,7 @@ pub fn locate_by<T, Node, R: ReadNode<T, Node>, P: Probe<T>>(
     }
     let node = node_by::<T, Node, R, P>(nodes, probe);
     let items = R::items_of(&nodes[node]);
-    let (offset, found) = search::first_not_less_near(items, probe);
+    let (offset, found) = search::place_in(items, probe, nodes.len() <= NEAR_NODES);
     if found {
         Ok((node, offset))
     } else {
