@@ -30,22 +30,6 @@ pub(crate) fn is_sought<T, P: Probe<T>>(nodes: &[Vec<T>], k: usize, probe: &mut 
     k == 0 || ends_less(&nodes[k - 1], probe)
 }
 
-/// Returns how many items of a node are found Less, and whether the one after them is found Equal,
-/// searched for as among `len` items.
-pub(crate) fn place_in<T, P: Probe<T>>(node: &[T], probe: &mut P, len: usize) -> (usize, bool)
-    requires { IsParted (P.answer probe.old) node.now }
-    ensures count { result.0 ≡ less_count (P.answer probe.old) node.now }
-    ensures found { result.1 ≡ equal_at (P.answer probe.old) node.now result.0 }
-    ensures fixed { P.answer probe.new ≡ P.answer probe.old }
-    ensures few { P.asked probe.new ≤ P.asked probe.old + (digits (length node.now) + 1) }
-{
-    if len <= NEAR {
-        return search::first_not_less_near(node, probe);
-    }
-    let offset = search::first_not_less(node, probe);
-    (offset, search::is_equal_at(node, offset, probe))
-}
-
 /// Returns whether the last item of a node is found Less, by one comparison.
 pub(crate) fn ends_less<T, P: Probe<T>>(node: &[T], probe: &mut P) -> bool
     ensures value { result ≡ ends_less (P.answer probe.old) node.now }

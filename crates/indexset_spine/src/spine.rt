@@ -27,6 +27,7 @@ use crate::spot::Spot;
 use crate::{lengths, locate};
 use indexset_core::locate::node_by;
 use indexset_core::probe::Probe;
+use indexset_core::search;
 use indexset_core::walk::{ReadVec, Walk};
 use indexset_index::fenwick::Fenwick;
 use std::alloc::Global;
@@ -209,7 +210,7 @@ impl<T> Spine<T> {
         ensures few { P.asked probe.new ≤ P.asked probe.old + (digits self.now.size + 1) }
     {
         let items = self.nodes[node].as_slice();
-        let (offset, found) = locate::place_in(items, probe, len);
+        let (offset, found) = search::place_in(items, probe, len <= locate::NEAR);
         Spot {
             node,
             offset,
