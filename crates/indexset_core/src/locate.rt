@@ -84,12 +84,10 @@ fn node_far<T, Node, R: ReadNode<T, Node>, P: Probe<T>>(nodes: &[Node], probe: &
 }
 
 /// Returns the place before the first item that is not found Less, by two binary searches: one
-/// among the nodes and one in a node, or by none where there is no node. With `near` the search in
-/// the node takes no branch on a comparison: faster where the items are in the cache.
+/// among the nodes and one in a node, or by none where there is no node.
 pub fn place_by<T, Node, R: ReadNode<T, Node>, P: Probe<T>>(
     nodes: &[Node],
     probe: &mut P,
-    near: bool,
 ) -> (usize, usize)
     requires filled { 2 ≤ length nodes.now → All (λ n. 1 ≤ n)
         (node_lengths (map R.list nodes.now)) }
@@ -103,7 +101,7 @@ pub fn place_by<T, Node, R: ReadNode<T, Node>, P: Probe<T>>(
     }
     let node = node_by::<T, Node, R, P>(nodes, probe);
     let items = R::items_of(&nodes[node]);
-    let offset = search::less_len(items, probe, near);
+    let offset = search::less_len(items, probe, nodes.len());
     (node, offset)
 }
 
@@ -112,7 +110,6 @@ pub fn place_by<T, Node, R: ReadNode<T, Node>, P: Probe<T>>(
 pub fn place_from<T, Node, R: ReadNode<T, Node>, P: Probe<T> + Drop>(
     nodes: &[Node],
     start: Bound<P>,
-    near: bool,
 ) -> (usize, usize)
     requires filled { 2 ≤ length nodes.now → All (λ n. 1 ≤ n)
         (node_lengths (map R.list nodes.now)) }
@@ -122,10 +119,8 @@ pub fn place_from<T, Node, R: ReadNode<T, Node>, P: Probe<T> + Drop>(
         ≡ count_by (is_before (λ x p. P.answer p x) start) (joined (map R.list nodes.now)) }
 {
     match start {
-        Bound::Included(mut probe) => place_by::<T, Node, R, P>(nodes, &mut probe, near),
-        Bound::Excluded(probe) => {
-            place_by::<T, Node, R, Past<P>>(nodes, &mut Past::new(probe), near)
-        }
+        Bound::Included(mut probe) => place_by::<T, Node, R, P>(nodes, &mut probe),
+        Bound::Excluded(probe) => { place_by::<T, Node, R, Past<P>>(nodes, &mut Past::new(probe)) }
         Bound::Unbounded => (0, 0),
     }
 }
@@ -135,7 +130,6 @@ pub fn place_from<T, Node, R: ReadNode<T, Node>, P: Probe<T> + Drop>(
 pub fn place_to<T, Node, R: ReadNode<T, Node>, P: Probe<T> + Drop>(
     nodes: &[Node],
     end: Bound<P>,
-    near: bool,
 ) -> (usize, usize)
     requires filled { 2 ≤ length nodes.now → All (λ n. 1 ≤ n)
         (node_lengths (map R.list nodes.now)) }
@@ -145,10 +139,8 @@ pub fn place_to<T, Node, R: ReadNode<T, Node>, P: Probe<T> + Drop>(
         ≡ count_by (is_up_to_end (λ x p. P.answer p x) end) (joined (map R.list nodes.now)) }
 {
     match end {
-        Bound::Included(probe) => {
-            place_by::<T, Node, R, Past<P>>(nodes, &mut Past::new(probe), near)
-        }
-        Bound::Excluded(mut probe) => place_by::<T, Node, R, P>(nodes, &mut probe, near),
+        Bound::Included(probe) => { place_by::<T, Node, R, Past<P>>(nodes, &mut Past::new(probe)) }
+        Bound::Excluded(mut probe) => place_by::<T, Node, R, P>(nodes, &mut probe),
         Bound::Unbounded => last_place::<T, Node, R>(nodes),
     }
 }
@@ -188,7 +180,7 @@ pub fn locate_by<T, Node, R: ReadNode<T, Node>, P: Probe<T>>(
     }
     let node = node_by::<T, Node, R, P>(nodes, probe);
     let items = R::items_of(&nodes[node]);
-    let (offset, found) = search::place_in(items, probe, nodes.len() <= NEAR_NODES);
+    let (offset, found) = search::place_in(items, probe, nodes.len());
     if found {
         Ok((node, offset))
     } else {

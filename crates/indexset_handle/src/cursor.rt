@@ -33,7 +33,7 @@ pub fn find<T, P: Probe<T> + Drop>(nodes: &[Vec<T>], mut probe: P) -> Cursor
     ensures { cursor_position (node_lengths (vec_items nodes.now)) result
         ≡ less_count (P.answer probe) (joined (vec_items nodes.now)) }
 {
-    let (node, offset) = place_by::<T, Vec<T>, ReadVec, P>(nodes, &mut probe, false);
+    let (node, offset) = place_by::<T, Vec<T>, ReadVec, P>(nodes, &mut probe);
     Cursor { node, offset }
 }
 

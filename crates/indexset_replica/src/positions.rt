@@ -155,7 +155,7 @@ impl<T: Ord + Clone + Drop> Replica<T> {
             (joined self.now.nodes) }
     {
         let nodes = self.nodes.as_slice();
-        let place = place_from::<T, Vec<T>, ReadVec, P>(nodes, start, false);
+        let place = place_from::<T, Vec<T>, ReadVec, P>(nodes, start);
         self.lengths.position(nodes, place)
     }
 
@@ -174,7 +174,7 @@ impl<T: Ord + Clone + Drop> Replica<T> {
             (joined self.now.nodes) }
     {
         let nodes = self.nodes.as_slice();
-        let place = place_to::<T, Vec<T>, ReadVec, P>(nodes, end, false);
+        let place = place_to::<T, Vec<T>, ReadVec, P>(nodes, end);
         self.lengths.position(nodes, place)
     }
 }

@@ -48,13 +48,8 @@ impl<T: Ord + Clone + Drop> Replica<T> {
         let from = place_from::<T, Vec<T>, ReadVec, ByKeyOf<'_, Q>>(
             nodes,
             range.0.map(ByKeyOf::new),
-            false,
         );
-        let to = place_to::<T, Vec<T>, ReadVec, ByKeyOf<'_, Q>>(
-            nodes,
-            range.1.map(ByKeyOf::new),
-            false,
-        );
+        let to = place_to::<T, Vec<T>, ReadVec, ByKeyOf<'_, Q>>(nodes, range.1.map(ByKeyOf::new));
         Iter::between(nodes, from, to)
     }
 }

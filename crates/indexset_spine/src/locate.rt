@@ -6,11 +6,6 @@ ghost use Rattle.indexset_core.specs.Parted.{IsParted, less_count};
 ghost use Rattle.indexset_core.specs.Nodes.{ends_less, equal_at, joined, node_lengths, node_for, vec_items};
 
 use indexset_core::probe::Probe;
-use indexset_core::search;
-
-// Up to how many items a search within a node does without branches: more would not stay in the
-// cache, and a predicted branch fetches ahead.
-pub(crate) const NEAR: usize = 1 << 20;
 
 /// Returns whether the node k is the one that `node_by` answers, by at most two comparisons: false
 /// of a node that is not there.

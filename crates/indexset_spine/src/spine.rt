@@ -115,7 +115,7 @@ impl<T> Spine<T> {
         ensures few { P.asked probe.new ≤ P.asked probe.old
             + (digits (length self.now.nodes) + digits self.now.size + 1) }
     {
-        self.locate_among(probe, self.len)
+        self.locate_among(probe, self.nodes.len())
     }
 
     /// Returns the same with the last item compared first: if it is Less, no other comparison
@@ -145,7 +145,7 @@ impl<T> Spine<T> {
             };
         }
         // An insertion moves other items, which a search with branches has fetched by then.
-        self.locate_among(probe, self.len.saturating_mul(4))
+        self.locate_among(probe, self.nodes.len().saturating_mul(4))
     }
 
     /// Returns the same with the node `near` tried first, by two comparisons at most. For items
@@ -166,15 +166,15 @@ impl<T> Spine<T> {
             + (digits (length self.now.nodes) + digits self.now.size + 3) }
     {
         if locate::is_sought(self.nodes.as_slice(), near, probe) {
-            return self.locate_in(near, probe, self.len);
+            return self.locate_in(near, probe, self.nodes.len());
         }
         self.locate_by(probe)
     }
 
     // Returns the spot of the first item that the probe finds Equal, or its insertion point,
-    // searched for as among `len` items.
+    // searched for as among so many nodes.
     #[inline(always)]
-    fn locate_among<P: Probe<T>>(&self, probe: &mut P, len: usize) -> Spot
+    fn locate_among<P: Probe<T>>(&self, probe: &mut P, nodes: usize) -> Spot
         requires { IsParted (P.answer probe.old) (items self.now) }
         ensures node { result.node ≡ node_for (P.answer probe.old) self.now.nodes }
         ensures offset { result.offset ≡ less_count (P.answer probe.old)
@@ -190,11 +190,11 @@ impl<T> Spine<T> {
             + (digits (length self.now.nodes) + digits self.now.size + 1) }
     {
         let node = node_by::<T, Vec<T>, ReadVec, P>(self.nodes.as_slice(), probe);
-        self.locate_in(node, probe, len)
+        self.locate_in(node, probe, nodes)
     }
 
     // Does the same, in the node that a search names.
-    fn locate_in<P: Probe<T>>(&self, node: usize, probe: &mut P, len: usize) -> Spot
+    fn locate_in<P: Probe<T>>(&self, node: usize, probe: &mut P, nodes: usize) -> Spot
         requires parted { IsParted (P.answer probe.old) (items self.now) }
         requires node { node ≡ node_for (P.answer probe.old) self.now.nodes }
         ensures node { result.node ≡ node }
@@ -210,7 +210,7 @@ impl<T> Spine<T> {
         ensures few { P.asked probe.new ≤ P.asked probe.old + (digits self.now.size + 1) }
     {
         let items = self.nodes[node].as_slice();
-        let (offset, found) = search::place_in(items, probe, len <= locate::NEAR);
+        let (offset, found) = search::place_in(items, probe, nodes);
         Spot {
             node,
             offset,

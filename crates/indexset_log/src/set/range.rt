@@ -180,7 +180,7 @@ impl<T: Ord + Clone + Drop, Node: NodeLike<T>> BTreeSet<T, Node> {
         ensures before { items_before self.now.nodes result
             ≡ count_by (is_before (λ x p. P.answer p x) start) (joined self.now.nodes) }
     {
-        place_from::<T, Node, ReadAny, P>(self.nodes.as_slice(), start, false)
+        place_from::<T, Node, ReadAny, P>(self.nodes.as_slice(), start)
     }
 
     /// Returns the place after the items that are not past the end, by two binary searches, or none
@@ -197,7 +197,7 @@ impl<T: Ord + Clone + Drop, Node: NodeLike<T>> BTreeSet<T, Node> {
         ensures before { items_before self.now.nodes result
             ≡ count_by (is_up_to_end (λ x p. P.answer p x) end) (joined self.now.nodes) }
     {
-        place_to::<T, Node, ReadAny, P>(self.nodes.as_slice(), end, false)
+        place_to::<T, Node, ReadAny, P>(self.nodes.as_slice(), end)
     }
 
     /// Returns the places before and after the items that the comparator finds Equal, which must

@@ -6,7 +6,6 @@ ghost use Rattle.indexset_core.specs.Parted.{IsParted};
 ghost use Rattle.indexset_spine.specs.Cut.{items, IsSpot, position_of};
 
 use super::Spine;
-use crate::locate::NEAR;
 use crate::spot::Spot;
 use indexset_core::locate::{place_from, place_to};
 use indexset_core::probe::Probe;
@@ -21,8 +20,7 @@ impl<T> Spine<T> {
         ensures position { position_of self.now.nodes result
             ≡ count_by (is_before (λ x p. P.answer p x) start) (items self.now) }
     {
-        let near = self.len <= NEAR;
-        let place = place_from::<T, Vec<T>, ReadVec, P>(self.nodes.as_slice(), start, near);
+        let place = place_from::<T, Vec<T>, ReadVec, P>(self.nodes.as_slice(), start);
         spot_at(place)
     }
 
@@ -33,8 +31,7 @@ impl<T> Spine<T> {
         ensures position { position_of self.now.nodes result
             ≡ count_by (is_up_to_end (λ x p. P.answer p x) end) (items self.now) }
     {
-        let near = self.len <= NEAR;
-        let place = place_to::<T, Vec<T>, ReadVec, P>(self.nodes.as_slice(), end, near);
+        let place = place_to::<T, Vec<T>, ReadVec, P>(self.nodes.as_slice(), end);
         spot_at(place)
     }
 }
