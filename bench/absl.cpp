@@ -10,6 +10,10 @@ struct Absl {
     static constexpr bool has_positions = false, has_split = false, has_equality = true, appends_any = true;
 
     static void append(Set &set, Set &other) { set.merge(other); }
+    template <class Test>
+    static void erase_if(Set &set, Test test) {
+        absl::erase_if(set, test);
+    }
 };
 
 int main(int count, char **words) { return run<Absl>(count, words); }

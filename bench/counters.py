@@ -3,18 +3,22 @@ cachegrind, which simulates them."""
 
 from __future__ import annotations
 
+import itertools
+import os
 import pathlib
 import shutil
 import subprocess
 import tempfile
 from collections.abc import Callable
+from concurrent.futures import ThreadPoolExecutor
 
 from tables import Programs, shown, table
 
-WHOLE = ["clone", "equality"]  # an operation is an element
+ONCE = ["append, all above", "retain, every second"]  # of as many elements as there are keys, each an operation
+WHOLE = ["clone", "equality", "from"]  # so is it of these
 CHANGES = ["insert", "remove", "pop_last", "pop_first", "map, insert", "texts, insert", "texts, remove"]
-LOOK_UPS = ["contains", "contains, absent", "element at a position", "rank", "range of 100", "map, get", "map, get_mut", "texts, get"]
-ROWS = [*LOOK_UPS, *CHANGES, *WHOLE]
+LOOK_UPS = ["contains", "contains, absent", "element at a position", "rank", "range of 100", "map, get", "map, get_mut", "texts, get", "first"]
+ROWS = [*LOOK_UPS, *CHANGES, *WHOLE, *ONCE]
 COUNT = 100_000  # calls of a run, as many as a program prepares; changes of no more than there are keys
 WHAT = "instructions/misses of the first level/of the last level/mispredicted branches"
 # Each counter is the sum of events.
@@ -56,8 +60,8 @@ def has_row(program: pathlib.Path, row: str) -> bool:
 
 def counts(row: str, keys: int) -> tuple[int, int]:
     """How often a row is called, and how many operations these are."""
-    if row in WHOLE:
-        times = max(COUNT // keys, 1)
+    if row in [*WHOLE, *ONCE]:
+        times = 1 if row in ONCE else max(COUNT // keys, 1)
         return times, times * keys
     count = min(COUNT, keys) if row in CHANGES else COUNT
     return count, count
@@ -85,7 +89,10 @@ def of_counters(programs: Programs, keys: list[int]) -> str | None:
         print(f"{name} is left out: its program runs no row alone")
     by = "`perf stat`" if is_real else "cachegrind"
     parts = [f"A call by {by}: {WHAT}.\n"]
-    for k in keys:
-        lines = [[row, *(cell(counter, counted, program, row, k) for program in able.values())] for row in ROWS]
-        parts.append(f"### {k:,} keys, counters\n\n" + table(["call", *able], lines))
+    # What cachegrind counts does not depend on what else runs.
+    with ThreadPoolExecutor(1 if is_real else os.cpu_count()) as pool:
+        for k in keys:
+            cells = pool.map(lambda it: cell(counter, counted, it[1], it[0], k), itertools.product(ROWS, able.values()))
+            lines = [[row, *itertools.islice(cells, len(able))] for row in ROWS]
+            parts.append(f"### {k:,} keys, counters\n\n" + table(["call", *able], lines))
     return "\n".join(parts)

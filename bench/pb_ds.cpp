@@ -15,6 +15,10 @@ struct PbDs {
 
     static void split(Set &set, uint64_t last, Set &upper) { set.split(last, upper); }
     static void append(Set &set, Set &other) { set.join(other); }
+    template <class Test>
+    static void erase_if(Set &set, Test test) {
+        set.erase_if(test);
+    }
 };
 
 int main(int count, char **words) { return run<PbDs>(count, words); }

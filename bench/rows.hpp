@@ -12,6 +12,7 @@
 //   has_equality               whether it has `==`
 //   appends_any                whether `append` takes sets whose elements alternate
 //   append(set, other)         moves the elements of another set into a set
+//   erase_if(set, test)        removes the elements that pass a test
 #pragma once
 #include <algorithm>
 #include <chrono>
@@ -250,6 +251,29 @@ static void measure_ends(const Keys &ascending) {
     row("pop_first", keys, [&] { return popped_from_the_front(copy); });
 }
 
+// The first elements, so many times.
+template <class Set>
+static uint64_t firsts(const std::vector<Set> &sets, uint64_t count) {
+    uint64_t sum = 0;
+    for (uint64_t i = 0; i < count; i++)
+        for (auto &set : sets) sum += *set.begin();
+    return sum;
+}
+
+static bool is_odd(uint64_t key) { return key % 2 == 1; }
+
+// The first elements of some sets, and a set of which every second element goes.
+template <class Library>
+static void measure_kept(const Keys &ascending) {
+    using Set = typename Library::Set;
+    uint64_t keys = ascending.size();
+    Set set;
+    sink = inserted(set, ascending);
+    std::vector<Set> sets(std::max<uint64_t>(16000 / keys, 1), set);
+    row("first", sets.size() * 10000, [&] { return firsts(sets, 10000); });
+    row("retain, every second", keys, [&] { return Library::erase_if(set, is_odd), set.size(); });
+}
+
 // Two sets whose elements alternate.
 template <class Library>
 static void measure_halves(uint64_t keys) {
@@ -296,6 +320,7 @@ static void measure(uint64_t keys) {
     measure_set<Library>(lists);
     Keys ascending = listed(keys, [](uint64_t i) { return i; });
     measure_ends<Library>(ascending);
+    measure_kept<Library>(ascending);
     measure_halves<Library>(keys);
     measure_from<typename Library::Set>("from, ascending", ascending);
     measure_from<typename Library::Set>("from", lists.mixed);
@@ -352,7 +377,13 @@ static bool call_whole(const std::string &name, uint64_t keys, uint64_t count) {
     Set set;
     sink = inserted(set, listed(keys, [](uint64_t i) { return i; }));
     std::optional<Set> copy(set);
+    Set above;
+    sink = inserted(above, listed(keys, [=](uint64_t i) { return keys + i; }));
+    Keys mixed = listed(keys, key);
     for (uint64_t i = 0; i < count; i++) {
+        if (name == "append, all above") Library::append(set, above);
+        if (name == "retain, every second") Library::erase_if(set, is_odd);
+        if (name == "from") copy.emplace(mixed.begin(), mixed.end());
         if (name == "clone") copy.emplace(set);
         if (name == "pop_last") set.erase(--set.end());
         if (name == "pop_first") set.erase(set.begin());
@@ -362,6 +393,15 @@ static bool call_whole(const std::string &name, uint64_t keys, uint64_t count) {
     }
     sink = copy->size() + set.size();
     return name != "equality" || Library::has_equality;
+}
+
+// The first elements of copies of a set of ascending keys.
+template <class Set>
+static bool call_first(uint64_t keys, uint64_t count) {
+    Set set;
+    sink = inserted(set, listed(keys, [](uint64_t i) { return i; }));
+    sink = firsts(std::vector<Set>(16, set), count / 16);
+    return true;
 }
 
 // The same of a map.
@@ -391,7 +431,8 @@ static bool call_texts(const std::string &name, uint64_t keys, const Keys &asked
 template <class Library>
 static bool call(const std::string &name, uint64_t keys, uint64_t count) {
     Keys asked = prepared(name, keys, count);
-    for (auto whole : {"clone", "equality", "pop_last", "pop_first"})
+    if (name == "first") return call_first<typename Library::Set>(keys, count);
+    for (auto whole : {"append, all above", "retain, every second", "from", "clone", "equality", "pop_last", "pop_first"})
         if (name == whole) return call_whole<Library>(name, keys, count);
     if (name.rfind("map, ", 0) == 0) return call_map<typename Library::Map>(name, keys, asked);
     if (name.rfind("texts, ", 0) == 0) return call_texts<typename Library::TextMap>(name, keys, asked);

@@ -174,6 +174,7 @@ fn measure_whole(mixed: &[u64], keys: u64) {
         black_box(first);
     }
     row("pop_first", start, keys);
+    measure_kept(keys);
     let (mut even, mut odd) = (every_second(0, keys), every_second(1, keys));
     let start = Instant::now();
     even.append(&mut odd);
@@ -189,6 +190,32 @@ fn measure_whole(mixed: &[u64], keys: u64) {
     let made: BTreeSet<u64> = values.into_iter().collect();
     row("from", start, keys);
     black_box(made.len());
+}
+
+/// The first elements, so many times.
+fn firsts(sets: &[BTreeSet<u64>], count: u64) -> u64 {
+    let mut sum = 0u64;
+    for _ in 0..count {
+        for set in black_box(sets) {
+            sum = sum.wrapping_add(set.first().copied().unwrap_or(0));
+        }
+    }
+    sum
+}
+
+/// The first elements of some sets, and a set of which every second element goes.
+fn measure_kept(keys: u64) {
+    let mut set: BTreeSet<u64> = BTreeSet::new();
+    insert_all(&mut set, 0..keys);
+    let copies = (16_000 / keys.max(1)).max(1);
+    let sets = vec![set.clone(); copies as usize];
+    let start = Instant::now();
+    black_box(firsts(&sets, 10_000));
+    row("first", start, copies * 10_000);
+    let start = Instant::now();
+    set.retain(|key| key % 2 == 0);
+    row("retain, every second", start, keys);
+    black_box(set.len());
 }
 
 fn measure_map(mixed: &[u64], sought: &[u64], keys: u64) {
@@ -316,8 +343,13 @@ fn call_whole(name: &str, keys: u64, count: u64) -> bool {
     let mut set: BTreeSet<u64> = BTreeSet::new();
     insert_all(&mut set, 0..keys);
     let copy = set.clone();
+    let mut above: BTreeSet<u64> = (keys..2 * keys).collect();
+    let mixed: Vec<u64> = (0..keys).map(key).collect();
     for _ in 0..count {
         match name {
+            "append, all above" => set.append(&mut above),
+            "retain, every second" => set.retain(|key| key % 2 == 0),
+            "from" => drop(black_box(mixed.iter().copied().collect::<BTreeSet<u64>>())),
             "clone" => drop(black_box(set.clone())),
             "equality" => drop(black_box(set == copy)),
             "pop_last" => drop(black_box(set.pop_last())),
@@ -326,6 +358,13 @@ fn call_whole(name: &str, keys: u64, count: u64) -> bool {
         }
     }
     black_box(set.len());
+    true
+}
+
+/// The first elements of clones of a set of ascending keys.
+fn call_first(keys: u64, count: u64) -> bool {
+    let set: BTreeSet<u64> = (0..keys).collect();
+    black_box(firsts(&vec![set; 16], count / 16));
     true
 }
 
@@ -366,7 +405,10 @@ fn call_texts(name: &str, keys: u64, asked: &[u64]) -> bool {
 fn call(name: &str, keys: u64, count: u64) -> bool {
     let asked = prepared(name, keys, count);
     match name {
-        "clone" | "equality" | "pop_last" | "pop_first" => call_whole(name, keys, count),
+        "first" => call_first(keys, count),
+        "append, all above" | "from" | "clone" | "equality" | "pop_last" | "pop_first" | "retain, every second" => {
+            call_whole(name, keys, count)
+        }
         _ if name.starts_with("map, ") => call_map(name, keys, &asked),
         _ if name.starts_with("texts, ") => call_texts(name, keys, &asked),
         _ => call_set(name, keys, &asked),

@@ -111,11 +111,11 @@ def logged_tables(nodes: list[str], calls: list[str], found: Mapping[int, Rows])
 
 
 def of_sizes(program: pathlib.Path, keys: list[int], times: int) -> str:
-    """A table for each number of keys, a line for each size of nodes."""
-    parts = ["A set, and a logged set and its replica, by the size of their nodes, nanoseconds an operation.\n"]
+    """A table for each number of keys, a column for each size of nodes."""
+    parts = ["A set, maps, and a logged set and its replica, by the size of their nodes, nanoseconds an operation.\n"]
     for k in keys:
         rows = medians({"ours": program}, "sizes", k, times)["ours"]
         sizes, calls = (list(dict.fromkeys(row.partition(": ")[at] for row in rows)) for at in (0, 2))
-        lines = [[size, *(shown(rows[f"{size}: {call}"]) for call in calls)] for size in sizes]
-        parts.append(f"### Node sizes, {k:,} items\n\n" + table(["node size", *calls], lines))
+        lines = [[call, *(shown(rows[f"{size}: {call}"]) for size in sizes)] for call in calls]
+        parts.append(f"### Node sizes, {k:,} items\n\n" + table(["call", *sizes], lines))
     return "\n".join(parts)
