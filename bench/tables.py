@@ -86,7 +86,7 @@ PER_EVENT = ", an event"
 
 
 def of_call(call: str) -> str:
-    return call.replace(PER_EVENT, ", million events a second")
+    return call.replace(PER_EVENT, ", M events/s")
 
 
 def of_logged_call(call: str, figure: float | None) -> str:
