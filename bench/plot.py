@@ -35,6 +35,10 @@ def unit(nanoseconds: float) -> str:
     return f"{nanoseconds / 1000:g} µs" if nanoseconds >= 1000 else f"{nanoseconds:g} ns"
 
 
+def keys_in_short(keys: int) -> str:
+    return f"{keys // 1_000_000} million" if keys >= 1_000_000 else f"{keys:,}"
+
+
 def across(keys: list[int], x0: int) -> Callable[[int], float]:
     """Where a number of keys stands in a panel."""
     low, high = math.log10(min(keys)), math.log10(max(keys))
@@ -64,7 +68,7 @@ def panel(what: str, lines: list[Points], x0: int, y0: int) -> Shapes:
 
     out = [f'<text x="{x0 + LEFT}" y="{y0 + 18}" font-weight="bold">{what}</text>', *scale(low, high, x0, y)]
     for k in sorted(set(keys)):
-        out.append(f'<text x="{x(k):.1f}" y="{y0 + HEIGHT - 10}" text-anchor="middle">{k:,}</text>')
+        out.append(f'<text x="{x(k):.1f}" y="{y0 + HEIGHT - 10}" text-anchor="middle">{keys_in_short(k)}</text>')
     for points, colour in zip(lines, COLOURS):
         path = " ".join(f"{x(k):.1f},{y(t):.1f}" for k, t in points)
         out.append(f'<polyline points="{path}" fill="none" stroke="{colour}" stroke-width="2"/>')
