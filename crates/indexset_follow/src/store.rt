@@ -144,7 +144,7 @@ impl<T: Key> Store<T> {
         ensures voice { self.new.voice ≡ self.old.voice }
     {
         if let Role::Leading(leader) = &self.role {
-            if starts(line) && leader.pairs.node_count() == 0 {
+            if leader.pairs.node_count() == 0 && starts(line) {
                 let nodes = Nodes::new(self.alloc, leader.pairs.events_issued());
                 self.role = Role::Following(holding(self.window, nodes, leader.done));
             }

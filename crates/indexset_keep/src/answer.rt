@@ -53,7 +53,7 @@ fn asks_to_compact(line: &[u8]) -> bool {
 ///
 /// A fault ends the run at once, and nothing is written of the lines since the last commit. A last
 /// line that lacks its end changes nothing; where it is a read it is answered.
-pub fn answer<T: Key, S: Store, R: BufRead + HasLine, W: Write>(
+pub(crate) fn answer<T: Key, S: Store, R: BufRead + HasLine, W: Write>(
     kept: &mut Kept<S>,
     map: &mut Map<T>,
     reader: &mut R,

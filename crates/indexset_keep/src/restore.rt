@@ -60,7 +60,7 @@ pub fn is_settled<T: Key>(follower: &Follower<T>) -> bool
 /// Returns a role of the nodes that a follower holds: a leader that goes on with the number that it
 /// awaits, or a follower with this window. Takes no copy of the nodes. Fails with `NodeSize` where a
 /// leader would have a node of more than `size` pairs.
-pub fn begin<T: Key>(
+pub(crate) fn begin<T: Key>(
     alloc: Global,
     follower: Follower<T>,
     size: usize,
