@@ -1,10 +1,12 @@
 //! What the programs in small return: a time window, an order book, a leaderboard, a secondary
 //! index, a map and its copy, standings read from a copy, accounts.
 
-ghost use Rattle.std.specs.Prelude.{◌<◌};
+ghost use Rattle.std.specs.Prelude.{◌<◌, ◌≤◌, [], length};
+ghost use Rattle.std.specs.Ordering.{nat_cmp};
+ghost use Rattle.indexset.specs.Words.{by_key, IsBeginning};
 
 use crate::accounts::{self, Accounts};
-use crate::follower::{self, Primary};
+use crate::follower::{Balance, Primary};
 use crate::leaderboard::{self, Board, Entry};
 use crate::order_book::{self, Book};
 use crate::secondary_index::{self, Index};
@@ -151,6 +153,10 @@ fn show_tag(rt: &HostRuntime, index: &mut Index, tag: &ByteStr) -> Result<()> {
 
 fn show_follower(rt: &HostRuntime) -> Result<()> {
     let mut primary = Primary::new(rt.alloc());
+    play_follower(rt, &mut primary)
+}
+
+fn play_follower(rt: &HostRuntime, primary: &mut Primary) -> Result<()> {
     for (account, balance) in [(5, 100), (2, 40), (5, 90), (8, 60)] {
         primary.set(account, balance)?;
     }
@@ -159,9 +165,16 @@ fn show_follower(rt: &HostRuntime) -> Result<()> {
         return Ok(());
     }
     let mut copy = Replica::new(rt.alloc(), 0);
-    let all = primary.deliver(&mut copy, &[1, 0, 0, 3, 1])?;
+    show_copy(rt, primary, &mut copy)
+}
+
+fn show_copy(rt: &HostRuntime, primary: &Primary, copy: &mut Replica<Balance>) -> Result<()>
+    requires issued { 5 ≤ length primary.now.events.items }
+    requires at { IsBeginning (by_key nat_cmp) 0 [] primary.now.events.items copy.old }
+{
+    let all = primary.deliver(copy, &[1, 0, 0, 3, 1])?;
     println!(rt; "the copy awaits {}, and has got all: {all}", copy.next())?;
-    let all = primary.deliver(&mut copy, &[3, 2, 3, 4])?;
+    let all = primary.deliver(copy, &[3, 2, 3, 4])?;
     println!(rt; "the copy awaits {}, and has got all: {all}", copy.next())?;
     for Pair { key, value } in copy.iter() {
         println!(rt; "account {key} has {value}")?;
