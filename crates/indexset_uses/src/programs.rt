@@ -4,6 +4,7 @@
 ghost use Rattle.std.specs.Prelude.{◌<◌, ◌≤◌, [], length};
 ghost use Rattle.std.specs.Ordering.{nat_cmp};
 ghost use Rattle.indexset.specs.Words.{by_key, IsBeginning};
+ghost use Rattle.indexset_uses.specs.Standings.{HoldsBeginning, IsHistory};
 
 use crate::accounts::{self, Accounts};
 use crate::follower::{Balance, Primary};
@@ -15,6 +16,7 @@ use crate::window::{self, Window};
 use anyhow::Result;
 use bytes::ByteStr;
 use indexset::base::pair::Pair;
+use indexset::cdc::change::ChangeEvent;
 use indexset::replica::Replica;
 use indexset::{BTreeMap, BTreeSet};
 use std::cmp::Reverse;
@@ -185,21 +187,42 @@ fn show_copy(rt: &HostRuntime, primary: &Primary, copy: &mut Replica<Balance>) -
 fn show_standings(rt: &HostRuntime) -> Result<()> {
     let mut scores = Scores::with_maximum_node_size(rt.alloc(), 4);
     let mut events = Vec::new(rt.alloc());
-    standings::enter(&mut scores, &mut events, Reverse(300), 1)?;
-    standings::enter(&mut scores, &mut events, Reverse(100), 2)?;
-    standings::enter(&mut scores, &mut events, Reverse(500), 3)?;
-    standings::enter(&mut scores, &mut events, Reverse(300), 4)?;
-    standings::enter(&mut scores, &mut events, Reverse(200), 5)?;
+    play_standings(rt, &mut scores, &mut events)
+}
+
+fn play_standings(
+    rt: &HostRuntime,
+    scores: &mut Scores,
+    events: &mut Vec<ChangeEvent<standings::Entry>>,
+) -> Result<()>
+    requires { IsHistory scores.old events.old.items }
+{
+    standings::enter(scores, events, Reverse(300), 1)?;
+    standings::enter(scores, events, Reverse(100), 2)?;
+    standings::enter(scores, events, Reverse(500), 3)?;
+    standings::enter(scores, events, Reverse(300), 4)?;
+    standings::enter(scores, events, Reverse(200), 5)?;
     if events.len() < 6 {
         return Ok(());
     }
     let mut ranking = Ranking::new(rt.alloc(), 0);
-    let order = [1, 0, 0, 5, 1, 2, 1];
-    standings::deliver(&scores, events.as_slice(), &mut ranking, &order)?;
-    show_ranks(rt, &ranking)?;
-    let order = [2, 4, 3, 4, 5];
-    standings::deliver(&scores, events.as_slice(), &mut ranking, &order)?;
-    show_ranks(rt, &ranking)
+    show_ranking(rt, scores, events.as_slice(), &mut ranking)
+}
+
+fn show_ranking(
+    rt: &HostRuntime,
+    scores: &Scores,
+    events: &[ChangeEvent<standings::Entry>],
+    ranking: &mut Ranking,
+) -> Result<()>
+    requires history { IsHistory scores.now events.now }
+    requires issued { 6 ≤ length events.now }
+    requires held { HoldsBeginning events.now ranking.old }
+{
+    standings::deliver(scores, events, ranking, &[1, 0, 0, 5, 1, 2, 1])?;
+    show_ranks(rt, ranking)?;
+    standings::deliver(scores, events, ranking, &[2, 4, 3, 4, 5])?;
+    show_ranks(rt, ranking)
 }
 
 fn show_ranks(rt: &HostRuntime, ranking: &Ranking) -> Result<()> {
