@@ -174,7 +174,7 @@ impl<T> Spine<T> {
     // Returns the spot of the first item that the probe finds Equal, or its insertion point,
     // searched for as among so many nodes.
     #[inline(always)]
-    fn locate_among<P: Probe<T>>(&self, probe: &mut P, nodes: usize) -> Spot
+    fn locate_among<P: Probe<T>>(&self, probe: &mut P, node_count: usize) -> Spot
         requires { IsParted (P.answer probe.old) (items self.now) }
         ensures node { result.node ≡ node_for (P.answer probe.old) self.now.nodes }
         ensures offset { result.offset ≡ less_count (P.answer probe.old)
@@ -190,11 +190,11 @@ impl<T> Spine<T> {
             + (digits (length self.now.nodes) + digits self.now.size + 1) }
     {
         let node = node_by::<T, Vec<T>, ReadVec, P>(self.nodes.as_slice(), probe);
-        self.locate_in(node, probe, nodes)
+        self.locate_in(node, probe, node_count)
     }
 
     // Does the same, in the node that a search names.
-    fn locate_in<P: Probe<T>>(&self, node: usize, probe: &mut P, nodes: usize) -> Spot
+    fn locate_in<P: Probe<T>>(&self, node: usize, probe: &mut P, node_count: usize) -> Spot
         requires parted { IsParted (P.answer probe.old) (items self.now) }
         requires node { node ≡ node_for (P.answer probe.old) self.now.nodes }
         ensures node { result.node ≡ node }
@@ -210,7 +210,7 @@ impl<T> Spine<T> {
         ensures few { P.asked probe.new ≤ P.asked probe.old + (digits self.now.size + 1) }
     {
         let items = self.nodes[node].as_slice();
-        let (offset, found) = search::place_in(items, probe, nodes);
+        let (offset, found) = search::place_in(items, probe, node_count);
         Spot {
             node,
             offset,
