@@ -15,10 +15,12 @@ from concurrent.futures import ThreadPoolExecutor
 from tables import Programs, shown, table
 
 ONCE = ["append, all above", "retain, every second"]  # of as many elements as there are keys, each an operation
-WHOLE = ["clone", "equality", "from"]  # so is it of these
+# So is it of these.
+WHOLE = ["iterate", "iterate from both ends", "map, iterate", "clone", "equality", "from", "from, ascending", "from_unsorted"]
+SPLIT = "split in the middle"  # one operation
 CHANGES = ["insert", "remove", "pop_last", "pop_first", "map, insert", "texts, insert", "texts, remove"]
 LOOK_UPS = ["contains", "contains, absent", "element at a position", "rank", "range of 100", "map, get", "map, get_mut", "texts, get", "first"]
-ROWS = [*LOOK_UPS, *CHANGES, *WHOLE, *ONCE]
+ROWS = [*LOOK_UPS, *CHANGES, *WHOLE, *ONCE, SPLIT]
 COUNT = 100_000  # calls of a run, as many as a program prepares; changes of no more than there are keys
 WHAT = "instructions/misses of the first level/of the last level/mispredicted branches"
 # Each counter is the sum of events.
@@ -60,6 +62,8 @@ def has_row(program: pathlib.Path, row: str) -> bool:
 
 def counts(row: str, keys: int) -> tuple[int, int]:
     """How often a row is called, and how many operations these are."""
+    if row == SPLIT:
+        return 1, 1
     if row in [*WHOLE, *ONCE]:
         times = 1 if row in ONCE else max(COUNT // keys, 1)
         return times, times * keys

@@ -291,17 +291,20 @@ static void measure_from(const char *name, const Keys &values) {
 }
 
 template <class Map>
+static uint64_t walked_pairs(const Map &map) {
+    uint64_t sum = 0;
+    for (auto &pair : map) sum += pair.first + pair.second;
+    return sum;
+}
+
+template <class Map>
 static void measure_map(const Lists &lists) {
     uint64_t keys = lists.mixed.size();
     Map map;
     row("map, insert", keys, [&] { return inserted_pairs(map, lists.mixed); });
     row("map, get", keys, [&] { return looked_up(map, lists.sought); });
     row("map, get_mut", keys, [&] { return written(map, lists.sought); });
-    row("map, iterate", keys, [&] {
-        uint64_t sum = 0;
-        for (auto &pair : map) sum += pair.first + pair.second;
-        return sum;
-    });
+    row("map, iterate", keys, [&] { return walked_pairs(map); });
 }
 
 template <class Map>
@@ -354,18 +357,37 @@ static Keys prepared(const std::string &name, uint64_t keys, uint64_t count) {
     return list;
 }
 
+// Does the work as often as there are keys.
+template <class Work>
+static uint64_t times(const Keys &asked, Work work) {
+    uint64_t sum = 0;
+    for (size_t i = 0; i < asked.size(); i++) {
+        sum += work();
+        asm volatile("" : : : "memory");
+    }
+    return sum;
+}
+
 // Whether the library has the row, of a set.
 template <class Library>
 static bool call_set(const std::string &name, uint64_t keys, const Keys &asked) {
-    typename Library::Set set;
+    using Set = typename Library::Set;
+    Set set;
     sink = inserted(set, listed(keys, key));
     if (name == "contains" || name == "contains, absent") return sink = contained(set, asked), true;
     if (name == "range of 100") return sink = ranges(set, keys, asked.size()), true;
+    if (name == "iterate") return sink = times(asked, [&] { return walked(set); }), true;
+    if (name == "iterate from both ends") return sink = times(asked, [&] { return walked_from_both_ends(set); }), true;
     if (name == "insert") return sink = inserted(set, asked), true;
     if (name == "remove") return sink = removed(set, asked), true;
     if constexpr (Library::has_positions) {
         if (name == "element at a position") return sink = by_position(set, asked), true;
         if (name == "rank") return sink = ranks(set, asked), true;
+    }
+    if constexpr (Library::has_split) {
+        Set upper;
+        if (name == "split in the middle" && !asked.empty()) Library::split(set, UINT64_MAX / 2, upper);
+        if (name == "split in the middle") return sink = set.size() + upper.size(), true;
     }
     return false;
 }
@@ -379,11 +401,12 @@ static bool call_whole(const std::string &name, uint64_t keys, uint64_t count) {
     std::optional<Set> copy(set);
     Set above;
     sink = inserted(above, listed(keys, [=](uint64_t i) { return keys + i; }));
-    Keys mixed = listed(keys, key);
+    Keys mixed = listed(keys, key), ascending = listed(keys, [](uint64_t i) { return i; });
     for (uint64_t i = 0; i < count; i++) {
         if (name == "append, all above") Library::append(set, above);
         if (name == "retain, every second") Library::erase_if(set, is_odd);
         if (name == "from") copy.emplace(mixed.begin(), mixed.end());
+        if (name == "from, ascending") copy.emplace(ascending.begin(), ascending.end());
         if (name == "clone") copy.emplace(set);
         if (name == "pop_last") set.erase(--set.end());
         if (name == "pop_first") set.erase(set.begin());
@@ -412,6 +435,7 @@ static bool call_map(const std::string &name, uint64_t keys, const Keys &asked) 
     if (name == "map, insert") return sink = inserted_pairs(map, asked), true;
     if (name == "map, get") return sink = looked_up(map, asked), true;
     if (name == "map, get_mut") return sink = written(map, asked), true;
+    if (name == "map, iterate") return sink = times(asked, [&] { return walked_pairs(map); }), true;
     return false;
 }
 
@@ -432,7 +456,7 @@ template <class Library>
 static bool call(const std::string &name, uint64_t keys, uint64_t count) {
     Keys asked = prepared(name, keys, count);
     if (name == "first") return call_first<typename Library::Set>(keys, count);
-    for (auto whole : {"append, all above", "retain, every second", "from", "clone", "equality", "pop_last", "pop_first"})
+    for (auto whole : {"append, all above", "retain, every second", "from", "from, ascending", "clone", "equality", "pop_last", "pop_first"})
         if (name == whole) return call_whole<Library>(name, keys, count);
     if (name.rfind("map, ", 0) == 0) return call_map<typename Library::Map>(name, keys, asked);
     if (name.rfind("texts, ", 0) == 0) return call_texts<typename Library::TextMap>(name, keys, asked);

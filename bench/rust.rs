@@ -95,6 +95,10 @@ fn measure_positions(set: &BTreeSet<u64>, sought: &[u64], positions: &[u64], key
 #[cfg(not(feature = "of_the_crate"))]
 fn measure_positions(_set: &BTreeSet<u64>, _sought: &[u64], _positions: &[u64], _keys: u64) {}
 
+fn walked(set: &BTreeSet<u64>) -> u64 {
+    set.iter().fold(0u64, |sum, key| sum.wrapping_add(*key))
+}
+
 fn both_ends(set: &BTreeSet<u64>) -> u64 {
     let mut sum = 0u64;
     let mut walk = set.iter();
@@ -119,7 +123,7 @@ fn ranges(set: &BTreeSet<u64>, keys: u64, times: u64) -> u64 {
 
 fn measure_walks(set: &mut BTreeSet<u64>, keys: u64) {
     let start = Instant::now();
-    black_box(set.iter().fold(0u64, |sum, key| sum.wrapping_add(*key)));
+    black_box(walked(set));
     row("iterate", start, keys);
     let start = Instant::now();
     black_box(both_ends(set));
@@ -230,13 +234,17 @@ fn measure_map(mixed: &[u64], sought: &[u64], keys: u64) {
     written(&mut map, sought);
     row("map, get_mut", start, keys);
     let start = Instant::now();
-    black_box(map.iter().fold(0u64, |sum, (key, value)| sum.wrapping_add(*key).wrapping_add(*value)));
+    black_box(walked_pairs(&map));
     row("map, iterate", start, keys);
 }
 
 /// The keys in decimal.
 fn texts_of(keys: impl Iterator<Item = u64>) -> Vec<String> {
     keys.map(|key| key.to_string()).collect()
+}
+
+fn walked_pairs(map: &BTreeMap<u64, u64>) -> u64 {
+    map.iter().fold(0u64, |sum, (key, value)| sum.wrapping_add(*key).wrapping_add(*value))
 }
 
 fn insert_texts(map: &mut BTreeMap<String, u64>, texts: Vec<String>) {
@@ -331,6 +339,12 @@ fn call_set(name: &str, keys: u64, asked: &[u64]) -> bool {
     match name {
         "contains" | "contains, absent" => black_box(contained(&set, asked)),
         "range of 100" => black_box(ranges(&set, keys, asked.len() as u64) as usize),
+        "iterate" => black_box(asked.iter().fold(0u64, |sum, _| sum.wrapping_add(walked(black_box(&set)))) as usize),
+        "iterate from both ends" => {
+            black_box(asked.iter().fold(0u64, |sum, _| sum.wrapping_add(both_ends(black_box(&set)))) as usize)
+        }
+        "split in the middle" if asked.is_empty() => set.len(),
+        "split in the middle" => black_box(set.split_off(&(u64::MAX / 2))).len(),
         "insert" => insert_all(&mut set, asked.iter().copied()),
         "remove" => black_box(asked.iter().filter(|key| set.remove(*key)).count()),
         _ => return call_by_position(name, &set, asked),
@@ -349,6 +363,7 @@ fn call_whole(name: &str, keys: u64, count: u64) -> bool {
         match name {
             "append, all above" => set.append(&mut above),
             "retain, every second" => set.retain(|key| key % 2 == 0),
+            "from, ascending" => drop(black_box((0..keys).collect::<Vec<u64>>().into_iter().collect::<BTreeSet<u64>>())),
             "from" => drop(black_box(mixed.iter().copied().collect::<BTreeSet<u64>>())),
             "clone" => drop(black_box(set.clone())),
             "equality" => drop(black_box(set == copy)),
@@ -377,6 +392,9 @@ fn call_map(name: &str, keys: u64, asked: &[u64]) -> bool {
             black_box(looked_up(&map, asked));
         }
         "map, get_mut" => written(&mut map, asked),
+        "map, iterate" => {
+            black_box(asked.iter().fold(0u64, |sum, _| sum.wrapping_add(walked_pairs(black_box(&map)))));
+        }
         _ => return false,
     }
     black_box(map.len());
@@ -406,7 +424,7 @@ fn call(name: &str, keys: u64, count: u64) -> bool {
     let asked = prepared(name, keys, count);
     match name {
         "first" => call_first(keys, count),
-        "append, all above" | "from" | "clone" | "equality" | "pop_last" | "pop_first" | "retain, every second" => {
+        "append, all above" | "from" | "from, ascending" | "clone" | "equality" | "pop_last" | "pop_first" | "retain, every second" => {
             call_whole(name, keys, count)
         }
         _ if name.starts_with("map, ") => call_map(name, keys, &asked),

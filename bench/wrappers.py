@@ -10,8 +10,10 @@ import sys
 import build
 from tables import table
 
-ROWS = {"insert": "insert", "contains": "contains", "rank": "rank", "at": "at", "remove": "remove"}
+ROWS = ["insert", "contains", "rank", "at", "remove"]
+TEXTS = {"text_insert": "insert", "text_get": "get", "text_remove": "remove"}
 OUT = build.TOP / "bindings"
+ABSL = ["-labsl_throw_delegate", "-labsl_raw_logging_internal"]
 BACKENDS = {"extension": "the compiled module", "ctypes": "ctypes"}
 Cells = dict[tuple[int, str], str]  # by number of keys and row: our figure, the other's
 
@@ -34,9 +36,9 @@ def read_python(text: str) -> Cells:
 def c_cells(keys: list[str]) -> Cells:
     build.OUT.mkdir(exist_ok=True)
     made, library = build.OUT / "beside", OUT / "c/out/libindexset.a"
-    built = library.exists() and build.ran("g++", "-O2", "-I", str(OUT / "c"), str(build.HERE / "beside.cpp"), str(library), "-o", str(made))
+    built = library.exists() and build.ran("g++", "-O2", "-I", str(OUT / "c"), str(build.HERE / "beside.cpp"), str(library), *ABSL, "-o", str(made))
     if not built:
-        print("C is left out: `make -C bindings/c` makes its library, and `g++` the program")
+        print("C is left out: `make -C bindings/c` makes its library, and `g++` the program, with Debian's `libabsl-dev`")
         return {}
     return read(subprocess.run(["taskset", "-c", "0", made, *keys], check=True, capture_output=True, text=True).stdout)
 
@@ -65,7 +67,8 @@ def of_wrappers(keys: list[int]) -> str | None:
     words = [str(k) for k in keys]
     in_c = c_cells(words)
     found = {name: cells for name in BACKENDS if (cells := python_cells(words, name)) is not None}
-    lines = [[shown, *(in_c.get((k, row), "–") for k in keys)] for row, shown in ROWS.items()]
-    parts = [table(["Ours/pb_ds, in C", *(f"{k:,}" for k in keys)], lines)] if in_c else []
+    heads = {"Ours/pb_ds, in C": dict(zip(ROWS, ROWS)), "Texts, ours/std/absl": TEXTS}
+    tables = {head: [[shown, *(in_c.get((k, row), "–") for k in keys)] for row, shown in rows.items()] for head, rows in heads.items()}
+    parts = [table([head, *(f"{k:,}" for k in keys)], lines) for head, lines in tables.items() if in_c]
     parts += [of_python(found, keys)] if found else []
     return "\n".join(parts) or None

@@ -1,9 +1,7 @@
 -- The ends of an ascending list: nothing is below the first, and nothing above the last.
-use Rattle.std.proofs.Common.{◌≡◌, ℕ, zero, suc, ◌+◌, ◌-◌, ◌<◌, Bool, true, false, cond, filter, List, [], ◌∷◌, ◌++◌, length, length-append, remove, get_or, slice_get, Option, Some, None, IfSome, Ordering, refl, ap, ◌∙◌, inl, inr, subst, arith}
-use Rattle.std.specs.Borrow.{Bor}
+use Rattle.std.proofs.Common.{◌≡◌, ℕ, zero, suc, ◌+◌, ◌-◌, ◌<◌, Bool, true, false, cond, filter, List, [], ◌∷◌, ◌++◌, length, remove, get_or, slice_get, Some, Ordering, refl, ap, ◌∙◌, inl, inr, subst, arith}
 use Rattle.std.specs.Cmp.{IsTotalOrder}
 use Rattle.std.specs.List.{All}
-use Rattle.std.specs.Map.Iter.{TakesFirst, TakesLast, deref}
 use Rattle.std.specs.Ordering.{is_lt, is_gt}
 use Rattle.std.specs.declared.cmp.Ordering.TheVariants.{Less}
 use Rattle.std.proofs.lemmas.Bool.{cases_lt}
@@ -13,7 +11,7 @@ use Rattle.std.proofs.lemmas.List.Elements.{All-cons, All-nil}
 use Rattle.std.proofs.lemmas.List.Sums.{length-filter}
 use Rattle.std.proofs.lemmas.Option.{get_or_from_slice_get, slice_get_within}
 use Rattle.indexset_core.specs.Order.{IsAscending, above, below, has_equal}
-use Rattle.indexset_core.proofs.CallerLemmas.{count_parted, found_has_equal, rank-slice_get, slice_get-right}
+use Rattle.indexset_core.proofs.CallerLemmas.{count_parted, found_has_equal, rank-slice_get}
 
 -- where no element is left by a test, each fails it
 pub none_passes : {X : Type 0} (p : X → Bool) (l : List X) → filter p l ≡ [] → All (λ x. p x ≡ false) l
@@ -48,31 +46,25 @@ module _ {T : Type 0} (cmp : T → T → Ordering) (o : IsTotalOrder cmp) (l : L
     below_before = λ k d low high. subst (λ y. cmp (get_or l k d) y ≡ Less) (get_or_from_slice_get l i x d is) (up k i d high (slice_get_within l i x is));
   })
 
-  pub first_least : (r : Option (Bor T)) (rest : List T) → TakesFirst deref l r rest → IfSome r (λ x. below cmp l x.now ≡ [])
-  first_least None rest is = tt
-  first_least (Some x) rest is = none_below x.now (rw is refl)
+  module _ (x : T) (is : slice_get l 0 ≡ Some x) where
+    pub first_least : below cmp l x ≡ []
+    first_least = none_below x is
 
-  pub last_greatest : (r : Option (Bor T)) (rest : List T) → TakesLast deref l r rest → IfSome r (λ x. above cmp l x.now ≡ [])
-  last_greatest None rest is = tt
-  last_greatest (Some x) rest is =
-      let end : length l - 1 ≡ length rest + 0 = omega (arith, ap (λ q. length q) is, length-append rest (x.now ∷ [])) in
-      none_above x.now (rw end (rw is (slice_get-right rest (x.now ∷ []) (length rest + 0) 0 refl)))
+    pub first_held : has_equal cmp l x ≡ true
+    first_held = held_at 0 x is
 
-  pub first_held : (r : Option (Bor T)) (rest : List T) → TakesFirst deref l r rest → IfSome r (λ x. has_equal cmp l x.now ≡ true)
-  first_held None rest is = tt
-  first_held (Some x) rest is = held_at 0 x.now (rw is refl)
+    pub all_from_first : All (λ y. is_lt (cmp y x) ≡ false) l
+    all_from_first = none_passes (λ y. is_lt (cmp y x)) l first_least
 
-  pub last_held : (r : Option (Bor T)) (rest : List T) → TakesLast deref l r rest → IfSome r (λ x. has_equal cmp l x.now ≡ true)
-  last_held None rest is = tt
-  last_held (Some x) rest is = held_at (length rest + 0) x.now (rw is (slice_get-right rest (x.now ∷ []) (length rest + 0) 0 refl))
+  module _ (x : T) (is : slice_get l (length l - 1) ≡ Some x) where
+    pub last_greatest : above cmp l x ≡ []
+    last_greatest = none_above x is
 
-  pub all_from_first : (r : Option (Bor T)) (rest : List T) → TakesFirst deref l r rest → IfSome r (λ x. All (λ y. is_lt (cmp y x.now) ≡ false) l)
-  all_from_first None rest is = tt
-  all_from_first (Some x) rest is = none_passes (λ y. is_lt (cmp y x.now)) l (first_least (Some x) rest is)
+    pub last_held : has_equal cmp l x ≡ true
+    last_held = held_at (length l - 1) x is
 
-  pub all_up_to_last : (r : Option (Bor T)) (rest : List T) → TakesLast deref l r rest → IfSome r (λ x. All (λ y. is_gt (cmp y x.now) ≡ false) l)
-  all_up_to_last None rest is = tt
-  all_up_to_last (Some x) rest is = none_passes (λ y. is_gt (cmp y x.now)) l (last_greatest (Some x) rest is)
+    pub all_up_to_last : All (λ y. is_gt (cmp y x) ≡ false) l
+    all_up_to_last = none_passes (λ y. is_gt (cmp y x)) l last_greatest
 
 parted_at : {T : Type 0} (l : List T) (i : ℕ) (x : T) → slice_get l i ≡ Some x → i + 1 ≡ length l → l ≡ remove l i ++ x ∷ []
 parted_at [] i x is end = absurd (omega (arith, end))

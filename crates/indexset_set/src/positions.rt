@@ -38,7 +38,8 @@ impl<T: Ord> BTreeSet<T> {
         ensures all_from { IfSome result (λ least. All (λ x. is_lt (T.cmp x least.now) ≡ false)
             (items self.now)) }
     {
-        self.spine.iter().next()
+        let spot = self.spine.first_spot()?;
+        Some(self.spine.item(&spot))
     }
 
     /// Returns the last element, the greatest, if any.
@@ -58,7 +59,8 @@ impl<T: Ord> BTreeSet<T> {
         ensures all_up_to { IfSome result
             (λ greatest. All (λ x. is_gt (T.cmp x greatest.now) ≡ false) (items self.now)) }
     {
-        self.spine.iter().next_back()
+        let spot = self.spine.last_spot()?;
+        Some(self.spine.item(&spot))
     }
 }
 
