@@ -12,7 +12,8 @@ use crate::search::{self, choose};
 use crate::walk::ReadNode;
 use std::ops::Bound;
 
-// Up to how many nodes a search does without branches: those of more would not stay in the cache.
+// Up to how many nodes a search does without branches, where their items stay in the cache too: the
+// last items of more nodes would not.
 const NEAR_NODES: usize = 1 << 10;
 
 /// Returns the place of the first node whose last item is not found Less, else of the last node, by
@@ -27,7 +28,12 @@ pub fn node_by<T, Node, R: ReadNode<T, Node>, P: Probe<T>>(nodes: &[Node], probe
     ensures fixed { P.answer probe.new ≡ P.answer probe.old }
     ensures few { P.asked probe.new ≤ P.asked probe.old + digits (length nodes.now) }
 {
-    if nodes.len() <= NEAR_NODES {
+    if nodes.len() == 1 {
+        return 0;
+    }
+    // The node that either search reads first stands for all.
+    let items = R::items_of(&nodes[(nodes.len() - 1) / 2]);
+    if nodes.len() <= NEAR_NODES && search::is_near(items, nodes.len()) {
         node_near::<T, Node, R, P>(nodes, probe)
     } else {
         node_far::<T, Node, R, P>(nodes, probe)

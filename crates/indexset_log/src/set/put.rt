@@ -267,7 +267,7 @@ impl<T: Ord + Clone + Drop, Node: NodeLike<T>> BTreeSet<T, Node> {
             node,
             full,
             right,
-            at: search::find(part_of(items, full, right), value),
+            at: search::find_in(part_of(items, full, right), value, self.nodes.len()),
         }
     }
 

@@ -25,11 +25,11 @@ read g c =
     let inside : c.node_by-node.result < length c.args.self.now.nodes = omega (arith, at, c.requires) in
     (at, inside, c.as_slice-items.ensures.value ∙ (c.iter.ensures ∙ node_held t c.node_by-node.result inside c.index.ensures))
 
-pub find-requires : goal.find-requires
-find-requires g c =
+pub find_in-requires : goal.find_in-requires
+find_in-requires g c =
     let t = held g.Node.NodeLike.list c.self.inside.nodes.items c.self.view_is c.self.invariant in
     let cmp = g.T.Ord.cmp in
-    let r = read g (goal.at.find-requires g c).After-as_slice-items in
+    let r = read g (goal.at.find_in-requires g c).After-as_slice-items in
     rw (c.part_of.ensures, r.2) (ascends cmp _ (half_up cmp _ c.if-full.right _ (up_node cmp c.args.self.now.nodes c.node_by-node.result (lawful_ruled cmp _ c.args.self.now.nodes t.rule.lawful))))
 
 pub returns : goal.returns
@@ -63,6 +63,6 @@ returns g c =
       node_is = r.0;
       full_is = full;
       right_is = right;
-      found = subst (λ q. IfOk c.find.result (IsFoundAt cmp q v)) half c.find.ensures.found;
-      gap = subst (λ q. IfErr c.find.result (IsGapFor cmp q v)) half c.find.ensures.absent;
+      found = subst (λ q. IfOk c.find_in.result (IsFoundAt cmp q v)) half c.find_in.ensures.found;
+      gap = subst (λ q. IfErr c.find_in.result (IsGapFor cmp q v)) half c.find_in.ensures.absent;
     }
