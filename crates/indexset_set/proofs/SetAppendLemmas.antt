@@ -1,5 +1,5 @@
 -- Two ascending lists, one behind the other.
-use Rattle.std.proofs.Common.{◌≡◌, ℕ, suc, ◌+◌, ◌-◌, ◌<◌, ◌↔◌, ◌⊎◌, true, false, List, [], ◌∷◌, ◌++◌, length, take, drop, get_or, Ordering, Some, slice_get, refl, ap, sym, ◌∙◌, inl, inr, subst, arith, length-append, append_assoc}
+use Rattle.std.proofs.Common.{◌≡◌, ℕ, suc, ◌+◌, ◌-◌, ◌<◌, ◌≤◌, ◌↔◌, ◌⊎◌, true, false, List, [], ◌∷◌, ◌++◌, length, take, drop, get_or, Ordering, Some, slice_get, refl, ap, sym, ◌∙◌, inl, inr, subst, arith, length-append, append_assoc}
 use Rattle.std.specs.declared.cmp.Ordering.TheVariants.{Less}
 use Rattle.std.specs.Cmp.{IsTotalOrder}
 use Rattle.std.specs.List.{All, AllPairs, fold}
@@ -16,9 +16,9 @@ use Rattle.indexset_core.specs.Order.{IsAscending, IsGapFor, has_equal, keep, pu
 use Rattle.indexset_core.proofs.CallerLemmas.{gap_has_equal, gap_put, less_from, slice_get-right}
 use Rattle.indexset_spine.specs.Cut.{Cut, IsCut, cut, end_spot, with_all_last, with_last}
 use Rattle.indexset_spine.specs.Edits.{TakesSome}
-use Rattle.indexset_spine.proofs.CallerLemmas.{cut_all_last, cut_last, end_node, end_offset, joined_all_last, joined_last, takes_all}
+use Rattle.indexset_spine.proofs.CallerLemmas.{cut_all_last, cut_last, empty_cut, end_node, end_offset, joined_all_last, joined_last, takes_all}
 use Rattle.indexset_set.specs.SetAlgebra.{put_all}
-use Rattle.indexset_set.specs.SetNodes.{PutsSome, nodes_kept, nodes_put, nodes_put_all, spot_of}
+use Rattle.indexset_set.specs.SetNodes.{PutsSome, nodes_kept, nodes_kept_all, nodes_put, nodes_put_all, spot_of}
 use Rattle.indexset_set.proofs.SetCloneLemmas.{gap_behind, keep_behind}
 use Rattle.indexset_set.proofs.SetNodeLemmas.{kept_new, put_new, spot_told}
 
@@ -127,6 +127,22 @@ module _ {T : Type 0} (cmp : T → T → Ordering) (size : ℕ) where
   put_all_last ns (x ∷ xs) is up =
       ap (λ ms. fold (λ ms x. nodes_put cmp (cut ms size) x) ms xs) (put_last ns x xs is up)
       ∙ put_all_last (with_last size ns x) xs (cut_last size ns x is) (still_up ns x xs is up)
+
+  pub kept_all_last : (ns : List (List T)) (xs : List T) → IsCut (node_lengths ns) size → IsAscending cmp (joined ns ++ xs) → fold (λ ms x. nodes_kept cmp (cut ms size) x) ns xs ≡ fold (with_last size) ns xs
+  kept_all_last ns [] is up = refl
+  kept_all_last ns (x ∷ xs) is up =
+      ap (λ ms. fold (λ ms x. nodes_kept cmp (cut ms size) x) ms xs) (kept_last ns x xs is up)
+      ∙ kept_all_last (with_last size ns x) xs (cut_last size ns x is) (still_up ns x xs is up)
+
+  -- a set of ascending elements, made by blocks
+  module _ (two : 2 ≤ size) (xs : List T) (ns : List (List T)) (made : ns ≡ with_all_last size ([] ∷ []) xs) where
+    pub blocks_items : joined ns ≡ xs
+    unfolding with_all_last
+    blocks_items = ap joined made ∙ joined_all_last size ([] ∷ []) xs (empty_cut size two)
+
+    pub blocks_nodes : IsAscending cmp xs → ns ≡ nodes_kept_all cmp (cut ([] ∷ []) size) xs
+    unfolding with_all_last nodes_kept_all
+    blocks_nodes up = made ∙ sym (kept_all_last ([] ∷ []) xs (empty_cut size two) up)
 
   -- some first ones of those above
   module _ (ns ms : List (List T)) (xs rest : List T) (is : IsCut (node_lengths ns) size) (up : IsAscending cmp (joined ns ++ xs)) (taken : TakesSome (with_last size) ns xs ms rest) where

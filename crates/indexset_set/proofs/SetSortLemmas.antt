@@ -12,7 +12,6 @@ use Rattle.std.proofs.lemmas.List.Folds.{find-append}
 use Rattle.std.proofs.lemmas.List.Kept.{IsStrictlySortedBy-dedup}
 use Rattle.indexset_core.specs.Order.{IsAscending, equal_element, has_equal, keep, put, rank}
 use Rattle.indexset_core.proofs.CallerLemmas.{is_some-find}
-use Rattle.indexset_set.proofs.SetCopyLemmas.{kept_all_behind}
 use Rattle.indexset_set.specs.SetNodes.{nodes_kept_all}
 use Rattle.indexset_spine.specs.Cut.{Cut, items}
 use Rattle.indexset_set.proofs.SetAlgebraLaws.{has_alike, keep_ascending, put_absent, equal_is}
@@ -191,13 +190,6 @@ module _ {T : Type 0} (cmp : T → T → Ordering) (o : IsTotalOrder cmp) where
     sorted_kept stable =
         same_elements (dedup same ys) (fold (keep cmp) [] xs) dedup_up (up_from cmp (fold (keep cmp) [] xs) (all_kept_ascending [] xs none_ascend))
         (λ v. found_dedup ys v ∙ (found_stable xs ys stable v ∙ sym (found_all_kept [] xs none_ascend v)))
-
-    -- and so what they make is what all of them make
-    pub made_kept : IsStable cmp xs ys → fold (keep cmp) [] (dedup same ys) ≡ fold (keep cmp) [] xs
-    made_kept stable = kept_all_behind cmp [] (dedup same ys) dedup_ascending ∙ sorted_kept stable
-
-    pub made_items : fold (keep cmp) [] (dedup same ys) ≡ dedup same ys
-    made_items = kept_all_behind cmp [] (dedup same ys) dedup_ascending
 
 -- nodes that are those of a list are those of the items, where these are the list
 pub nodes_of_items : {T E : Type 0} (cmp : T → T → Ordering) (s : Cut T) (l : List T) (r : Result (Cut T) E) → IfOk r (λ made. items made ≡ l) → IfOk r (λ made. made.nodes ≡ nodes_kept_all cmp s l) → IfOk r (λ made. made.nodes ≡ nodes_kept_all cmp s (items made))

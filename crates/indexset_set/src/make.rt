@@ -110,7 +110,8 @@ impl<T: Ord + Drop> BTreeSet<T> {
         Ok(set)
     }
 
-    /// Returns the set of the values, as `from_iter` makes it.
+    /// Returns the set of the values, as `from_iter` makes it. Values that ascend strictly are moved
+    /// into nodes by blocks, after one comparison each.
     ///
     /// ```
     /// let set = BTreeSet::from(alloc, [30, 10, 20])?;
@@ -125,7 +126,23 @@ impl<T: Ord + Drop> BTreeSet<T> {
         ensures refusal { IfErr result (λ e. e ≡ Refusal.Memory) }
     {
         let values = values.into_vec(alloc)?;
+        if is_sorted(values.as_slice()) {
+            return Self::of_ascending(alloc, values);
+        }
         Self::from_iter(alloc, values)
+    }
+
+    // Returns the set of values that ascend strictly, by blocks and with no comparison.
+    fn of_ascending(alloc: Global, values: Vec<T>) -> Result<Self, Refusal>
+        requires order { IsAscending T.cmp values.items }
+        ensures elements { IfOk result (λ s. items s ≡ values.items) }
+        ensures nodes { IfOk result (λ s. s.nodes
+            ≡ nodes_kept_all T.cmp (cut ([] ∷ []) DEFAULT_INNER_SIZE) values.items) }
+        ensures size { IfOk result (λ s. s.size ≡ DEFAULT_INNER_SIZE) }
+        ensures refusal { IfErr result (λ e. e ≡ Refusal.Memory) }
+    {
+        let spine = Spine::of_items(alloc, DEFAULT_INNER_SIZE, values)?;
+        Ok(BTreeSet { spine })
     }
 
     // Returns the set of the values, of this set's node size.
@@ -140,7 +157,7 @@ impl<T: Ord + Drop> BTreeSet<T> {
     }
 
     /// Returns the set of values that ascend strictly, in the nodes that `from` makes of them, by
-    /// two comparisons a value and no search. Where they do not ascend, fails with `Unsorted` and
+    /// one comparison a value and no search. Where they do not ascend, fails with `Unsorted` and
     /// returns them in the error. Fails with `Memory`, and then drops the values.
     ///
     /// ```
@@ -165,7 +182,7 @@ impl<T: Ord + Drop> BTreeSet<T> {
                 cause: Refusal::Unsorted,
             });
         }
-        match Self::from(alloc, values) {
+        match Self::of_ascending(alloc, values) {
             Ok(set) => Ok(set),
             Err(cause) => Err(Refused {
                 value: Vec::new(alloc),
@@ -191,7 +208,7 @@ impl<T: Ord + Drop> BTreeSet<T> {
     {
         values.sort()?;
         values.dedup_by(|next, kept| (*next).cmp(kept).is_eq());
-        Self::from(alloc, values)
+        Self::of_ascending(alloc, values)
     }
 
     /// Returns clones of the elements in nodes as long as these, by one comparison an element,

@@ -1,5 +1,6 @@
 -- What crates above this one may cite of its proofs.
 pub use Rattle.indexset_spine.proofs.AppendLemmas.{cut_all_last, cut_last, joined_all_last, joined_last}
+pub use Rattle.indexset_spine.proofs.BlockLemmas.{empty_cut}
 pub use Rattle.indexset_spine.proofs.CopyLemmas.{copies_joined, copies_lengths}
 pub use Rattle.indexset_spine.proofs.CutEdits.{joined_set, node_filled, position_inside}
 pub use Rattle.indexset_spine.proofs.CutLemmas.{joined-set}

@@ -1,4 +1,5 @@
 pub mod AppendLemmas
+pub mod BlockLemmas
 pub mod CallerLemmas
 pub mod CopyLemmas
 pub mod CutEdits

@@ -1,7 +1,8 @@
 //! Calls that make a spine, and `clear`.
-ghost use Rattle.std.specs.Prelude.{◌≡◌, ◌≤◌, [], ◌∷◌, IfOk, IfErr};
+ghost use Rattle.std.specs.Prelude.{◌≡◌, ◌+◌, ◌*◌, ◌/◌, ◌<◌, ◌≤◌, [], ◌∷◌, IfOk, IfErr};
 ghost use Rattle.std.specs.List.{AllZip};
 ghost use Rattle.indexset_core.specs.Nodes.{node_lengths, vec_items};
+ghost use Rattle.indexset_spine.specs.Cut.{with_all_last};
 
 use super::Spine;
 use indexset_core::refusal::Refusal;
@@ -28,6 +29,26 @@ impl<T: Drop> Spine<T> {
             }),
             Err(_) => Err(Refusal::Memory),
         }
+    }
+
+    /// Returns a spine of items, in the nodes that `insert` of each behind the last leaves, made by
+    /// blocks. It fails with `Memory` alone, and then drops the items.
+    pub fn of_items(alloc: Global, size: usize, items: Vec<T>) -> Result<Self, Refusal>
+        requires { 2 ≤ size }
+        ensures nodes { IfOk result (λ s. s.nodes ≡ with_all_last size ([] ∷ []) items.items) }
+        ensures size { IfOk result (λ s. s.size ≡ size) }
+        ensures refusal { IfErr result (λ e. e ≡ Refusal.Memory) }
+    {
+        let len = items.len();
+        let nodes = nodes_of(alloc, size, items)?;
+        let mut index = Fenwick::with_capacity(alloc, nodes.len())?;
+        index.rebuild::<T, Vec<T>, ReadVec>(nodes.as_slice());
+        Ok(Spine {
+            nodes,
+            size,
+            len,
+            index,
+        })
     }
 
     /// Returns nodes of the same lengths, of clones of the items: the same nodes where clones are
@@ -84,4 +105,33 @@ fn clone_nodes<T: Clone + Drop>(alloc: Global, nodes: &[Vec<T>]) -> Result<Vec<V
         copies.push_reserved(Vec::from_clones(alloc, node.as_slice())?);
     }
     Ok(copies)
+}
+
+// Nodes of these items: halves of the size, and the rest in the last. The list is cut from the back,
+// so that each item moves once.
+fn nodes_of<T: Drop>(alloc: Global, size: usize, mut items: Vec<T>) -> Result<Vec<Vec<T>>, Refusal>
+    requires { 2 ≤ size }
+    ensures nodes { IfOk result (λ nodes. vec_items nodes.items
+        ≡ with_all_last size ([] ∷ []) items.items) }
+    ensures refusal { IfErr result (λ e. e ≡ Refusal.Memory) }
+{
+    let half = size / 2;
+    let mut left = count_halves(items.len(), size);
+    let mut nodes = Vec::with_capacity(alloc, left + 1)?;
+    nodes.push_reserved(items.split_off(left * half)?);
+    while left > 0 {
+        left -= 1;
+        nodes.push_reserved(items.split_off(left * half)?);
+    }
+    nodes.reverse();
+    Ok(nodes)
+}
+
+// How many halves are cut off so many items before the rest is within the size.
+fn count_halves(len: usize, size: usize) -> usize
+    requires { 2 ≤ size }
+    ensures within { len ≤ result * (size / 2) + size }
+    ensures needed { 1 ≤ result → result * (size / 2) + size < len + size / 2 }
+{
+    len.saturating_sub(size).div_ceil(size / 2)
 }
