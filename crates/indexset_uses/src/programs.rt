@@ -1,10 +1,13 @@
 //! What the programs in small return: a time window, an order book, a leaderboard, a secondary
 //! index, a map and its copy, standings read from a copy, accounts.
 
-ghost use Rattle.std.specs.Prelude.{◌<◌};
+ghost use Rattle.std.specs.Prelude.{◌<◌, ◌≤◌, [], length};
+ghost use Rattle.std.specs.Ordering.{nat_cmp};
+ghost use Rattle.indexset.specs.Words.{by_key, IsBeginning};
+ghost use Rattle.indexset_uses.specs.Standings.{HoldsBeginning, IsHistory};
 
 use crate::accounts::{self, Accounts};
-use crate::follower::{self, Primary};
+use crate::follower::{Balance, Primary};
 use crate::leaderboard::{self, Board, Entry};
 use crate::order_book::{self, Book};
 use crate::secondary_index::{self, Index};
@@ -13,6 +16,7 @@ use crate::window::{self, Window};
 use anyhow::Result;
 use bytes::ByteStr;
 use indexset::base::pair::Pair;
+use indexset::cdc::change::ChangeEvent;
 use indexset::replica::Replica;
 use indexset::{BTreeMap, BTreeSet};
 use std::cmp::Reverse;
@@ -151,6 +155,10 @@ fn show_tag(rt: &HostRuntime, index: &mut Index, tag: &ByteStr) -> Result<()> {
 
 fn show_follower(rt: &HostRuntime) -> Result<()> {
     let mut primary = Primary::new(rt.alloc());
+    play_follower(rt, &mut primary)
+}
+
+fn play_follower(rt: &HostRuntime, primary: &mut Primary) -> Result<()> {
     for (account, balance) in [(5, 100), (2, 40), (5, 90), (8, 60)] {
         primary.set(account, balance)?;
     }
@@ -159,9 +167,16 @@ fn show_follower(rt: &HostRuntime) -> Result<()> {
         return Ok(());
     }
     let mut copy = Replica::new(rt.alloc(), 0);
-    let all = primary.deliver(&mut copy, &[1, 0, 0, 3, 1])?;
+    show_copy(rt, primary, &mut copy)
+}
+
+fn show_copy(rt: &HostRuntime, primary: &Primary, copy: &mut Replica<Balance>) -> Result<()>
+    requires issued { 5 ≤ length primary.now.events.items }
+    requires at { IsBeginning (by_key nat_cmp) 0 [] primary.now.events.items copy.old }
+{
+    let all = primary.deliver(copy, &[1, 0, 0, 3, 1])?;
     println!(rt; "the copy awaits {}, and has got all: {all}", copy.next())?;
-    let all = primary.deliver(&mut copy, &[3, 2, 3, 4])?;
+    let all = primary.deliver(copy, &[3, 2, 3, 4])?;
     println!(rt; "the copy awaits {}, and has got all: {all}", copy.next())?;
     for Pair { key, value } in copy.iter() {
         println!(rt; "account {key} has {value}")?;
@@ -172,21 +187,42 @@ fn show_follower(rt: &HostRuntime) -> Result<()> {
 fn show_standings(rt: &HostRuntime) -> Result<()> {
     let mut scores = Scores::with_maximum_node_size(rt.alloc(), 4);
     let mut events = Vec::new(rt.alloc());
-    standings::enter(&mut scores, &mut events, Reverse(300), 1)?;
-    standings::enter(&mut scores, &mut events, Reverse(100), 2)?;
-    standings::enter(&mut scores, &mut events, Reverse(500), 3)?;
-    standings::enter(&mut scores, &mut events, Reverse(300), 4)?;
-    standings::enter(&mut scores, &mut events, Reverse(200), 5)?;
+    play_standings(rt, &mut scores, &mut events)
+}
+
+fn play_standings(
+    rt: &HostRuntime,
+    scores: &mut Scores,
+    events: &mut Vec<ChangeEvent<standings::Entry>>,
+) -> Result<()>
+    requires { IsHistory scores.old events.old.items }
+{
+    standings::enter(scores, events, Reverse(300), 1)?;
+    standings::enter(scores, events, Reverse(100), 2)?;
+    standings::enter(scores, events, Reverse(500), 3)?;
+    standings::enter(scores, events, Reverse(300), 4)?;
+    standings::enter(scores, events, Reverse(200), 5)?;
     if events.len() < 6 {
         return Ok(());
     }
     let mut ranking = Ranking::new(rt.alloc(), 0);
-    let order = [1, 0, 0, 5, 1, 2, 1];
-    standings::deliver(&scores, events.as_slice(), &mut ranking, &order)?;
-    show_ranks(rt, &ranking)?;
-    let order = [2, 4, 3, 4, 5];
-    standings::deliver(&scores, events.as_slice(), &mut ranking, &order)?;
-    show_ranks(rt, &ranking)
+    show_ranking(rt, scores, events.as_slice(), &mut ranking)
+}
+
+fn show_ranking(
+    rt: &HostRuntime,
+    scores: &Scores,
+    events: &[ChangeEvent<standings::Entry>],
+    ranking: &mut Ranking,
+) -> Result<()>
+    requires history { IsHistory scores.now events.now }
+    requires issued { 6 ≤ length events.now }
+    requires held { HoldsBeginning events.now ranking.old }
+{
+    standings::deliver(scores, events, ranking, &[1, 0, 0, 5, 1, 2, 1])?;
+    show_ranks(rt, ranking)?;
+    standings::deliver(scores, events, ranking, &[2, 4, 3, 4, 5])?;
+    show_ranks(rt, ranking)
 }
 
 fn show_ranks(rt: &HostRuntime, ranking: &Ranking) -> Result<()> {
