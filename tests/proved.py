@@ -6,8 +6,12 @@ The last line is 'N passed, M failed'.
 
 from __future__ import annotations
 
+import contextlib
 import functools
 import gzip
+import importlib.machinery
+import importlib.util
+import io
 import json
 import os
 import pathlib
@@ -17,6 +21,7 @@ import sys
 import tarfile
 import tempfile
 from collections.abc import Callable
+from unittest import mock
 
 TOP = pathlib.Path(__file__).resolve().parent.parent
 sys.dont_write_bytecode = True
@@ -26,6 +31,7 @@ import testing  # noqa: E402
 
 NAMES = ["indexset_core", "indexset_index"]
 TOLD = {"format": b"of ", "toolchain/checked.a": bytes(range(256)) * 40}
+TOOL = TOP / "tools/proved"
 
 
 def laid_out(top: pathlib.Path) -> pathlib.Path:
@@ -55,9 +61,33 @@ def built(top: pathlib.Path) -> pathlib.Path:
     return top
 
 
+@functools.cache
+def tool() -> Callable[[], int]:
+    """What tools/proved runs, which is loaded once: the toolchain's module, which it loads, takes long to read."""
+    kit.identity = functools.cache(kit.identity)
+    loader = importlib.machinery.SourceFileLoader("tools_proved", str(TOOL))
+    spec = importlib.util.spec_from_loader("tools_proved", loader)
+    assert spec
+    made = sys.modules["tools_proved"] = importlib.util.module_from_spec(spec)
+    loader.exec_module(made)
+    main: Callable[[], int] = made.main
+    return main
+
+
 def proved(*words: str | pathlib.Path) -> tuple[bool, str]:
     """Whether tools/proved ended well, and what it said."""
-    ran = subprocess.run([sys.executable, TOP / "tools/proved", *words], capture_output=True, text=True)
+    said = io.StringIO()
+    with mock.patch("sys.argv", [str(TOOL), *map(str, words)]), contextlib.redirect_stdout(said), contextlib.redirect_stderr(said):
+        try:
+            status = tool()()
+        except SystemExit as why:
+            raise AssertionError(f"tools/proved stopped: {why}: {said.getvalue()}") from why
+    return status == 0, said.getvalue()
+
+
+def by_itself(*words: str | pathlib.Path) -> tuple[bool, str]:
+    """The same, of tools/proved as a command."""
+    ran = subprocess.run([sys.executable, TOOL, *words], capture_output=True, text=True)
     if ran.returncode not in (0, 1):
         raise AssertionError(f"tools/proved ended with status {ran.returncode}: {ran.stderr}")
     return ran.returncode == 0, ran.stdout + ran.stderr
@@ -110,8 +140,10 @@ def of_manifest(key: str, value: object) -> Callable[[str, bytes], tuple[str, by
 
 
 def test_round_trip(room: pathlib.Path) -> None:
-    to = laid_out(room / "to")
-    well, said = proved("lay", packed(room), to)
+    to, pack = laid_out(room / "to"), room / "pack.tgz"
+    well, said = by_itself("pack", pack, "--of", built(room / "from"), "--crate", "indexset_index")
+    assert well, said
+    well, said = by_itself("lay", pack, to)
     assert well and "rt verdict" in said, said
     for name, (file, data) in ((name, it) for name in NAMES for it in TOLD.items()):
         assert (library(to, name) / file).read_bytes() == data + name.encode(), f"{name}: {file} differs"

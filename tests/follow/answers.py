@@ -6,7 +6,9 @@ import dataclasses
 import hashlib
 import re
 import urllib.parse
+from bisect import bisect_left
 from collections.abc import Callable, Sequence
+from operator import lt
 from typing import Any
 
 MOST = 2**64 - 1
@@ -96,7 +98,7 @@ def event_of(told: re.Match[bytes], spelling: Spelling) -> Event:
 def is_lawful(nodes: list[Node]) -> bool:
     """Whether no node is empty, and the keys ascend."""
     keys = [key for node in nodes for key, _ in node]
-    return all(nodes) and all(a < b for a, b in zip(keys, keys[1:]))
+    return all(nodes) and all(map(lt, keys, keys[1:]))
 
 
 def behind(done: int) -> bytes:
@@ -115,9 +117,14 @@ def told_sum(lines: list[bytes]) -> int:
     return int.from_bytes(hashlib.sha256(b"".join(line + b"\n" for line in lines)).digest()[:8], "big")
 
 
+def ends_below(nodes: list[Node], key: Key) -> int:
+    """How many of some lawful nodes end below a key."""
+    return bisect_left(nodes, key, key=lambda node: node[-1][0])
+
+
 def with_node(nodes: list[Node], node: Node, key: Key) -> list[Node]:
     """The nodes with another one before the first that ends above or at a key."""
-    place = sum(it[-1][0] < key for it in nodes)
+    place = ends_below(nodes, key)
     return [*nodes[:place], node, *nodes[place:]]
 
 
@@ -140,7 +147,8 @@ class Model:
 
     def named(self, name: Pair) -> int | None:
         """The place of the node whose last key is that of the name, or None."""
-        return next((at for at, node in enumerate(self.nodes) if node[-1][0] == name[0]), None)
+        at = ends_below(self.nodes, name[0])
+        return at if at < len(self.nodes) and self.nodes[at][-1][0] == name[0] else None
 
     def changed(self, at: int, event: Event) -> list[Node] | str:
         """What comes in place of a node, and of the next one where these merge; or why the event is no step."""
@@ -256,9 +264,12 @@ class Model:
         """What is written to a last line that lacks its end."""
         return [self.cut(line)] if self.asked(line) is not None or self.leads or not self.is_quiet else []
 
+    def items(self) -> list[Pair]:
+        """The pairs of all nodes."""
+        return [item for node in self.nodes for item in node]
+
     def read(self, line: bytes) -> bytes | None:
         """The answer to a read, or None where the line is none."""
-        items = [item for node in self.nodes for item in node]
         match line.split(b" "):
             case [b"nodes"]:
                 return b"\n".join([shown(node) for node in self.nodes] + [b"next %d" % self.next])
@@ -272,26 +283,26 @@ class Model:
                 told = told_sum(snapshot(self.nodes, self.next, self.done)[:-1])
                 return b"sum %d %d %d%b" % (self.next, len(self.nodes), told, behind(self.done))
             case [b"len"]:
-                return b"%d" % len(items)
+                return b"%d" % sum(map(len, self.nodes))
             case [b"first"]:
-                return shown(items[:1]) or b"none"
+                return shown(self.items()[:1]) or b"none"
             case [b"last"]:
-                return shown(items[-1:]) or b"none"
+                return shown(self.items()[-1:]) or b"none"
             case [b"get", key] if self.spelling.is_key(key):
                 wanted = self.spelling.key(key)
-                return shown([item for item in items if item[0] == wanted]) or b"none"
+                return shown([item for item in self.items() if item[0] == wanted]) or b"none"
             case [b"rank", key] if self.spelling.is_key(key):
                 bound = self.spelling.key(key)
-                return b"%d" % sum(item[0] < bound for item in items)
+                return b"%d" % sum(item[0] < bound for item in self.items())
             case [b"at", place] if is_number(place):
                 at = number(place)
-                return shown(items[at : at + 1]) or b"none"
+                return shown(self.items()[at : at + 1]) or b"none"
             case [b"range", first, last] if self.spelling.is_key(first) and self.spelling.is_key(last):
                 low, high = self.spelling.key(first), self.spelling.key(last)
-                return shown([item for item in items if low <= item[0] <= high]) or b"none"
+                return shown([item for item in self.items() if low <= item[0] <= high]) or b"none"
             case [b"page", place, count] if is_number(place) and is_number(count):
                 at, many = number(place), number(count)
-                return shown(items[at : at + many]) or b"none"
+                return shown(self.items()[at : at + many]) or b"none"
         return None
 
     def answer(self, line: bytes) -> bytes:

@@ -14,7 +14,7 @@ from definitions import Bound, equal_to, in_range, is_ascending, joined
 from items import LARGEST, Item, Spelling, order
 from language import Refused
 from nodes import Event, Events, Node, Nodes, is_node_list, put_events, removal_events, replay, with_node
-from nodes import with_put, with_removal
+from nodes import target_of, with_put, with_removal
 
 
 @dataclass
@@ -33,7 +33,7 @@ class Tree:
     def change(self, nodes: Nodes, items: Sequence[Item], events: list[Event]) -> Events:
         """Makes the nodes those that a change leaves, and returns its events with their numbers."""
         assert replay(self.nodes, events) == nodes and joined(nodes) == items and len(events) <= 3
-        assert is_node_list(nodes) and all(len(node) <= self.size for node in nodes)
+        assert is_node_list(nodes) and max(map(len, nodes), default=0) <= self.size
         if self.next + len(events) > LARGEST:
             raise Refused("Numbers")
         numbered = list(enumerate(events, self.next))
@@ -75,8 +75,7 @@ class Tree:
         """Whether an item is there, and the node and the place where it is or would be put."""
         if not self.nodes:
             return False, 0, 0
-        ahead = [node for node in self.nodes if order(node[-1]) < order(item)]
-        place = min(len(ahead), len(self.nodes) - 1)
+        place = target_of(self.nodes, item)
         node = self.nodes[place]
         return equal_to(node, item) is not None, place, definitions.rank(node, item)
 

@@ -7,6 +7,7 @@ its last item.
 
 from __future__ import annotations
 
+from bisect import bisect_left
 from collections.abc import Iterable, Sequence
 from dataclasses import dataclass
 
@@ -56,17 +57,26 @@ def is_node_list(nodes: Sequence[Node]) -> bool:
     return all(nodes) and is_ascending(joined(nodes))
 
 
+def end_of(node: Node) -> tuple[int, int]:
+    """What the order compares of the last item of a node."""
+    return order(node[-1])
+
+
+def ends_below(nodes: Sequence[Node], item: Item) -> int:
+    """How many nodes of a node list end below an item."""
+    return bisect_left(nodes, order(item), key=end_of)
+
+
 def node_named(nodes: Sequence[Node], last: Item) -> int | None:
     """The place of the node whose last item equals this one, if any."""
-    wanted = order(last)
-    return next((i for i, node in enumerate(nodes) if order(node[-1]) == wanted), None)
+    place = ends_below(nodes, last)
+    return place if place < len(nodes) and end_of(nodes[place]) == order(last) else None
 
 
 def with_node(nodes: Sequence[Node], node: Node) -> Nodes:
     """The nodes with one more, behind all that end below its last item."""
-    last = order(node[-1])
-    before = [it for it in nodes if order(it[-1]) < last]
-    return [*before, node, *nodes[len(before) :]]
+    place = ends_below(nodes, node[-1])
+    return [*nodes[:place], node, *nodes[place:]]
 
 
 def edited(node: Node, event: Event) -> Nodes | None:
@@ -108,9 +118,7 @@ def replay(nodes: Nodes, events: Iterable[Event]) -> Nodes | None:
 
 def target_of(nodes: Sequence[Node], item: Item) -> int:
     """The first node whose last item is not below this one, else the last node."""
-    wanted = order(item)
-    ahead = [node for node in nodes if order(node[-1]) < wanted]
-    return min(len(ahead), len(nodes) - 1)
+    return min(ends_below(nodes, item), len(nodes) - 1)
 
 
 def put_events(nodes: Sequence[Node], size: int, item: Item) -> list[Event]:
@@ -138,8 +146,8 @@ def placed(node: Node, item: Item) -> list[Event]:
 
 def removal_events(nodes: Sequence[Node], size: int, item: Item) -> list[Event]:
     """The events of the removal of an item that is equal to this one."""
-    place = next((i for i, node in enumerate(nodes) if equal_to(node, item)), None)
-    if place is None:
+    place = ends_below(nodes, item)
+    if place == len(nodes) or equal_to(nodes[place], item) is None:
         return []
     node = nodes[place]
     old = node[rank(node, item)]
@@ -170,9 +178,11 @@ def with_put(nodes: Sequence[Node], size: int, item: Item) -> Nodes:
 
 def with_removal(nodes: Sequence[Node], size: int, item: Item) -> Nodes:
     """The nodes after a removal: an emptied node goes, and a small one joins a small neighbour."""
-    after = [without(node, item) for node in nodes]
-    changed = next((i for i, node in enumerate(after) if len(node) != len(nodes[i])), None)
-    if changed is None or not after[changed]:
+    if not nodes:
+        return []
+    changed = target_of(nodes, item)
+    after = [*nodes[:changed], without(nodes[changed], item), *nodes[changed + 1 :]]
+    if len(after[changed]) in (0, len(nodes[changed])):
         return [node for node in after if node]
     most = size // 2
     if changed + 1 < len(after) and len(after[changed]) + len(after[changed + 1]) <= most:

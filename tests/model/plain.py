@@ -8,13 +8,14 @@ any cut. An emptied node goes. What `split_off` returns and what `from_sorted` m
 
 from __future__ import annotations
 
-from collections.abc import Iterable, Sequence
+from bisect import bisect_left
+from collections.abc import Callable, Iterable, Sequence
 from dataclasses import dataclass, field
 
 from definitions import digits, equal_to, is_ascending, joined, keep, put, rank, without
 from items import Item, order
 from language import Unfixed
-from nodes import Node, Nodes
+from nodes import Node, Nodes, end_of
 
 
 MOST_CHECKED = 256
@@ -78,7 +79,7 @@ class Plain:
             return None
         self.items = put(self.items, item)
         if self.nodes is not None:
-            self.nodes = [put(it, item) if equal_to(it, item) else it for it in self.nodes]
+            self.nodes = edited(self.nodes, item, put)
         self.check()
         return old
 
@@ -87,7 +88,7 @@ class Plain:
         old = equal_to(self.items, item)
         self.items = without(self.items, item)
         if old is not None and self.nodes is not None:
-            self.nodes = [node for node in (without(it, item) for it in self.nodes) if node]
+            self.nodes = edited(self.nodes, item, without)
         self.check()
         return old
 
@@ -125,10 +126,17 @@ class Plain:
         self.items, self.nodes = [], [[]]
 
 
+def edited(nodes: Sequence[Node], item: Item, change: Callable[[Node, Item], Node]) -> Nodes:
+    """The nodes after a change of the one that has the item that is equal to this one; emptied, it goes."""
+    place = bisect_left(nodes, order(item), key=end_of)
+    changed = change(nodes[place], item)
+    return [*nodes[:place], *([changed] if changed else []), *nodes[place + 1 :]]
+
+
 def with_new(nodes: Sequence[Node], size: int, item: Item) -> Nodes:
     """The nodes with an item to which none is equal."""
-    above = (i for i, node in enumerate(nodes) if node and order(node[-1]) > order(item))
-    place = next(above, len(nodes) - 1)
+    below = bisect_left(nodes, order(item), key=end_of) if nodes[0] else 0
+    place = min(below, len(nodes) - 1)
     parts = [nodes[place]]
     if len(parts[0]) >= size:
         half = len(parts[0]) // 2
