@@ -8,10 +8,21 @@ use indexset::concurrent::map::BTreeMap;
 use indexset::replica::Replica;
 use std::cmp::Reverse;
 
+type Name = &'static str;
+
 fn main(rt: HostRuntime) -> Result<()> {
     let mut board = BTreeSet::new(rt.alloc())?; // the best score first
-    let mut scores: BTreeMap<&str, u64, Vec<Pair<&str, u64>>> = BTreeMap::new(rt.alloc());
+    let mut scores = BTreeMap::new(rt.alloc());
     let mut replica = Replica::new(rt.alloc(), 0);
+    play(rt, &mut board, &mut scores, &mut replica)
+}
+
+fn play(
+    rt: HostRuntime,
+    board: &mut BTreeSet<(Reverse<u64>, Name)>,
+    scores: &mut BTreeMap<Name, u64, Vec<Pair<Name, u64>>>,
+    replica: &mut Replica<Pair<Name, u64>>,
+) -> Result<()> {
     for (name, score) in [("Mia", 310), ("Ben", 250), ("Zoe", 470), ("Mia", 420)] {
         let (old, events) = scores.insert_cdc(name, score)?;
         if let Some(old) = old {
