@@ -34,7 +34,6 @@ sys.dont_write_bytecode = True
 sys.path.insert(0, str(TOP / "tools"))
 import kit  # noqa: E402
 
-MEMORY = 4 << 30  # bytes that a check may take
 FUNCTION = re.compile(r"( *)(?:pub(?:\([^)]*\))? )?(?:(?:const|unsafe|extern \"C\") )*fn (\w+)")
 CLAUSE = re.compile(r"(?m)(?:^|[ )])(?:requires|ensures|ghost)\b")
 ITEM = re.compile(r"(?:unsafe )?(?:pub )?(?:impl|trait)\b")
@@ -308,11 +307,6 @@ def why_not(edit: Edit, finding: kit.Finding, checked: kit.Checked) -> str:
     return f"NOT REFUSED: the check ended with status {checked.status}, and said of {name}: {finding.said[:200]}"
 
 
-def at_once() -> int:
-    """How many checks the processors and the free memory carry."""
-    return max(1, min(len(os.sched_getaffinity(0)), kit.free_memory() // MEMORY))
-
-
 def stop_on_unbuilt(trials: list[Trial]) -> None:
     """Stops where a crate, or a library below it, is not built from the sources as they are."""
     for it in trials:
@@ -329,7 +323,7 @@ def arguments() -> argparse.Namespace:
     ask.add_argument("--top", type=pathlib.Path, default=TOP, help="the checkout with the edits")
     ask.add_argument("--built", type=pathlib.Path, help="the checkout whose libraries are built (default: the same)")
     ask.add_argument("--pick", action="append", default=[], metavar="NAME", help="only the edits of this name")
-    ask.add_argument("--jobs", type=int, default=at_once(), help="checks at a time (default: %(default)s)")
+    ask.add_argument("--jobs", type=int, default=kit.at_once(), help="checks at a time (default: %(default)s)")
     return ask.parse_args()
 
 
