@@ -1,7 +1,7 @@
-use Rattle.std.proofs.Common.{rules, ◌≡◌, ℕ, List, [], ◌∷◌, Some, unwrap_or, ap, sym, subst, arith, ◌∙◌}
-use Rattle.std.proofs.lemmas.Grind.{common_steps}
+use Rattle.std.proofs.Common.{rules, ◌≡◌, ℕ, List, [], ◌∷◌, Some, Result, Ok, Err, IfErr, unwrap_or, ap, sym, subst, arith, ◌∙◌}
 use Rattle.std.proofs.lemmas.Option.{option_and_then_some}
 use Rattle.std.specs.Ordering.{nat_cmp}
+use Rattle.std.specs.Result.{IsErr, IsErrAnd}
 use Rattle.indexset.specs.Words.{replay, step, ChangeEvent, IsAt, IsBeginning, IsNodeList, ReplicaState}
 use Rattle.indexset_uses.proofs.takeover.resume.Goals as goal
 
@@ -11,12 +11,17 @@ led law ns after [] good is = subst (λ r. IsNodeList nat_cmp r) (ap (λ o. unwr
 led law ns after (e ∷ es) good is =
     option_and_then_some (λ r. replay nat_cmp r es) (step nat_cmp ns e) after is (λ mid first rest. led law mid after es (law ns mid e first) rest)
 
+-- what a call fails with where it passes on another failure
+told : {T E : Type 0} (r : Result T E) (cause memory : E) → cause ≡ memory → IsErr r × IsErrAnd r (λ e. e ≡ cause) → IfErr r (λ e. e ≡ memory)
+told (Ok x) cause memory same fails = tt
+told (Err e) cause memory same fails = fails.1 ∙ same
+
 -- a snapshot has nodes that a replica takes
 pub returns-in_err-copy-clause-memory : goal.returns-in_err-copy-clause-memory
 returns-in_err-copy-clause-memory c =
     let good = led c.steps_lead_to_nodes.ensures.step [] _ _ (record { filled = λ k d lt. omega arith; ascending = search rules }) c.requires.snapshot in
     let cause = c.in_err-copy.ensures.lawful good in
-    grind (arith, common_steps, cause)
+    told c.from_residual.result _ _ cause c.from_residual.ensures
 
 -- the replica of the snapshot holds what the first events lead to
 pub returns-in_err-follow-clause-memory : goal.returns-in_err-follow-clause-memory
@@ -24,7 +29,7 @@ returns-in_err-follow-clause-memory c =
     let made = c.in_ok-copy.ensures.replica in
     let failed = c.in_err-follow.ensures.memory_alone 0 c.args.next [] c.requires.feed
     (record { within = c.requires.within; nodes = c.requires.snapshot ∙ ap (λ r. Some r.nodes) (sym made); next = omega (arith, ap (λ r. r.next) made) }) in
-    grind (arith, common_steps, failed)
+    told c.from_residual-in_err-follow.result _ _ failed c.from_residual-in_err-follow.ensures
 
 pub returns-clause-delivered : goal.returns-clause-delivered
 returns-clause-delivered c =
