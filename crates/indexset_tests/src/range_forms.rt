@@ -29,9 +29,10 @@ fn of_maps(rt: HostRuntime) -> Result<(), Fail> {
         map.insert(key, value)?;
         tags.insert(key, value)?;
     }
-    let of_map = map.range(3..5).eq([(&3, &'b')]) && map.range_idx(0..2).len() == 2;
-    let of_tags = tags.range(..=3).len() == 2 && tags.range_idx(2..).eq([(&5, &'c')]);
-    assert!(rt; of_map && of_tags);
+    let some = map.range(3..5).map(|(key, value)| (*key, *value));
+    let rest = tags.range_idx(2..).map(|(key, value)| (*key, *value));
+    assert!(rt; some.eq([(3, 'b')]) && rest.eq([(5, 'c')]));
+    assert!(rt; map.range_idx(0..2).len() == 2 && tags.range(..=3).len() == 2);
     Ok(())
 }
 
