@@ -25,6 +25,10 @@ type Numbered = MultiPair<u64, char>;
 
 type SetsOf<const N: usize> = Sets<u64, ArrayNode<u64, N>, OneByOne>;
 
+type MapsOf<const N: usize> = Maps<u64, char, ArrayNode<Letter, N>, OneByOne>;
+
+type MultiMapsOf<const N: usize> = MultiMaps<u64, char, ArrayNode<Numbered, N>, OneByOne>;
+
 /// Plays a script on the subject that it names, if it is one of the logged family; whether a call was
 /// refused memory. A name `logged_set+array_4` stands for a set in vectors, and then for one in nodes that
 /// hold four.
@@ -94,27 +98,38 @@ fn play_multimap<K: Item, V: Value>(script: &Script) -> Option<Result<bool, Faul
 }
 
 fn play_in_arrays(script: &Script, name: &str, nodes: &str) -> Option<Result<bool, Fault>> {
-    match (name, nodes) {
-        ("logged_set", "array_2") => play_on::<SetsOf<2>>(script),
-        ("logged_set", "array_3") => play_on::<SetsOf<3>>(script),
-        ("logged_set", "array_4") => play_on::<SetsOf<4>>(script),
-        ("logged_set", "array_8") => play_on::<SetsOf<8>>(script),
-        ("logged_set", "array_10") => play_on::<SetsOf<10>>(script),
-        ("logged_map", "array_2") => {
-            play_on::<Maps<u64, char, ArrayNode<Letter, 2>, OneByOne>>(script)
-        }
-        ("logged_map", "array_4") => {
-            play_on::<Maps<u64, char, ArrayNode<Letter, 4>, OneByOne>>(script)
-        }
-        ("logged_map", "array_8") => {
-            play_on::<Maps<u64, char, ArrayNode<Letter, 8>, OneByOne>>(script)
-        }
-        ("multimap", "array_3") => {
-            play_on::<MultiMaps<u64, char, ArrayNode<Numbered, 3>, OneByOne>>(script)
-        }
-        ("multimap", "array_4") => {
-            play_on::<MultiMaps<u64, char, ArrayNode<Numbered, 4>, OneByOne>>(script)
-        }
+    match name {
+        "logged_set" => play_set_in(script, nodes),
+        "logged_map" => play_map_in(script, nodes),
+        "multimap" => play_multimap_in(script, nodes),
+        _ => None,
+    }
+}
+
+fn play_set_in(script: &Script, nodes: &str) -> Option<Result<bool, Fault>> {
+    match nodes {
+        "array_2" => play_on::<SetsOf<2>>(script),
+        "array_3" => play_on::<SetsOf<3>>(script),
+        "array_4" => play_on::<SetsOf<4>>(script),
+        "array_8" => play_on::<SetsOf<8>>(script),
+        "array_10" => play_on::<SetsOf<10>>(script),
+        _ => None,
+    }
+}
+
+fn play_map_in(script: &Script, nodes: &str) -> Option<Result<bool, Fault>> {
+    match nodes {
+        "array_2" => play_on::<MapsOf<2>>(script),
+        "array_4" => play_on::<MapsOf<4>>(script),
+        "array_8" => play_on::<MapsOf<8>>(script),
+        _ => None,
+    }
+}
+
+fn play_multimap_in(script: &Script, nodes: &str) -> Option<Result<bool, Fault>> {
+    match nodes {
+        "array_3" => play_on::<MultiMapsOf<3>>(script),
+        "array_4" => play_on::<MultiMapsOf<4>>(script),
         _ => None,
     }
 }
