@@ -14,7 +14,7 @@ use Rattle.std.proofs.lemmas.Bool.{false≢true}
 use Rattle.std.proofs.lemmas.Cmp.{alike_right, tied_back}
 use Rattle.indexset_core.proofs.CallerLemmas.{equal_from}
 use Rattle.indexset_core.specs.declared.pair.Pair.{Pair}
-use Rattle.indexset_core.specs.Pairs.{entry_of, pair_keys, pair_values, set_value, value_of}
+use Rattle.indexset_core.specs.Pairs.{entry_of, pair_keys, pair_values, set_value, value_of, set_found}
 
 module _ {K V : Type 0} where
   pub values_entries : (l : List (Pair K V)) → values_of (map entry_of l) ≡ pair_values l
@@ -35,7 +35,7 @@ module _ {K V : Type 0} where
 
     module _ (w : V) where
       pub set_value_entries : (l : List (Pair K V)) → entries.set_value (λ q. is_eq (cmp q k)) (map entry_of l) w ≡ map entry_of (set_value cmp l k w)
-      unfolding set_value
+      unfolding set_found
       set_value_entries [] = refl
       set_value_entries (p ∷ l) = elim (is_eq (cmp p.key k)) as (λ b. is_eq (cmp p.key k) ≡ b → entries.set_value (λ q. is_eq (cmp q k)) (map entry_of (p ∷ l)) w ≡ map entry_of (set_value cmp (p ∷ l) k w)) [
         | true ↦ λ e. rw e refl
@@ -62,7 +62,7 @@ module _ {K V : Type 0} where
 
       -- the value of k, and of another key
       pub value_set_value : (l : List (Pair K V)) (v : V) → value_of cmp l k ≡ Some v → value_of cmp (set_value cmp l k w) k ≡ Some w
-      unfolding set_value
+      unfolding set_found
       value_set_value [] v is = absurd (cc)
       value_set_value (p ∷ l) v is = elim (is_eq (cmp p.key k)) as (λ b. is_eq (cmp p.key k) ≡ b → value_of cmp (set_value cmp (p ∷ l) k w) k ≡ Some w) [
         | true ↦ λ e. rw (e, e) refl
@@ -70,7 +70,7 @@ module _ {K V : Type 0} where
       ] refl
 
       pub value_set_value_other : IsTotalOrder cmp → (q : K) → is_eq (cmp q k) ≡ false → (l : List (Pair K V)) → value_of cmp (set_value cmp l k w) q ≡ value_of cmp l q
-      unfolding set_value
+      unfolding set_found
       value_set_value_other o q other [] = refl
       value_set_value_other o q other (p ∷ l) = elim (is_eq (cmp p.key k)) as (λ b. is_eq (cmp p.key k) ≡ b → value_of cmp (set_value cmp (p ∷ l) k w) q ≡ value_of cmp (p ∷ l) q) [
         | true ↦ λ e. let apart : is_eq (cmp p.key q) ≡ false = not_equal o p.key q e other in rw (e, apart) refl

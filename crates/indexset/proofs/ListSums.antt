@@ -8,7 +8,7 @@ use Rattle.std.proofs.lemmas.List.Edits.{length-insert, length-remove}
 use Rattle.std.proofs.lemmas.List.Elements.{All-append, All-cons, All-filter}
 use Rattle.std.proofs.lemmas.List.Sums.{sum_by-insert, sum_by-remove, sum_by-set}
 use Rattle.std.proofs.lemmas.Option.{slice_get-get_or}
-use Rattle.indexset_core.specs.Order.{IsAscending, IsFoundAt, IsGapFor, above, below, equal_element, has_equal, put, rank, without}
+use Rattle.indexset_core.specs.Order.{IsAscending, IsFoundAt, IsGapFor, above, below, equal_element, has_equal, put, rank, without, unequal}
 use Rattle.indexset_core.specs.Nodes.{equal_at}
 use Rattle.indexset_core.proofs.CallerLemmas.{found_equal, found_has_equal, found_put, found_without, gap_equal, gap_has_equal, gap_put, gap_without, located_found, located_gap, parted_by_item}
 
@@ -62,5 +62,5 @@ module _ {T : Type 0} (cmp : T → T → Ordering) (P : T → Type 0) (l : List 
   all_put all holds = All-append P (below cmp l v) (v ∷ above cmp l v) (All-filter _ P l all) (All-cons P v (above cmp l v) holds (All-filter _ P l all))
 
   pub all_without : All P l → All P (without cmp l v)
-  unfolding without
+  unfolding unequal
   all_without all = All-filter _ P l all

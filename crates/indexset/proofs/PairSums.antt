@@ -6,7 +6,7 @@ use Rattle.std.specs.Option.{option_map, unwrap_or}
 use Rattle.std.specs.Ordering.{is_eq}
 use Rattle.std.proofs.lemmas.List.Sums.{sum_by-cons}
 use Rattle.indexset_core.specs.declared.pair.Pair.{Pair}
-use Rattle.indexset_core.specs.Order.{IsAscending, put}
+use Rattle.indexset_core.specs.Order.{IsAscending, put, unequal}
 use Rattle.indexset_core.specs.Pairs.{by_key, has_key, pair, pair_of, pair_values, put_value, set_value, value_of, without_key}
 use Rattle.indexset_core.proofs.CallerLemmas.{is_some-find, pairs_total, some_held, without-pair}
 use Rattle.indexset.proofs.ListSums.{sum_by_put, sum_by_without}
@@ -23,7 +23,7 @@ module _ {K V : Type 0} (f : V → ℕ) where
 
   module _ (cmp : K → K → Ordering) (o : IsTotalOrder cmp) where
     pub sum_by_without_key : (l : List (Pair K V)) → IsAscending (by_key cmp) l → (k : K) → sum_by f (pair_values (without_key cmp l k)) + unwrap_or (option_map f (value_of cmp l k)) 0 ≡ sum_by f (pair_values l)
-    unfolding without_key
+    unfolding unequal
     sum_by_without_key [] up k = refl
     sum_by_without_key (p ∷ l) up k =
         let all : List (Pair K V) = p ∷ l in

@@ -53,5 +53,5 @@ pub use Rattle.indexset_multi.specs.Keys.{entries, equal_pair, has_pair_of, pair
 pub use Rattle.indexset_multi.specs.Tree.{MultiTree, inserted_pair, insertion_refusal, pair_removal_events}
 pub use Rattle.indexset_replica.specs.Copies.{AreClonesEqual, AreCopies, IsCopy, LeadsToCopies}
 pub use Rattle.indexset_replica.specs.Delivery.{CopiesAll, CopiesBeginning, HasStopped, HoldsAll, IsAlike, IsAt, IsBeginning, IsDelivered, IsDelivery, IsFeed, IsFollowed, IsReached, IsSubsequence, numbers_from}
-pub use Rattle.indexset_replica.specs.Keyed.{count_by_key, find_by_key, has_by_key, index_by_key, range_by_key, rank_by_key}
+pub use Rattle.indexset_replica.specs.Keyed.{count_equal}
 pub use Rattle.indexset_replica.specs.Replica.{ReplicaState, apply_refusal, AddsClone, IsClonedStep, IsEqualClone}

@@ -12,7 +12,8 @@
 /// What the collections are made of.
 pub mod base {
     pub use indexset_core::{
-        array_node, bounds, constants, laws, multipair, node, pair, probe, refusal, search, steps,
+        array_node, bounds, constants, laws, multipair, node, pair, probe, refusal, search, sought,
+        steps,
     };
 }
 
@@ -54,7 +55,7 @@ pub mod text {
 
 /// A replica, which follows a tree by its events.
 pub mod replica {
-    pub use indexset_replica::{Replica, iter, keys, laws, lookup};
+    pub use indexset_replica::{Replica, iter, laws, lookup};
 }
 
 pub use indexset_map::{

@@ -1,14 +1,14 @@
 -- What is known of a key by whether it has a value.
 use Rattle.std.proofs.Common.{◌≡◌, ℕ, List, Option, Some, None, Ordering, is_some, false, if◌then◌else◌, refl, sym, ap, ◌∙◌}
 use Rattle.std.specs.Option.{option_map}
-use Rattle.std.specs.Ordering.{nat_cmp, is_eq}
+use Rattle.std.specs.Ordering.{is_eq}
 use Rattle.indexset_core.specs.declared.pair.Pair.{Pair}
 use Rattle.indexset_core.specs.Pairs.{has_key, key_rank, pair_of, value_of}
 use Rattle.indexset_core.proofs.CallerLemmas.{absent_without, is_some-find}
 use Rattle.indexset_spine.specs.Lengths.{lengths_without}
 use Rattle.indexset_map.specs.Contents.{Contents, without_entry}
 
-module _ {K V : Type 0} (cmp : K → K → Ordering) (l : List (Pair K V)) (k : K) where
+module _ {K V Q : Type 0} (cmp : K → Q → Ordering) (l : List (Pair K V)) (k : Q) where
   is_some-mapped : {X Y : Type 0} (f : X → Y) (o : Option X) → is_some (option_map f o) ≡ is_some o
   is_some-mapped f None = refl
   is_some-mapped f (Some x) = refl
@@ -21,7 +21,7 @@ module _ {K V : Type 0} (cmp : K → K → Ordering) (l : List (Pair K V)) (k : 
   no_value_no_key h = sym value_there ∙ ap is_some h
 
 -- the map without a key that has no value is the map
-pub absent_entry : (m : Contents ℕ ℕ) (k : ℕ) → value_of nat_cmp m.pairs k ≡ None → without_entry nat_cmp m k ≡ m
-absent_entry m k h =
-    let none = no_value_no_key nat_cmp m.pairs k h in
-    λ i. record { pairs = absent_without nat_cmp m.pairs k none i; lengths = ap (λ b. if b then lengths_without m.lengths (key_rank nat_cmp m.pairs k) else m.lengths) none i; size = m.size }
+pub absent_entry : {Q : Type 0} (order : ℕ → Q → Ordering) (m : Contents ℕ ℕ) (k : Q) → value_of order m.pairs k ≡ None → without_entry order m k ≡ m
+absent_entry order m k h =
+    let none = no_value_no_key order m.pairs k h in
+    λ i. record { pairs = absent_without order m.pairs k none i; lengths = ap (λ b. if b then lengths_without m.lengths (key_rank order m.pairs k) else m.lengths) none i; size = m.size }

@@ -79,7 +79,7 @@ pub extern "C" fn indexset_log_insert(
 /// Removes a key and writes its value, the changes and how many they are. Fewer than three places
 /// for changes are refused.
 #[unsafe(no_mangle)]
-#[tactic(auto, unfolding(indexset_core::specs::Pairs::without_key))]
+#[tactic(auto, unfolding(indexset_core::specs::Order::unequal))]
 pub extern "C" fn indexset_log_remove(
     alloc: Global,
     log: &mut LogHandle,

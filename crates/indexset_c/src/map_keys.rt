@@ -102,7 +102,7 @@ pub extern "C" fn indexset_map_get(
 
 /// Removes a key and writes its value, where there is one.
 #[unsafe(no_mangle)]
-#[tactic(auto, using(crate::proofs::PairLemmas::absent_entry), unfolding(indexset_core::specs::Pairs::without_key))]
+#[tactic(auto, unfolding(indexset_core::specs::Order::unequal))]
 pub extern "C" fn indexset_map_remove(
     alloc: Global,
     map: &mut MapHandle,

@@ -65,7 +65,7 @@ pub extern "C" fn indexset_set_insert_ranked(
 
 /// Removes a key, and returns whether it was present.
 #[unsafe(no_mangle)]
-#[tactic(auto, unfolding(indexset_core::specs::Order::without, indexset_set::specs::SetNodes::nodes_without))]
+#[tactic(auto, unfolding(indexset_core::specs::Order::unequal, indexset_set::specs::SetNodes::nodes_unequal))]
 pub extern "C" fn indexset_set_remove(alloc: Global, set: &mut SetHandle, key: u64) -> bool
     ensures removed { result ≡ has_equal nat_cmp (elements set.old.slot.value) key }
     ensures rest { elements set.new.slot.value ≡ without nat_cmp (elements set.old.slot.value) key }

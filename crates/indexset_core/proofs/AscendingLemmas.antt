@@ -16,7 +16,8 @@ use Rattle.indexset_core.specs.Nodes.{equal_at}
 use Rattle.indexset_core.specs.Parted.{IsParted, less_count}
 use Rattle.indexset_core.specs.Order.{IsAscending, rank, has_equal, IsFoundAt, IsGapFor}
 use Rattle.indexset_core.specs.Order.{equal_element, lower_element}
-use Rattle.indexset_core.proofs.OrderLemmas.{parted_by_item, less_from, greater_from, found_at, gap_at, found_rank, found_after, found_has_equal, gap_has_equal}
+use Rattle.indexset_core.specs.Sought.{ActsAsKey, acts_as_itself}
+use Rattle.indexset_core.proofs.OrderLemmas.{parted_by_item, parted_by_sought, less_from, greater_from, found_at, gap_at, found_rank, found_after, found_has_equal, gap_has_equal}
 use Rattle.indexset_core.proofs.PartedLemmas.{front-is_lt, front-is_le, count_parts, Parts, fails_above}
 
 -- an item less keeps the order
@@ -96,7 +97,7 @@ module _ {T : Type 0} (answer : T → Ordering) where
     pub position_absent : equal_at answer l i ≡ false → position (λ x. is_eq (answer x)) l ≡ None
     position_absent h = position_none (λ x. is_eq (answer x)) l (all_unequal h)
 
-module _ {T : Type 0} (cmp : T → T → Ordering) (l : List T) (v : T) (i : ℕ) where
+module _ {T Q : Type 0} (cmp : T → Q → Ordering) (l : List T) (v : Q) (i : ℕ) where
   -- what the index of a search by an item is
   pub located_found : IsParted (λ x. cmp x v) l → i ≡ rank cmp l v → equal_at (λ x. cmp x v) l i ≡ true → IsFoundAt cmp l v i
   located_found parted place h = found_at cmp l v i parted place (equal_inside (λ x. cmp x v) l i h) (equal_here (λ x. cmp x v) l i h)
@@ -105,11 +106,11 @@ module _ {T : Type 0} (cmp : T → T → Ordering) (l : List T) (v : T) (i : ℕ
   located_gap parted place h = gap_at cmp l v i parted place (unequal_here (λ x. cmp x v) l i h)
 
   -- the same of a search whose probe holds an item that is v, by what it tells
-  pub told_found : (w : T) → w ≡ v → IsParted (λ x. cmp x v) l → (b : Bool) → i ≡ rank cmp l w → b ≡ equal_at (λ x. cmp x w) l i → OnTrue b (IsFoundAt cmp l v i)
+  pub told_found : (w : Q) → w ≡ v → IsParted (λ x. cmp x v) l → (b : Bool) → i ≡ rank cmp l w → b ≡ equal_at (λ x. cmp x w) l i → OnTrue b (IsFoundAt cmp l v i)
   told_found w same parted true place told = located_found parted (place ∙ ap (rank cmp l) same) (sym (ap (λ z. equal_at (λ x. cmp x z) l i) same) ∙ sym told)
   told_found w same parted false place told = tt
 
-  pub told_gap : (w : T) → w ≡ v → IsParted (λ x. cmp x v) l → (b : Bool) → i ≡ rank cmp l w → b ≡ equal_at (λ x. cmp x w) l i → OnFalse b (IsGapFor cmp l v i)
+  pub told_gap : (w : Q) → w ≡ v → IsParted (λ x. cmp x v) l → (b : Bool) → i ≡ rank cmp l w → b ≡ equal_at (λ x. cmp x w) l i → OnFalse b (IsGapFor cmp l v i)
   told_gap w same parted true place told = tt
   told_gap w same parted false place told = located_gap parted (place ∙ ap (rank cmp l) same) (sym (ap (λ z. equal_at (λ x. cmp x z) l i) same) ∙ sym told)
 
@@ -132,7 +133,8 @@ module _ {T : Type 0} (cmp : T → T → Ordering) (l : List T) (v : T) (i : ℕ
   told_has_equal true there gap = sym (found_has_equal cmp l v i there)
   told_has_equal false there gap = sym (gap_has_equal cmp l v i gap)
 
-  -- v written over the item equal to it keeps the order
+-- v written over the item equal to it keeps the order
+module _ {T : Type 0} (cmp : T → T → Ordering) (l : List T) (v : T) (i : ℕ) where
   pub found_ascending : IsTotalOrder cmp → IsAscending cmp l → IsFoundAt cmp l v i → IsAscending cmp (set l i v)
   found_ascending o up f a b d lt inside =
       let long = length-set l i v in
@@ -150,13 +152,25 @@ module _ {T : Type 0} (cmp : T → T → Ordering) (l : List T) (v : T) (i : ℕ
         | inr (inr above) ↦ rw (other a (λ same. omega arith), other b (λ same. omega arith)) (up a b d lt (omega arith))
       ]
 
-module _ {T : Type 0} (cmp : T → T → Ordering) (o : IsTotalOrder cmp) (l : List T) (up : IsAscending cmp l) where
-  -- the item at the rank is the first not below v
-  pub slice_get-rank : (v : T) → slice_get l (rank cmp l v) ≡ lower_element cmp l v
-  slice_get-rank v =
-      let parts : Parts (λ x. is_lt (cmp x v)) l (rank cmp l v) = count_parts is_lt front-is_lt (λ x. cmp x v) l (parted_by_item cmp o l up v) in
-      sym (find_is (λ x. not (is_lt (cmp x v))) l (rank cmp l v) parts.inside (λ k d low high. ap not (parts.before k d low high)) (λ lt d. ap not (parts.after (rank cmp l v) d (omega arith) lt)))
+module _ {T Q : Type 0} {cmp : T → T → Ordering} {order : T → Q → Ordering} {among : Q → Q → Ordering} (acts : ActsAsKey cmp order among) (l : List T) (up : IsAscending cmp l) (v : Q) where
+  parted : IsParted (λ x. order x v) l
+  parted = parted_by_sought acts l up v
 
+  -- the item at the rank is the first not below v
+  pub lower_sought : slice_get l (rank order l v) ≡ lower_element order l v
+  lower_sought =
+      let parts : Parts (λ x. is_lt (order x v)) l (rank order l v) = count_parts is_lt front-is_lt (λ x. order x v) l parted in
+      sym (find_is (λ x. not (is_lt (order x v))) l (rank order l v) parts.inside (λ k d low high. ap not (parts.before k d low high)) (λ lt d. ap not (parts.after (rank order l v) d (omega arith) lt)))
+
+  -- the item at the rank, where an equal one is there
+  pub equal_sought : has_equal order l v ≡ true → slice_get l (rank order l v) ≡ equal_element order l v
+  equal_sought has =
+      elim (equal_at (λ x. order x v) l (rank order l v)) as (λ b. equal_at (λ x. order x v) l (rank order l v) ≡ b → slice_get l (rank order l v) ≡ equal_element order l v) [
+        | true ↦ λ e. sym (found_equal order l v (rank order l v) (located_found order l v (rank order l v) parted refl e))
+        | false ↦ λ e. absurd (false≢true (sym (gap_has_equal order l v (rank order l v) (located_gap order l v (rank order l v) parted refl e)) ∙ has))
+      ] refl
+
+module _ {T : Type 0} (cmp : T → T → Ordering) (o : IsTotalOrder cmp) (l : List T) (up : IsAscending cmp l) where
   -- an item stands where its rank says
   stands : (i : ℕ) (x : T) → slice_get l i ≡ Some x → IsFoundAt cmp l x i
   stands i x is =
@@ -170,10 +184,8 @@ module _ {T : Type 0} (cmp : T → T → Ordering) (o : IsTotalOrder cmp) (l : L
   pub rank-slice_get : (i : ℕ) (x : T) → slice_get l i ≡ Some x → rank cmp l x ≡ i
   rank-slice_get i x is = found_rank cmp l x i (stands i x is) (parted_by_item cmp o l up x)
 
+  pub slice_get-rank : (v : T) → slice_get l (rank cmp l v) ≡ lower_element cmp l v
+  slice_get-rank v = lower_sought (acts_as_itself o) l up v
+
   pub slice_get-rank_equal : (v : T) → has_equal cmp l v ≡ true → slice_get l (rank cmp l v) ≡ equal_element cmp l v
-  slice_get-rank_equal v has =
-      let parted = parted_by_item cmp o l up v in
-      elim (equal_at (λ x. cmp x v) l (rank cmp l v)) as (λ b. equal_at (λ x. cmp x v) l (rank cmp l v) ≡ b → slice_get l (rank cmp l v) ≡ equal_element cmp l v) [
-        | true ↦ λ e. sym (found_equal cmp l v (rank cmp l v) (located_found cmp l v (rank cmp l v) parted refl e))
-        | false ↦ λ e. absurd (false≢true (sym (gap_has_equal cmp l v (rank cmp l v) (located_gap cmp l v (rank cmp l v) parted refl e)) ∙ has))
-      ] refl
+  slice_get-rank_equal v has = equal_sought (acts_as_itself o) l up v has

@@ -9,7 +9,7 @@ use Rattle.std.proofs.lemmas.List.Folds.{list_any-append}
 use Rattle.std.proofs.lemmas.Map.Views.{any-filter_same}
 use Rattle.std.specs.Option.{option_map}
 use Rattle.indexset_core.specs.declared.pair.Pair.{Pair}
-use Rattle.indexset_core.specs.Order.{IsGapFor, above, below, has_equal, keep, put, without}
+use Rattle.indexset_core.specs.Order.{IsGapFor, above, below, has_equal, keep, put, without, unequal}
 use Rattle.indexset_core.specs.Pairs.{by_key, has_key, pair, pair_of, value_of, without_key}
 use Rattle.indexset_core.proofs.AscendingLemmas.{is_some-find}
 use Rattle.indexset_core.proofs.OrderLemmas.{gap_has_equal}
@@ -38,12 +38,13 @@ module _ {T : Type 0} (cmp : T → T → Ordering) (l : List T) (v : T) where
     | false ↦ λ e. has_put o
   ] refl
 
+module _ {T Q : Type 0} (cmp : T → Q → Ordering) (l : List T) (v : Q) where
   -- v has a gap, so no element equals it
   pub gap_no_equal : {X : Type 0} (i : ℕ) → IsGapFor cmp l v i → has_equal cmp l v ≡ true → X
   gap_no_equal i gap has = absurd (false≢true (sym (gap_has_equal cmp l v i gap) ∙ has))
 
   pub has_none : has_equal cmp (without cmp l v) v ≡ false
-  unfolding without
+  unfolding unequal
   has_none = any-filter_same (λ x. is_eq (cmp x v)) (λ x. not (is_eq (cmp x v))) false (λ x e. ap not e) l
 
 no_part : {X Y : Type 0} (f : X → Y) (o : Option X) → is_some o ≡ false → option_map f o ≡ None
@@ -67,9 +68,9 @@ module _ {K V : Type 0} (cmp : K → K → Ordering) where
       let same : is_eq (cmp k k) ≡ true = own_reverse (cmp k k) (o.antisymm k k) in
       ap (option_map (λ p. p.value)) (pair_past l (pair k w ∷ above (by_key cmp) l (pair k w)) k) ∙ rw same refl
 
-module _ {K V : Type 0} (cmp : K → K → Ordering) (l : List (Pair K V)) (k : K) where
+module _ {K V Q : Type 0} (cmp : K → Q → Ordering) (l : List (Pair K V)) (k : Q) where
   pub key_gone : has_key cmp (without_key cmp l k) k ≡ false
-  unfolding without_key
+  unfolding unequal
   key_gone = any-filter_same (λ p. is_eq (cmp p.key k)) (λ p. not (is_eq (cmp p.key k))) false (λ x e. ap not e) l
 
   pub no_value : has_key cmp l k ≡ false → value_of cmp l k ≡ None

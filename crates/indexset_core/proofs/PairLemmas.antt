@@ -12,11 +12,12 @@ use Rattle.std.proofs.lemmas.List.Quantifiers.{position-Some}
 use Rattle.std.proofs.lemmas.List.Sorted.{searchable_from_sorted}
 use Rattle.std.proofs.lemmas.Option.{slice_get_past}
 use Rattle.indexset_core.specs.declared.pair.Pair.{Pair}
-use Rattle.indexset_core.specs.Order.{IsAscending, IsFoundAt, IsGapFor, without}
+use Rattle.indexset_core.specs.Order.{IsAscending, IsFoundAt, IsGapFor, without, unequal}
 use Rattle.indexset_core.specs.Parted.{IsParted}
-use Rattle.indexset_core.specs.Pairs.{pair, valued, by_key, set_value_at, has_key, pair_of, key_rank, set_value, without_key}
+use Rattle.indexset_core.specs.Pairs.{pair, valued, by_key, set_value_at, has_key, pair_of, key_rank, set_value, without_key, set_found}
 use Rattle.indexset_core.proofs.AscendingLemmas.{is_some-find}
-use Rattle.indexset_core.proofs.OrderLemmas.{equal_from, gap_at}
+use Rattle.indexset_core.specs.Sought.{ActsAsKey, acts_on}
+use Rattle.indexset_core.proofs.OrderLemmas.{equal_from, gap_at, parted_by_sought}
 use Rattle.indexset_core.proofs.PartedLemmas.{front-is_le, passes_below, filter_all}
 
 module _ {K V : Type 0} where
@@ -80,6 +81,11 @@ module _ {K V : Type 0} (cmp : K → K → Ordering) where
   pub parted_by_key : IsTotalOrder cmp → (l : List (Pair K V)) → IsAscending (by_key cmp) l → (k : K) → IsParted (λ p. cmp p.key k) l
   parted_by_key o l up k = searchable_from_sorted o (λ (p : Pair K V). p.key) l k (λ j d low high. not_below o _ _ (up j (j + 1) d (omega arith) high))
 
+-- the same of what is sought
+pub parted_by_sought_key : {K V Q : Type 0} {cmp : K → K → Ordering} {order : K → Q → Ordering} {among : Q → Q → Ordering} → ActsAsKey cmp order among → (l : List (Pair K V)) → IsAscending (by_key cmp) l → (k : Q) → IsParted (λ p. order p.key k) l
+parted_by_sought_key acts l up k = parted_by_sought (acts_on (λ (p : Pair _ _). p.key) acts) l up k
+
+module _ {K V Q : Type 0} (cmp : K → Q → Ordering) where
   -- the place of a key, by the value at its position
   set_value-cons : (q : Pair K V) (l : List (Pair K V)) (j : ℕ) (w : V) → q ∷ set_value_at l j w ≡ set_value_at (q ∷ l) (suc j) w
   set_value-cons q l j w = elim (slice_get l j) as (λ o. q ∷ option_map_or (λ p. slice_set l j (valued p w)) o l ≡ option_map_or (λ p. slice_set (q ∷ l) (suc j) (valued p w)) o (q ∷ l)) [
@@ -87,8 +93,8 @@ module _ {K V : Type 0} (cmp : K → K → Ordering) where
     | None ↦ refl
   ]
 
-  pub set_value-at : (l : List (Pair K V)) (k : K) (w : V) → set_value cmp l k w ≡ set_value_at l (position_or_len (λ p. is_eq (cmp p.key k)) l) w
-  unfolding set_value
+  pub set_value-at : (l : List (Pair K V)) (k : Q) (w : V) → set_value cmp l k w ≡ set_value_at l (position_or_len (λ p. is_eq (cmp p.key k)) l) w
+  unfolding set_found
   set_value-at [] k w = refl
   set_value-at (p ∷ l) k w =
       let on : (b : Bool) → is_eq (cmp p.key k) ≡ b → set_value cmp (p ∷ l) k w ≡ set_value_at (p ∷ l) (position_or_len (λ q. is_eq (cmp q.key k)) (p ∷ l)) w = elim [
@@ -96,7 +102,7 @@ module _ {K V : Type 0} (cmp : K → K → Ordering) where
         | false ↦ λ e. rw e (let s : 1 + position_or_len (λ q. is_eq (cmp q.key k)) l ≡ suc (position_or_len (λ q. is_eq (cmp q.key k)) l) = omega arith in rw s (ap (λ t. p ∷ t) (set_value-at l k w) ∙ set_value-cons p l (position_or_len (λ q. is_eq (cmp q.key k)) l) w))
       ] in on (is_eq (cmp p.key k)) refl
 
-  module _ (l : List (Pair K V)) (k : K) where
+  module _ (l : List (Pair K V)) (k : Q) where
     module _ (i : ℕ) (h : position (λ p. is_eq (cmp p.key k)) l ≡ Some i) where
       pub key_pair : pair_of cmp l k ≡ slice_get l i
       key_pair = find_position (λ p. is_eq (cmp p.key k)) l i h
@@ -114,8 +120,8 @@ module _ {K V : Type 0} (cmp : K → K → Ordering) where
       key_written w = sym (set_value-at l k w ∙ ap (λ j. set_value_at l j w) (position_is (λ p. is_eq (cmp p.key k)) l i h))
 
       -- the pair stands where the search found it
-      pub key_found : IsParted (λ p. cmp p.key k) l → (w : V) → IsFoundAt (by_key cmp) l (pair k w) i
-      key_found parted w =
+      pub found_key : IsParted (λ p. cmp p.key k) l → IsFoundAt (λ (p : Pair K V). cmp p.key) l k i
+      found_key parted =
           let told = λ (d : Pair K V). position-Some (λ q. is_eq (cmp q.key k)) l i d h in
           let here : HoldsAt (λ p. is_eq (cmp p.key k) ≡ true) l i = λ d. (told d).1 in
           let upto : AllWithin (λ p. is_le (cmp p.key k) ≡ true) l 0 (i + 1) = passes_below is_le front-is_le (λ p. cmp p.key k) l parted i key_inside (λ d. rw (equal_from _ (here d)) refl) in
@@ -137,13 +143,21 @@ module _ {K V : Type 0} (cmp : K → K → Ordering) where
       key_absent = any_absent (λ p. is_eq (cmp p.key k)) l h
 
     pub absent_without : has_key cmp l k ≡ false → without_key cmp l k ≡ l
-    unfolding without_key
+    unfolding unequal
     absent_without h = filter_all (λ p. not (is_eq (cmp p.key k))) l (λ j d low high. ap not (any_false (λ p. is_eq (cmp p.key k)) l h j d low high))
 
     -- a key that is not there would stand at its rank
-    pub absent_gap : has_key cmp l k ≡ false → IsParted (λ p. cmp p.key k) l → (i : ℕ) → i ≡ key_rank cmp l k → (w : V) → IsGapFor (by_key cmp) l (pair k w) i
-    absent_gap h parted i place w = gap_at (by_key cmp) l (pair k w) i parted place (λ lt d. any_false (λ p. is_eq (cmp p.key k)) l h i d (omega arith) lt)
+    pub gap_key : has_key cmp l k ≡ false → IsParted (λ p. cmp p.key k) l → (i : ℕ) → i ≡ key_rank cmp l k → IsGapFor (λ (p : Pair K V). cmp p.key) l k i
+    gap_key h parted i place = gap_at (λ (p : Pair K V). cmp p.key) l k i parted place (λ lt d. any_false (λ p. is_eq (cmp p.key k)) l h i d (omega arith) lt)
+
+module _ {K V : Type 0} (cmp : K → K → Ordering) where
+  -- the same of the pair of the key and a value
+  module _ (l : List (Pair K V)) (k : K) (i : ℕ) where
+    pub key_found : position (λ p. is_eq (cmp p.key k)) l ≡ Some i → IsParted (λ p. cmp p.key k) l → (w : V) → IsFoundAt (by_key cmp) l (pair k w) i
+    key_found h parted w = let f = found_key cmp l k i h parted in record { inside = f.inside; equal = f.equal; below_before = f.below_before }
+
+  pub absent_gap : (l : List (Pair K V)) (k : K) → has_key cmp l k ≡ false → IsParted (λ p. cmp p.key k) l → (i : ℕ) → i ≡ key_rank cmp l k → (w : V) → IsGapFor (by_key cmp) l (pair k w) i
+  absent_gap l k h parted i place w = let gap = gap_key cmp l k h parted i place in record { inside = gap.inside; below_before = gap.below_before; above_after = gap.above_after }
 
   pub without-pair : (l : List (Pair K V)) (k : K) (w : V) → without (by_key cmp) l (pair k w) ≡ without_key cmp l k
-  unfolding without without_key
   without-pair l k w = refl

@@ -7,5 +7,6 @@ pub mod Pairs
 pub mod Parted
 pub mod Places
 pub mod Refusal
+pub mod Sought
 pub mod Tally
 pub mod Text

@@ -10,7 +10,7 @@ use Rattle.std.specs.declared.cmp.Ordering.{Ordering}
 use Rattle.std.specs.declared.ops.Bound.{Bound}
 use Rattle.indexset_core.specs.declared.pair.Pair.{Pair}
 use Rattle.indexset_core.specs.Bounds.{is_within}
-use Rattle.indexset_core.specs.Order.{put}
+use Rattle.indexset_core.specs.Order.{put, unequal}
 
 module _ {K V : Type 0} where
   -- the pair of a key and a value
@@ -49,44 +49,48 @@ module _ {K V : Type 0} where
   abbrev pub CalledOnPair : {F : Type 0} → Mut F (Bor K × (MutBor V × Unit {0})) (Bool × (MutBor V × Unit {0})) → F → Pair K V → Bool → F → Pair K V → Type 0
   CalledOnPair g f p b f' q = CalledAtPair g f p.key p.value b q.value f' × (q.key ≡ p.key)
 
-  module _ (cmp : K → K → Ordering) where
+  module _ {Q : Type 0} (cmp : K → Q → Ordering) where
     -- a pair has the key
-    abbrev pub has_key : List (Pair K V) → K → Bool
+    abbrev pub has_key : List (Pair K V) → Q → Bool
     has_key l k = list_any (λ p. is_eq (cmp p.key k)) l
 
     -- the pair of the key, if any
-    abbrev pub pair_of : List (Pair K V) → K → Option (Pair K V)
+    abbrev pub pair_of : List (Pair K V) → Q → Option (Pair K V)
     pair_of l k = find (λ p. is_eq (cmp p.key k)) l
 
     -- the value of the key, if any
-    abbrev pub value_of : List (Pair K V) → K → Option V
+    abbrev pub value_of : List (Pair K V) → Q → Option V
     value_of l k = option_map (λ p. p.value) (pair_of l k)
 
     -- how many keys are below k
-    abbrev pub key_rank : List (Pair K V) → K → ℕ
+    abbrev pub key_rank : List (Pair K V) → Q → ℕ
     key_rank l k = count_by (λ p. is_lt (cmp p.key k)) l
 
     -- the pairs whose keys are below k
-    abbrev pub pairs_below : List (Pair K V) → K → List (Pair K V)
+    abbrev pub pairs_below : List (Pair K V) → Q → List (Pair K V)
     pairs_below l k = filter (λ p. is_lt (cmp p.key k)) l
 
     -- the pairs whose keys are not below k
-    abbrev pub pairs_from : List (Pair K V) → K → List (Pair K V)
+    abbrev pub pairs_from : List (Pair K V) → Q → List (Pair K V)
     pairs_from l k = filter (λ p. not (is_lt (cmp p.key k))) l
 
     -- the pairs whose keys satisfy both bounds
-    abbrev pub pairs_within : List (Pair K V) → Bound K → Bound K → List (Pair K V)
+    abbrev pub pairs_within : List (Pair K V) → Bound Q → Bound Q → List (Pair K V)
     pairs_within l start end = filter (λ p. is_within cmp start end p.key) l
 
-    -- the pairs, with w as the value of the pair of the key, whose own key stays
-    unfoldable pub set_value : List (Pair K V) → K → V → List (Pair K V)
-    set_value [] k w = []
-    set_value (p ∷ l) k w = if is_eq (cmp p.key k) then valued p w ∷ l else p ∷ set_value l k w
-
-    -- the same, or where the key is not there, with k and w in their place
-    unfoldable pub put_value : List (Pair K V) → K → V → List (Pair K V)
-    put_value l k w = if has_key l k then set_value l k w else put (by_key cmp) l (pair k w)
-
     -- the pairs without the one of the key
-    unfoldable pub without_key : List (Pair K V) → K → List (Pair K V)
-    without_key l k = filter (λ p. not (is_eq (cmp p.key k))) l
+    abbrev pub without_key : List (Pair K V) → Q → List (Pair K V)
+    without_key l k = unequal (λ p. cmp p.key k) l
+
+  -- the pairs, with w as the value of the first pair that is found Equal, whose own key stays
+  unfoldable pub set_found : (Pair K V → Ordering) → List (Pair K V) → V → List (Pair K V)
+  set_found answer [] w = []
+  set_found answer (p ∷ l) w = if is_eq (answer p) then valued p w ∷ l else p ∷ set_found answer l w
+
+  -- the pairs, with w as the value of the pair of the key, whose own key stays
+  abbrev pub set_value : {Q : Type 0} → (K → Q → Ordering) → List (Pair K V) → Q → V → List (Pair K V)
+  set_value cmp l k w = set_found (λ p. cmp p.key k) l w
+
+  -- the same, or where the key is not there, with k and w in their place
+  unfoldable pub put_value : (K → K → Ordering) → List (Pair K V) → K → V → List (Pair K V)
+  put_value cmp l k w = if has_key cmp l k then set_value cmp l k w else put (by_key cmp) l (pair k w)

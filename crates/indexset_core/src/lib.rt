@@ -25,6 +25,7 @@ pub mod positions;
 pub mod probe;
 pub mod refusal;
 pub mod search;
+pub mod sought;
 pub mod steps;
 pub mod text;
 pub mod walk;

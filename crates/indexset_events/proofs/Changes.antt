@@ -1,10 +1,9 @@
 -- The events of a put and of a removal lead from lawful nodes to lawful nodes.
-use Rattle.std.proofs.Common.{◌≡◌, ℕ, ◌≤◌, Bool, true, false, cond, List, [], ◌∷◌, filter, Option, Some, None, Result, Ok, Err, Ordering, refl, sym, subst}
+use Rattle.std.proofs.Common.{◌≡◌, ℕ, ◌≤◌, Bool, true, false, cond, List, [], ◌∷◌, filter, Some, Result, Ok, Err, Ordering, refl, sym, subst}
 use Rattle.std.specs.Cmp.{IsTotalOrder}
-use Rattle.std.specs.Option.{option_map_or}
 use Rattle.indexset_core.specs.Nodes.{joined, node_at, IsLawful}
-use Rattle.indexset_core.specs.Order.{above, below, put, without}
-use Rattle.indexset_core.specs.Pairs.{by_key, pair_of}
+use Rattle.indexset_core.specs.Order.{above, below, put, without, unequal}
+use Rattle.indexset_core.specs.Pairs.{by_key}
 use Rattle.indexset_core.specs.declared.pair.Pair.{Pair}
 use Rattle.indexset_events.specs.declared.change.ChangeEventUnassigned.{ChangeEventUnassigned}
 use Rattle.indexset_events.specs.Edits.{with_put, with_taken}
@@ -12,15 +11,14 @@ use Rattle.indexset_events.specs.Keys.{key_removal_events}
 use Rattle.indexset_events.specs.Located.{IsFoundIn}
 use Rattle.indexset_events.specs.Replay.{replay, numbered_from}
 use Rattle.indexset_events.specs.Table.{put_events, removal_events}
-use Rattle.indexset_events.proofs.Places.{found_at}
+use Rattle.indexset_events.proofs.Places.{sought_at}
 use Rattle.indexset_events.proofs.Puts.{put_contents, put_lawful, put_replayed}
-use Rattle.indexset_events.proofs.Takes.{absent_events, found_contents, found_events, some_read, taken_lawful, taken_replay}
+use Rattle.indexset_events.proofs.Takes.{absent_events, some_read, sought_contents, sought_events, taken_lawful, taken_replay}
 use Rattle.indexset_events.proofs.Ups.{Each, each-append}
-use Rattle.indexset_events.proofs.Views.{lawful_filled, lawful_parted}
-use Rattle.indexset_core.proofs.CallerLemmas.{pairs_total, gap_found}
+use Rattle.indexset_events.proofs.Views.{lawful_ascends, lawful_filled}
+use Rattle.indexset_core.proofs.CallerLemmas.{pairs_total, gap_found, parted_by_sought}
 use Rattle.indexset_core.specs.Places.{located}
-use Rattle.indexset_events.specs.Located.{IsFoundIn}
-use Rattle.indexset_events.proofs.Places.{found_at}
+use Rattle.indexset_core.specs.Sought.{ActsAsKey, ActsAsOne, acts_as_itself, acts_on, one_as_itself, one_on}
 
 each_filter : {T : Type 0} (P : T → Type 0) (q : T → Bool) (xs : List T) → Each P xs → Each P (filter q xs)
 each_filter P q [] h = tt
@@ -47,30 +45,29 @@ module _ {T : Type 0} (cmp : T → T → Ordering) (o : IsTotalOrder cmp) (P : T
       let all : Each P (put cmp (joined ns) v) = each-append P (below cmp (joined ns) v) (v ∷ above cmp (joined ns) v) (each_filter P _ (joined ns) held) (new, each_filter P _ (joined ns) held) in
       record { after = with_put cmp size ns v; replayed = put_replayed o two law v s; lawful = put_lawful o two law v; kept = subst (Each P) (sym (put_contents o two law v)) all }
 
-  pub removal_leads : (v : T) → Leads cmp P size s ns (removal_events cmp size ns v)
-  unfolding without
-  removal_leads v = at (located (λ x. cmp x v) ns) refl
+  pub sought_leads : {Q : Type 0} {order : T → Q → Ordering} {among : Q → Q → Ordering} → ActsAsKey cmp order among → ActsAsOne cmp order → (v : Q) → Leads cmp P size s ns (removal_events order size ns v)
+  unfolding unequal
+  sought_leads {Q = Q} {order = order} acts one v = at (located (λ x. order x v) ns) refl
     where
-      at : (r : Result (ℕ × ℕ) (ℕ × ℕ)) → r ≡ located (λ x. cmp x v) ns → Leads cmp P size s ns (removal_events cmp size ns v)
+      at : (r : Result (ℕ × ℕ) (ℕ × ℕ)) → r ≡ located (λ x. order x v) ns → Leads cmp P size s ns (removal_events order size ns v)
       at (Ok p) e =
-          let found : IsFoundIn cmp ns v p.0 p.1 = found_at cmp o v size ns law (Ok p) e p refl in
+          let found : IsFoundIn order ns v p.0 p.1 = sought_at acts v size ns law (Ok p) e p refl in
           let read = some_read (node_at ns p.0) p.1 found.here.inside in
-          let all : Each P (without cmp (joined ns) v) = each_filter P _ (joined ns) held in
-          rw (found_events o law found read.1) (record {
+          let all : Each P (without order (joined ns) v) = each_filter P _ (joined ns) held in
+          rw (sought_events o law found acts read.1) (record {
             after = with_taken size ns p.0 p.1;
             replayed = taken_replay o law p.0 p.1 found.node_in read.1 s;
             lawful = taken_lawful o law p.0 p.1 found.node_in read.1;
-            kept = subst (Each P) (sym (found_contents o law found read.1)) all;
+            kept = subst (Each P) (sym (sought_contents o law found one read.1)) all;
           })
       at (Err p) e =
-          let none = gap_found (λ x. cmp x v) ns (lawful_filled cmp size ns law) (lawful_parted cmp size ns law o v) (Err p) e p refl in
-          rw (absent_events cmp ns v none size) nothing_leads
+          let none = gap_found (λ x. order x v) ns (lawful_filled cmp size ns law) (parted_by_sought acts (joined ns) (lawful_ascends cmp size ns law) v) (Err p) e p refl in
+          rw (absent_events order ns v none size) nothing_leads
+
+  pub removal_leads : (v : T) → Leads cmp P size s ns (removal_events cmp size ns v)
+  removal_leads = sought_leads (acts_as_itself o) (one_as_itself o)
 
 -- the removal of the pair of a key
 pub key_removal_leads : {K V : Type 0} (cmp : K → K → Ordering) → IsTotalOrder cmp → (P : Pair K V → Type 0) (size s : ℕ) → 2 ≤ size → (ns : List (List (Pair K V))) → IsLawful (by_key cmp) size ns → Each P (joined ns) → (k : K) → Leads (by_key cmp) P size s ns (key_removal_events cmp size ns k)
-unfolding key_removal_events
-key_removal_leads {K = K} {V = V} cmp o P size s two ns law held k = at (pair_of cmp (joined ns) k)
-  where
-    at : (p : Option (Pair K V)) → Leads (by_key cmp) P size s ns (option_map_or (λ p. removal_events (by_key cmp) size ns p) p [])
-    at None = nothing_leads (by_key cmp) (pairs_total cmp o) P size s two ns law held
-    at (Some p) = removal_leads (by_key cmp) (pairs_total cmp o) P size s two ns law held p
+key_removal_leads cmp o P size s two ns law held =
+    sought_leads (by_key cmp) (pairs_total cmp o) P size s two ns law held (acts_on (λ p. p.key) (acts_as_itself o)) (one_on (λ p. p.key) (one_as_itself o))

@@ -2,44 +2,50 @@
 use Rattle.std.specs.Cmp.{IsTotalOrder}
 use Rattle.std.specs.Result.{result_ok}
 use Rattle.std.specs.Prelude.{MatchOption}
-use Rattle.std.proofs.lemmas.Option.{slice_get-get_or}
 use Rattle.indexset_core.specs.Order.{has_equal, equal_element}
 use Rattle.indexset_events.specs.Located.{IsFoundIn}
-use Rattle.indexset_events.proofs.Views.{lawful_filled, lawful_parted}
+use Rattle.indexset_events.proofs.Takes.{some_read}
+use Rattle.indexset_events.proofs.Views.{lawful_ascends, lawful_filled}
 use Rattle.std.proofs.Common.{◌≡◌, ℕ, suc, ◌≤◌, List, [], ◌∷◌, length, Result, Ok, Err, Ordering, Option, Some, None, is_some, ap, sym, ◌∙◌, arith, length-append, refl}
 use Rattle.std.specs.List.{All}
 use Rattle.std.specs.Ordering.{is_eq}
 use Rattle.indexset_core.specs.Nodes.{joined, node_lengths, node_at, IsLawful}
 use Rattle.indexset_core.specs.Places.{located}
-use Rattle.indexset_core.proofs.CallerLemmas.{end_at, end_found, end_node, end_read, gap_found, is_some-find, located_found, parted_node}
-use Rattle.indexset_events.specs.Located.{IsFoundIn}
-use Rattle.indexset_events.proofs.Views.{lawful_filled, lawful_parted}
+use Rattle.indexset_core.proofs.CallerLemmas.{end_at, end_found, end_node, end_read, gap_found, is_some-find, located_found, parted_by_sought, parted_node}
+use Rattle.indexset_core.specs.Parted.{IsParted}
+use Rattle.indexset_core.specs.Sought.{ActsAsKey, acts_as_itself}
 
 -- as the code passes its answer on
-module _ {T : Type 0} (cmp : T → T → Ordering) (o : IsTotalOrder cmp) (v : T) (size : ℕ) (ns : List (List T)) (law : IsLawful cmp size ns) where
+module _ {T Q : Type 0} {cmp : T → T → Ordering} {order : T → Q → Ordering} {among : Q → Q → Ordering} (acts : ActsAsKey cmp order among) (v : Q) (size : ℕ) (ns : List (List T)) (law : IsLawful cmp size ns) where
   abbrev answer : T → Ordering
-  answer x = cmp x v
+  answer x = order x v
 
-  pub found_at : (r : Result (ℕ × ℕ) (ℕ × ℕ)) → r ≡ located answer ns → (p : ℕ × ℕ) → r ≡ Ok p → IsFoundIn cmp ns v p.0 p.1
-  found_at r e p is =
+  parted : IsParted answer (joined ns)
+  parted = parted_by_sought acts (joined ns) (lawful_ascends cmp size ns law) v
+
+  pub sought_at : (r : Result (ℕ × ℕ) (ℕ × ℕ)) → r ≡ located answer ns → (p : ℕ × ℕ) → r ≡ Ok p → IsFoundIn order ns v p.0 p.1
+  sought_at r e p is =
       let filled = lawful_filled cmp size ns law in
-      let parted = lawful_parted cmp size ns law o v in
       let end = end_at answer ns filled parted r e p is in
       let inside = end_node answer ns filled parted r e p is in
       record {
         node_in = inside;
         node_is = end.node_is;
-        here = located_found cmp (node_at ns p.0) v p.1 (parted_node answer ns p.0 inside parted) end.offset_is (rw (end_read answer ns filled parted r e p is) at end.equal);
+        here = located_found order (node_at ns p.0) v p.1 (parted_node answer ns p.0 inside parted) end.offset_is (rw (end_read answer ns filled parted r e p is) at end.equal);
         item = sym (end_found answer ns filled parted r e p is);
       }
 
-  pub found_told : (r : Result (ℕ × ℕ) (ℕ × ℕ)) → r ≡ located answer ns → MatchOption (result_ok r) (equal_element cmp (joined ns) v ≡ None) (λ p. IsFoundIn cmp ns v p.0 p.1)
-  found_told (Ok p) e = found_at (Ok p) e p refl
-  found_told (Err p) e = gap_found answer ns (lawful_filled cmp size ns law) (lawful_parted cmp size ns law o v) (Err p) e p refl
+  pub sought_told : (r : Result (ℕ × ℕ) (ℕ × ℕ)) → r ≡ located answer ns → MatchOption (result_ok r) (equal_element order (joined ns) v ≡ None) (λ p. IsFoundIn order ns v p.0 p.1)
+  sought_told (Ok p) e = sought_at (Ok p) e p refl
+  sought_told (Err p) e = gap_found answer ns (lawful_filled cmp size ns law) parted (Err p) e p refl
 
-pub found_is : {T : Type 0} (cmp : T → T → Ordering) (v : T) (ns : List (List T)) (s : Option (ℕ × ℕ)) → MatchOption s (equal_element cmp (joined ns) v ≡ None) (λ p. IsFoundIn cmp ns v p.0 p.1) → is_some s ≡ has_equal cmp (joined ns) v
+-- the same of an item
+pub found_at : {T : Type 0} (cmp : T → T → Ordering) → IsTotalOrder cmp → (v : T) (size : ℕ) (ns : List (List T)) → IsLawful cmp size ns → (r : Result (ℕ × ℕ) (ℕ × ℕ)) → r ≡ located (λ x. cmp x v) ns → (p : ℕ × ℕ) → r ≡ Ok p → IsFoundIn cmp ns v p.0 p.1
+found_at cmp o v size ns law = sought_at (acts_as_itself o) v size ns law
+
+pub found_is : {T Q : Type 0} (cmp : T → Q → Ordering) (v : Q) (ns : List (List T)) (s : Option (ℕ × ℕ)) → MatchOption s (equal_element cmp (joined ns) v ≡ None) (λ p. IsFoundIn cmp ns v p.0 p.1) → is_some s ≡ has_equal cmp (joined ns) v
 found_is cmp v ns None h = ap is_some (sym h) ∙ is_some-find (λ x. is_eq (cmp x v)) (joined ns)
-found_is cmp v ns (Some p) h = ap is_some (sym (slice_get-get_or (node_at ns p.0) p.1 v h.here.inside) ∙ h.item) ∙ is_some-find (λ x. is_eq (cmp x v)) (joined ns)
+found_is cmp v ns (Some p) h = ap is_some (sym (some_read (node_at ns p.0) p.1 h.here.inside).1 ∙ h.item) ∙ is_some-find (λ x. is_eq (cmp x v)) (joined ns)
 
 -- as many nodes as items at most
 pub nodes_at_most : {T : Type 0} (ns : List (List T)) → All (λ n. 1 ≤ n) (node_lengths ns) → length ns ≤ length (joined ns)

@@ -6,15 +6,15 @@ use Rattle.std.specs.Option.{option_map_or}
 use Rattle.std.specs.Ordering.{is_eq}
 use Rattle.std.proofs.lemmas.Bool.{false≢true, eqb-true, eqb-false}
 use Rattle.std.specs.declared.cmp.Ordering.TheVariants.{Less, Equal}
-use Rattle.std.proofs.lemmas.Cmp.{alike_right, tied_itself}
+use Rattle.std.proofs.lemmas.Cmp.{tied_itself}
 use Rattle.std.proofs.lemmas.List.{append-nil, get_or_append_left, nil_from_length}
 use Rattle.std.proofs.lemmas.List.Folds.{list_any-append}
 use Rattle.std.proofs.Math.Seq.{set-append_seam}
 use Rattle.std.proofs.lemmas.Option.{get_or_from_slice_get, slice_get-get_or}
 use Rattle.indexset_core.specs.Nodes.{joined, node_at, IsLawful}
-use Rattle.indexset_core.specs.Order.{IsAscending, rank, has_equal, without, equal_element}
-use Rattle.indexset_core.proofs.CallerLemmas.{is_some-find, joined-append, found_has_equal, found_rank, parted_by_item, offset-le}
-use Rattle.indexset_core.specs.Pairs.{by_key, pair_of}
+use Rattle.indexset_core.specs.Order.{IsAscending, rank, has_equal, without, equal_element, unequal}
+use Rattle.indexset_core.specs.Sought.{ActsAsKey, ActsAsOne, acts_as_itself, one_as_itself}
+use Rattle.indexset_core.proofs.CallerLemmas.{is_some-find, joined-append, found_equal, found_rank, parted_by_sought, offset-le}
 use Rattle.indexset_core.specs.declared.pair.Pair.{Pair}
 use Rattle.indexset_events.specs.Edits.{with_taken}
 use Rattle.indexset_events.specs.Ends.{removal_events_at}
@@ -23,7 +23,7 @@ use Rattle.indexset_events.specs.Located.{IsFoundIn}
 use Rattle.indexset_events.specs.Joining.{join_after, with_joined, item_removed}
 use Rattle.indexset_events.specs.Nodes.{is_filled, last_of}
 use Rattle.indexset_events.specs.Replay.{replay, replay_plain, step_plain, numbered_from}
-use Rattle.indexset_events.specs.Table.{count_with, joining_event, target, taking_count, taking_event, taking_events, removal_events}
+use Rattle.indexset_events.specs.Table.{count_with, joining_event, target, taking_count, taking_event, taking_events, removal_by, removal_events}
 use Rattle.indexset_events.proofs.Joins.{JoinedAfter, JoinedPair, after_from, joins, pair_up}
 use Rattle.indexset_events.proofs.Ups.{last_any, last_answer, last-append, Each, each-append, each-left, each-right, each-map, Up, up-right, up-between, Ruled, parts-without, length_filled, ascends, lawful_from, lawful_ruled, lawful_bounded}
 use Rattle.indexset_events.proofs.Steps.{At, at_ruled, ruled_at, remove_step, remove_node_step, remove_at}
@@ -57,15 +57,15 @@ some_taken size ns k i =
       | Some j ↦ omega arith
     ]
 
-pub removal_few : {T : Type 0} (cmp : T → T → Ordering) (size : ℕ) (ns : List (List T)) (v : T) → length (removal_events cmp size ns v) ≤ 3
-unfolding removal_events
+pub removal_few : {T Q : Type 0} (cmp : T → Q → Ordering) (size : ℕ) (ns : List (List T)) (v : Q) → length (removal_events cmp size ns v) ≤ 3
+unfolding removal_by
 removal_few cmp size ns v =
     let k = target cmp ns v in
     let n = node_at ns k in
     let i = rank cmp n v in
-    elim (has_equal cmp n v) as (λ t. length (if t then taking_events size ns k i (get_or n i v) else []) ≤ 3) [
-      | true ↦ omega (arith, taking_length size ns k i (get_or n i v), two_at_most size ns k i)
-      | false ↦ omega arith
+    elim (equal_element cmp n v) as (λ r. length (option_map_or (λ x. taking_events size ns k i x) r []) ≤ 3) [
+      | None ↦ omega arith
+      | Some x ↦ omega (arith, taking_length size ns k i x, two_at_most size ns k i)
     ]
 
 pub few_at : {T : Type 0} (cmp : T → T → Ordering) (size : ℕ) (ns : List (List T)) (i : ℕ) → length (removal_events_at cmp size ns i) ≤ 3
@@ -76,13 +76,8 @@ few_at cmp size ns i =
       | Some x ↦ removal_few cmp size ns x
     ]
 
-pub key_removal_few : {K V : Type 0} (cmp : K → K → Ordering) (size : ℕ) (ns : List (List (Pair K V))) (k : K) → length (key_removal_events cmp size ns k) ≤ 3
-unfolding key_removal_events
-key_removal_few cmp size ns k =
-    elim (pair_of cmp (joined ns) k) as (λ p. length (option_map_or (λ p. removal_events (by_key cmp) size ns p) p []) ≤ 3) [
-      | None ↦ omega arith
-      | Some p ↦ removal_few (by_key cmp) size ns p
-    ]
+pub key_removal_few : {K V Q : Type 0} (cmp : K → Q → Ordering) (size : ℕ) (ns : List (List (Pair K V))) (k : Q) → length (key_removal_events cmp size ns k) ≤ 3
+key_removal_few cmp size ns k = removal_few (λ p q. cmp p.key q) size ns k
 
 module _ {T : Type 0} (cmp : T → T → Ordering) (o : IsTotalOrder cmp) (size : ℕ) where
   -- the event leads to the nodes without the item, which are lawful, and it alone is gone
@@ -190,7 +185,7 @@ module _ {T : Type 0} {cmp : T → T → Ordering} {size : ℕ} {ns : List (List
 
     -- what goes is all that equals the item
     pub taken_contents : (answer : T → Ordering) → (λ y. cmp y x) ≡ answer → joined (with_taken size ns k i) ≡ filter (λ y. not (is_eq (answer y))) (joined ns)
-    unfolding without
+    unfolding unequal
     taken_contents answer same =
         let d = did in
         let r = out in
@@ -200,23 +195,31 @@ module _ {T : Type 0} {cmp : T → T → Ordering} {size : ℕ} {ns : List (List
         let low = each-map _ _ (λ y (h : Each (λ z. cmp y z ≡ Less) (x ∷ d.back)). h.0) d.front (up-between cmp d.front (x ∷ d.back) up) in
         r.same ∙ (d.left ∙ (sym (parts-without cmp o d.front (x ∷ []) d.back x low (tied_itself o x, tt) rest.0) ∙ rw (← d.was) (ap (λ a. filter (λ y. not (is_eq (a y))) (joined ns)) same)))
 
-  -- the removal of the item that equals v, at its place
+  -- the removal of the item that is found by what is sought, at its place
+  module _ {Q : Type 0} {order : T → Q → Ordering} {v : Q} {k i : ℕ} (f : IsFoundIn order ns v k i) where
+    pub sought_events : {among : Q → Q → Ordering} → ActsAsKey cmp order among → {x : T} → slice_get (node_at ns k) i ≡ Some x → removal_events order size ns v ≡ taking_events size ns k i x
+    unfolding removal_by
+    sought_events acts {x} here =
+        let n = node_at ns k in
+        let parted = parted_by_sought acts n (ascends cmp n (up_node cmp ns k (lawful_ruled cmp size ns law))) v in
+        rw (← f.node_is, found_rank order n v i f.here parted, found_equal order n v i f.here, here) refl
+
+    pub sought_contents : ActsAsOne cmp order → {x : T} → slice_get (node_at ns k) i ≡ Some x → joined (with_taken size ns k i) ≡ without order (joined ns) v
+    unfolding unequal
+    sought_contents one {x} here =
+        let e : order x v ≡ Equal = subst (λ y. order y v ≡ Equal) (get_or_from_slice_get (node_at ns k) i x x here) (f.here.equal x) in
+        taken_contents k i f.node_in here (λ y. order y v) (λ j y. sym (one v x y e) j)
+
+  -- the same of an item
   module _ {v : T} {k i : ℕ} (f : IsFoundIn cmp ns v k i) where
     pub found_events : {x : T} → slice_get (node_at ns k) i ≡ Some x → removal_events cmp size ns v ≡ taking_events size ns k i x
-    unfolding removal_events
-    found_events {x} here =
-        let n = node_at ns k in
-        let parted = parted_by_item cmp o n (ascends cmp n (up_node cmp ns k (lawful_ruled cmp size ns law))) v in
-        rw (← f.node_is, found_has_equal cmp n v i f.here, found_rank cmp n v i f.here parted, get_or_from_slice_get n i x v here) refl
+    found_events = sought_events f (acts_as_itself o)
 
     pub found_contents : {x : T} → slice_get (node_at ns k) i ≡ Some x → joined (with_taken size ns k i) ≡ without cmp (joined ns) v
-    unfolding without
-    found_contents {x} here =
-        let e : cmp x v ≡ Equal = subst (λ y. cmp y v ≡ Equal) (get_or_from_slice_get (node_at ns k) i x x here) (f.here.equal x) in
-        taken_contents k i f.node_in here (λ y. cmp y v) (λ j y. alike_right o x v y e j)
+    found_contents = sought_contents f (one_as_itself o)
 
 -- the removal of an item that equals none
-module _ {T : Type 0} (cmp : T → T → Ordering) (ns : List (List T)) (v : T) (none : equal_element cmp (joined ns) v ≡ None) where
+module _ {T Q : Type 0} (cmp : T → Q → Ordering) (ns : List (List T)) (v : Q) (none : equal_element cmp (joined ns) v ≡ None) where
   pub absent_here : has_equal cmp (node_at ns (target cmp ns v)) v ≡ false
   absent_here = any_in (λ x. is_eq (cmp x v)) ns (target cmp ns v) (sym (is_some-find (λ x. is_eq (cmp x v)) (joined ns)) ∙ ap is_some none)
     where
@@ -230,11 +233,15 @@ module _ {T : Type 0} (cmp : T → T → Ordering) (ns : List (List T)) (v : T) 
       any_in p (n ∷ ns) (suc k) h = any_in p ns k (neither _ _ (sym (list_any-append p n (joined ns)) ∙ h)).1
 
   pub absent_events : (size : ℕ) → removal_events cmp size ns v ≡ []
-  unfolding removal_events
-  absent_events size = rw absent_here refl
+  unfolding removal_by
+  absent_events size = rw (nothing _ (is_some-find (λ x. is_eq (cmp x v)) (node_at ns (target cmp ns v)) ∙ absent_here)) refl
+    where
+      nothing : (r : Option T) → is_some r ≡ false → r ≡ None
+      nothing None h = refl
+      nothing (Some x) h = absurd (false≢true (sym h))
 
   pub absent_contents : joined ns ≡ without cmp (joined ns) v
-  unfolding without
+  unfolding unequal
   absent_contents = sym (unmatched (joined ns) none)
     where
       unmatched : (l : List T) → equal_element cmp l v ≡ None → filter (λ x. not (is_eq (cmp x v))) l ≡ l

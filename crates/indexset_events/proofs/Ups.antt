@@ -8,7 +8,7 @@ use Rattle.std.proofs.lemmas.List.{append-nil}
 use Rattle.std.specs.Ordering.{ordering_reverse, is_lt, is_eq, is_gt}
 use Rattle.std.specs.Cmp.{IsTotalOrder}
 use Rattle.std.proofs.lemmas.Bool.{false≢true}
-use Rattle.indexset_core.specs.Order.{IsAscending, below, above, put, without, has_equal, rank}
+use Rattle.indexset_core.specs.Order.{IsAscending, below, above, put, without, has_equal, rank, unequal}
 use Rattle.indexset_core.proofs.CallerLemmas.{less_from, ends_last}
 use Rattle.indexset_core.specs.Nodes.{joined, node_lengths, ends_less, IsNodeList, IsLawful}
 use Rattle.indexset_events.specs.Nodes.{last_of, is_filled, is_ascending, are_nodes}
@@ -281,7 +281,7 @@ module _ {T : Type 0} (cmp : T → T → Ordering) where
       parts-put = put-within l m r v low high ∙ ap (λ q. l ++ (q ++ r)) put-same
 
       pub parts-without : without cmp (l ++ (m ++ r)) v ≡ l ++ r
-      unfolding without
+      unfolding unequal
       parts-without = parts-filter (λ x. not (is_eq (cmp x v))) ∙ rw (filter_every (λ x. not (is_eq (cmp x v))) l (test-low (λ a. not (is_eq a)) true refl), filter_no (λ x. not (is_eq (cmp x v))) m (test-same (λ a. not (is_eq a)) false refl), filter_every (λ x. not (is_eq (cmp x v))) r (test-high (λ a. not (is_eq a)) true refl)) refl
 
       pub parts-rank : rank cmp (l ++ (m ++ r)) v ≡ length l

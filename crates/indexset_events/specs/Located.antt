@@ -6,7 +6,7 @@ use Rattle.std.specs.Prelude.{◌≡◌, ℕ, ◌<◌, length, List, slice_get}
 use Rattle.indexset_core.specs.Nodes.{joined, node_at}
 
 -- the item equal to v stands at place i of the node at place k
-pub record IsFoundIn {T : Type 0} (cmp : T → T → Ordering) (ns : List (List T)) (v : T) (k i : ℕ) : Type 0 where
+pub record IsFoundIn {T Q : Type 0} (cmp : T → Q → Ordering) (ns : List (List T)) (v : Q) (k i : ℕ) : Type 0 where
   pub node_in : k < length ns
   pub node_is : k ≡ target cmp ns v
   pub here : IsFoundAt cmp (node_at ns k) v i

@@ -1,9 +1,10 @@
 -- The events of a change, without numbers.
-use Rattle.std.specs.Prelude.{ℕ, ◌+◌, ◌-◌, ◌/◌, length, Bool, List, [], ◌∷◌, ◌++◌, if◌then◌else◌, ◌==◌, get_or, take, drop, Option, Some, None}
+use Rattle.std.specs.Prelude.{ℕ, ◌+◌, ◌-◌, ◌/◌, length, Bool, List, [], ◌∷◌, ◌++◌, if◌then◌else◌, ◌==◌, get_or, take, drop, Option, Some, None, find}
 use Rattle.std.specs.declared.cmp.Ordering.{Ordering}
-use Rattle.std.specs.Ordering.{is_gt}
+use Rattle.std.specs.Ordering.{is_eq, is_gt}
 use Rattle.std.specs.Option.{option_map_or}
 use Rattle.indexset_core.specs.Order.{rank, has_equal}
+use Rattle.indexset_core.specs.Parted.{less_count}
 use Rattle.indexset_events.specs.declared.change.ChangeEventUnassigned.{ChangeEventUnassigned}
 use Rattle.indexset_events.specs.declared.change.ChangeEventUnassigned.TheVariants.{InsertAt, RemoveAt, CreateNode, RemoveNode, SplitNode, MergeNodes}
 use Rattle.indexset_core.specs.Nodes.{joined, node_at, node_for}
@@ -11,7 +12,7 @@ use Rattle.indexset_events.specs.Joining.{item_removed, join_after}
 use Rattle.indexset_events.specs.Nodes.{is_filled, last_of}
 
 -- the place of the first node whose last item is not below v, else of the last node
-abbrev pub target : {T : Type 0} → (T → T → Ordering) → List (List T) → T → ℕ
+abbrev pub target : {T Q : Type 0} → (T → Q → Ordering) → List (List T) → Q → ℕ
 target cmp ns v = node_for (λ x. cmp x v) ns
 
 -- replacing an only item, a last item, an inner item: v in the place of the equal item
@@ -76,10 +77,13 @@ count_with (Some j) = 2
 abbrev pub taking_count : {T : Type 0} → ℕ → List (List T) → ℕ → ℕ → ℕ
 taking_count size ns k i = count_with (join_after size ns k i)
 
--- a removal: nothing changes where no item equals v
-unfoldable pub removal_events : {T : Type 0} → (T → T → Ordering) → ℕ → List (List T) → T → List (ChangeEventUnassigned T)
-removal_events cmp size ns v =
-    let k = target cmp ns v in
+-- the removal of the item that is found Equal: nothing changes where none is
+unfoldable pub removal_by : {T : Type 0} → (T → Ordering) → ℕ → List (List T) → List (ChangeEventUnassigned T)
+removal_by answer size ns =
+    let k = node_for answer ns in
     let n = node_at ns k in
-    let i = rank cmp n v in
-    if has_equal cmp n v then taking_events size ns k i (get_or n i v) else []
+    option_map_or (λ x. taking_events size ns k (less_count answer n) x) (find (λ x. is_eq (answer x)) n) []
+
+-- a removal: nothing changes where no item equals v
+abbrev pub removal_events : {T Q : Type 0} → (T → Q → Ordering) → ℕ → List (List T) → Q → List (ChangeEventUnassigned T)
+removal_events cmp size ns v = removal_by (λ x. cmp x v) size ns

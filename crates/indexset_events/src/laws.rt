@@ -63,7 +63,7 @@ pub fn steps_lead_to_nodes<T: Ord>()
 {}
 
 /// The event table, at numbers.
-#[tactic(auto, unfolding(crate::specs::Nodes::are_nodes, crate::specs::Replay::step_plain, crate::specs::Table::put_events, crate::specs::Table::target_events, crate::specs::Table::node_events, crate::specs::Table::replace_events, crate::specs::Table::removal_events))]
+#[tactic(auto, unfolding(crate::specs::Nodes::are_nodes, crate::specs::Replay::step_plain, crate::specs::Table::put_events, crate::specs::Table::target_events, crate::specs::Table::node_events, crate::specs::Table::replace_events, crate::specs::Table::removal_by))]
 pub fn events_at_numbers()
     ensures first { put_events nat_cmp 4 [] 7 ≡ CreateNode 7 ∷ [] }
     ensures halved_then_inserted { put_events nat_cmp 2 ((5 ∷ 6 ∷ []) ∷ []) 7
@@ -87,7 +87,7 @@ pub fn events_at_numbers()
 {}
 
 /// What is merged after a removal, and what a merge makes of nodes, at numbers.
-#[tactic(auto, unfolding(crate::specs::Nodes::are_nodes, crate::specs::Replay::step_plain, crate::specs::Table::removal_events))]
+#[tactic(auto, unfolding(crate::specs::Nodes::are_nodes, crate::specs::Replay::step_plain, crate::specs::Table::removal_by))]
 pub fn joins_at_numbers()
     ensures both_too_large { removal_events nat_cmp 4 ((0 ∷ 1 ∷ []) ∷ (2 ∷ 3 ∷ []) ∷
         (4 ∷ 5 ∷ []) ∷ []) 3 ≡ RemoveAt 3 3 1 ∷ [] }

@@ -7,7 +7,7 @@ use Rattle.std.specs.Ordering.{nat_cmp}
 use Rattle.std.specs.Prelude.{nat_lt}
 use Rattle.std.specs.declared.cmp.Ordering.TheVariants.{Less, Equal, Greater}
 use Rattle.indexset_core.specs.Order.{above, below, put}
-use Rattle.indexset_core.specs.Pairs.{by_key, has_key, pair, put_value, set_value, valued}
+use Rattle.indexset_core.specs.Pairs.{by_key, has_key, pair, put_value, set_value, valued, set_found}
 use Rattle.indexset_core.specs.declared.pair.Pair.{Pair}
 use Rattle.indexset_follow.specs.Early.{AscendFrom, EarlyEvents}
 use Rattle.indexset_follow.specs.EventLine.{Event}
@@ -50,7 +50,7 @@ module _ {T : Type 0} where
   put_none m e = refl
 
   put_behind : (p : Pair ℕ (Event T)) (early : EarlyEvents T) (m : ℕ) (e : Event T) → p.key < m → put_value nat_cmp (p ∷ early) m e ≡ p ∷ put_value nat_cmp early m e
-  unfolding put_value set_value put
+  unfolding put_value set_found put
   put_behind p early m e lt =
       rw (is_less p.key m lt) (elim (has_key nat_cmp early m) as (λ b. cond b (p ∷ set_value nat_cmp early m e) (p ∷ (below (by_key nat_cmp) early (pair m e) ++ pair m e ∷ above (by_key nat_cmp) early (pair m e))) ≡ p ∷ cond b (set_value nat_cmp early m e) (below (by_key nat_cmp) early (pair m e) ++ pair m e ∷ above (by_key nat_cmp) early (pair m e))) [
         | true ↦ refl
@@ -58,7 +58,7 @@ module _ {T : Type 0} where
       ])
 
   put_same : (p : Pair ℕ (Event T)) (early : EarlyEvents T) (m : ℕ) (e : Event T) → p.key ≡ m → put_value nat_cmp (p ∷ early) m e ≡ valued p e ∷ early
-  unfolding put_value set_value
+  unfolding put_value set_found
   put_same p early m e same = rw (is_equal p.key m same) refl
 
   module _ (Q : Pair ℕ (Event T) → Type 0) where

@@ -7,13 +7,13 @@ use Rattle.std.specs.Prelude.{IfSome}
 use Rattle.std.specs.Option.{option_map_or}
 use Rattle.std.specs.Ordering.{is_lt}
 use Rattle.indexset_core.specs.Nodes.{joined, node_at}
-use Rattle.indexset_core.specs.Order.{has_equal, rank}
-use Rattle.indexset_core.specs.Pairs.{by_key, pair_of}
+use Rattle.indexset_core.specs.Order.{equal_element, has_equal, rank}
+use Rattle.indexset_core.specs.Pairs.{by_key}
 use Rattle.indexset_core.specs.declared.pair.Pair.{Pair}
 use Rattle.indexset_events.specs.Joining.{item_removed, join_after}
 use Rattle.indexset_events.specs.Keys.{key_removal_events}
 use Rattle.indexset_events.specs.Nodes.{is_filled, last_of}
-use Rattle.indexset_events.specs.Table.{half_of, halving_events, is_past, joining_event, node_events, part_for, put_events, removal_events, replace_events, taking_events, target, target_events}
+use Rattle.indexset_events.specs.Table.{half_of, halving_events, is_past, joining_event, node_events, part_for, put_events, removal_by, replace_events, taking_events, target, target_events}
 use Rattle.indexset_events.specs.declared.change.ChangeEventUnassigned.{ChangeEventUnassigned}
 use Rattle.indexset_events.specs.declared.change.ChangeEventUnassigned.TheVariants.{InsertAt, RemoveAt, CreateNode, RemoveNode, SplitNode, MergeNodes}
 use Rattle.indexset_events.proofs.CallerLemmas.{Each, each-append, each-left, each-right}
@@ -176,27 +176,28 @@ module _ {T : Type 0} (cmp : T → T → Ordering) (texts : Texts T) where
           two None = tt
           two (Some j) = ((name j, name (j + 1)), tt)
 
-      removal_fit : (v : Pair T T) → PairFits texts v → Each (PlainFits texts) (removal_events (order cmp) size ns v)
-      unfolding removal_events
-      removal_fit v fits = at (has_equal (order cmp) n v)
+      pub key_removal_fit : (key : T) → Each (PlainFits texts) (key_removal_events cmp size ns key)
+      unfolding removal_by
+      key_removal_fit key = at (equal_element by n key) (each_found (PairFits texts) _ n fit.1)
         where
+          by : Pair T T → T → Ordering
+          by p q = cmp p.key q
+
           k : ℕ
-          k = target (order cmp) ns v
+          k = target by ns key
 
           n : List (Pair T T)
           n = node_at ns k
 
+          fit : Fit texts n
+          fit = at_fit ns k small held
+
           i : ℕ
-          i = rank (order cmp) n v
+          i = rank by n key
 
-          at : (b : Bool) → Each (PlainFits texts) (cond b (taking_events size ns k i (get_or n i v)) [])
-          at true = let fit = at_fit ns k small held in taking_fit k i (get_or n i v) (each_got (PairFits texts) n i v fit.1 fits) (rank_small n v fit)
-          at false = tt
+          place_small : i < 2 ^ 64
+          place_small = omega (arith, fit.0, count_by-le-length (λ x. is_lt (by x key)) n)
 
-      pub key_removal_fit : (key : T) → Each (PlainFits texts) (key_removal_events cmp size ns key)
-      unfolding key_removal_events
-      key_removal_fit key = at (pair_of cmp (joined ns) key) (each_found (PairFits texts) _ (joined ns) held)
-        where
-          at : (o : Option (Pair T T)) → IfSome o (PairFits texts) → Each (PlainFits texts) (option_map_or (λ p. removal_events (order cmp) size ns p) o [])
+          at : (o : Option (Pair T T)) → IfSome o (PairFits texts) → Each (PlainFits texts) (option_map_or (λ x. taking_events size ns k i x) o [])
           at None h = tt
-          at (Some p) h = removal_fit p h
+          at (Some x) h = taking_fit k i x h place_small

@@ -20,7 +20,7 @@ use Rattle.indexset_bench.specs.declared.pair_command.PairCommand.TheVariants.{P
 use Rattle.indexset_bench.specs.declared.reply.Reply.{Reply}
 use Rattle.indexset_bench.specs.declared.reply.Reply.TheVariants.{New, Old, Gone, Yes, No, Nothing, Empty}
 use Rattle.indexset_bench.proofs.CallerLemmas.{sound}
-use Rattle.indexset_core.specs.Order.{above, below, has_equal, keep, put, without}
+use Rattle.indexset_core.specs.Order.{above, below, has_equal, keep, put, without, unequal}
 use Rattle.indexset_core.specs.declared.pair.Pair.{Pair}
 use Rattle.indexset_events.specs.Nodes.{is_filled}
 use Rattle.indexset_events.proofs.CallerLemmas.{Each, each-append, each_all}
@@ -145,7 +145,7 @@ more_few : (count : ℕ) (s : List ℕ) → Few count s → Few (count + 1) s
 more_few count s h = record { small = h.small; many = omega (arith, h.many) }
 
 after_few : (count : ℕ) (s : List ℕ) → Few count s → (o : Option Command) → ((c : Command) → o ≡ Some c → FitsU64 c) → Few (count + 1) (contents_after s o)
-unfolding without
+unfolding unequal
 after_few count s h None fit = more_few count s h
 after_few count s h (Some (Add n)) fit = added_few count n s (fit (Add n) refl) h
 after_few count s h (Some (Del n)) fit = record { small = kept_small _ s h.small; many = let less = kept_many (λ x. not (is_eq (nat_cmp x n))) s in omega (arith, h.many, less) }

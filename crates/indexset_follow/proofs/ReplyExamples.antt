@@ -4,8 +4,7 @@ use lib.Chars.{codes}
 use Rattle.std.specs.Fmt.{digits}
 use Rattle.indexset_bench.specs.PairText.{ended}
 use Rattle.indexset_bench.specs.declared.pair_command.PairCommand.TheVariants.{Put, Cut}
-use Rattle.indexset_events.specs.Keys.{key_removal_events}
-use Rattle.indexset_events.specs.Table.{put_events, removal_events}
+use Rattle.indexset_events.specs.Table.{put_events, removal_by}
 use Rattle.indexset_log.specs.Tree.{fresh}
 use Rattle.indexset_follow.specs.Echo.{command}
 use Rattle.indexset_follow.specs.Leading.{command_text, leader_of}
@@ -21,13 +20,13 @@ use Rattle.indexset_bench.specs.Texts.{number_texts}
 -- the first pair of a map, and the removal of a key that it lacks
 commands : (command_text nat_cmp number_texts (leader_of (fresh 4) 0) (command None (Put 3 30)) ≡ ended (codes "new") ++ ended (codes "0 create 3:30") ++ ended (codes "next 1"))
     × (command_text nat_cmp number_texts (leader_of (fresh 4) 0) (command None (Cut 3)) ≡ ended (codes "none") ++ ended (codes "next 0"))
-unfolding put_events key_removal_events removal_events digits
+unfolding put_events removal_by digits
 commands = (refl, refl)
 
 -- the same with a number, which is or is not the greatest
 numbered : (command_text nat_cmp number_texts (leader_of (fresh 4) 0) (command (Some 17) (Put 3 30)) ≡ ended (codes "#17 new") ++ ended (codes "0 create 3:30") ++ ended (codes "done 17 1") ++ ended (codes "next 1"))
     × (command_text nat_cmp number_texts (leader_of (fresh 4) 20) (command (Some 17) (Cut 3)) ≡ ended (codes "#17 none") ++ ended (codes "done 20 0") ++ ended (codes "next 0"))
-unfolding put_events key_removal_events removal_events digits
+unfolding put_events removal_by digits
 numbered = (refl, refl)
 
 heads : (head_reply 5 0 ≡ Next 5) × (head_reply 5 5 ≡ Next 5) × (head_reply 5 6 ≡ Gap 5)

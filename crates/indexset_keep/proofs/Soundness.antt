@@ -13,7 +13,7 @@ use Rattle.indexset_lines.specs.Run.{left_by}
 use Rattle.indexset_lines.proofs.Lines.{IsWhole-end, whole_lines-append}
 use Rattle.indexset_core.specs.Nodes.{joined}
 use Rattle.indexset_core.specs.Order.{above, below, put}
-use Rattle.indexset_core.specs.Pairs.{by_key, has_key, pair, put_value, set_value, valued}
+use Rattle.indexset_core.specs.Pairs.{by_key, has_key, pair, put_value, set_value, valued, set_found}
 use Rattle.indexset_core.specs.declared.pair.Pair.{Pair}
 use Rattle.indexset_core.specs.declared.refusal.Refusal.{Refusal}
 use Rattle.indexset_events.specs.Attach.{attached, nodes_refusal}
@@ -95,7 +95,7 @@ module _ {T : Type 0} (texts : Texts T) where
 module _ {T : Type 0} (cmp : T → T → Ordering) (texts : Texts T) where
   module _ (n : ℕ) (e : Event T) (new : EventFits texts e) where
     set_fit : (early : EarlyEvents T) → All (EarlyFits texts) early → All (EarlyFits texts) (set_value nat_cmp early n e)
-    unfolding set_value
+    unfolding set_found
     set_fit [] fit = fit
     set_fit (p ∷ early) fit = at (is_eq (nat_cmp p.key n)) (set_fit early (All-tail (EarlyFits texts) p early fit))
       where

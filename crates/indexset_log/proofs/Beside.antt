@@ -8,8 +8,9 @@ use Rattle.std.proofs.lemmas.Bool.{false≢true}
 use Rattle.std.proofs.lemmas.List.Folds.{find-append}
 use Rattle.indexset_core.specs.declared.pair.Pair.{Pair}
 use Rattle.indexset_core.specs.Nodes.{joined}
-use Rattle.indexset_core.specs.Order.{above, below, keep, put}
+use Rattle.indexset_core.specs.Order.{above, below, keep, put, unequal}
 use Rattle.indexset_core.specs.Pairs.{by_key, has_key, pair, value_of, without_key}
+use Rattle.indexset_core.specs.Sought.{ActsAsKey}
 use Rattle.indexset_core.proofs.CallerLemmas.{equal_from, value_put}
 use Rattle.indexset_log.specs.Keys.{KeepsOthers}
 
@@ -61,10 +62,6 @@ module _ {K V : Type 0} (cmp : K → K → Ordering) (o : IsTotalOrder cmp) (k o
   unfolding own
   like_other p e = o.congr p.key other k (equal_from _ e)
 
-  beside_removed : (l : List (Pair K V)) → value_of cmp (without_key cmp l k) other ≡ value_of cmp l other
-  unfolding without_key own
-  beside_removed l = ap (option_map (λ p. p.value)) (find_kept own (λ p. not (is_eq (cmp p.key k))) (λ p e. ap not (ap is_eq (like_other p e) ∙ apart)) l)
-
   beside_put : (l : List (Pair K V)) (w : V) → value_of cmp (put (by_key cmp) l (pair k w)) other ≡ value_of cmp l other
   unfolding put own
   beside_put l w = ap (option_map (λ p. p.value)) (find-append own low (pair k w ∷ high) ∙ (rw (apart_back cmp o k other apart) (elim (cmp other k) as (λ a. cmp other k ≡ a → option_or (find own low) (find own high) ≡ find own l) [
@@ -78,13 +75,18 @@ module _ {K V : Type 0} (cmp : K → K → Ordering) (o : IsTotalOrder cmp) (k o
     high : List (Pair K V)
     high = above (by_key cmp) l (pair k w)
 
--- the other keys keep their values, whether a pair is put in or removed
-module _ {K V : Type 0} {cmp : K → K → Ordering} (o : IsTotalOrder cmp) (before after : List (List (Pair K V))) (k : K) where
-  pub others_put : (w : V) → joined after ≡ put (by_key cmp) (joined before) (pair k w) → KeepsOthers cmp before after k
-  others_put w made other apart = ap (λ l. value_of cmp l other) made ∙ beside_put cmp o k other apart (joined before) w
+module _ {K V Q : Type 0} {cmp : K → K → Ordering} {order : K → Q → Ordering} {among : Q → Q → Ordering} (acts : ActsAsKey cmp order among) (k : Q) (other : K) (apart : is_eq (order other k) ≡ false) where
+  beside_removed : (l : List (Pair K V)) → value_of cmp (without_key order l k) other ≡ value_of cmp l other
+  unfolding unequal
+  beside_removed l = ap (option_map (λ p. p.value)) (find_kept (λ p. is_eq (cmp p.key other)) (λ p. not (is_eq (order p.key k))) (λ p e. ap not (ap is_eq (acts.alike k p.key other (equal_from _ e)) ∙ apart)) l)
 
-  pub others_removed : joined after ≡ without_key cmp (joined before) k → KeepsOthers cmp before after k
-  others_removed made other apart = ap (λ l. value_of cmp l other) made ∙ beside_removed cmp o k other apart (joined before)
+-- the other keys keep their values, whether a pair is put in or removed
+module _ {K V : Type 0} {cmp : K → K → Ordering} (before after : List (List (Pair K V))) where
+  pub others_put : IsTotalOrder cmp → (k : K) (w : V) → joined after ≡ put (by_key cmp) (joined before) (pair k w) → KeepsOthers cmp cmp before after k
+  others_put o k w made other apart = ap (λ l. value_of cmp l other) made ∙ beside_put cmp o k other apart (joined before) w
+
+  pub others_removed : {Q : Type 0} {order : K → Q → Ordering} {among : Q → Q → Ordering} → ActsAsKey cmp order among → (k : Q) → joined after ≡ without_key order (joined before) k → KeepsOthers cmp order before after k
+  others_removed acts k made other apart = ap (λ l. value_of cmp l other) made ∙ beside_removed acts k other apart (joined before)
 
 -- a pair that was put in only where its key was absent
 module _ {K V : Type 0} {cmp : K → K → Ordering} (o : IsTotalOrder cmp) (l m : List (Pair K V)) (k : K) (w : V) where

@@ -11,7 +11,7 @@ use Rattle.indexset_core.specs.Pairs.{by_key}
 use Rattle.indexset_log.specs.Changed.{Change, Changed, Fits, ItemsTold, PairsTold, Told, checked_put_change, put_change, removal_change, taken_change}
 use Rattle.indexset_events.specs.Clones.{AreIdentical, IsEventClone, IsTold}
 use Rattle.indexset_events.specs.Edits.{with_taken}
-use Rattle.indexset_log.specs.Edits.{after_put, after_removal, after_taken}
+use Rattle.indexset_log.specs.Edits.{after_put, after_removal, after_removal_by, after_taken}
 use Rattle.indexset_events.specs.Joining.{IsSpaced, item_removed, join_after, with_joined}
 use Rattle.indexset_events.specs.Keys.{IsPairClone}
 use Rattle.indexset_events.specs.Located.{IsFoundIn}
@@ -22,11 +22,10 @@ use Rattle.indexset_log.specs.Tree.{IsTree, Tree}
 use Rattle.indexset_events.specs.declared.change.ChangeEvent.{ChangeEvent}
 use Rattle.indexset_events.specs.declared.change.ChangeEventUnassigned.{ChangeEventUnassigned}
 use Rattle.indexset_log.proofs.Checked.{absent_change, there_change}
-use Rattle.indexset_events.proofs.CallerLemmas.{absent_contents, absent_events, absent_here, ascends, clones_numbered, event_same, found_at, found_contents, found_events, lawful_filled, lawful_parted, lawful_ruled, length-numbered, pair_same, put_contents, put_replayed, put_spaced, some_read, taken_replay, taken_spaced, taking_length, three_at_most, two_at_most, up_node}
-use Rattle.indexset_core.proofs.CallerLemmas.{found_has_equal, found_rank, has_put, parted_by_item, gap_found}
+use Rattle.indexset_events.proofs.CallerLemmas.{absent_contents, absent_events, absent_here, ascends, clones_numbered, event_same, lawful_ascends, lawful_filled, lawful_ruled, length-numbered, pair_same, put_contents, put_replayed, put_spaced, some_read, sought_at, sought_contents, sought_events, taken_replay, taken_spaced, taking_length, three_at_most, two_at_most, up_node}
+use Rattle.indexset_core.proofs.CallerLemmas.{found_has_equal, found_rank, has_put, parted_by_sought, gap_found}
 use Rattle.indexset_core.specs.Places.{located}
-use Rattle.indexset_events.specs.Located.{IsFoundIn}
-use Rattle.indexset_events.proofs.Places.{found_at}
+use Rattle.indexset_core.specs.Sought.{ActsAsKey, ActsAsOne, acts_as_itself, one_as_itself}
 
 -- what holds of a change also where there are no numbers for its events
 pub record Altered {T : Type 0} (cmp : T → T → Ordering) (old new : Tree T) (l : List T) (es : List (ChangeEventUnassigned T)) : Type 0 where
@@ -147,15 +146,18 @@ module _ {T : Type 0} {cmp : T → T → Ordering} {most len : ℕ} {old new : T
 
 -- a removal, by where its item stands
 module _ {T : Type 0} {cmp : T → T → Ordering} (old : Tree T) where
-  pub found_after : {v : T} {k i : ℕ} → IsTotalOrder cmp → IsLawful cmp old.size old.nodes → IsFoundIn cmp old.nodes v k i → after_removal cmp old v ≡ after_taken old k i
-  unfolding after_removal
-  found_after {v = v} {k = k} {i = i} o law f =
+  pub sought_after : {Q : Type 0} {order : T → Q → Ordering} {among : Q → Q → Ordering} {v : Q} {k i : ℕ} → ActsAsKey cmp order among → IsLawful cmp old.size old.nodes → IsFoundIn order old.nodes v k i → after_removal order old v ≡ after_taken old k i
+  unfolding after_removal_by
+  sought_after {order = order} {v = v} {k = k} {i = i} acts law f =
       let n = node_at old.nodes k in
-      let parted = parted_by_item cmp o n (ascends cmp n (up_node cmp old.nodes k (lawful_ruled cmp old.size old.nodes law))) v in
-      rw (← f.node_is, found_has_equal cmp n v i f.here, found_rank cmp n v i f.here parted) refl
+      let parted = parted_by_sought acts n (ascends cmp n (up_node cmp old.nodes k (lawful_ruled cmp old.size old.nodes law))) v in
+      rw (← f.node_is, found_has_equal order n v i f.here, found_rank order n v i f.here parted) refl
 
-pub absent_after : {T : Type 0} (cmp : T → T → Ordering) (old : Tree T) (v : T) → equal_element cmp (joined old.nodes) v ≡ None → after_removal cmp old v ≡ old
-unfolding after_removal
+  pub found_after : {v : T} {k i : ℕ} → IsTotalOrder cmp → IsLawful cmp old.size old.nodes → IsFoundIn cmp old.nodes v k i → after_removal cmp old v ≡ after_taken old k i
+  found_after o law f = sought_after (acts_as_itself o) law f
+
+pub absent_after : {T Q : Type 0} (cmp : T → Q → Ordering) (old : Tree T) (v : Q) → equal_element cmp (joined old.nodes) v ≡ None → after_removal cmp old v ≡ old
+unfolding after_removal_by
 absent_after cmp old v none = rw (absent_here cmp old.nodes v none) refl
 
 -- what goes from a place, if any
@@ -165,11 +167,11 @@ pub record Goes {T : Type 0} (old : Tree T) (place : Option (ℕ × ℕ)) (answe
   pub events : events_from old place ≡ es
   pub after : after_taking old place ≡ new
 
-pub value_goes : {T : Type 0} {cmp : T → T → Ordering} {old : Tree T} → IsTotalOrder cmp → IsLawful cmp old.size old.nodes → (v : T) (place : Option (ℕ × ℕ)) → MatchOption place (equal_element cmp (joined old.nodes) v ≡ None) (λ p. IsFoundIn cmp old.nodes v p.0 p.1) → Goes old place (equal_element cmp (joined old.nodes) v) (removal_events cmp old.size old.nodes v) (after_removal cmp old v)
-value_goes {cmp = cmp} {old = old} o law v None none = record { inside = tt; item = sym none; events = sym (absent_events cmp old.nodes v none old.size); after = sym (absent_after cmp old v none) }
-value_goes {cmp = cmp} {old = old} o law v (Some p) found =
+pub value_goes : {T Q : Type 0} {cmp : T → T → Ordering} {order : T → Q → Ordering} {among : Q → Q → Ordering} {old : Tree T} → IsTotalOrder cmp → ActsAsKey cmp order among → IsLawful cmp old.size old.nodes → (v : Q) (place : Option (ℕ × ℕ)) → MatchOption place (equal_element order (joined old.nodes) v ≡ None) (λ p. IsFoundIn order old.nodes v p.0 p.1) → Goes old place (equal_element order (joined old.nodes) v) (removal_events order old.size old.nodes v) (after_removal order old v)
+value_goes {order = order} {old = old} o acts law v None none = record { inside = tt; item = sym none; events = sym (absent_events order old.nodes v none old.size); after = sym (absent_after order old v none) }
+value_goes {old = old} o acts law v (Some p) found =
     let x = some_read (node_at old.nodes p.0) p.1 found.here.inside in
-    record { inside = (found.node_in, found.here.inside); item = found.item; events = rw x.1 (sym (found_events o law found x.1)); after = sym (found_after old o law found) }
+    record { inside = (found.node_in, found.here.inside); item = found.item; events = rw x.1 (sym (sought_events o law found acts x.1)); after = sym (sought_after old acts law found) }
 
 -- how many events that gives
 pub events_counted : {T : Type 0} (old : Tree T) (k i : ℕ) → i < length (node_at old.nodes k) → length (events_from old (Some (k, i))) ≡ taking_count old.size old.nodes k i
@@ -189,17 +191,26 @@ pub there_changed : {T : Type 0} (cmp : T → T → Ordering) (old : Tree T) (v 
 there_changed cmp old v in_range there = unchanged cmp old old refl in_range (there_change cmp old v there)
 
 -- a removal
-pub removal_altered : {T : Type 0} {cmp : T → T → Ordering} {most len : ℕ} {old new : Tree T} → IsTotalOrder cmp → IsTree cmp most old.nodes old.size len → (v : T) → new ≡ after_removal cmp old v → Altered cmp old new (without cmp (joined old.nodes) v) (removal_events cmp old.size old.nodes v)
-removal_altered {T = T} {cmp = cmp} {old = old} {new = new} o t v e = at (located (λ x. cmp x v) old.nodes) refl
-  where
-    at : (r : Result (ℕ × ℕ) (ℕ × ℕ)) → r ≡ located (λ x. cmp x v) old.nodes → Altered cmp old new (without cmp (joined old.nodes) v) (removal_events cmp old.size old.nodes v)
-    at (Ok p) w =
-        let found : IsFoundIn cmp old.nodes v p.0 p.1 = found_at cmp o v old.size old.nodes t.lawful (Ok p) w p refl in
-        let read = some_read (node_at old.nodes p.0) p.1 found.here.inside in
-        rw (found_events o t.lawful found read.1, ← found_contents o t.lawful found read.1) (taken_altered o t p.0 p.1 found.node_in read.1 (e ∙ found_after old o t.lawful found))
-    at (Err p) w =
-        let none = gap_found (λ x. cmp x v) old.nodes (lawful_filled cmp old.size old.nodes t.lawful) (lawful_parted cmp old.size old.nodes t.lawful o v) (Err p) w p refl in
-        rw (absent_events cmp old.nodes v none old.size, ← absent_contents cmp old.nodes v none) (altered_nowhere cmp old new (e ∙ absent_after cmp old v none))
+module _ {T Q : Type 0} {cmp : T → T → Ordering} {order : T → Q → Ordering} {among : Q → Q → Ordering} {most len : ℕ} {old new : Tree T} (o : IsTotalOrder cmp) (acts : ActsAsKey cmp order among) (one : ActsAsOne cmp order) (t : IsTree cmp most old.nodes old.size len) (v : Q) where
+  pub sought_altered : new ≡ after_removal order old v → Altered cmp old new (without order (joined old.nodes) v) (removal_events order old.size old.nodes v)
+  sought_altered e = at (located (λ x. order x v) old.nodes) refl
+    where
+      at : (r : Result (ℕ × ℕ) (ℕ × ℕ)) → r ≡ located (λ x. order x v) old.nodes → Altered cmp old new (without order (joined old.nodes) v) (removal_events order old.size old.nodes v)
+      at (Ok p) w =
+          let found : IsFoundIn order old.nodes v p.0 p.1 = sought_at acts v old.size old.nodes t.lawful (Ok p) w p refl in
+          let read = some_read (node_at old.nodes p.0) p.1 found.here.inside in
+          rw (sought_events o t.lawful found acts read.1, ← sought_contents o t.lawful found one read.1) (taken_altered o t p.0 p.1 found.node_in read.1 (e ∙ sought_after old acts t.lawful found))
+      at (Err p) w =
+          let none = gap_found (λ x. order x v) old.nodes (lawful_filled cmp old.size old.nodes t.lawful) (parted_by_sought acts (joined old.nodes) (lawful_ascends cmp old.size old.nodes t.lawful) v) (Err p) w p refl in
+          rw (absent_events order old.nodes v none old.size, ← absent_contents order old.nodes v none) (altered_nowhere cmp old new (e ∙ absent_after order old v none))
 
-pub removal_changed : {T : Type 0} {cmp : T → T → Ordering} {most len : ℕ} {old new : Tree T} → IsTotalOrder cmp → IsTree cmp most old.nodes old.size len → (v : T) → new ≡ after_removal cmp old v → Fits old (removal_change cmp old v) → Changed cmp old new (removal_change cmp old v)
-removal_changed {cmp = cmp} {old = old} o t v e fits = changed {made = removal_change cmp old v} e fits (removal_altered o t v e)
+  pub sought_changed : new ≡ after_removal order old v → Fits old (removal_change order old v) → Changed cmp old new (removal_change order old v)
+  sought_changed e fits = changed {made = removal_change order old v} e fits (sought_altered e)
+
+-- the same of an item
+module _ {T : Type 0} {cmp : T → T → Ordering} {most len : ℕ} {old new : Tree T} (o : IsTotalOrder cmp) (t : IsTree cmp most old.nodes old.size len) (v : T) where
+  pub removal_altered : new ≡ after_removal cmp old v → Altered cmp old new (without cmp (joined old.nodes) v) (removal_events cmp old.size old.nodes v)
+  removal_altered = sought_altered o (acts_as_itself o) (one_as_itself o) t v
+
+  pub removal_changed : new ≡ after_removal cmp old v → Fits old (removal_change cmp old v) → Changed cmp old new (removal_change cmp old v)
+  removal_changed = sought_changed o (acts_as_itself o) (one_as_itself o) t v

@@ -36,10 +36,6 @@ module _ {T : Type 0} (cmp : T → T → Ordering) (t : Tree T) where
   abbrev pub checked_put_change : T → Change T
   checked_put_change v = record { tree = after_checked_put cmp t v; items = keep cmp (joined t.nodes) v; events = checked_put_events cmp t.size t.nodes v }
 
-  -- the removal of the item that equals v, where there is one
-  abbrev pub removal_change : T → Change T
-  removal_change v = record { tree = after_removal cmp t v; items = without cmp (joined t.nodes) v; events = removal_events cmp t.size t.nodes v }
-
   -- the removal of the first item, where there is one
   abbrev pub first_removal : Change T
   first_removal = record { tree = after_removal_at cmp t 0; items = drop 1 (joined t.nodes); events = removal_events_at cmp t.size t.nodes 0 }
@@ -54,8 +50,12 @@ module _ {T : Type 0} (cmp : T → T → Ordering) (t : Tree T) where
 abbrev pub taken_change : {T : Type 0} → Tree T → ℕ → ℕ → T → Change T
 taken_change t k i x = record { tree = after_taken t k i; items = joined (with_taken t.size t.nodes k i); events = taking_events t.size t.nodes k i x }
 
+-- the removal of the item that equals v, where there is one
+abbrev pub removal_change : {T Q : Type 0} → (T → Q → Ordering) → Tree T → Q → Change T
+removal_change cmp t v = record { tree = after_removal cmp t v; items = without cmp (joined t.nodes) v; events = removal_events cmp t.size t.nodes v }
+
 -- the removal of the pair of the key k, where there is one
-abbrev pub key_removal : {K V : Type 0} → (K → K → Ordering) → Tree (Pair K V) → K → Change (Pair K V)
+abbrev pub key_removal : {K V Q : Type 0} → (K → Q → Ordering) → Tree (Pair K V) → Q → Change (Pair K V)
 key_removal cmp t k = record { tree = after_key_removal cmp t k; items = without_key cmp (joined t.nodes) k; events = key_removal_events cmp t.size t.nodes k }
 
 -- there are numbers for its events

@@ -1,10 +1,12 @@
 -- What calls make of the tree.
 use Rattle.std.specs.Prelude.{ℕ, ◌+◌, length, if◌then◌else◌}
 use Rattle.std.specs.declared.cmp.Ordering.{Ordering}
-use Rattle.indexset_core.specs.Nodes.{node_at}
-use Rattle.indexset_core.specs.Order.{has_equal, rank}
+use Rattle.std.specs.List.{list_any}
+use Rattle.std.specs.Ordering.{is_eq}
+use Rattle.indexset_core.specs.Nodes.{node_at, node_for}
+use Rattle.indexset_core.specs.Parted.{less_count}
 use Rattle.indexset_events.specs.Edits.{with_checked_put, with_put, with_taken}
-use Rattle.indexset_events.specs.Table.{target, put_events, checked_put_events, taking_count}
+use Rattle.indexset_events.specs.Table.{put_events, checked_put_events, taking_count}
 use Rattle.indexset_log.specs.Tree.{Tree}
 
 module _ {T : Type 0} where
@@ -20,9 +22,13 @@ module _ {T : Type 0} where
   abbrev pub after_taken : Tree T → ℕ → ℕ → Tree T
   after_taken t k i = record { nodes = with_taken t.size t.nodes k i; size = t.size; next = t.next + taking_count t.size t.nodes k i }
 
-  -- the tree after a removal: it stays where no item equals v
-  unfoldable pub after_removal : (T → T → Ordering) → Tree T → T → Tree T
-  after_removal cmp t v =
-      let k = target cmp t.nodes v in
+  -- the tree after the removal of the item that is found Equal: it stays where none is
+  unfoldable pub after_removal_by : (T → Ordering) → Tree T → Tree T
+  after_removal_by answer t =
+      let k = node_for answer t.nodes in
       let n = node_at t.nodes k in
-      if has_equal cmp n v then after_taken t k (rank cmp n v) else t
+      if list_any (λ x. is_eq (answer x)) n then after_taken t k (less_count answer n) else t
+
+  -- the tree after a removal: it stays where no item equals v
+  abbrev pub after_removal : {Q : Type 0} → (T → Q → Ordering) → Tree T → Q → Tree T
+  after_removal cmp t v = after_removal_by (λ x. cmp x v) t

@@ -28,6 +28,7 @@ use indexset_core::node::NodeLike;
 use indexset_core::pair::Pair;
 use indexset_core::probe::{ByKey, Probe};
 use indexset_core::refusal::Refused;
+use indexset_core::sought::Sought;
 use std::alloc::Global;
 use std::marker::Model;
 
@@ -286,10 +287,10 @@ impl<K: Ord + Clone + Drop, V: Clone + Drop, Node: NodeLike<Pair<K, V>>> BTreeMa
     /// tree.insert(1, 10)?;
     /// assert!(rt; tree.get(&1).is_some_and(|pair| pair.value == 10));
     /// ```
-    pub fn get(&self, key: &K) -> Option<&Pair<K, V>>
-        ensures { option_copied result ≡ pair_of K.cmp (joined self.now.nodes) key.now }
+    pub fn get<Q: Sought<K> + Drop>(&self, key: Q) -> Option<&Pair<K, V>>
+        ensures { option_copied result ≡ pair_of Q.order (joined self.now.nodes) key }
     {
-        self.set.get_by(&mut self.by_key(key))
+        self.set.get_by(&mut self.by_key(&key))
     }
 
     /// Returns the first pair that the comparator finds equal, or `None` if there is none, by
@@ -321,16 +322,16 @@ impl<K: Ord + Clone + Drop, V: Clone + Drop, Node: NodeLike<Pair<K, V>>> BTreeMa
     /// tree.insert(2, 20)?;
     /// assert!(rt; tree.contains_key(&1) && !tree.contains_key(&3));
     /// ```
-    pub fn contains_key(&self, key: &K) -> bool
-        ensures { result ≡ has_key K.cmp (joined self.now.nodes) key.now }
+    pub fn contains_key<Q: Sought<K> + Drop>(&self, key: Q) -> bool
+        ensures { result ≡ has_key Q.order (joined self.now.nodes) key }
     {
         self.get(key).is_some()
     }
 
     // Returns a probe for a key, which finds the pairs in order.
-    fn by_key<'a>(&self, key: &'a K) -> ByKey<'a, K>
+    fn by_key<'a, Q: Sought<K>>(&self, key: &'a Q) -> ByKey<'a, Q>
         ensures probe { result ≡ (key.now, 0) }
-        ensures parted { IsParted (λ p. K.cmp p.key key.now) (joined self.now.nodes) }
+        ensures parted { IsParted (λ p. Q.order p.key key.now) (joined self.now.nodes) }
     {
         // The contract of `node_count` says that the pairs ascend.
         let _nodes = self.set.node_count();
@@ -338,14 +339,14 @@ impl<K: Ord + Clone + Drop, V: Clone + Drop, Node: NodeLike<Pair<K, V>>> BTreeMa
     }
 
     // Returns where a search for a key ends.
-    fn locate(&self, key: &K) -> Result<(usize, usize), (usize, usize)>
-        ensures place { result ≡ located (λ p. K.cmp p.key key.now) self.now.nodes }
+    fn locate<Q: Sought<K> + Drop>(&self, key: Q) -> Result<(usize, usize), (usize, usize)>
+        ensures place { result ≡ located (λ p. Q.order p.key key) self.now.nodes }
         ensures lawful { IsLawful (by_key K.cmp) self.now.size self.now.nodes }
         ensures two { 2 ≤ self.now.size }
         ensures number { self.now.next ≤ u64.MAX }
     {
         // The counter fits a u64, so a call without events lacks no number.
         let _next = self.set.events_issued();
-        self.set.locate(&mut self.by_key(key))
+        self.set.locate(&mut self.by_key(&key))
     }
 }

@@ -28,6 +28,7 @@ use indexset_core::constants::DEFAULT_INNER_SIZE;
 use indexset_core::locate::locate_by;
 use indexset_core::node::NodeLike;
 use indexset_core::probe::{ByItem, Probe};
+use indexset_core::sought::Sought;
 use indexset_core::walk::ReadAny;
 use indexset_index::blocks::Blocks;
 use std::alloc::Global;
@@ -260,9 +261,9 @@ impl<T: Ord + Clone + Drop, Node: NodeLike<T>> BTreeSet<T, Node> {
     }
 
     // Returns a probe for an item, which finds the items in order.
-    fn by_item<'a>(&self, value: &'a T) -> ByItem<'a, T>
+    fn by_item<'a, Q: Sought<T>>(&self, value: &'a Q) -> ByItem<'a, Q>
         ensures probe { result ≡ (value.now, 0) }
-        ensures parted { IsParted (λ x. T.cmp x value.now) (joined self.now.nodes) }
+        ensures parted { IsParted (λ x. Q.order x value.now) (joined self.now.nodes) }
     {
         // The nodes are lawful.
         let _nodes = &self.nodes;
@@ -270,14 +271,13 @@ impl<T: Ord + Clone + Drop, Node: NodeLike<T>> BTreeSet<T, Node> {
     }
 
     // Returns where the equal item is: its node, and the offset in it.
-    fn place_of(&self, value: &T) -> Option<(usize, usize)>
-        ensures place { MatchOption result (equal_element T.cmp
-            (joined self.now.nodes) value.now ≡ None)
-            (λ p. IsFoundIn T.cmp self.now.nodes value.now p.0 p.1) }
+    fn place_of<Q: Sought<T> + Drop>(&self, value: Q) -> Option<(usize, usize)>
+        ensures place { MatchOption result (equal_element Q.order (joined self.now.nodes) value
+            ≡ None) (λ p. IsFoundIn Q.order self.now.nodes value p.0 p.1) }
         ensures lawful { IsLawful T.cmp self.now.size self.now.nodes }
         ensures two { 2 ≤ self.now.size }
     {
-        self.locate(&mut self.by_item(value)).ok()
+        self.locate(&mut self.by_item(&value)).ok()
     }
 
     /// Returns whether an item equal to the value is present.
@@ -286,10 +286,10 @@ impl<T: Ord + Clone + Drop, Node: NodeLike<T>> BTreeSet<T, Node> {
     /// let tree: set::BTreeSet<u64, Vec<u64>> = set::BTreeSet::from_iter(alloc, [5, 10, 15])?;
     /// assert!(rt; tree.contains(&10) && !tree.contains(&12));
     /// ```
-    pub fn contains(&self, value: &T) -> bool
-        ensures { result ≡ has_equal T.cmp (joined self.now.nodes) value.now }
+    pub fn contains<Q: Sought<T> + Drop>(&self, value: Q) -> bool
+        ensures { result ≡ has_equal Q.order (joined self.now.nodes) value }
     {
-        self.place_of(value).is_some()
+        self.get(value).is_some()
     }
 
     /// Returns the item equal to the value, if any.
@@ -298,10 +298,10 @@ impl<T: Ord + Clone + Drop, Node: NodeLike<T>> BTreeSet<T, Node> {
     /// let tree: set::BTreeSet<u64, Vec<u64>> = set::BTreeSet::from_iter(alloc, [5, 10, 15])?;
     /// assert!(rt; tree.get(&10) == Some(&10) && tree.get(&12).is_none());
     /// ```
-    pub fn get(&self, value: &T) -> Option<&T>
-        ensures { option_copied result ≡ equal_element T.cmp (joined self.now.nodes) value.now }
+    pub fn get<Q: Sought<T> + Drop>(&self, value: Q) -> Option<&T>
+        ensures { option_copied result ≡ equal_element Q.order (joined self.now.nodes) value }
     {
-        self.get_by(&mut self.by_item(value))
+        self.get_by(&mut self.by_item(&value))
     }
 
     /// Returns the first item that the comparator finds equal, or `None` if there is none. It

@@ -9,13 +9,12 @@ use crate::node::{
 };
 use crate::order::{deliver, deliver_part};
 use crate::partial::Partial;
-use crate::seek::{seek, seek_by};
+use crate::seek::{Keyed, seek, seek_by};
 use crate::text::tell_text;
 use indexset_events::change::ChangeEvent;
 use indexset_play::player::Swept;
 use indexset_play::script::{Stop, Subject, read, tell, tell_option};
 use indexset_replica::Replica;
-use indexset_replica::keys::KeyOf;
 use std::alloc::Global;
 use std::marker::PhantomData;
 use std::str::SplitWhitespace;
@@ -23,7 +22,7 @@ use std::str::SplitWhitespace;
 /// A replica, read by its items and by keys of theirs, and events that may be delivered to it out of
 /// turn.
 #[derive(Drop)]
-pub struct Replicas<T: Item, Q: Item + KeyOf<T>> {
+pub struct Replicas<T: Item, Q: Keyed<T>> {
     source: Source,
     replica: Replica<T>,
     events: Vec<ChangeEvent<T>>,
@@ -31,7 +30,7 @@ pub struct Replicas<T: Item, Q: Item + KeyOf<T>> {
     key: PhantomData<Q>,
 }
 
-impl<T: Item, Q: Item + KeyOf<T>> Replicas<T, Q> {
+impl<T: Item, Q: Keyed<T>> Replicas<T, Q> {
     fn attach(&mut self, words: &mut SplitWhitespace<'_>, answer: &mut String) -> Result<(), Stop> {
         let alloc = self.source.alloc;
         let node = read_node::<T, Vec<T>, Whole>(&self.source, words)?;
@@ -132,7 +131,7 @@ impl<T: Item, Q: Item + KeyOf<T>> Replicas<T, Q> {
     }
 }
 
-impl<T: Item, Q: Item + KeyOf<T>> Subject for Replicas<T, Q> {
+impl<T: Item, Q: Keyed<T>> Subject for Replicas<T, Q> {
     fn call(
         &mut self,
         name: &str,
@@ -151,7 +150,7 @@ impl<T: Item, Q: Item + KeyOf<T>> Subject for Replicas<T, Q> {
     }
 }
 
-impl<T: Item, Q: Item + KeyOf<T>> Swept for Replicas<T, Q> {
+impl<T: Item, Q: Keyed<T>> Swept for Replicas<T, Q> {
     fn make(alloc: Global, _size: usize) -> Result<Self, Stop> {
         Ok(Replicas {
             source: Source::new(alloc)?,
@@ -188,7 +187,7 @@ impl<T: Item, Q: Item + KeyOf<T>> Swept for Replicas<T, Q> {
     }
 }
 
-impl<T: Item, Q: Item + KeyOf<T>> Metering for Replicas<T, Q> {
+impl<T: Item, Q: Keyed<T>> Metering for Replicas<T, Q> {
     fn meter(&self) -> &Meter {
         &self.source.meter
     }

@@ -1,13 +1,64 @@
 //! Calls that seek an item of a replica: by an item, by a key, or by a position.
 
-use crate::item::{Item, Source, read_bound, read_range};
+use crate::item::{Item, Source, Value, read_bound, read_range};
 use crate::trees::{copies_before, copies_up_to};
 use indexset_core::bounds::bounds_are_ordered;
+use indexset_core::multipair::MultiPair;
+use indexset_core::pair::Pair;
+use indexset_core::sought::Sought;
 use indexset_play::script::{self, Stop, read, tell, tell_option};
 use indexset_replica::Replica;
 use indexset_replica::iter::Iter;
-use indexset_replica::keys::KeyOf;
+use indexset_set::Bounds;
+use std::ops::Bound;
 use std::str::SplitWhitespace;
+
+/// What a script seeks items by: an item, or the key of a pair.
+pub trait Keyed<T: Item>: Item + Sought<T> {
+    /// Returns the rank of the key of an item.
+    fn rank_of(replica: &Replica<T>, item: &T) -> usize;
+}
+
+impl<T: Item> Keyed<T> for T {
+    fn rank_of(replica: &Replica<T>, item: &T) -> usize {
+        replica.rank(item)
+    }
+}
+
+impl<V: Value> Keyed<Pair<u64, V>> for u64 {
+    fn rank_of(replica: &Replica<Pair<u64, V>>, item: &Pair<u64, V>) -> usize {
+        replica.rank(item.key)
+    }
+}
+
+impl<V: Value> Keyed<MultiPair<u64, V>> for u64 {
+    fn rank_of(replica: &Replica<MultiPair<u64, V>>, item: &MultiPair<u64, V>) -> usize {
+        replica.rank(item.key)
+    }
+}
+
+/// Two bounds of keys.
+#[derive(Drop)]
+struct Between<Q> {
+    start: Bound<Q>,
+    end: Bound<Q>,
+}
+
+impl<T: Ord, Q: Sought<T>> Bounds<T> for Between<Q> {
+    type Key = Q;
+
+    ghost start = { λ s. s.start };
+
+    ghost end = { λ s. s.end };
+
+    fn start_bound(&self) -> Bound<&Q> {
+        self.start.as_ref()
+    }
+
+    fn end_bound(&self) -> Bound<&Q> {
+        self.end.as_ref()
+    }
+}
 
 /// Makes a call that seeks by an item or by a position.
 pub fn seek<T: Item>(
@@ -36,7 +87,7 @@ pub fn seek<T: Item>(
 }
 
 /// Makes a call that seeks by a key.
-pub fn seek_by<T: Item, Q: Item + KeyOf<T>>(
+pub fn seek_by<T: Item, Q: Keyed<T>>(
     replica: &Replica<T>,
     source: &Source,
     name: &str,
@@ -46,15 +97,15 @@ pub fn seek_by<T: Item, Q: Item + KeyOf<T>>(
     match name {
         "ranks" => tell_ranks::<T, Q>(replica, answer),
         "range" | "range_back" => tell_range::<T, Q>(replica, source, name, words, answer),
-        _ => tell_of::<T, Q>(replica, name, &Q::read_item(source, words)?, answer),
+        _ => tell_of::<T, Q>(replica, name, Q::read_item(source, words)?, answer),
     }
 }
 
 /// Writes what the replica has of a key.
-fn tell_of<T: Item, Q: Item + KeyOf<T>>(
+fn tell_of<T: Item, Q: Keyed<T>>(
     replica: &Replica<T>,
     name: &str,
-    key: &Q,
+    key: Q,
     answer: &mut String,
 ) -> Result<(), Stop> {
     match name {
@@ -68,18 +119,14 @@ fn tell_of<T: Item, Q: Item + KeyOf<T>>(
 }
 
 /// Writes the rank of the key of each item.
-fn tell_ranks<T: Item, Q: Item + KeyOf<T>>(
-    replica: &Replica<T>,
-    answer: &mut String,
-) -> Result<(), Stop> {
+fn tell_ranks<T: Item, Q: Keyed<T>>(replica: &Replica<T>, answer: &mut String) -> Result<(), Stop> {
     for item in replica {
-        let key: &Q = Q::key_of(item);
-        tell(answer, replica.rank(key))?;
+        tell(answer, Q::rank_of(replica, item))?;
     }
     Ok(())
 }
 
-fn tell_range<T: Item, Q: Item + KeyOf<T>>(
+fn tell_range<T: Item, Q: Keyed<T>>(
     replica: &Replica<T>,
     source: &Source,
     name: &str,
@@ -90,7 +137,7 @@ fn tell_range<T: Item, Q: Item + KeyOf<T>>(
     if !bounds_are_ordered(start.as_ref(), end.as_ref()) {
         return Err(Stop::NoCall);
     }
-    let items = replica.range((start.as_ref(), end.as_ref()));
+    let items = replica.range(Between { start, end });
     tell_items(name == "range_back", answer, items)
 }
 

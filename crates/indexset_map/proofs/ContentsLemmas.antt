@@ -73,14 +73,14 @@ module _ {K V : Type 0} where
   last_removed l = ap (λ rest. take (length l - 1) l ++ rest) (drop_of_length-le l {i = suc (length l - 1)} (omega arith)) ∙ append-nil _
 
   -- a key is there where it has a pair
-  pub key_of_pair : (cmp : K → K → Ordering) (l : List (Pair K V)) (k : K) (r : Option (Bor (Pair K V))) → option_copied r ≡ pair_of cmp l k → is_some r ≡ has_key cmp l k
+  pub key_of_pair : {Q : Type 0} (cmp : K → Q → Ordering) (l : List (Pair K V)) (k : Q) (r : Option (Bor (Pair K V))) → option_copied r ≡ pair_of cmp l k → is_some r ≡ has_key cmp l k
   key_of_pair cmp l k r e = same r ∙ (ap is_some e ∙ is_some-find (λ p. is_eq (cmp p.key k)) l) where
     same : (r : Option (Bor (Pair K V))) → is_some r ≡ is_some (option_copied r)
     same (Some p) = refl
     same None = refl
 
   -- a key that is there has a value
-  pub value_there : (cmp : K → K → Ordering) (l : List (Pair K V)) (k : K) → has_key cmp l k ≡ true → (r : Option (Bor V)) → option_copied r ≡ value_of cmp l k → IsSome r
+  pub value_there : {Q : Type 0} (cmp : K → Q → Ordering) (l : List (Pair K V)) (k : Q) → has_key cmp l k ≡ true → (r : Option (Bor V)) → option_copied r ≡ value_of cmp l k → IsSome r
   value_there cmp l k h r e = is_there r (pair_of cmp l k) e (is_some-find (λ p. is_eq (cmp p.key k)) l ∙ h) where
     is_there : (r : Option (Bor V)) (o : Option (Pair K V)) → option_copied r ≡ option_map (λ p. p.value) o → is_some o ≡ true → IsSome r
     is_there (Some v) o e there = refl

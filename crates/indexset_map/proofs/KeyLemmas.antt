@@ -1,5 +1,5 @@
 -- What a search for a key says of the pairs of a map.
-use Rattle.std.proofs.Common.{◌≡◌, ℕ, ◌<◌, Bool, true, false, if◌then◌else◌, length, List, [], ◌∷◌, arith, Ordering, Some, slice_get, ap, sym, ◌∙◌}
+use Rattle.std.proofs.Common.{◌≡◌, ℕ, Bool, true, false, if◌then◌else◌, List, Ordering, Some, slice_get, ap, sym, ◌∙◌}
 use Rattle.std.specs.Cmp.{IsTotalOrder, on_total}
 use Rattle.std.specs.List.{AllWithin, position, remove}
 use Rattle.std.specs.Option.{option_map}
@@ -9,39 +9,32 @@ use Rattle.indexset_core.specs.declared.pair.Pair.{Pair}
 use Rattle.indexset_core.specs.Nodes.{node_lengths}
 use Rattle.indexset_spine.specs.Cut.{Cut, items}
 use Rattle.indexset_core.specs.Order.{IsAscending, has_equal}
-use Rattle.indexset_core.specs.Pairs.{pair, by_key, has_key, key_rank, value_of, without_key}
-use Rattle.indexset_core.proofs.CallerLemmas.{Parts, count_parts, front-is_lt, less_from, pairs_total, rank-slice_get, slice_get-rank_equal, found_rank, found_without, parted_by_key, key_there, key_found, key_inside, key_written, absent_without, without-pair}
+use Rattle.indexset_core.specs.Pairs.{by_key, has_key, key_rank, value_of, without_key}
+use Rattle.indexset_core.specs.Sought.{ActsAsKey, ActsAsOne, one_on}
+use Rattle.indexset_core.proofs.CallerLemmas.{Parts, count_parts, front-is_lt, less_from, pairs_total, rank-slice_get, slice_get-rank_equal, found_key, found_rank, parted_by_sought_key, key_there, key_written, absent_without, sought_without}
 use Rattle.indexset_map.specs.Contents.{Contents, contents, with_entry, with_written, without_at, without_entry}
 use Rattle.indexset_spine.specs.Lengths.{lengths_with, lengths_without}
 use Rattle.indexset_map.proofs.ContentsLemmas.{put_there}
 use Rattle.indexset_spine.proofs.CallerLemmas.{node_lengths-without}
 use Rattle.indexset_set.specs.SetNodes.{IsWithoutAt}
 
-module _ {K V : Type 0} (cmp : K → K → Ordering) (l : List (Pair K V)) (k : K) where
-  pub key_removed : IsTotalOrder cmp → IsAscending (by_key cmp) l → (i : ℕ) → position (λ p. is_eq (cmp p.key k)) l ≡ Some i → V → IsTotalOrder (by_key {V = V} cmp) → remove l i ≡ without_key cmp l k
-  key_removed o up i h w o' = sym (found_without (by_key cmp) l (pair k w) i o' up (key_found cmp l k i h (parted_by_key cmp o l up k) w)) ∙ without-pair cmp l k w
+-- the pair of a key, taken out
+pub key_taken : {K V Q : Type 0} {cmp : K → K → Ordering} {among : Q → Q → Ordering} (order : K → Q → Ordering) (l : List (Pair K V)) (k : Q) → IsTotalOrder cmp → ActsAsKey cmp order among → ActsAsOne cmp order → IsAscending (by_key cmp) l → (i : ℕ) → position (λ p. is_eq (order p.key k)) l ≡ Some i → remove l i ≡ without_key order l k
+key_taken {K = K} {V = V} {cmp = cmp} order l k o acts one up i h = sym (sought_without (on_total (λ (p : Pair K V). p.key) o) (one_on (λ (p : Pair K V). p.key) one) l k i up (found_key order l k i h (parted_by_sought_key acts l up k)))
 
--- the same, with no value at hand
-pub key_taken : {K V : Type 0} (cmp : K → K → Ordering) (l : List (Pair K V)) (k : K) → IsTotalOrder cmp → IsAscending (by_key cmp) l → (i : ℕ) → position (λ p. is_eq (cmp p.key k)) l ≡ Some i → remove l i ≡ without_key cmp l k
-key_taken {V = V} cmp [] k o up i h = let lt = key_inside {V = V} cmp [] k i h in absurd (omega (arith, lt))
-key_taken {V = V} cmp (p ∷ l) k o up i h = key_removed cmp (p ∷ l) k o up i h p.value (on_total (λ (q : Pair _ V). q.key) o)
-
-module _ {K V : Type 0} (cmp : K → K → Ordering) (o : IsTotalOrder cmp) (l : List (Pair K V)) (up : IsAscending (by_key cmp) l) where
+module _ {K V Q : Type 0} {cmp : K → K → Ordering} {among : Q → Q → Ordering} (order : K → Q → Ordering) (acts : ActsAsKey cmp order among) (l : List (Pair K V)) (up : IsAscending (by_key cmp) l) where
   -- the keys at the places before a key's rank are below it
-  pub key_before : (k : K) (i : ℕ) → i ≡ key_rank cmp l k → AllWithin (λ p. cmp p.key k ≡ Less) l 0 i
+  pub key_before : (k : Q) (i : ℕ) → i ≡ key_rank order l k → AllWithin (λ p. order p.key k ≡ Less) l 0 i
   key_before k i place n d low high =
-      let parts : Parts (λ p. is_lt (cmp p.key k)) l (key_rank cmp l k) = count_parts is_lt front-is_lt (λ p. cmp p.key k) l (parted_by_key cmp o l up k) in
+      let parts : Parts (λ p. is_lt (order p.key k)) l (key_rank order l k) = count_parts is_lt front-is_lt (λ p. order p.key k) l (parted_by_sought_key acts l up k) in
       less_from _ (parts.before n d low (rw (← place) high))
 
+module _ {K V : Type 0} (cmp : K → K → Ordering) (o : IsTotalOrder cmp) (l : List (Pair K V)) (up : IsAscending (by_key cmp) l) where
   -- a pair of the list is found by its key
   pub value_held : (i : ℕ) (p : Pair K V) → slice_get l i ≡ Some p → has_equal (by_key cmp) l p ≡ true → value_of cmp l p.key ≡ Some p.value
   value_held i p is has =
       let total = pairs_total cmp o in
       ap (option_map (λ q. q.value)) (sym (slice_get-rank_equal (by_key cmp) total l up p has) ∙ (ap (slice_get l) (rank-slice_get (by_key cmp) total l up i p is) ∙ is))
-
-get_or_inside : {X : Type 0} (l : List X) (i : ℕ) → i < length l → X
-get_or_inside [] i lt = absurd (omega arith)
-get_or_inside (x ∷ l) i lt = x
 
 -- what is removed from the set is removed from the map
 pub contents_removed : {K V : Type 0} (s t : Cut (Pair K V)) (m : Contents K V) (i : ℕ) → contents s ≡ m → items t ≡ remove (items s) i
@@ -51,32 +44,32 @@ contents_removed {K = K} {V = V} s t m i e is nodes size =
     let same : contents t ≡ without_at (contents s) i = λ j. record { pairs = is j; lengths = lengths j; size = size j } in
     same ∙ ap (λ (n : Contents K V). without_at n i) e
 
-module _ {K V : Type 0} (cmp : K → K → Ordering) (m : Contents K V) (k : K) where
-  module _ (i : ℕ) (h : position (λ p. is_eq (cmp p.key k)) m.pairs ≡ Some i) where
-    there : has_key cmp m.pairs k ≡ true
-    there = key_there cmp m.pairs k i h
+module _ {K V Q : Type 0} (order : K → Q → Ordering) (m : Contents K V) (k : Q) where
+  module _ (i : ℕ) (h : position (λ p. is_eq (order p.key k)) m.pairs ≡ Some i) where
+    there : has_key order m.pairs k ≡ true
+    there = key_there order m.pairs k i h
 
-    pub put_found : (w : V) → with_written m i w ≡ with_entry cmp m k w
-    put_found w =
-        let pairs = key_written cmp m.pairs k i h w ∙ sym (put_there cmp m.pairs k there w) in
-        let lengths = ap (λ (b : Bool). if b then m.lengths else lengths_with m.size m.lengths (key_rank cmp m.pairs k)) there in
-        λ j. record { pairs = pairs j; lengths = sym lengths j; size = m.size }
-
-    module _ (total : IsTotalOrder cmp) (up : IsAscending (by_key cmp) m.pairs) where
-      pub key_place : key_rank cmp m.pairs k ≡ i
+    module _ {cmp : K → K → Ordering} {among : Q → Q → Ordering} (acts : ActsAsKey cmp order among) (up : IsAscending (by_key cmp) m.pairs) where
+      pub key_place : key_rank order m.pairs k ≡ i
       key_place =
-          let parted = parted_by_key cmp total m.pairs up k in
-          let w = (get_or_inside m.pairs i (key_inside cmp m.pairs k i h)).value in
-          found_rank (by_key cmp) m.pairs (pair k w) i (key_found cmp m.pairs k i h parted w) parted
+          let parted = parted_by_sought_key acts m.pairs up k in
+          found_rank (λ (p : Pair K V). order p.key) m.pairs k i (found_key order m.pairs k i h parted) parted
 
-      pub without_found : without_at m i ≡ without_entry cmp m k
-      without_found =
-          let pairs = key_taken cmp m.pairs k total up i h in
-          let lengths = ap (λ (b : Bool). if b then lengths_without m.lengths (key_rank cmp m.pairs k) else m.lengths) there ∙ ap (lengths_without m.lengths) key_place in
+      pub without_found : IsTotalOrder cmp → ActsAsOne cmp order → without_at m i ≡ without_entry order m k
+      without_found o one =
+          let pairs = key_taken order m.pairs k o acts one up i h in
+          let lengths = ap (λ (b : Bool). if b then lengths_without m.lengths (key_rank order m.pairs k) else m.lengths) there ∙ ap (lengths_without m.lengths) key_place in
           λ j. record { pairs = pairs j; lengths = sym lengths j; size = m.size }
 
-  pub without_absent : has_key cmp m.pairs k ≡ false → without_entry cmp m k ≡ m
+  pub without_absent : has_key order m.pairs k ≡ false → without_entry order m k ≡ m
   without_absent h =
-      let pairs = absent_without cmp m.pairs k h in
-      let lengths = ap (λ (b : Bool). if b then lengths_without m.lengths (key_rank cmp m.pairs k) else m.lengths) h in
+      let pairs = absent_without order m.pairs k h in
+      let lengths = ap (λ (b : Bool). if b then lengths_without m.lengths (key_rank order m.pairs k) else m.lengths) h in
       λ j. record { pairs = pairs j; lengths = lengths j; size = m.size }
+
+module _ {K V : Type 0} (cmp : K → K → Ordering) (m : Contents K V) (k : K) (i : ℕ) (h : position (λ p. is_eq (cmp p.key k)) m.pairs ≡ Some i) where
+  pub put_found : (w : V) → with_written m i w ≡ with_entry cmp m k w
+  put_found w =
+      let pairs = key_written cmp m.pairs k i h w ∙ sym (put_there cmp m.pairs k (there cmp m k i h) w) in
+      let lengths = ap (λ (b : Bool). if b then m.lengths else lengths_with m.size m.lengths (key_rank cmp m.pairs k)) (there cmp m k i h) in
+      λ j. record { pairs = pairs j; lengths = sym lengths j; size = m.size }

@@ -1,28 +1,21 @@
 -- The pairs of a list, cut where a key would go.
 use Rattle.std.proofs.Common.{◌≡◌, ◌∙◌, ℕ, Bool, true, false, not, cond, List, [], ◌∷◌, take, drop, filter, Ordering, refl, ap, sym, subst}
-use Rattle.std.specs.Cmp.{IsTotalOrder}
 use Rattle.std.specs.List.{All}
 use Rattle.std.specs.Ordering.{is_lt}
 use Rattle.indexset_core.specs.declared.pair.Pair.{Pair}
 use Rattle.indexset_core.specs.Order.{IsAscending}
-use Rattle.indexset_core.specs.Pairs.{pair, by_key, key_rank, pair_keys, pairs_below, pairs_from}
-use Rattle.indexset_core.proofs.CallerLemmas.{pairs_total}
+use Rattle.indexset_core.specs.Sought.{ActsAsKey}
+use Rattle.indexset_core.specs.Pairs.{by_key, key_rank, pair_keys, pairs_below, pairs_from}
+use Rattle.indexset_core.proofs.CallerLemmas.{parted_by_sought_key}
 use Rattle.indexset_set.proofs.CallerLemmas.{below_all, drop_not_below, not_below_all, take_below}
 
-module _ {K V : Type 0} (cmp : K → K → Ordering) (o : IsTotalOrder cmp) where
-  -- the pairs, cut where the key would go
-  module _ (l : List (Pair K V)) (up : IsAscending (by_key cmp) l) (k : K) (i : ℕ) (place : i ≡ key_rank cmp l k) where
-    pub cut_below : take i l ≡ pairs_below cmp l k
-    cut_below = below l up place where
-      below : (l : List (Pair K V)) → IsAscending (by_key cmp) l → i ≡ key_rank cmp l k → take i l ≡ pairs_below cmp l k
-      below [] up place = rw place refl
-      below (p ∷ l) up place = take_below (by_key cmp) (pairs_total cmp o) (p ∷ l) up (pair k p.value) i place
+-- the pairs, cut where the key would go
+module _ {K V Q : Type 0} {cmp : K → K → Ordering} {among : Q → Q → Ordering} (order : K → Q → Ordering) (acts : ActsAsKey cmp order among) (l : List (Pair K V)) (up : IsAscending (by_key cmp) l) (k : Q) (i : ℕ) (place : i ≡ key_rank order l k) where
+  pub cut_below : take i l ≡ pairs_below order l k
+  cut_below = take_below (λ (p : Pair K V). order p.key) l k (parted_by_sought_key acts l up k) i place
 
-    pub cut_from : drop i l ≡ pairs_from cmp l k
-    cut_from = from l up place where
-      from : (l : List (Pair K V)) → IsAscending (by_key cmp) l → i ≡ key_rank cmp l k → drop i l ≡ pairs_from cmp l k
-      from [] up place = rw place refl
-      from (p ∷ l) up place = drop_not_below (by_key cmp) (pairs_total cmp o) (p ∷ l) up (pair k p.value) i place
+  pub cut_from : drop i l ≡ pairs_from order l k
+  cut_from = drop_not_below (λ (p : Pair K V). order p.key) l k (parted_by_sought_key acts l up k) i place
 
 -- the keys of the pairs whose keys pass a test
 module _ {K V : Type 0} (p : K → Bool) where
@@ -39,7 +32,7 @@ module _ {K V : Type 0} (p : K → Bool) where
   no_keys_passing l none = sym (keys_passing l) ∙ ap pair_keys none
 
 -- what each key is on either side of the cut
-module _ {K V : Type 0} (cmp : K → K → Ordering) (l m : List (Pair K V)) (k : K) where
+module _ {K V Q : Type 0} (cmp : K → Q → Ordering) (l m : List (Pair K V)) (k : Q) where
   pub keys_all_below : m ≡ pairs_below cmp l k → All (λ x. is_lt (cmp x k) ≡ true) (pair_keys m)
   keys_all_below is = subst (All (λ x. is_lt (cmp x k) ≡ true)) (sym (ap pair_keys is ∙ keys_passing (λ x. is_lt (cmp x k)) l)) (below_all cmp (pair_keys l) k)
 

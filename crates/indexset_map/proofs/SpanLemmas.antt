@@ -1,15 +1,14 @@
 -- The part of a list that passes a test, where it is one span, and the keys between two bounds, which are one.
 use Rattle.std.proofs.Common.{◌≡◌, ℕ, zero, suc, ◌+◌, ◌-◌, ◌≤◌, min, Bool, true, false, not, ◌&&◌, if◌then◌else◌, List, [], ◌∷◌, ◌++◌, length, take, drop, filter, map, Ordering, refl, ap, subst, ◌∙◌, arith}
-use Rattle.std.specs.Cmp.{IsTotalOrder}
 use Rattle.std.specs.declared.ops.Bound.{Bound}
-use Rattle.std.specs.declared.ops.Bound.TheVariants.{Included, Excluded, Unbounded}
 use Rattle.std.specs.List.{AllWithin, between, count_by, position_or_len}
-use Rattle.std.specs.Ordering.{is_le, is_lt}
 use Rattle.indexset_core.specs.declared.pair.Pair.{Pair}
 use Rattle.indexset_core.specs.Bounds.{IfBounded, is_before, is_from_start, is_up_to_end, is_within}
 use Rattle.indexset_core.specs.Order.{IsAscending}
 use Rattle.indexset_core.specs.Pairs.{by_key}
-use Rattle.indexset_core.proofs.CallerLemmas.{Parts, count_parted, count_parts, each_bounded, front-is_le, front-is_lt, not_before, parted_by_key}
+use Rattle.indexset_core.specs.Parted.{IsParted}
+use Rattle.indexset_core.specs.Sought.{ActsAsKey}
+use Rattle.indexset_core.proofs.CallerLemmas.{Parts, before_parts, each_bounded, not_before, parted_by_sought_key, up_to_parts}
 use Rattle.indexset_set.specs.SetProbes.{FindsInOrder}
 use Rattle.indexset_set.proofs.CallerLemmas.{in_order}
 use Rattle.indexset_map.specs.Walk.{IsSpan}
@@ -57,54 +56,46 @@ module _ {X : Type 0} where
         rw (before 0 x (omega arith) (omega arith)) (t.0, ap (λ ys. x ∷ ys) t.1)
 
 -- keys between two bounds
-module _ {K V : Type 0} (cmp : K → K → Ordering) where
-  module _ (o : IsTotalOrder cmp) (l : List (Pair K V)) (up : IsAscending (by_key cmp) l) where
-    before_parts : (start : Bound K) → Parts (λ p. is_before cmp start p.key) l (count_by (λ p. is_before cmp start p.key) l)
-    before_parts (Included a) = count_parts is_lt front-is_lt (λ p. cmp p.key a) l (parted_by_key cmp o l up a)
-    before_parts (Excluded a) = count_parts is_le front-is_le (λ p. cmp p.key a) l (parted_by_key cmp o l up a)
-    before_parts Unbounded = rw (count_parted (λ (p : Pair K V). false) l 0 (omega arith) (λ k d low high. absurd (omega arith)) (λ k d low high. refl)) (record { inside = omega arith; before = λ k d low high. absurd (omega arith); after = λ k d low high. refl })
+module _ {K V Q : Type 0} {cmp : K → K → Ordering} {among : Q → Q → Ordering} (order : K → Q → Ordering) (acts : ActsAsKey cmp order among) (l : List (Pair K V)) (up : IsAscending (by_key cmp) l) where
+  parted : (k : Q) → IsParted (λ p. order p.key k) l
+  parted k = parted_by_sought_key acts l up k
 
-    up_to_parts : (end : Bound K) → Parts (λ p. is_up_to_end cmp end p.key) l (count_by (λ p. is_up_to_end cmp end p.key) l)
-    up_to_parts (Included a) = count_parts is_le front-is_le (λ p. cmp p.key a) l (parted_by_key cmp o l up a)
-    up_to_parts (Excluded a) = count_parts is_lt front-is_lt (λ p. cmp p.key a) l (parted_by_key cmp o l up a)
-    up_to_parts Unbounded = rw (count_parted (λ (p : Pair K V). true) l (length l) (omega arith) (λ k d low high. refl) (λ k d low high. absurd (omega arith))) (record { inside = omega arith; before = λ k d low high. refl; after = λ k d low high. absurd (omega arith) })
+  -- the first key within a bound
+  pub first_from : (start : Bound Q) (i from n : ℕ) → from ≡ count_by (λ p. is_before order start p.key) l → n ≡ length l → i ≡ min from n → i ≡ position_or_len (λ p. is_from_start order start p.key) l
+  first_from start i from n f len clip =
+      let inside = (before_parts order (λ (p : Pair K V). p.key) l parted start).inside in
+      let there : position_or_len (λ p. not (is_before order start p.key)) l ≡ count_by (λ p. is_before order start p.key) l = first_passing (λ p. is_before order start p.key) l _ (before_parts order (λ (p : Pair K V). p.key) l parted start) in
+      let here : i ≡ position_or_len (λ p. not (is_before order start p.key)) l = omega (arith, inside, there, f, len, clip) in
+      here ∙ ap (λ (r : Pair K V → Bool). position_or_len r l) (λ k p. not_before order start p.key k)
 
-    -- the first key within a bound
-    pub first_from : (start : Bound K) (i from n : ℕ) → from ≡ count_by (λ p. is_before cmp start p.key) l → n ≡ length l → i ≡ min from n → i ≡ position_or_len (λ p. is_from_start cmp start p.key) l
-    first_from start i from n f len clip =
-        let inside = (before_parts start).inside in
-        let there : position_or_len (λ p. not (is_before cmp start p.key)) l ≡ count_by (λ p. is_before cmp start p.key) l = first_passing (λ p. is_before cmp start p.key) l _ (before_parts start) in
-        let here : i ≡ position_or_len (λ p. not (is_before cmp start p.key)) l = omega (arith, inside, there, f, len, clip) in
-        here ∙ ap (λ (r : Pair K V → Bool). position_or_len r l) (λ k p. not_before cmp o start p.key k)
+  -- the first key past a bound
+  pub first_past : (end : Bound Q) (i to n : ℕ) → to ≡ count_by (λ p. is_up_to_end order end p.key) l → n ≡ length l → i ≡ min to n → i ≡ position_or_len (λ p. not (is_up_to_end order end p.key)) l
+  first_past end i to n t len clip =
+      let inside = (up_to_parts order (λ (p : Pair K V). p.key) l parted end).inside in
+      let there : position_or_len (λ p. not (is_up_to_end order end p.key)) l ≡ count_by (λ p. is_up_to_end order end p.key) l = first_passing (λ p. is_up_to_end order end p.key) l _ (up_to_parts order (λ (p : Pair K V). p.key) l parted end) in
+      omega (arith, inside, there, t, len, clip)
 
-    -- the first key past a bound
-    pub first_past : (end : Bound K) (i to n : ℕ) → to ≡ count_by (λ p. is_up_to_end cmp end p.key) l → n ≡ length l → i ≡ min to n → i ≡ position_or_len (λ p. not (is_up_to_end cmp end p.key)) l
-    first_past end i to n t len clip =
-        let inside = (up_to_parts end).inside in
-        let there : position_or_len (λ p. not (is_up_to_end cmp end p.key)) l ≡ count_by (λ p. is_up_to_end cmp end p.key) l = first_passing (λ p. is_up_to_end cmp end p.key) l _ (up_to_parts end) in
-        omega (arith, inside, there, t, len, clip)
+  -- the probe of a bound finds the keys in order
+  pub keys_bounded : (b : Bound (Q × ℕ)) → IfBounded (λ q. FindsInOrder (λ p. order p.key q.0) l) b
+  keys_bounded b = each_bounded (λ (q : Q × ℕ). FindsInOrder (λ p. order p.key q.0) l) (λ q. in_order (λ p. order p.key q.0) l (parted q.0)) b
 
-    -- the probe of a bound finds the keys in order
-    pub keys_bounded : (b : Bound (K × ℕ)) → IfBounded (λ q. FindsInOrder (λ p. cmp p.key q.0) l) b
-    keys_bounded b = each_bounded (λ (q : K × ℕ). FindsInOrder (λ p. cmp p.key q.0) l) (λ q. in_order (λ p. cmp p.key q.0) l (parted_by_key cmp o l up q.0)) b
+  -- the keys between two bounds are one span
+  key_span : (start end : Bound Q) → IsSpan (λ p. is_within order start end p.key) l (min (count_by (λ p. is_before order start p.key) l) (count_by (λ p. is_up_to_end order end p.key) l)) (count_by (λ p. is_up_to_end order end p.key) l)
+  key_span start end =
+      subst (λ (f : Pair K V → Bool). IsSpan f l (min (count_by (λ p. is_before order start p.key) l) (count_by (λ p. is_up_to_end order end p.key) l)) (count_by (λ p. is_up_to_end order end p.key) l))
+      (λ k p. not_before order start p.key k && is_up_to_end order end p.key) (span_of (λ p. is_before order start p.key) (λ p. is_up_to_end order end p.key) l _ _ (before_parts order (λ (p : Pair K V). p.key) l parted start) (up_to_parts order (λ (p : Pair K V). p.key) l parted end))
 
-    -- the keys between two bounds are one span
-    key_span : (start end : Bound K) → IsSpan (λ p. is_within cmp start end p.key) l (min (count_by (λ p. is_before cmp start p.key) l) (count_by (λ p. is_up_to_end cmp end p.key) l)) (count_by (λ p. is_up_to_end cmp end p.key) l)
-    key_span start end =
-        subst (λ (f : Pair K V → Bool). IsSpan f l (min (count_by (λ p. is_before cmp start p.key) l) (count_by (λ p. is_up_to_end cmp end p.key) l)) (count_by (λ p. is_up_to_end cmp end p.key) l))
-        (λ k p. not_before cmp o start p.key k && is_up_to_end cmp end p.key) (span_of (λ p. is_before cmp start p.key) (λ p. is_up_to_end cmp end p.key) l _ _ (before_parts start) (up_to_parts end))
+  -- the same where a walk clips both counts to the length
+  pub key_walk : (start end : Bound Q) (i j from to : ℕ) → from ≡ count_by (λ p. is_before order start p.key) l → to ≡ count_by (λ p. is_up_to_end order end p.key) l → j ≡ min to (length l) → i ≡ min from j → IsSpan (λ p. is_within order start end p.key) l i j
+  key_walk start end i j from to f t b a =
+      let inside = (up_to_parts order (λ (p : Pair K V). p.key) l parted end).inside in
+      let last : j ≡ count_by (λ p. is_up_to_end order end p.key) l = omega (arith, inside, t, b) in
+      let first : i ≡ min (count_by (λ p. is_before order start p.key) l) (count_by (λ p. is_up_to_end order end p.key) l) = omega (arith, f, a, last) in
+      rw (first, last) (key_span start end)
 
-    -- the same where a walk clips both counts to the length
-    pub key_walk : (start end : Bound K) (i j from to : ℕ) → from ≡ count_by (λ p. is_before cmp start p.key) l → to ≡ count_by (λ p. is_up_to_end cmp end p.key) l → j ≡ min to (length l) → i ≡ min from j → IsSpan (λ p. is_within cmp start end p.key) l i j
-    key_walk start end i j from to f t b a =
-        let inside = (up_to_parts end).inside in
-        let last : j ≡ count_by (λ p. is_up_to_end cmp end p.key) l = omega (arith, inside, t, b) in
-        let first : i ≡ min (count_by (λ p. is_before cmp start p.key) l) (count_by (λ p. is_up_to_end cmp end p.key) l) = omega (arith, f, a, last) in
-        rw (first, last) (key_span start end)
-
-    -- the same where a walk goes from the one count to the other
-    pub key_places : (start end : Bound K) (i from to : ℕ) → from ≡ count_by (λ p. is_before cmp start p.key) l → to ≡ count_by (λ p. is_up_to_end cmp end p.key) l → i ≡ min from to → IsSpan (λ p. is_within cmp start end p.key) l i to
-    key_places start end i from to f t a = let inside = (up_to_parts end).inside in key_walk start end i to from to f t (omega (arith, inside, t)) a
+  -- the same where a walk goes from the one count to the other
+  pub key_places : (start end : Bound Q) (i from to : ℕ) → from ≡ count_by (λ p. is_before order start p.key) l → to ≡ count_by (λ p. is_up_to_end order end p.key) l → i ≡ min from to → IsSpan (λ p. is_within order start end p.key) l i to
+  key_places start end i from to f t a = let inside = (up_to_parts order (λ (p : Pair K V). p.key) l parted end).inside in key_walk start end i to from to f t (omega (arith, inside, t)) a
 
 -- the items of a span are those that pass, and a function of them is one where the test passes
 module _ {X : Type 0} (r : X → Bool) (l : List X) (i j : ℕ) (s : IsSpan r l i j) where

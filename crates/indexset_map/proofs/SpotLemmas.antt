@@ -9,7 +9,8 @@ use Rattle.indexset_core.specs.Nodes.{joined, node_lengths, node_at}
 use Rattle.indexset_core.specs.Order.{IsAscending, IsGapFor}
 use Rattle.indexset_core.specs.Pairs.{pair, by_key, has_key, key_rank, put_value}
 use Rattle.indexset_core.specs.Parted.{IsParted, less_count}
-use Rattle.indexset_core.proofs.CallerLemmas.{absent_gap, ends_for, gap_put, length-joined-more, length-joined-take, parted_by_key, position_absent, position_found}
+use Rattle.indexset_core.specs.Sought.{ActsAsKey}
+use Rattle.indexset_core.proofs.CallerLemmas.{absent_gap, ends_for, gap_put, length-joined-more, length-joined-take, parted_by_key, parted_by_sought_key, position_absent, position_found}
 use Rattle.indexset_spine.specs.declared.spot.Spot.{Spot}
 use Rattle.indexset_spine.specs.Cut.{Cut, IsCut, IsItemSpot, IsSpot, items, position_of, with_inserted, without_item}
 use Rattle.indexset_spine.specs.Lengths.{IsItemPlace, IsPlace, lengths_with, place_of}
@@ -72,22 +73,23 @@ module _ {K V : Type 0} where
       let long : length m.pairs ≡ length (items s) = ap (λ (n : Contents K V). length n.pairs) (sym e) in
       (subst (λ (n : Contents K V). IsItemPlace n.lengths t) e (item_place s.nodes t h.0), place_at s m t e ∙ h.1, omega (arith, inside, long))
 
-  module _ (cmp : K → K → Ordering) (total : IsTotalOrder cmp) where
+  module _ {Q : Type 0} {cmp : K → K → Ordering} {among : Q → Q → Ordering} (order : K → Q → Ordering) (acts : ActsAsKey cmp order among) where
     -- a search for j, which is k
-    pub sought_key : (s : Cut (Pair K V)) (m : Contents K V) (j k : K) (spot : Spot) → contents s ≡ m → j ≡ k → IsAscending (by_key cmp) (items s) → IsCut (node_lengths s.nodes) s.size → IsSought (λ p. cmp p.key j) s.nodes spot → IsSpotOf cmp m k spot
+    pub sought_key : (s : Cut (Pair K V)) (m : Contents K V) (j k : Q) (spot : Spot) → contents s ≡ m → j ≡ k → IsAscending (by_key cmp) (items s) → IsCut (node_lengths s.nodes) s.size → IsSought (λ p. order p.key j) s.nodes spot → IsSpotOf order m k spot
     sought_key s m j k spot e same up is sought =
-        let answer : Pair K V → Ordering = λ p. cmp p.key j in
-        let parted : IsParted answer (items s) = parted_by_key cmp total (items s) up j in
+        let answer : Pair K V → Ordering = λ p. order p.key j in
+        let parted : IsParted answer (items s) = parted_by_sought_key acts (items s) up j in
         let place = place_position s.nodes spot in
-        let of : IsSpotOf cmp (contents s) j spot = record {
+        let of : IsSpotOf order (contents s) j spot = record {
           found = λ h. position_found answer (items s) _ parted sought.position (sym sought.found ∙ h) ∙ ap Some (sym place);
           item = λ h. item_place s.nodes spot (sought.item h);
           absent = λ h. position_absent answer (items s) _ parted sought.position (sym sought.found ∙ h);
           place = sought_place answer s.size s.nodes spot parted is sought;
           rank = place ∙ sought.position;
         } in
-        subst (λ n. IsSpotOf cmp n k spot) e (subst (λ i. IsSpotOf cmp (contents s) i spot) same of)
+        subst (λ n. IsSpotOf order n k spot) e (subst (λ i. IsSpotOf order (contents s) i spot) same of)
 
+  module _ (cmp : K → K → Ordering) (total : IsTotalOrder cmp) where
     -- a pair that is put into the set where its key would go is put into the map
     module _ (m : Contents K V) (k : K) (spot : Spot) (none : has_key cmp m.pairs k ≡ false) (up : IsAscending (by_key cmp) m.pairs) (place : IsPlace m.lengths spot) (rank : place_of m.lengths spot ≡ key_rank cmp m.pairs k) where
       pub gap_in : (s : Cut (Pair K V)) (v : V) → contents s ≡ m → IsGapFor (by_key cmp) (items s) (pair k v) (position_of s.nodes spot)

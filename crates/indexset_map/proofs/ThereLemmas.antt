@@ -8,13 +8,14 @@ use Rattle.std.proofs.lemmas.Bool.{false≢true}
 use Rattle.std.proofs.lemmas.Cmp.{tied_itself}
 use Rattle.std.proofs.lemmas.List.Folds.{find-append}
 use Rattle.indexset_core.specs.declared.pair.Pair.{Pair}
-use Rattle.indexset_core.specs.Order.{above, below, put}
+use Rattle.indexset_core.specs.Order.{above, below, put, unequal}
 use Rattle.indexset_core.proofs.CallerLemmas.{equal_from, value_put}
-use Rattle.indexset_core.specs.Pairs.{by_key, has_key, pair, pair_of, put_value, set_value, value_of, valued, without_key}
+use Rattle.indexset_core.specs.Sought.{ActsAsOne}
+use Rattle.indexset_core.specs.Pairs.{by_key, has_key, pair, pair_of, put_value, set_value, value_of, valued, without_key, set_found}
 
 module _ {K V : Type 0} (cmp : K → K → Ordering) where
   written : (l : List (Pair K V)) (k : K) (w : V) → has_key cmp l k ≡ true → value_of cmp (set_value cmp l k w) k ≡ Some w
-  unfolding set_value
+  unfolding set_found
   written [] k w h = absurd (false≢true h)
   written (p ∷ l) k w h =
       let is : Bool = is_eq (cmp p.key k) in
@@ -70,7 +71,7 @@ module _ {K : Type 0} (cmp : K → K → Ordering) (o : IsTotalOrder cmp) (k oth
 -- the value of another key stays
 module _ {K V : Type 0} (cmp : K → K → Ordering) (o : IsTotalOrder cmp) (k other : K) (apart : is_eq (cmp other k) ≡ false) where
   set_beside : (l : List (Pair K V)) (w : V) → value_of cmp (set_value cmp l k w) other ≡ value_of cmp l other
-  unfolding set_value
+  unfolding set_found
   set_beside [] w = refl
   set_beside (p ∷ l) w =
       elim (is_eq (cmp p.key k)) as (λ b. is_eq (cmp p.key k) ≡ b → value_of cmp (if b then valued p w ∷ l else p ∷ set_value cmp l k w) other ≡ value_of cmp (p ∷ l) other) [
@@ -80,10 +81,6 @@ module _ {K V : Type 0} (cmp : K → K → Ordering) (o : IsTotalOrder cmp) (k o
           | false ↦ set_beside l w
         ]
       ] refl
-
-  pub without_beside : (l : List (Pair K V)) → value_of cmp (without_key cmp l k) other ≡ value_of cmp l other
-  unfolding without_key
-  without_beside l = ap (option_map (λ p. p.value)) (found_kept (λ p. is_eq (cmp p.key other)) (λ p. not (is_eq (cmp p.key k))) (λ p e. ap not (ap is_eq (beside cmp o k other apart p.key e) ∙ apart)) l)
 
   put_beside : (l : List (Pair K V)) (w : V) → value_of cmp (put (by_key cmp) l (pair k w)) other ≡ value_of cmp l other
   unfolding put
@@ -114,3 +111,14 @@ module _ {K V : Type 0} (cmp : K → K → Ordering) (o : IsTotalOrder cmp) (k o
     | true ↦ set_beside l w
     | false ↦ put_beside l w
   ]
+
+-- the value of a key that is not what was taken out stays
+pub without_beside : {K V Q : Type 0} {cmp : K → K → Ordering} (order : K → Q → Ordering) → IsTotalOrder cmp → ActsAsOne cmp order → (k : Q) (other : K) → is_eq (order other k) ≡ false → (l : List (Pair K V)) → value_of cmp (without_key order l k) other ≡ value_of cmp l other
+unfolding unequal
+without_beside {cmp = cmp} order o one k other apart l = ap (option_map (λ p. p.value)) (found_kept (λ p. is_eq (cmp p.key other)) (λ p. not (is_eq (order p.key k))) (λ p e. stays p.key (order p.key k) refl (equal_from _ e)) l) where
+  stays : (x : _) (a : Ordering) → order x k ≡ a → cmp x other ≡ Equal → not (is_eq a) ≡ true
+  stays x Less e same = refl
+  stays x Greater e same = refl
+  stays x Equal e same =
+      let there : order other k ≡ Equal = one k x other e ∙ (o.antisymm other x ∙ ap ordering_reverse same) in
+      absurd (false≢true (sym apart ∙ ap is_eq there))

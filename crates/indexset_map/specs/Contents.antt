@@ -47,11 +47,20 @@ module _ {K V : Type 0} where
   abbrev pub without_at : Contents K V → ℕ → Contents K V
   without_at m i = record { pairs = remove m.pairs i; lengths = lengths_without m.lengths i; size = m.size }
 
-  module _ (cmp : K → K → Ordering) where
+  module _ {Q : Type 0} (cmp : K → Q → Ordering) where
     -- the map, once w is the value of the key if it is there
-    abbrev pub with_value : Contents K V → K → V → Contents K V
+    abbrev pub with_value : Contents K V → Q → V → Contents K V
     with_value m k w = with_pairs m (set_value cmp m.pairs k w)
 
+    -- the map without the pair of the key
+    abbrev pub without_entry : Contents K V → Q → Contents K V
+    without_entry m k = record {
+      pairs = without_key cmp m.pairs k;
+      lengths = if has_key cmp m.pairs k then lengths_without m.lengths (key_rank cmp m.pairs k) else m.lengths;
+      size = m.size;
+    }
+
+  module _ (cmp : K → K → Ordering) where
     -- the map, once w is the value of the key, inserted where it is absent
     abbrev pub with_entry : Contents K V → K → V → Contents K V
     with_entry m k w = record {
@@ -71,14 +80,6 @@ module _ {K V : Type 0} where
     -- a prefix of ps was inserted in order, which made n of the map, and the others remain
     abbrev pub PutsSomePairs : Contents K V → List (Pair K V) → Contents K V → List (Pair K V) → Type 0
     PutsSomePairs m ps n rest = (k : ℕ) × (n ≡ with_pairs_put m (take k ps)) × (rest ≡ drop k ps)
-
-    -- the map without the pair of the key
-    abbrev pub without_entry : Contents K V → K → Contents K V
-    without_entry m k = record {
-      pairs = without_key cmp m.pairs k;
-      lengths = if has_key cmp m.pairs k then lengths_without m.lengths (key_rank cmp m.pairs k) else m.lengths;
-      size = m.size;
-    }
 
   pub pairs_back : (l : List (Pair K V)) → map (λ e. pair e.0 e.1) (map entry_of l) ≡ l
   pairs_back [] = refl

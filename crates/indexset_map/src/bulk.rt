@@ -8,6 +8,7 @@ ghost use Rattle.indexset_set.specs.SetAlgebra.{put_all, MovesSome};
 
 use super::BTreeMap;
 use indexset_core::refusal::Refusal;
+use indexset_core::sought::Sought;
 
 impl<K: Ord + Drop, V: Drop> BTreeMap<K, V> {
     /// Removes the pairs whose keys are not below the key, and returns them as a map of the same
@@ -18,12 +19,12 @@ impl<K: Ord + Drop, V: Drop> BTreeMap<K, V> {
     /// let high = low.split_off(&2)?;
     /// assert!(rt; low.len() == 1 && high.len() == 2);
     /// ```
-    pub fn split_off(&mut self, key: &K) -> Result<Self, Refusal>
-        ensures below { OnOk result (self.new.pairs ≡ pairs_below K.cmp self.old.pairs key.now) }
-        ensures rest { IfOk result (λ m. m.pairs ≡ pairs_from K.cmp self.old.pairs key.now) }
-        ensures all_below { OnOk result (All (λ k. is_lt (K.cmp k key.now) ≡ true)
+    pub fn split_off<Q: Sought<K> + Drop>(&mut self, key: Q) -> Result<Self, Refusal>
+        ensures below { OnOk result (self.new.pairs ≡ pairs_below Q.order self.old.pairs key) }
+        ensures rest { IfOk result (λ m. m.pairs ≡ pairs_from Q.order self.old.pairs key) }
+        ensures all_below { OnOk result (All (λ k. is_lt (Q.order k key) ≡ true)
             (pair_keys self.new.pairs)) }
-        ensures all_from { IfOk result (λ m. All (λ k. is_lt (K.cmp k key.now) ≡ false)
+        ensures all_from { IfOk result (λ m. All (λ k. is_lt (Q.order k key) ≡ false)
             (pair_keys m.pairs)) }
         ensures size { self.new.size ≡ self.old.size }
         ensures rest_size { IfOk result (λ m. m.size ≡ self.old.size) }

@@ -2,7 +2,6 @@
 ghost use Rattle.std.specs.Prelude.{◌≡◌, ◌-◌, ◌==◌, None, not, slice_get, if◌then◌else◌};
 ghost use Rattle.std.specs.List.{position_or_len};
 ghost use Rattle.std.specs.Option.{option_copied, option_map};
-ghost use Rattle.std.specs.Range.Bound.{bound_map};
 ghost use Rattle.indexset_core.specs.Bounds.{is_from_start, is_up_to_end};
 ghost use Rattle.indexset_core.specs.Pairs.{entry_of};
 ghost use Rattle.indexset_set.specs.SetCursor.{item_at, one_back, one_on, standing_at};
@@ -10,6 +9,7 @@ ghost use Rattle.indexset_set.specs.SetCursor.{item_at, one_back, one_on, standi
 use super::BTreeMap;
 use indexset_core::pair::Pair;
 use indexset_core::probe::ByKey;
+use indexset_core::sought::Sought;
 use indexset_set::Cursor;
 use std::marker::Model;
 use std::ops::Bound;
@@ -48,15 +48,14 @@ impl<K: Ord, V> BTreeMap<K, V> {
     /// let cursor = map.lower_bound(Bound::Included(&15));
     /// assert_eq!(rt; cursor.key_value(), Some((&20, &'b')));
     /// ```
-    pub fn lower_bound(&self, bound: Bound<&K>) -> CursorMap<'_, K, V>
+    pub fn lower_bound<Q: Sought<K> + Drop>(&self, bound: Bound<Q>) -> CursorMap<'_, K, V>
         ensures pairs { result.list ≡ self.now.pairs }
         ensures position { result.position
-            ≡ position_or_len (λ p. is_from_start K.cmp (bound_map (λ k. k.now) bound.entry) p.key)
-            self.now.pairs }
+            ≡ position_or_len (λ p. is_from_start Q.order bound p.key) self.now.pairs }
     {
         // The pairs ascend, as in `locate`.
         let _len = self.set.len();
-        let start = bound.map(ByKey::new);
+        let start = bound.as_ref().map(ByKey::new);
         CursorMap {
             cursor: self.set.cursor_from(start),
         }
@@ -70,15 +69,14 @@ impl<K: Ord, V> BTreeMap<K, V> {
     /// let cursor = map.upper_bound(Bound::Included(&10));
     /// assert_eq!(rt; cursor.key_value(), Some((&20, &'b')));
     /// ```
-    pub fn upper_bound(&self, bound: Bound<&K>) -> CursorMap<'_, K, V>
+    pub fn upper_bound<Q: Sought<K> + Drop>(&self, bound: Bound<Q>) -> CursorMap<'_, K, V>
         ensures pairs { result.list ≡ self.now.pairs }
         ensures position { result.position
-            ≡ position_or_len (λ p. not (is_up_to_end K.cmp (bound_map (λ k. k.now) bound.entry)
-            p.key)) self.now.pairs }
+            ≡ position_or_len (λ p. not (is_up_to_end Q.order bound p.key)) self.now.pairs }
     {
         // The pairs ascend, as in `locate`.
         let _len = self.set.len();
-        let end = bound.map(ByKey::new);
+        let end = bound.as_ref().map(ByKey::new);
         CursorMap {
             cursor: self.set.cursor_past(end),
         }
@@ -90,7 +88,7 @@ impl<'a, K: Ord, V> CursorMap<'a, K, V> {
     ///
     /// ```
     /// let map = BTreeMap::from_iter(alloc, [(1, 'a'), (3, 'b')])?;
-    /// let mut cursor = map.lower_bound(Bound::Unbounded);
+    /// let mut cursor = map.lower_bound(Bound::Included(&0));
     /// cursor.move_next();
     /// assert_eq!(rt; cursor.key(), Some(&3));
     /// ```
@@ -104,7 +102,7 @@ impl<'a, K: Ord, V> CursorMap<'a, K, V> {
     ///
     /// ```
     /// let map = BTreeMap::from_iter(alloc, [(1, 'a'), (3, 'b')])?;
-    /// let mut cursor = map.lower_bound(Bound::Unbounded);
+    /// let mut cursor = map.lower_bound(Bound::Included(&0));
     /// cursor.move_prev();
     /// assert!(rt; cursor.key().is_none());
     /// ```
@@ -118,7 +116,7 @@ impl<'a, K: Ord, V> CursorMap<'a, K, V> {
     ///
     /// ```
     /// let map = BTreeMap::from_iter(alloc, [(1, 'a'), (3, 'b')])?;
-    /// let mut cursor = map.lower_bound(Bound::Unbounded);
+    /// let mut cursor = map.lower_bound(Bound::Included(&0));
     /// cursor.move_index(1);
     /// assert_eq!(rt; cursor.key(), Some(&3));
     /// ```

@@ -9,6 +9,7 @@ ghost use Rattle.indexset_map.specs.Contents.{no_pairs, with_entry, without_at, 
 use super::BTreeMap;
 use indexset_core::pair::Pair;
 use indexset_core::refusal::{Refusal, Refused};
+use indexset_core::sought::Names;
 use std::mem;
 
 impl<K: Ord + Drop, V: Drop> BTreeMap<K, V> {
@@ -49,12 +50,12 @@ impl<K: Ord + Drop, V: Drop> BTreeMap<K, V> {
     /// let mut prices = BTreeMap::from_iter(alloc, [("pear", 120), ("fig", 45)])?;
     /// assert_eq!(rt; prices.remove_entry(&"fig"), Some(("fig", 45)));
     /// ```
-    pub fn remove_entry(&mut self, key: &K) -> Option<(K, V)>
-        ensures value { result ≡ option_map entry_of (pair_of K.cmp self.old.pairs key.now) }
-        ensures rest { self.new ≡ without_entry K.cmp self.old key.now }
-        ensures gone { has_key K.cmp self.new.pairs key.now ≡ false }
-        ensures no_value { value_of K.cmp self.new.pairs key.now ≡ None }
-        ensures others { (other : K) → is_eq (K.cmp other key.now) ≡ false
+    pub fn remove_entry<Q: Names<K> + Drop>(&mut self, key: Q) -> Option<(K, V)>
+        ensures value { result ≡ option_map entry_of (pair_of Q.order self.old.pairs key) }
+        ensures rest { self.new ≡ without_entry Q.order self.old key }
+        ensures gone { has_key Q.order self.new.pairs key ≡ false }
+        ensures no_value { value_of Q.order self.new.pairs key ≡ None }
+        ensures others { (other : K) → is_eq (Q.order other key) ≡ false
             → value_of K.cmp self.new.pairs other ≡ value_of K.cmp self.old.pairs other }
     {
         let spot = self.spot(key);
@@ -72,12 +73,12 @@ impl<K: Ord + Drop, V: Drop> BTreeMap<K, V> {
     /// let mut prices = BTreeMap::from_iter(alloc, [("pear", 120)])?;
     /// assert!(rt; prices.remove(&"pear") == Some(120) && prices.remove(&"pear").is_none());
     /// ```
-    pub fn remove(&mut self, key: &K) -> Option<V>
-        ensures value { result ≡ value_of K.cmp self.old.pairs key.now }
-        ensures rest { self.new ≡ without_entry K.cmp self.old key.now }
-        ensures gone { has_key K.cmp self.new.pairs key.now ≡ false }
-        ensures no_value { value_of K.cmp self.new.pairs key.now ≡ None }
-        ensures others { (other : K) → is_eq (K.cmp other key.now) ≡ false
+    pub fn remove<Q: Names<K> + Drop>(&mut self, key: Q) -> Option<V>
+        ensures value { result ≡ value_of Q.order self.old.pairs key }
+        ensures rest { self.new ≡ without_entry Q.order self.old key }
+        ensures gone { has_key Q.order self.new.pairs key ≡ false }
+        ensures no_value { value_of Q.order self.new.pairs key ≡ None }
+        ensures others { (other : K) → is_eq (Q.order other key) ≡ false
             → value_of K.cmp self.new.pairs other ≡ value_of K.cmp self.old.pairs other }
     {
         let (_, value) = self.remove_entry(key)?;

@@ -11,6 +11,7 @@ ghost use Rattle.indexset_spine.specs.Lengths.{place_of};
 use super::BTreeMap;
 use super::iter::IterMap;
 use indexset_core::probe::ByKey;
+use indexset_core::sought::Sought;
 use indexset_set::{Bounds, Positions, inner};
 use indexset_spine::spot::Spot;
 use std::ops::Bound;
@@ -30,8 +31,9 @@ impl<K: Ord, V> BTreeMap<K, V> {
     /// assert!(rt; teens.eq([(&10, &'b'), (&15, &'c')]) && above.eq([(&20, &'d')]));
     /// ```
     pub fn range<R: Bounds<K> + Drop>(&self, range: R) -> RangeMap<'_, K, V>
-        requires { IsTrue (are_ordered K.cmp (R.start range) (R.end range)) }
-        ensures rest { result ≡ pairs_within K.cmp self.now.pairs (R.start range) (R.end range) }
+        requires { IsTrue (are_ordered R.Key.cmp (R.start range) (R.end range)) }
+        ensures rest { result ≡ pairs_within R.Key.order self.now.pairs (R.start range)
+            (R.end range) }
         ensures ascending { IsAscending (by_key K.cmp) result }
         ensures runs { ShowsInOrder (pair_shown {K = K} {V = V}) }
         ensures runs_back { ShowsInReverse (pair_shown {K = K} {V = V}) }
@@ -58,10 +60,10 @@ impl<K: Ord, V> BTreeMap<K, V> {
     }
 
     // Returns the spot after the pairs before the start, and how many these are.
-    pub(super) fn start_spot(&self, start: Bound<&K>) -> (Spot, usize)
+    pub(super) fn start_spot<Q: Sought<K>>(&self, start: Bound<&Q>) -> (Spot, usize)
         ensures place { result.1 ≡ place_of self.now.lengths result.0 }
         ensures position { result.1 ≡ count_by
-            (λ p. is_before K.cmp (bound_map (λ k. k.now) start.entry) p.key) self.now.pairs }
+            (λ p. is_before Q.order (bound_map (λ k. k.now) start.entry) p.key) self.now.pairs }
     {
         // The pairs ascend, as in `locate`.
         let _len = self.set.len();
@@ -71,8 +73,8 @@ impl<K: Ord, V> BTreeMap<K, V> {
     }
 
     // Returns the first position whose key is past the end, or the length where there is none.
-    pub(super) fn end_position(&self, end: Bound<&K>) -> usize
-        ensures { result ≡ count_by (λ p. is_up_to_end K.cmp (bound_map (λ k. k.now) end.entry)
+    pub(super) fn end_position<Q: Sought<K>>(&self, end: Bound<&Q>) -> usize
+        ensures { result ≡ count_by (λ p. is_up_to_end Q.order (bound_map (λ k. k.now) end.entry)
             p.key) self.now.pairs }
     {
         // The pairs ascend, as in `locate`.

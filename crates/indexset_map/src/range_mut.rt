@@ -7,6 +7,7 @@ ghost use Rattle.indexset_core.specs.Pairs.{pairs_within};
 use super::BTreeMap;
 use super::iter_mut::IterMut;
 use indexset_core::positions::{end_position, first_position};
+use indexset_core::sought::Sought;
 use indexset_set::{Bounds, Positions};
 use std::ops::Bound;
 
@@ -29,26 +30,26 @@ impl<K: Ord, V> BTreeMap<K, V> {
     /// assert!(rt; map.values().copied().eq([1, 2, 2]));
     /// ```
     pub fn range_mut<R: Bounds<K> + Drop>(&mut self, range: R) -> RangeMut<'_, K, V>
-        requires { IsTrue (are_ordered K.cmp (R.start range) (R.end range)) }
+        requires { IsTrue (are_ordered R.Key.cmp (R.start range) (R.end range)) }
         ensures same_map { (walk_map result).ghost_name ≡ self.entry.ghost_name }
         ensures unchanged { (walk_map result).now ≡ self.old }
-        ensures rest { walk_rest result ≡ pairs_within K.cmp self.old.pairs (R.start range)
+        ensures rest { walk_rest result ≡ pairs_within R.Key.order self.old.pairs (R.start range)
             (R.end range) }
-        ensures span { IsSpan (λ p. is_within K.cmp (R.start range) (R.end range) p.key)
+        ensures span { IsSpan (λ p. is_within R.Key.order (R.start range) (R.end range) p.key)
             self.old.pairs (walk_front result) (walk_back result) }
     {
         self.within_mut(range.start_bound(), range.end_bound())
     }
 
     // Returns the same for two bounds.
-    fn within_mut(&mut self, start: Bound<&K>, end: Bound<&K>) -> RangeMut<'_, K, V>
-        requires { IsTrue (are_ordered K.cmp (bound_map (λ k. k.now) start)
+    fn within_mut<Q: Sought<K>>(&mut self, start: Bound<&Q>, end: Bound<&Q>) -> RangeMut<'_, K, V>
+        requires { IsTrue (are_ordered Q.cmp (bound_map (λ k. k.now) start)
             (bound_map (λ k. k.now) end)) }
         ensures same_map { (walk_map result).ghost_name ≡ self.entry.ghost_name }
         ensures unchanged { (walk_map result).now ≡ self.old }
-        ensures rest { walk_rest result ≡ pairs_within K.cmp self.old.pairs
+        ensures rest { walk_rest result ≡ pairs_within Q.order self.old.pairs
             (bound_map (λ k. k.now) start.entry) (bound_map (λ k. k.now) end.entry) }
-        ensures span { IsSpan (λ p. is_within K.cmp (bound_map (λ k. k.now) start.entry)
+        ensures span { IsSpan (λ p. is_within Q.order (bound_map (λ k. k.now) start.entry)
             (bound_map (λ k. k.now) end.entry) p.key) self.old.pairs (walk_front result)
             (walk_back result) }
     {

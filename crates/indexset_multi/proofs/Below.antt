@@ -6,7 +6,7 @@ use Rattle.std.proofs.lemmas.List.Elements.{All-append, All-cons, All-filter, Al
 use Rattle.std.proofs.lemmas.Option.{none-some, same_Some}
 use Rattle.indexset_core.specs.declared.multipair.MultiPair.{MultiPair}
 use Rattle.indexset_core.specs.Nodes.{joined}
-use Rattle.indexset_core.specs.Order.{above, below, put, without}
+use Rattle.indexset_core.specs.Order.{above, below, put, without, unequal}
 use Rattle.indexset_multi.specs.Attach.{free_number}
 use Rattle.indexset_multi.specs.Keys.{AreNumberedBelow, equal_pair, kept_number, pairs_of}
 
@@ -21,7 +21,7 @@ module _ {K V : Type 0} where
       All-append P (below cmp l v) (v ∷ above cmp l v) (All-filter (λ x. is_lt (cmp x v)) P l h) (All-cons P v (above cmp l v) lt (All-filter (λ x. is_gt (cmp x v)) P l h))
 
   pub below_without : (cmp : MultiPair K V → MultiPair K V → Ordering) (n : ℕ) (l : List (MultiPair K V)) (v : MultiPair K V) → AreNumberedBelow n l → AreNumberedBelow n (without cmp l v)
-  unfolding without
+  unfolding unequal
   below_without cmp n l v h = All-filter _ (λ p. p.discriminator < n) l h
 
   pub below_free : (l : List (MultiPair K V)) → AreNumberedBelow (free_number l) l

@@ -6,7 +6,7 @@ use Rattle.std.specs.Option.{unwrap_or}
 use Rattle.std.specs.Ordering.{is_eq, is_gt, is_lt, nat_cmp, ordering_reverse, ordering_then}
 use Rattle.std.specs.declared.cmp.Ordering.TheVariants.{Less, Equal, Greater}
 use Rattle.std.proofs.lemmas.Bool.{false≢true, true≢false}
-use Rattle.std.proofs.lemmas.Cmp.{alike_right, nat_cmp_total, tied_back, tied_itself}
+use Rattle.std.proofs.lemmas.Cmp.{alike_right, nat_cmp_total, tied_itself}
 use Rattle.std.proofs.lemmas.List.Elements.{filter-append}
 use Rattle.std.proofs.lemmas.List.Folds.{find-append}
 use Rattle.std.proofs.lemmas.Option.{none-some, same_Some}
@@ -14,7 +14,8 @@ use Rattle.indexset_core.specs.declared.multipair.MultiPair.{MultiPair}
 use Rattle.indexset_core.specs.declared.pair.Pair.{Pair}
 use Rattle.indexset_core.specs.MultiPairs.{by_number}
 use Rattle.indexset_core.specs.Nodes.{joined, IsLawful}
-use Rattle.indexset_core.specs.Order.{IsAscending, put, without}
+use Rattle.indexset_core.specs.Order.{IsAscending, put, without, unequal}
+use Rattle.indexset_core.specs.Sought.{ActsAsKey}
 use Rattle.indexset_core.proofs.CallerLemmas.{equal_from, is_some-find}
 use Rattle.indexset_events.proofs.CallerLemmas.{Each, all_each, around, each-map, lawful_ascends, parts-put, parts-without, rises}
 use Rattle.indexset_multi.specs.Keys.{AreNumberedBelow, entries, equal_pair, first_pair, has_pair_of, kept_number, pairs_of, without_first, without_key, without_named}
@@ -29,8 +30,8 @@ not_tied Less h = refl
 not_tied Equal h = absurd (h refl)
 not_tied Greater h = refl
 
-unequal : (a : Ordering) → is_eq a ≡ false → a ≡ Equal → ⊥
-unequal a e same = true≢false (sym (ap is_eq same) ∙ e)
+not_equal : (a : Ordering) → is_eq a ≡ false → a ≡ Equal → ⊥
+not_equal a e same = true≢false (sym (ap is_eq same) ∙ e)
 
 pub any_each : {X : Type 0} (l : List X) → Each (λ x. Unit {0}) l
 any_each [] = tt
@@ -188,28 +189,34 @@ module _ {K V : Type 0} (cmp : K → K → Ordering) (o : IsTotalOrder cmp) wher
           (λ l y r low same high number. rw (parts-put (by_number cmp) (numbers_total cmp o) l (y ∷ []) r v low (same, tt) high) (put_found l r low (λ x e. number x (front l (y ∷ r) x e))))
           l (rises (by_number cmp) l up)
 
+-- a removal, whose key may be sought by what stands for it
+module _ {K V Q : Type 0} {cmp : K → K → Ordering} (o : IsTotalOrder cmp) {order : K → Q → Ordering} {among : Q → Q → Ordering} (acts : ActsAsKey cmp order among) where
+  -- pairs that compare equal have keys that are found alike
+  alike : (k : Q) (p x : MultiPair K V) → by_number cmp p x ≡ Equal → order p.key k ≡ order x.key k
+  alike k p x tied = acts.alike k p.key x.key (keys_tied cmp o p x tied)
+
   -- the pair x of the key goes, which is the first that passes
-  module _ (k : K) (q : MultiPair K V → Bool) (x : MultiPair K V) where
+  module _ (k : Q) (q : MultiPair K V → Bool) (x : MultiPair K V) where
     same : by_number cmp x x ≡ Equal
     same = tied_itself (numbers_total cmp o) x
 
-    not_below : (l : List (MultiPair K V)) → Each (λ y. by_number cmp y x ≡ Less) l → find q (pairs_of cmp l k) ≡ Some x → ⊥
+    not_below : (l : List (MultiPair K V)) → Each (λ y. by_number cmp y x ≡ Less) l → find q (pairs_of order l k) ≡ Some x → ⊥
     not_below l low e =
-        let found = found_each (λ p. is_eq (cmp p.key k)) q (λ y. by_number cmp y x ≡ Less) l x low e in
+        let found = found_each (λ p. is_eq (order p.key k)) q (λ y. by_number cmp y x ≡ Less) l x low e in
         less_equal (sym found.0 ∙ same)
 
-    not_above : (r : List (MultiPair K V)) → Each (λ y. by_number cmp x y ≡ Less) r → find q (pairs_of cmp r k) ≡ Some x → ⊥
+    not_above : (r : List (MultiPair K V)) → Each (λ y. by_number cmp x y ≡ Less) r → find q (pairs_of order r k) ≡ Some x → ⊥
     not_above r high e =
-        let found = found_each (λ p. is_eq (cmp p.key k)) q (λ y. by_number cmp x y ≡ Less) r x high e in
+        let found = found_each (λ p. is_eq (order p.key k)) q (λ y. by_number cmp x y ≡ Less) r x high e in
         less_equal (sym found.0 ∙ same)
 
-    first_gone : (l : List (MultiPair K V)) (y : MultiPair K V) (r : List (MultiPair K V)) → Each (λ y. by_number cmp y x ≡ Less) l → by_number cmp y x ≡ Equal → Each (λ y. by_number cmp x y ≡ Less) r → find q (pairs_of cmp (l ++ y ∷ r) k) ≡ Some x → pairs_of cmp (l ++ r) k ≡ without_first q (pairs_of cmp (l ++ y ∷ r) k)
+    first_gone : (l : List (MultiPair K V)) (y : MultiPair K V) (r : List (MultiPair K V)) → Each (λ y. by_number cmp y x ≡ Less) l → by_number cmp y x ≡ Equal → Each (λ y. by_number cmp x y ≡ Less) r → find q (pairs_of order (l ++ y ∷ r) k) ≡ Some x → pairs_of order (l ++ r) k ≡ without_first q (pairs_of order (l ++ y ∷ r) k)
     first_gone l y r low tied high e =
-        let p : MultiPair K V → Bool = λ z. is_eq (cmp z.key k) in
+        let p : MultiPair K V → Bool = λ z. is_eq (order z.key k) in
         let parts = filter-append p l (y ∷ r) in
         let keyed : p y ≡ true =
         let found = found_each p q (λ z. Unit {0}) (l ++ y ∷ r) x (any_each (l ++ y ∷ r)) e in
-        ap is_eq (o.congr y.key x.key k (keys_tied y x tied)) ∙ found.1 in
+        ap is_eq (alike k y x tied) ∙ found.1 in
         let next : filter p (y ∷ r) ≡ y ∷ filter p r = rw keyed refl in
         let seen : find q (filter p l ++ y ∷ filter p r) ≡ Some x = rw (parts, next) at e in
         let none : find q (filter p l) ≡ None =
@@ -225,9 +232,9 @@ module _ {K V : Type 0} (cmp : K → K → Ordering) (o : IsTotalOrder cmp) wher
         ] rest in
         rw (parts, next, filter-append p l r) (sym (first_after q (filter p l) y (filter p r) none passes))
 
-    gone : (l : List (MultiPair K V)) → IsAscending (by_number cmp) l → find q (pairs_of cmp l k) ≡ Some x → pairs_of cmp (without (by_number cmp) l x) k ≡ without_first q (pairs_of cmp l k)
+    gone : (l : List (MultiPair K V)) → IsAscending (by_number cmp) l → find q (pairs_of order l k) ≡ Some x → pairs_of order (without (by_number cmp) l x) k ≡ without_first q (pairs_of order l k)
     gone l up =
-        let p : MultiPair K V → Bool = λ z. is_eq (cmp z.key k) in
+        let p : MultiPair K V → Bool = λ z. is_eq (order z.key k) in
         around (by_number cmp) (numbers_total cmp o) x (λ l. find q (filter p l) ≡ Some x → filter p (without (by_number cmp) l x) ≡ without_first q (filter p l))
         (λ l r low high e. absurd (elim (find q (filter p l)) as (λ f. find q (filter p l) ≡ f → ⊥) [
           | None ↦ λ g. not_above r high (sym (found_right q (filter p l) (filter p r) g) ∙ rw filter-append at e)
@@ -237,51 +244,51 @@ module _ {K V : Type 0} (cmp : K → K → Ordering) (o : IsTotalOrder cmp) wher
         l (rises (by_number cmp) l up)
 
   -- the list of a key after its first pair that passes is removed, where there is one
-  pub pair_gone : (k : K) (q : MultiPair K V → Bool) (l : List (MultiPair K V)) → IsAscending (by_number cmp) l → pairs_of cmp (without_named cmp l (find q (pairs_of cmp l k))) k ≡ without_first q (pairs_of cmp l k)
+  pub pair_gone : (k : Q) (q : MultiPair K V → Bool) (l : List (MultiPair K V)) → IsAscending (by_number cmp) l → pairs_of order (without_named cmp l (find q (pairs_of order l k))) k ≡ without_first q (pairs_of order l k)
   pair_gone k q l up =
-      elim (find q (pairs_of cmp l k)) as (λ f. find q (pairs_of cmp l k) ≡ f → pairs_of cmp (without_named cmp l f) k ≡ without_first q (pairs_of cmp l k)) [
-        | None ↦ λ e. sym (none_first q (pairs_of cmp l k) e)
+      elim (find q (pairs_of order l k)) as (λ f. find q (pairs_of order l k) ≡ f → pairs_of order (without_named cmp l f) k ≡ without_first q (pairs_of order l k)) [
+        | None ↦ λ e. sym (none_first q (pairs_of order l k) e)
         | Some x ↦ λ e. gone k q x l up e
       ] refl
 
-  pub first_pair_gone : (k : K) (l : List (MultiPair K V)) → IsAscending (by_number cmp) l → pairs_of cmp (without_named cmp l (first_pair cmp l k)) k ≡ drop 1 (pairs_of cmp l k)
-  first_pair_gone k l up = ap (λ f. pairs_of cmp (without_named cmp l f) k) (first_filtered (λ p. is_eq (cmp p.key k)) l) ∙ (pair_gone k (λ _. true) l up ∙ any_first (pairs_of cmp l k))
+  pub first_pair_gone : (k : Q) (l : List (MultiPair K V)) → IsAscending (by_number cmp) l → pairs_of order (without_named cmp l (first_pair order l k)) k ≡ drop 1 (pairs_of order l k)
+  first_pair_gone k l up = ap (λ f. pairs_of order (without_named cmp l f) k) (first_filtered (λ p. is_eq (order p.key k)) l) ∙ (pair_gone k (λ _. true) l up ∙ any_first (pairs_of order l k))
 
   -- the pairs of other keys stay
-  module _ (k : K) (q : MultiPair K V → Bool) (l : List (MultiPair K V)) (other : K) (ne : is_eq (cmp other k) ≡ false) where
-    pair_left : (x : MultiPair K V) → find q (pairs_of cmp l k) ≡ Some x → pairs_of cmp (without (by_number cmp) l x) other ≡ pairs_of cmp l other
-    unfolding without
+  module _ (k : Q) (q : MultiPair K V → Bool) (l : List (MultiPair K V)) (other : K) (ne : is_eq (order other k) ≡ false) where
+    pair_left : (x : MultiPair K V) → find q (pairs_of order l k) ≡ Some x → pairs_of cmp (without (by_number cmp) l x) other ≡ pairs_of cmp l other
+    unfolding unequal
     pair_left x e =
-        let found = found_each (λ p. is_eq (cmp p.key k)) q (λ z. Unit {0}) l x (any_each l) e in
+        let found = found_each (λ p. is_eq (order p.key k)) q (λ z. Unit {0}) l x (any_each l) e in
         nested_all (λ p. is_eq (cmp p.key other)) (λ p. not (is_eq (by_number cmp p x))) l (each-map (λ z. Unit {0}) _ (λ p _ keyed. not_tied (by_number cmp p x) (λ tied.
         let here : cmp p.key other ≡ Equal = equal_from (cmp p.key other) keyed in
-        let same : cmp x.key other ≡ Equal = sym (o.congr p.key x.key other (keys_tied p x tied)) ∙ here in
-        unequal (cmp other k) ne (sym (alike_right o x.key k other (equal_from (cmp x.key k) found.1)) ∙ tied_back o x.key other same))) l (any_each l))
+        let same : cmp x.key other ≡ Equal = sym (o.congr p.key x.key other (keys_tied cmp o p x tied)) ∙ here in
+        not_equal (order other k) ne (sym (acts.alike k x.key other same) ∙ equal_from (order x.key k) found.1))) l (any_each l))
 
-    pub others_left : pairs_of cmp (without_named cmp l (find q (pairs_of cmp l k))) other ≡ pairs_of cmp l other
+    pub others_left : pairs_of cmp (without_named cmp l (find q (pairs_of order l k))) other ≡ pairs_of cmp l other
     others_left =
-        elim (find q (pairs_of cmp l k)) as (λ f. find q (pairs_of cmp l k) ≡ f → pairs_of cmp (without_named cmp l f) other ≡ pairs_of cmp l other) [
+        elim (find q (pairs_of order l k)) as (λ f. find q (pairs_of order l k) ≡ f → pairs_of cmp (without_named cmp l f) other ≡ pairs_of cmp l other) [
           | None ↦ λ e. refl
           | Some x ↦ λ e. pair_left x e
         ] refl
 
-  pub others_left_first : (k : K) (l : List (MultiPair K V)) (other : K) → is_eq (cmp other k) ≡ false → pairs_of cmp (without_named cmp l (first_pair cmp l k)) other ≡ pairs_of cmp l other
-  others_left_first k l other ne = ap (λ f. pairs_of cmp (without_named cmp l f) other) (first_filtered (λ p. is_eq (cmp p.key k)) l) ∙ others_left k (λ _. true) l other ne
+  pub others_left_first : (k : Q) (l : List (MultiPair K V)) (other : K) → is_eq (order other k) ≡ false → pairs_of cmp (without_named cmp l (first_pair order l k)) other ≡ pairs_of cmp l other
+  others_left_first k l other ne = ap (λ f. pairs_of cmp (without_named cmp l f) other) (first_filtered (λ p. is_eq (order p.key k)) l) ∙ others_left k (λ _. true) l other ne
 
   -- and so do all of them, in order
-  module _ (k : K) (l : List (MultiPair K V)) where
-    rest_left : (x : MultiPair K V) → find (λ _. true) (pairs_of cmp l k) ≡ Some x → without_key cmp (without (by_number cmp) l x) k ≡ without_key cmp l k
-    unfolding without
+  module _ (k : Q) (l : List (MultiPair K V)) where
+    rest_left : (x : MultiPair K V) → find (λ _. true) (pairs_of order l k) ≡ Some x → without_key order (without (by_number cmp) l x) k ≡ without_key order l k
+    unfolding unequal
     rest_left x e =
-        let found = found_each (λ p. is_eq (cmp p.key k)) (λ _. true) (λ z. Unit {0}) l x (any_each l) e in
-        nested_all (λ p. not (is_eq (cmp p.key k))) (λ p. not (is_eq (by_number cmp p x))) l (each-map (λ z. Unit {0}) _ (λ p _ other. not_tied (by_number cmp p x) (λ tied.
-        let here : is_eq (cmp p.key k) ≡ true = ap is_eq (o.congr p.key x.key k (keys_tied p x tied)) ∙ found.1 in
+        let found = found_each (λ p. is_eq (order p.key k)) (λ _. true) (λ z. Unit {0}) l x (any_each l) e in
+        nested_all (λ p. not (is_eq (order p.key k))) (λ p. not (is_eq (by_number cmp p x))) l (each-map (λ z. Unit {0}) _ (λ p _ other. not_tied (by_number cmp p x) (λ tied.
+        let here : is_eq (order p.key k) ≡ true = ap is_eq (alike k p x tied) ∙ found.1 in
         false≢true (ap not (sym here) ∙ other))) l (any_each l))
 
-    pub rest_left_first : without_key cmp (without_named cmp l (first_pair cmp l k)) k ≡ without_key cmp l k
+    pub rest_left_first : without_key order (without_named cmp l (first_pair order l k)) k ≡ without_key order l k
     rest_left_first =
-        ap (λ f. without_key cmp (without_named cmp l f) k) (first_filtered (λ p. is_eq (cmp p.key k)) l)
-        ∙ elim (find (λ _. true) (pairs_of cmp l k)) as (λ f. find (λ _. true) (pairs_of cmp l k) ≡ f → without_key cmp (without_named cmp l f) k ≡ without_key cmp l k) [
+        ap (λ f. without_key order (without_named cmp l f) k) (first_filtered (λ p. is_eq (order p.key k)) l)
+        ∙ elim (find (λ _. true) (pairs_of order l k)) as (λ f. find (λ _. true) (pairs_of order l k) ≡ f → without_key order (without_named cmp l f) k ≡ without_key order l k) [
           | None ↦ λ e. refl
           | Some x ↦ λ e. rest_left x e
         ] refl

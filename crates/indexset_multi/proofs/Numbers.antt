@@ -1,21 +1,19 @@
 -- Ascending lists of numbered pairs: searches by key, and by key and number.
-use Rattle.std.proofs.Common.{◌≡◌, ℕ, suc, ◌+◌, ◌<◌, ◌&&◌, Bool, true, false, cond, List, [], ◌∷◌, filter, get_or, Ordering, Some, None, slice_get, refl, ap, sym, ◌∙◌, arith}
+use Rattle.std.proofs.Common.{◌≡◌, ℕ, suc, ◌<◌, ◌&&◌, Bool, true, false, cond, List, [], ◌∷◌, filter, Ordering, Some, None, slice_get, refl, ap, sym, ◌∙◌, arith}
 use Rattle.std.specs.Cmp.{IsTotalOrder}
 use Rattle.std.specs.List.{find, list_any}
 use Rattle.std.specs.Option.{option_map}
-use Rattle.std.specs.Ordering.{is_eq, is_ge, is_le, is_lt, nat_cmp, ordering_then}
+use Rattle.std.specs.Ordering.{is_eq, is_ge, is_le, nat_cmp, ordering_then}
 use Rattle.std.specs.declared.cmp.Ordering.TheVariants.{Less, Equal, Greater}
 use Rattle.std.specs.declared.ops.Bound.TheVariants.{Included}
 use Rattle.std.proofs.lemmas.Bool.Decides.{nat_tests}
 use Rattle.std.proofs.lemmas.Cmp.{alike_right, nat_cmp_total, on_total, then_total, tied_itself}
 use Rattle.std.proofs.lemmas.List.Elements.{All-head, All-tail}
 use Rattle.std.proofs.lemmas.List.Folds.{list_any_at}
-use Rattle.std.proofs.lemmas.List.Sorted.{searchable_from_sorted}
 use Rattle.std.proofs.lemmas.Option.{get_or_from_slice_get, none-some, same_Some, slice_get_within}
 use Rattle.indexset_core.specs.declared.multipair.MultiPair.{MultiPair}
 use Rattle.indexset_core.specs.MultiPairs.{by_number}
 use Rattle.indexset_core.specs.Order.{IsAscending, equal_element, has_equal, rank}
-use Rattle.indexset_core.specs.Parted.{IsParted}
 use Rattle.indexset_core.proofs.CallerLemmas.{equal_from, rank-slice_get, slice_get-rank_equal}
 use Rattle.indexset_multi.specs.Keys.{AreNumberedBelow, equal_pair, kept_number, pairs_between, pairs_of}
 
@@ -56,6 +54,11 @@ module _ {K : Type 0} (cmp : K → K → Ordering) (o : IsTotalOrder cmp) where
   pub one_ordered : (k : K) → is_le (cmp k k) ≡ true
   one_ordered k = rw (tied_itself o k) refl
 
+module _ {K V Q : Type 0} (cmp : K → Q → Ordering) where
+  -- the pairs between a key and itself are those of the key
+  pub between_one : (l : List (MultiPair K V)) (k : Q) → pairs_between cmp l (Included k) (Included k) ≡ pairs_of cmp l k
+  between_one l k = let same : (a : Ordering) → is_ge a && is_le a ≡ is_eq a = elim [ Less ↦ refl | Equal ↦ refl | Greater ↦ refl ] in λ j. filter (λ p. same (cmp p.key k) j) l
+
 module _ {K V : Type 0} (cmp : K → K → Ordering) where
   -- how a pair stands to a key and a number
   abbrev pub answer_to : K → ℕ → MultiPair K V → Ordering
@@ -68,10 +71,6 @@ module _ {K V : Type 0} (cmp : K → K → Ordering) where
       let less : nat_cmp p.discriminator n ≡ Less = below_less p.discriminator n (All-head (λ p. p.discriminator < n) p l below) in
       let other : (a : Ordering) → is_eq (ordering_then a Less) ≡ false = elim [ Less ↦ refl | Equal ↦ refl | Greater ↦ refl ] in
       rw less (rw (other (cmp p.key k)) (none_numbered l k n (All-tail (λ p. p.discriminator < n) p l below)))
-
-  -- the pairs between a key and itself are those of the key
-  pub between_one : (l : List (MultiPair K V)) (k : K) → pairs_between cmp l (Included k) (Included k) ≡ pairs_of cmp l k
-  between_one l k = let same : (a : Ordering) → is_ge a && is_le a ≡ is_eq a = elim [ Less ↦ refl | Equal ↦ refl | Greater ↦ refl ] in λ j. filter (λ p. same (cmp p.key k) j) l
 
   module _ (eq : V → V → Bool) (l : List (MultiPair K V)) (k : K) (w : V) where
     -- where no number is kept, there is no such pair
@@ -88,19 +87,7 @@ module _ {K V : Type 0} (cmp : K → K → Ordering) (o : IsTotalOrder cmp) wher
   pub numbers_total : IsTotalOrder (by_number {V = V} cmp)
   numbers_total = on_total place_of (places_total cmp o)
 
-  key_not_less : (p q : MultiPair K V) → by_number cmp p q ≡ Less → is_lt (cmp q.key p.key) ≡ false
-  key_not_less p q h =
-      elim (cmp p.key q.key) as (λ a. cmp p.key q.key ≡ a → ordering_then a (nat_cmp p.discriminator q.discriminator) ≡ Less → is_lt (cmp q.key p.key) ≡ false) [
-        | Less ↦ λ e g. rw (o.antisymm q.key p.key) (rw e refl)
-        | Equal ↦ λ e g. rw (o.antisymm q.key p.key) (rw e refl)
-        | Greater ↦ λ e g. absurd (cc)
-      ] refl h
-
   module _ (l : List (MultiPair K V)) (up : IsAscending (by_number cmp) l) where
-    -- a probe by a key finds the pairs in order
-    pub parted_keys : (k : K) → IsParted (λ p. cmp p.key k) l
-    parted_keys k = searchable_from_sorted o (λ (p : MultiPair K V). p.key) l k (λ j d low high. key_not_less (get_or l j d) (get_or l (j + 1) d) (up j (j + 1) d (omega arith) high))
-
     -- a pair that is there is found by its key, or one equal to it, and its number
     found_by_number : (k : K) (i : ℕ) (x : MultiPair K V) → slice_get l i ≡ Some x → cmp x.key k ≡ Equal → find (λ p. is_eq (answer_to cmp k x.discriminator p)) l ≡ Some x
     found_by_number k i x here same =

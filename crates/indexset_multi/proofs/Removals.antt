@@ -10,6 +10,7 @@ use Rattle.std.proofs.lemmas.List.Elements.{same_from_all_zip}
 use Rattle.std.proofs.lemmas.List.Sums.{count_by-le-length, length-filter}
 use Rattle.std.proofs.lemmas.Option.{none-some}
 use Rattle.indexset_core.proofs.CallerLemmas.{some_held}
+use Rattle.indexset_core.specs.Sought.{ActsAsKey}
 use Rattle.indexset_core.specs.declared.multipair.MultiPair.{MultiPair}
 use Rattle.indexset_core.specs.MultiPairs.{by_number}
 use Rattle.indexset_core.specs.Nodes.{joined}
@@ -95,23 +96,23 @@ numbered_on s (e ∷ a) b =
     ap (λ l. assigned s e ∷ l) (numbered_on (s + 1) a b ∙ ap (λ n. numbered_from (s + 1) a ++ numbered_from n b) e')
 
 -- the trees after the first pairs of a key are removed, one after another
-module _ {K V : Type 0} {cmp : K → K → Ordering} (o : IsTotalOrder cmp) (old : MultiTree K V) {most len : ℕ} (t : IsTree (by_number cmp) most old.nodes old.size len) (k : K) where
+module _ {K V Q : Type 0} {cmp : K → K → Ordering} (o : IsTotalOrder cmp) {order : K → Q → Ordering} {among : Q → Q → Ordering} (acts : ActsAsKey cmp order among) (old : MultiTree K V) {most len : ℕ} (t : IsTree (by_number cmp) most old.nodes old.size len) (k : Q) where
   pub record Gone (n : ℕ) (now : MultiTree K V) : Type 0 where
     pub rule : IsTree (by_number cmp) most now.nodes now.size (length (joined now.nodes))
-    pub gone : pairs_of cmp (joined now.nodes) k ≡ drop n (pairs_of cmp (joined old.nodes) k)
-    pub rest : without_key cmp (joined now.nodes) k ≡ without_key cmp (joined old.nodes) k
-    pub others : (other : K) → is_eq (cmp other k) ≡ false → pairs_of cmp (joined now.nodes) other ≡ pairs_of cmp (joined old.nodes) other
+    pub gone : pairs_of order (joined now.nodes) k ≡ drop n (pairs_of order (joined old.nodes) k)
+    pub rest : without_key order (joined now.nodes) k ≡ without_key order (joined old.nodes) k
+    pub others : (other : K) → is_eq (order other k) ≡ false → pairs_of cmp (joined now.nodes) other ≡ pairs_of cmp (joined old.nodes) other
     pub led : IsLedTo cmp old now
-    pub table : replay (by_number cmp) old.nodes (numbered_from old.next (removals_events cmp old k n)) ≡ Some now.nodes
-    pub next : now.next ≡ old.next + length (removals_events cmp old k n)
+    pub table : replay (by_number cmp) old.nodes (numbered_from old.next (removals_events cmp order old k n)) ≡ Some now.nodes
+    pub next : now.next ≡ old.next + length (removals_events cmp order old k n)
     pub size : now.size ≡ old.size
     pub spaced : IsSpaced (old.size / 2) old.nodes → IsSpaced (now.size / 2) now.nodes
     pub pair_next : now.pair_next ≡ old.pair_next
 
-  many_gone : (n : ℕ) → Gone n (after_removals cmp old k n)
+  many_gone : (n : ℕ) → Gone n (after_removals cmp order old k n)
   many_gone zero = record {
     rule = record { lawful = t.lawful; two = t.two; within = t.within; counted = refl };
-    gone = sym (drop_none (pairs_of cmp (joined old.nodes) k));
+    gone = sym (drop_none (pairs_of order (joined old.nodes) k));
     rest = refl;
     others = λ other ne. refl;
     led = led_nowhere cmp old;
@@ -123,73 +124,73 @@ module _ {K V : Type 0} {cmp : K → K → Ordering} (o : IsTotalOrder cmp) (old
   }
   many_gone (suc n) =
       let g = many_gone n in
-      let m = after_removals cmp old k n in
-      let first = first_pair cmp (joined m.nodes) k in
+      let m = after_removals cmp order old k n in
+      let first = first_pair order (joined m.nodes) k in
       let d = pair_altered o m g.rule first refl in
       let up = lawful_ascends (by_number cmp) m.size m.nodes g.rule.lawful in
       record {
         rule = pair_tree o m g.rule first refl;
-        gone = ap (λ l. pairs_of cmp l k) d.contents ∙ (first_pair_gone cmp o k (joined m.nodes) up ∙ (ap (λ l. drop 1 l) g.gone ∙ drop_one (pairs_of cmp (joined old.nodes) k) n));
-        rest = ap (λ l. without_key cmp l k) d.contents ∙ (rest_left_first cmp o k (joined m.nodes) ∙ g.rest);
-        others = λ other ne. ap (λ l. pairs_of cmp l other) d.contents ∙ (others_left_first cmp o k (joined m.nodes) other ne ∙ g.others other ne);
+        gone = ap (λ l. pairs_of order l k) d.contents ∙ (first_pair_gone o acts k (joined m.nodes) up ∙ (ap (λ l. drop 1 l) g.gone ∙ drop_one (pairs_of order (joined old.nodes) k) n));
+        rest = ap (λ l. without_key order l k) d.contents ∙ (rest_left_first o acts k (joined m.nodes) ∙ g.rest);
+        others = λ other ne. ap (λ l. pairs_of cmp l other) d.contents ∙ (others_left_first o acts k (joined m.nodes) other ne ∙ g.others other ne);
         led = led_further cmp old m (after_removal cmp m first) g.led (led_once cmp m (after_removal cmp m first) (pair_removal_events cmp m.size m.nodes first) d.table d.next);
-        table = rw (numbered_on old.next (removals_events cmp old k n) (first_events cmp m k)) (replay-append (by_number cmp) old.nodes (numbered_from old.next (removals_events cmp old k n)) (numbered_from (old.next + length (removals_events cmp old k n)) (first_events cmp m k)) ∙ rw (g.table, ← g.next) d.table);
-        next = omega (arith, d.next, g.next, length-append (removals_events cmp old k n) (first_events cmp m k));
+        table = rw (numbered_on old.next (removals_events cmp order old k n) (first_events cmp order m k)) (replay-append (by_number cmp) old.nodes (numbered_from old.next (removals_events cmp order old k n)) (numbered_from (old.next + length (removals_events cmp order old k n)) (first_events cmp order m k)) ∙ rw (g.table, ← g.next) d.table);
+        next = omega (arith, d.next, g.next, length-append (removals_events cmp order old k n) (first_events cmp order m k));
         size = g.size;
         spaced = λ s. d.spaced (g.spaced s);
         pair_next = g.pair_next;
       }
 
-  module _ (n : ℕ) {now : MultiTree K V} (is : now ≡ after_removals cmp old k n) where
+  module _ (n : ℕ) {now : MultiTree K V} (is : now ≡ after_removals cmp order old k n) where
     pub now_gone : Gone n now
     now_gone = subst (Gone n) (sym is) (many_gone n)
 
-    pub one_more : {new : MultiTree K V} → new ≡ after_removal cmp now (first_pair cmp (joined now.nodes) k) → new ≡ after_removals cmp old k (n + 1)
-    one_more e = rw add-one (e ∙ ap (λ t. after_removal cmp t (first_pair cmp (joined t.nodes) k)) is)
+    pub one_more : {new : MultiTree K V} → new ≡ after_removal cmp now (first_pair order (joined now.nodes) k) → new ≡ after_removals cmp order old k (n + 1)
+    one_more e = rw add-one (e ∙ ap (λ t. after_removal cmp t (first_pair order (joined t.nodes) k)) is)
 
     -- what was told of one more
-    pub told_more : (C : MultiPair K V → MultiPair K V → Type 0) (fs gs : List (ChangeEvent (MultiPair K V))) → IsTold C old.next (removals_events cmp old k n) fs → IsToldOn C now.next (first_events cmp now k) fs gs → IsTold C old.next (removals_events cmp old k (n + 1)) gs
+    pub told_more : (C : MultiPair K V → MultiPair K V → Type 0) (fs gs : List (ChangeEvent (MultiPair K V))) → IsTold C old.next (removals_events cmp order old k n) fs → IsToldOn C now.next (first_events cmp order now k) fs gs → IsTold C old.next (removals_events cmp order old k (n + 1)) gs
     told_more C fs gs before on =
         let g = now_gone in
         let s = old.next in
-        let a = removals_events cmp old k n in
-        let b = first_events cmp (after_removals cmp old k n) k in
-        let more : AllZip (IsEventClone C) (numbered_from (s + length a) b) on.told = subst (λ (t : MultiTree K V). AllZip (IsEventClone C) (numbered_from (s + length a) (first_events cmp t k)) on.told) is (rw g.next at on.clones) in
+        let a = removals_events cmp order old k n in
+        let b = first_events cmp order (after_removals cmp order old k n) k in
+        let more : AllZip (IsEventClone C) (numbered_from (s + length a) b) on.told = subst (λ (t : MultiTree K V). AllZip (IsEventClone C) (numbered_from (s + length a) (first_events cmp order t k)) on.told) is (rw g.next at on.clones) in
         rw (add-one, on.added, numbered_on s a b) (zip_on (IsEventClone C) (numbered_from s a) (numbered_from (s + length a) b) fs on.told before more)
 
     -- a removal that found a pair was not the last
-    pub more_left : is_some (first_pair cmp (joined now.nodes) k) ≡ true → n + 1 ≤ length (pairs_of cmp (joined old.nodes) k)
+    pub more_left : is_some (first_pair order (joined now.nodes) k) ≡ true → n + 1 ≤ length (pairs_of order (joined old.nodes) k)
     more_left found =
         let g = now_gone in
-        let x = some_held (first_pair cmp (joined now.nodes) k) found in
-        omega (arith, some_found (λ p. is_eq (cmp p.key k)) (joined now.nodes) x.0 x.1, ap (λ l. length l) g.gone, length-drop n (pairs_of cmp (joined old.nodes) k))
+        let x = some_held (first_pair order (joined now.nodes) k) found in
+        omega (arith, some_found (λ p. is_eq (order p.key k)) (joined now.nodes) x.0 x.1, ap (λ l. length l) g.gone, length-drop n (pairs_of order (joined old.nodes) k))
 
     -- where the key had no pair, a removal tells nothing
-    pub nothing_told : pairs_of cmp (joined old.nodes) k ≡ [] → first_events cmp now k ≡ []
+    pub nothing_told : pairs_of order (joined old.nodes) k ≡ [] → first_events cmp order now k ≡ []
     nothing_told none =
-        elim (first_pair cmp (joined now.nodes) k) as (λ o. first_pair cmp (joined now.nodes) k ≡ o → pair_removal_events cmp now.size now.nodes o ≡ []) [
+        elim (first_pair order (joined now.nodes) k) as (λ o. first_pair order (joined now.nodes) k ≡ o → pair_removal_events cmp now.size now.nodes o ≡ []) [
           | None ↦ λ _. refl
           | Some x ↦ λ found. absurd (omega (arith, more_left (ap is_some found), ap (λ l. length l) none))
         ] refl
 
-    module _ (within : n ≤ length (pairs_of cmp (joined old.nodes) k)) where
-      number : length (pairs_of cmp (joined old.nodes) k) - length (pairs_of cmp (joined now.nodes) k) ≡ n
-      number = let g = now_gone in omega (arith, within, ap (λ l. length l) g.gone, length-drop n (pairs_of cmp (joined old.nodes) k))
+    module _ (within : n ≤ length (pairs_of order (joined old.nodes) k)) where
+      number : length (pairs_of order (joined old.nodes) k) - length (pairs_of order (joined now.nodes) k) ≡ n
+      number = let g = now_gone in omega (arith, within, ap (λ l. length l) g.gone, length-drop n (pairs_of order (joined old.nodes) k))
 
-      pub tree_is : now ≡ after_removals cmp old k (length (pairs_of cmp (joined old.nodes) k) - length (pairs_of cmp (joined now.nodes) k))
-      tree_is = is ∙ ap (after_removals cmp old k) (sym number)
+      pub tree_is : now ≡ after_removals cmp order old k (length (pairs_of order (joined old.nodes) k) - length (pairs_of order (joined now.nodes) k))
+      tree_is = is ∙ ap (after_removals cmp order old k) (sym number)
 
-      pub told_is : (C : MultiPair K V → MultiPair K V → Type 0) (fs : List (ChangeEvent (MultiPair K V))) → IsTold C old.next (removals_events cmp old k n) fs → IsTold C old.next (key_events cmp old now k) fs
-      told_is C fs told = subst (λ m. IsTold C old.next (removals_events cmp old k m) fs) (sym number) told
+      pub told_is : (C : MultiPair K V → MultiPair K V → Type 0) (fs : List (ChangeEvent (MultiPair K V))) → IsTold C old.next (removals_events cmp order old k n) fs → IsTold C old.next (key_events cmp order old now k) fs
+      told_is C fs told = subst (λ m. IsTold C old.next (removals_events cmp order old k m) fs) (sym number) told
 
-      pub table_is : replay (by_number cmp) old.nodes (numbered_from old.next (key_events cmp old now k)) ≡ Some now.nodes
-      table_is = let g = now_gone in subst (λ m. replay (by_number cmp) old.nodes (numbered_from old.next (removals_events cmp old k m)) ≡ Some now.nodes) (sym number) g.table
+      pub table_is : replay (by_number cmp) old.nodes (numbered_from old.next (key_events cmp order old now k)) ≡ Some now.nodes
+      table_is = let g = now_gone in subst (λ m. replay (by_number cmp) old.nodes (numbered_from old.next (removals_events cmp order old k m)) ≡ Some now.nodes) (sym number) g.table
 
       -- the told events lead to the tree, where clones are identical to their sources
-      pub led_by : (C : MultiPair K V → MultiPair K V → Type 0) (fs : List (ChangeEvent (MultiPair K V))) → IsTold C old.next (removals_events cmp old k n) fs → ((p q : MultiPair K V) → C p q → q ≡ p) → IsLedBy cmp old now fs
+      pub led_by : (C : MultiPair K V → MultiPair K V → Type 0) (fs : List (ChangeEvent (MultiPair K V))) → IsTold C old.next (removals_events cmp order old k n) fs → ((p q : MultiPair K V) → C p q → q ≡ p) → IsLedBy cmp old now fs
       led_by C fs told same =
           let g = now_gone in
-          let es = removals_events cmp old k n in
+          let es = removals_events cmp order old k n in
           let is_table = same_from_all_zip (IsEventClone C) (numbered_from old.next es) fs told (event_same C same) in
           record {
             numbered = clones_numbered C old.next es fs told;
@@ -197,41 +198,41 @@ module _ {K V : Type 0} {cmp : K → K → Ordering} (o : IsTotalOrder cmp) (old
             next = omega (arith, g.next, ap (λ l. length l) is_table, length-numbered old.next es);
           }
 
-      pub left_is : pairs_of cmp (joined now.nodes) k ≡ drop (length (pairs_of cmp (joined old.nodes) k) - length (pairs_of cmp (joined now.nodes) k)) (pairs_of cmp (joined old.nodes) k)
-      left_is = let g = now_gone in g.gone ∙ ap (λ i. drop i (pairs_of cmp (joined old.nodes) k)) (sym number)
+      pub left_is : pairs_of order (joined now.nodes) k ≡ drop (length (pairs_of order (joined old.nodes) k) - length (pairs_of order (joined now.nodes) k)) (pairs_of order (joined old.nodes) k)
+      left_is = let g = now_gone in g.gone ∙ ap (λ i. drop i (pairs_of order (joined old.nodes) k)) (sym number)
 
-      pub are_removed : AreRemoved cmp old now k
+      pub are_removed : AreRemoved cmp order old now k
       are_removed =
           let g = now_gone in
           record { tree = tree_is; left = left_is; rest = g.rest; others = g.others; led = g.led; table = table_is; size = g.size; spaced = g.spaced; pair_next = g.pair_next }
 
-      pub removals_told : (C : K → K → Type 0) (D : V → V → Type 0) (fs : List (ChangeEvent (MultiPair K V))) → IsTold (IsPairClone C D) old.next (removals_events cmp old k n) fs → RemovalsTold cmp C D old now k fs
+      pub removals_told : (C : K → K → Type 0) (D : V → V → Type 0) (fs : List (ChangeEvent (MultiPair K V))) → IsTold (IsPairClone C D) old.next (removals_events cmp order old k n) fs → RemovalsTold cmp order C D old now k fs
       removals_told C D fs told = record {
         clones = told_is (IsPairClone C D) fs told;
-        numbered = clones_numbered (IsPairClone C D) old.next (removals_events cmp old k n) fs told;
+        numbered = clones_numbered (IsPairClone C D) old.next (removals_events cmp order old k n) fs told;
         replay = λ h. led_by (IsPairClone C D) fs told (pair_same h.0 h.1);
       }
 
       -- the one that found none changed nothing, and all are gone
-      module _ (none : is_some (first_pair cmp (joined now.nodes) k) ≡ false) where
-        pub none_left : pairs_of cmp (joined now.nodes) k ≡ []
-        none_left = none_found (λ p. is_eq (cmp p.key k)) (joined now.nodes) (none_from (first_pair cmp (joined now.nodes) k) none)
+      module _ (none : is_some (first_pair order (joined now.nodes) k) ≡ false) where
+        pub none_left : pairs_of order (joined now.nodes) k ≡ []
+        none_left = none_found (λ p. is_eq (order p.key k)) (joined now.nodes) (none_from (first_pair order (joined now.nodes) k) none)
 
-        pub all_removed : n ≡ length (pairs_of cmp (joined old.nodes) k)
+        pub all_removed : n ≡ length (pairs_of order (joined old.nodes) k)
         all_removed = omega (arith, number, within, ap (λ l. length l) none_left)
 
-        pub all_kept : joined now.nodes ≡ without_key cmp (joined old.nodes) k
-        all_kept = let g = now_gone in sym (none_go (λ p. is_eq (cmp p.key k)) (joined now.nodes) none_left) ∙ g.rest
+        pub all_kept : joined now.nodes ≡ without_key order (joined old.nodes) k
+        all_kept = let g = now_gone in sym (none_go (λ p. is_eq (order p.key k)) (joined now.nodes) none_left) ∙ g.rest
 
-        pub stays : {new : MultiTree K V} → new ≡ after_removal cmp now (first_pair cmp (joined now.nodes) k) → new ≡ now
+        pub stays : {new : MultiTree K V} → new ≡ after_removal cmp now (first_pair order (joined now.nodes) k) → new ≡ now
         stays e =
-            let gone = none_from (first_pair cmp (joined now.nodes) k) none in
+            let gone = none_from (first_pair order (joined now.nodes) k) none in
             let after = rw gone at e in
             let next : now.next + 0 ≡ now.next = omega arith in
             after ∙ (λ i. record { nodes = now.nodes; size = now.size; next = next i; pair_next = now.pair_next })
 
-pub removed_fit : {K V : Type 0} (cmp : K → K → Ordering) (l : List (MultiPair K V)) (k : K) → length (pairs_of cmp l k) ≤ length l
-removed_fit cmp l k = rw (length-filter (λ p. is_eq (cmp p.key k)) l) (count_by-le-length (λ p. is_eq (cmp p.key k)) l)
+pub removed_fit : {K V Q : Type 0} (order : K → Q → Ordering) (l : List (MultiPair K V)) (k : Q) → length (pairs_of order l k) ≤ length l
+removed_fit order l k = rw (length-filter (λ p. is_eq (order p.key k)) l) (count_by-le-length (λ p. is_eq (order p.key k)) l)
 
 pub some_mapped : {A B : Type 0} (f : A → B) (o : Option A) → is_some (option_map f o) ≡ is_some o
 some_mapped f None = refl

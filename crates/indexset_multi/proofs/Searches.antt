@@ -11,8 +11,8 @@ use Rattle.indexset_core.specs.Nodes.{joined, node_at, IsLawful}
 use Rattle.indexset_core.specs.Parted.{IsParted}
 use Rattle.indexset_events.proofs.CallerLemmas.{lawful_ascends, lawful_filled}
 use Rattle.indexset_multi.specs.Places.{IsItemPlace, placed_item}
-use Rattle.indexset_multi.proofs.Numbers.{parted_keys}
-use Rattle.indexset_core.proofs.CallerLemmas.{is_some-find, end_found, end_node, end_offset, gap_found, get_in_node}
+use Rattle.indexset_core.specs.Sought.{ActsAsKey, acts_as_itself, acts_on_numbered}
+use Rattle.indexset_core.proofs.CallerLemmas.{parted_by_sought, is_some-find, end_found, end_node, end_offset, gap_found, get_in_node}
 use Rattle.indexset_core.specs.Places.{items_before, located}
 use Rattle.indexset_events.proofs.CallerLemmas.{lawful_ascends, lawful_filled}
 
@@ -43,9 +43,12 @@ module _ {T : Type 0} (cmp : T → T → Ordering) (size : ℕ) (ns : List (List
     told (Err p) place = refl
 
 -- a probe by a key finds the pairs of lawful nodes in order
-module _ {K V : Type 0} (cmp : K → K → Ordering) (o : IsTotalOrder cmp) (size : ℕ) (ns : List (List (MultiPair K V))) (law : IsLawful (by_number cmp) size ns) (k : K) where
-  pub lawful_keys : IsParted (λ p. cmp p.key k) (joined ns)
-  lawful_keys = parted_keys cmp o (joined ns) (lawful_ascends (by_number cmp) size ns law) k
+module _ {K V : Type 0} (cmp : K → K → Ordering) (size : ℕ) (ns : List (List (MultiPair K V))) (law : IsLawful (by_number cmp) size ns) where
+  pub sought_keys : {Q : Type 0} {order : K → Q → Ordering} {among : Q → Q → Ordering} → ActsAsKey cmp order among → (k : Q) → IsParted (λ p. order p.key k) (joined ns)
+  sought_keys acts k = parted_by_sought (acts_on_numbered acts) (joined ns) (lawful_ascends (by_number cmp) size ns law) k
+
+pub lawful_keys : {K V : Type 0} (cmp : K → K → Ordering) (o : IsTotalOrder cmp) (size : ℕ) (ns : List (List (MultiPair K V))) (law : IsLawful (by_number cmp) size ns) (k : K) → IsParted (λ p. cmp p.key k) (joined ns)
+lawful_keys cmp o size ns law k = sought_keys cmp size ns law (acts_as_itself o) k
 
 -- the item at a position, by its place
 module _ {T : Type 0} (ns : List (List T)) (i : ℕ) where

@@ -43,12 +43,12 @@ module _ {K V : Type 0} (cmp : K → K → Ordering) where
   named_removal m pair = record { tree = after_removal cmp m pair; items = without_named cmp (joined m.nodes) pair; events = pair_removal_events cmp m.size m.nodes pair }
 
   -- the removal of the key's first pair
-  abbrev pub some_removal : MultiTree K V → K → MultiChange K V
-  some_removal m k = named_removal m (first_pair cmp (joined m.nodes) k)
+  abbrev pub some_removal : {Q : Type 0} → (K → Q → Ordering) → MultiTree K V → Q → MultiChange K V
+  some_removal order m k = named_removal m (first_pair order (joined m.nodes) k)
 
   -- the removal of the key's first pair with an equal value
-  abbrev pub equal_removal : (V → V → Bool) → MultiTree K V → K → V → MultiChange K V
-  equal_removal eq m k w = named_removal m (equal_pair cmp eq (joined m.nodes) k w)
+  abbrev pub equal_removal : {Q : Type 0} → (K → Q → Ordering) → (V → V → Bool) → MultiTree K V → Q → V → MultiChange K V
+  equal_removal order eq m k w = named_removal m (equal_pair order eq (joined m.nodes) k w)
 
   -- the removal of the first pair of all
   abbrev pub first_removal : MultiTree K V → MultiChange K V
@@ -97,35 +97,35 @@ abbrev pub MultiTold : {K V : Type 0} → (K → K → Ordering) → (K → K �
 MultiTold cmp C D old new made told = Told (AreIdentical C × AreIdentical D) (by_number cmp) (IsPairClone C D) (set_tree old) (set_tree new) (set_change made) told
 
 module _ {K V : Type 0} (cmp : K → K → Ordering) where
-  -- what was under a key, but for k, is under it
-  abbrev pub KeepsOthers : MultiTree K V → MultiTree K V → K → Type 0
-  KeepsOthers old new k = (other : K) → is_eq (cmp other k) ≡ false → pairs_of cmp (joined new.nodes) other ≡ pairs_of cmp (joined old.nodes) other
+  -- what was under a key, but for those that order finds Equal to k, is under it
+  abbrev pub KeepsOthers : {Q : Type 0} → (K → Q → Ordering) → MultiTree K V → MultiTree K V → Q → Type 0
+  KeepsOthers order old new k = (other : K) → is_eq (order other k) ≡ false → pairs_of cmp (joined new.nodes) other ≡ pairs_of cmp (joined old.nodes) other
 
   -- an insertion put its pair under the key: the pair is the last of the key where it took a new number
   pub record IsInserted (eq : V → V → Bool) (old new : MultiTree K V) (k : K) (w : V) : Type 0 where
     pub there : equal_pair cmp eq (joined new.nodes) k w ≡ Some (inserted_pair cmp eq old k w)
     pub last : takes_number cmp eq old k w ≡ true → pairs_of cmp (joined new.nodes) k ≡ pairs_of cmp (joined old.nodes) k ++ inserted_pair cmp eq old k w ∷ []
-    pub others : KeepsOthers old new k
+    pub others : KeepsOthers cmp old new k
 
   -- a new pair is the last of the key
   pub record IsAdded (old new : MultiTree K V) (k : K) (w : V) : Type 0 where
     pub last : pairs_of cmp (joined new.nodes) k ≡ pairs_of cmp (joined old.nodes) k ++ numbered_pair k w old.pair_next ∷ []
-    pub others : KeepsOthers old new k
+    pub others : KeepsOthers cmp old new k
 
   -- pairs of the key were removed, the first of them again and again
-  pub record AreRemoved (old new : MultiTree K V) (k : K) : Type 0 where
-    pub tree : new ≡ after_removals cmp old k (length (pairs_of cmp (joined old.nodes) k) - length (pairs_of cmp (joined new.nodes) k))
-    pub left : pairs_of cmp (joined new.nodes) k ≡ drop (length (pairs_of cmp (joined old.nodes) k) - length (pairs_of cmp (joined new.nodes) k)) (pairs_of cmp (joined old.nodes) k)
-    pub rest : without_key cmp (joined new.nodes) k ≡ without_key cmp (joined old.nodes) k
-    pub others : KeepsOthers old new k
+  pub record AreRemoved {Q : Type 0} (order : K → Q → Ordering) (old new : MultiTree K V) (k : Q) : Type 0 where
+    pub tree : new ≡ after_removals cmp order old k (length (pairs_of order (joined old.nodes) k) - length (pairs_of order (joined new.nodes) k))
+    pub left : pairs_of order (joined new.nodes) k ≡ drop (length (pairs_of order (joined old.nodes) k) - length (pairs_of order (joined new.nodes) k)) (pairs_of order (joined old.nodes) k)
+    pub rest : without_key order (joined new.nodes) k ≡ without_key order (joined old.nodes) k
+    pub others : KeepsOthers order old new k
     pub led : IsLedTo cmp old new
-    pub table : replay (by_number cmp) old.nodes (numbered_from old.next (key_events cmp old new k)) ≡ Some new.nodes
+    pub table : replay (by_number cmp) old.nodes (numbered_from old.next (key_events cmp order old new k)) ≡ Some new.nodes
     pub size : new.size ≡ old.size
     pub spaced : IsSpaced (old.size / 2) old.nodes → IsSpaced (new.size / 2) new.nodes
     pub pair_next : new.pair_next ≡ old.pair_next
 
   -- what is reported of that
-  pub record RemovalsTold (C : K → K → Type 0) (D : V → V → Type 0) (old new : MultiTree K V) (k : K) (told : List (ChangeEvent (MultiPair K V))) : Type 0 where
-    pub clones : IsTold (IsPairClone C D) old.next (key_events cmp old new k) told
+  pub record RemovalsTold {Q : Type 0} (order : K → Q → Ordering) (C : K → K → Type 0) (D : V → V → Type 0) (old new : MultiTree K V) (k : Q) (told : List (ChangeEvent (MultiPair K V))) : Type 0 where
+    pub clones : IsTold (IsPairClone C D) old.next (key_events cmp order old new k) told
     pub numbered : IsNumberedFrom old.next told
     pub replay : AreIdentical C × AreIdentical D → IsLedBy cmp old new told

@@ -34,35 +34,36 @@ module _ {K V : Type 0} where
   abbrev pub AreNumberedBelow : ℕ → List (MultiPair K V) → Type 0
   AreNumberedBelow n l = All (λ p. p.discriminator < n) l
 
-  module _ (cmp : K → K → Ordering) where
+  module _ {Q : Type 0} (cmp : K → Q → Ordering) where
     -- a pair has the key
-    abbrev pub has_pair_of : List (MultiPair K V) → K → Bool
+    abbrev pub has_pair_of : List (MultiPair K V) → Q → Bool
     has_pair_of l k = list_any (λ p. is_eq (cmp p.key k)) l
 
     -- the pairs of the key
-    abbrev pub pairs_of : List (MultiPair K V) → K → List (MultiPair K V)
+    abbrev pub pairs_of : List (MultiPair K V) → Q → List (MultiPair K V)
     pairs_of l k = filter (λ p. is_eq (cmp p.key k)) l
 
     -- the first of them, where there is one
-    abbrev pub first_pair : List (MultiPair K V) → K → Option (MultiPair K V)
+    abbrev pub first_pair : List (MultiPair K V) → Q → Option (MultiPair K V)
     first_pair l k = find (λ p. is_eq (cmp p.key k)) l
 
     -- the pairs of other keys
-    abbrev pub without_key : List (MultiPair K V) → K → List (MultiPair K V)
+    abbrev pub without_key : List (MultiPair K V) → Q → List (MultiPair K V)
     without_key l k = filter (λ p. not (is_eq (cmp p.key k))) l
 
     -- the first of them whose value equals w, where there is one
-    abbrev pub equal_pair : (V → V → Bool) → List (MultiPair K V) → K → V → Option (MultiPair K V)
+    abbrev pub equal_pair : (V → V → Bool) → List (MultiPair K V) → Q → V → Option (MultiPair K V)
     equal_pair eq l k w = find (λ p. eq p.value w) (pairs_of l k)
 
     -- the number of that pair
-    abbrev pub kept_number : (V → V → Bool) → List (MultiPair K V) → K → V → Option ℕ
+    abbrev pub kept_number : (V → V → Bool) → List (MultiPair K V) → Q → V → Option ℕ
     kept_number eq l k w = option_map (λ p. p.discriminator) (equal_pair eq l k w)
 
     -- the pairs whose keys satisfy both bounds
-    abbrev pub pairs_between : List (MultiPair K V) → Bound K → Bound K → List (MultiPair K V)
+    abbrev pub pairs_between : List (MultiPair K V) → Bound Q → Bound Q → List (MultiPair K V)
     pairs_between l start end = filter (λ p. is_within cmp start end p.key) l
 
+  module _ (cmp : K → K → Ordering) where
     -- the pairs without the one that is named, where one is
     abbrev pub without_named : List (MultiPair K V) → Option (MultiPair K V) → List (MultiPair K V)
     without_named l pair = option_map_or (λ p. without (by_number cmp) l p) pair l

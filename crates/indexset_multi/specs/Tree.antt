@@ -39,22 +39,22 @@ after_removal cmp m pair =
     }
 
 -- the tree after the first pair of the key is removed, n times
-abbrev pub after_removals : {K V : Type 0} → (K → K → Ordering) → MultiTree K V → K → ℕ → MultiTree K V
-after_removals cmp m k zero = m
-after_removals cmp m k (suc n) = let t = after_removals cmp m k n in after_removal cmp t (first_pair cmp (joined t.nodes) k)
+abbrev pub after_removals : {K V Q : Type 0} → (K → K → Ordering) → (K → Q → Ordering) → MultiTree K V → Q → ℕ → MultiTree K V
+after_removals cmp order m k zero = m
+after_removals cmp order m k (suc n) = let t = after_removals cmp order m k n in after_removal cmp t (first_pair order (joined t.nodes) k)
 
 -- the events of the removal of the key's first pair
-abbrev pub first_events : {K V : Type 0} → (K → K → Ordering) → MultiTree K V → K → List (ChangeEventUnassigned (MultiPair K V))
-first_events cmp m k = pair_removal_events cmp m.size m.nodes (first_pair cmp (joined m.nodes) k)
+abbrev pub first_events : {K V Q : Type 0} → (K → K → Ordering) → (K → Q → Ordering) → MultiTree K V → Q → List (ChangeEventUnassigned (MultiPair K V))
+first_events cmp order m k = pair_removal_events cmp m.size m.nodes (first_pair order (joined m.nodes) k)
 
 -- the events of those n removals, one after another
-abbrev pub removals_events : {K V : Type 0} → (K → K → Ordering) → MultiTree K V → K → ℕ → List (ChangeEventUnassigned (MultiPair K V))
-removals_events cmp m k zero = []
-removals_events cmp m k (suc n) = removals_events cmp m k n ++ first_events cmp (after_removals cmp m k n) k
+abbrev pub removals_events : {K V Q : Type 0} → (K → K → Ordering) → (K → Q → Ordering) → MultiTree K V → Q → ℕ → List (ChangeEventUnassigned (MultiPair K V))
+removals_events cmp order m k zero = []
+removals_events cmp order m k (suc n) = removals_events cmp order m k n ++ first_events cmp order (after_removals cmp order m k n) k
 
 -- the events of the removals of a key's first pairs that lead from the first tree to the second
-abbrev pub key_events : {K V : Type 0} → (K → K → Ordering) → MultiTree K V → MultiTree K V → K → List (ChangeEventUnassigned (MultiPair K V))
-key_events cmp m n k = removals_events cmp m k (length (pairs_of cmp (joined m.nodes) k) - length (pairs_of cmp (joined n.nodes) k))
+abbrev pub key_events : {K V Q : Type 0} → (K → K → Ordering) → (K → Q → Ordering) → MultiTree K V → MultiTree K V → Q → List (ChangeEventUnassigned (MultiPair K V))
+key_events cmp order m n k = removals_events cmp order m k (length (pairs_of order (joined m.nodes) k) - length (pairs_of order (joined n.nodes) k))
 
 -- q is p, with clones of its key and of its value
 abbrev pub IsPairClone : {K V : Type 0} → (K → K → Type 0) → (V → V → Type 0) → MultiPair K V → MultiPair K V → Type 0

@@ -23,6 +23,7 @@ use indexset_core::constants::DEFAULT_INNER_SIZE;
 use indexset_core::multipair::MultiPair;
 use indexset_core::node::NodeLike;
 use indexset_core::probe::ByKey;
+use indexset_core::sought::Sought;
 use indexset_log::set::BTreeSet;
 use indexset_log::set::nodes::Nodes;
 use std::alloc::Global;
@@ -251,10 +252,10 @@ impl<K: Ord + Clone + Drop, V: Eq + Clone + Drop, Node: NodeLike<MultiPair<K, V>
     /// }
     /// assert!(rt; tags.contains_key(&1) && !tags.contains_key(&3));
     /// ```
-    pub fn contains_key(&self, key: &K) -> bool
-        ensures { result ≡ has_pair_of K.cmp (joined self.now.nodes) key.now }
+    pub fn contains_key<Q: Sought<K> + Drop>(&self, key: Q) -> bool
+        ensures { result ≡ has_pair_of Q.order (joined self.now.nodes) key }
     {
-        self.locate(key).is_ok()
+        self.locate(&key).is_ok()
     }
 
     // Says what holds of the nodes, and that the counter fits.
@@ -269,8 +270,8 @@ impl<K: Ord + Clone + Drop, V: Eq + Clone + Drop, Node: NodeLike<MultiPair<K, V>
     }
 
     // Returns where a search for a key ends.
-    fn locate(&self, key: &K) -> Result<(usize, usize), (usize, usize)>
-        ensures place { result ≡ located (λ p. K.cmp p.key key.now) self.now.nodes }
+    fn locate<Q: Sought<K>>(&self, key: &Q) -> Result<(usize, usize), (usize, usize)>
+        ensures place { result ≡ located (λ p. Q.order p.key key.now) self.now.nodes }
         ensures lawful { IsLawful (by_number K.cmp) self.now.size self.now.nodes }
     {
         // The contract of `node_count` says that the pairs ascend, as a search by key requires.

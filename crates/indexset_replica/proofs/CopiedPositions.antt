@@ -7,7 +7,7 @@ use Rattle.std.specs.declared.cmp.Ordering.TheVariants.{Equal}
 use Rattle.std.proofs.lemmas.List.Sums.{sum_by-cons}
 use Rattle.indexset_core.specs.Nodes.{joined}
 use Rattle.indexset_replica.specs.Copies.{AreCopies}
-use Rattle.indexset_replica.specs.Keyed.{has_by_key, index_by_key, rank_by_key}
+use Rattle.indexset_core.specs.Order.{has_equal, index_of, rank}
 use Rattle.indexset_replica.proofs.Copies.{copies_equal}
 
 module _ {A B : Type 0} (R : A → B → Type 0) where
@@ -23,28 +23,28 @@ module _ {A B : Type 0} (R : A → B → Type 0) where
   zip_joined (n ∷ ns) [] c = absurd c
   zip_joined (n ∷ ns) (m ∷ ms) c = zip_append n m (joined ns) (joined ms) c.0 (zip_joined ns ms c.1)
 
-module _ {T Q : Type 0} (cmp : T → T → Ordering) (o : IsTotalOrder cmp) (keys : Q → Q → Ordering) (p : IsTotalOrder keys) (key : T → Q) (alike : (x y : T) → cmp x y ≡ Equal → keys (key x) (key y) ≡ Equal) (k : Q) where
-  rank_zip : (xs ys : List T) → AllZip (λ x y. cmp x y ≡ Equal) xs ys → rank_by_key keys key ys k ≡ rank_by_key keys key xs k
+module _ {T Q : Type 0} (cmp : T → T → Ordering) (o : IsTotalOrder cmp) (order : T → Q → Ordering) (alike : (q : Q) (x y : T) → cmp x y ≡ Equal → order x q ≡ order y q) (k : Q) where
+  rank_zip : (xs ys : List T) → AllZip (λ x y. cmp x y ≡ Equal) xs ys → rank order ys k ≡ rank order xs k
   rank_zip [] [] c = refl
   rank_zip [] (y ∷ ys) c = absurd c
   rank_zip (x ∷ xs) [] c = absurd c
   rank_zip (x ∷ xs) (y ∷ ys) c =
-      omega (arith, sum_by-cons (λ x. cond (is_lt (keys (key x) k)) 1 0) x xs, sum_by-cons (λ x. cond (is_lt (keys (key x) k)) 1 0) y ys, ap {B = ℕ} (λ a. cond (is_lt a) 1 0) (p.congr (key x) (key y) k (alike x y c.0)), rank_zip xs ys c.1)
+      omega (arith, sum_by-cons (λ x. cond (is_lt (order x k)) 1 0) x xs, sum_by-cons (λ x. cond (is_lt (order x k)) 1 0) y ys, ap {B = ℕ} (λ a. cond (is_lt a) 1 0) (alike k x y c.0), rank_zip xs ys c.1)
 
-  has_zip : (xs ys : List T) → AllZip (λ x y. cmp x y ≡ Equal) xs ys → has_by_key keys key ys k ≡ has_by_key keys key xs k
+  has_zip : (xs ys : List T) → AllZip (λ x y. cmp x y ≡ Equal) xs ys → has_equal order ys k ≡ has_equal order xs k
   has_zip [] [] c = refl
   has_zip [] (y ∷ ys) c = absurd c
   has_zip (x ∷ xs) [] c = absurd c
   has_zip (x ∷ xs) (y ∷ ys) c =
-      let same : keys (key y) k ≡ keys (key x) k = sym (p.congr (key x) (key y) k (alike x y c.0)) in
+      let same : order y k ≡ order x k = sym (alike k x y c.0) in
       λ i. is_eq (same i) || has_zip xs ys c.1 i
 
   module _ (C : T → T → Type 0) (ns ms : List (List T)) (copies : AreCopies cmp C ns ms) where
-    pub rank_copied : rank_by_key keys key (joined ms) k ≡ rank_by_key keys key (joined ns) k
+    pub rank_copied : rank order (joined ms) k ≡ rank order (joined ns) k
     rank_copied = rank_zip (joined ns) (joined ms) (zip_joined (λ x y. cmp x y ≡ Equal) ns ms (copies_equal cmp C o ns ms copies))
 
-    pub has_copied : has_by_key keys key (joined ms) k ≡ has_by_key keys key (joined ns) k
+    pub has_copied : has_equal order (joined ms) k ≡ has_equal order (joined ns) k
     has_copied = has_zip (joined ns) (joined ms) (zip_joined (λ x y. cmp x y ≡ Equal) ns ms (copies_equal cmp C o ns ms copies))
 
-    pub index_copied : index_by_key keys key (joined ms) k ≡ index_by_key keys key (joined ns) k
+    pub index_copied : index_of order (joined ms) k ≡ index_of order (joined ns) k
     index_copied = rw (has_copied, rank_copied) refl

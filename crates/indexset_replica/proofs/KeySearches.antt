@@ -1,26 +1,12 @@
 -- Searches of an ascending list by a key.
 use Rattle.std.proofs.Common.{◌≡◌, ℕ, zero, suc, ◌+◌, ◌<◌, true, false, cond, List, [], ◌∷◌, length, Some, None, is_some, slice_get, Ordering, refl, ap, sym, ◌∙◌, arith}
-use Rattle.std.specs.Cmp.{IsTotalOrder}
 use Rattle.std.specs.List.{AllWithin, count_by, find, list_any, position}
-use Rattle.std.specs.Ordering.{is_eq, is_gt, is_le, is_lt, ordering_reverse}
+use Rattle.std.specs.Ordering.{is_eq, is_le, is_lt}
 use Rattle.std.specs.declared.cmp.Ordering.TheVariants.{Less, Equal, Greater}
-use Rattle.std.proofs.lemmas.List.Sorted.{searchable_from_sorted}
 use Rattle.std.proofs.lemmas.List.Sums.{sum_by-cons}
 use Rattle.indexset_core.specs.Nodes.{equal_at}
-use Rattle.indexset_core.specs.Order.{IsAscending}
 use Rattle.indexset_core.specs.Parted.{IsParted, less_count, not_greater_count}
 use Rattle.indexset_core.proofs.CallerLemmas.{count_parts, equal_inside, find_absent, find_position, front-is_lt, is_some-find, less_from, position_absent, position_found}
-
--- keys that do not descend are found in order by any key
-module _ {T Q : Type 0} (cmp : T → T → Ordering) (keys : Q → Q → Ordering) (o : IsTotalOrder keys) (key : T → Q) (in_order : (x y : T) → cmp x y ≡ Less → is_gt (keys (key x) (key y)) ≡ false) (l : List T) (up : IsAscending cmp l) where
-  not_less : (a : Ordering) → is_gt a ≡ false → is_lt (ordering_reverse a) ≡ false
-  not_less Less h = refl
-  not_less Equal h = refl
-  not_less Greater h = h
-
-  pub parted_keys : (k : Q) → IsParted (λ x. keys (key x) k) l
-  parted_keys k =
-      searchable_from_sorted o key l k (λ j d low high. rw (o.antisymm _ _) (not_less _ (in_order _ _ (up j (j + 1) d (omega arith) high))))
 
 module _ {T : Type 0} (answer : T → Ordering) (l : List T) (parted : IsParted answer l) where
   some_at : (m : List T) (i : ℕ) → i < length m → is_some (slice_get m i) ≡ true

@@ -7,15 +7,15 @@ ghost use Rattle.std.specs.Ordering.{is_eq};
 ghost use Rattle.indexset_core.specs.Digits.{digits};
 ghost use Rattle.indexset_core.specs.Nodes.{joined, node_lengths};
 ghost use Rattle.indexset_core.specs.Parted.{IsParted};
-ghost use Rattle.indexset_replica.specs.Keyed.{find_by_key, has_by_key};
+ghost use Rattle.indexset_core.specs.Order.{equal_element, has_equal};
 ghost use Rattle.indexset_replica.specs.Replica.{first_item, last_item};
 ghost use Rattle.indexset_events.specs.Replay.{event_number};
 
 use super::Replica;
-use super::keys::{ByKeyOf, KeyOf};
 use super::places::{item_before, item_from};
 use indexset_core::locate::locate_by;
-use indexset_core::probe::Probe;
+use indexset_core::probe::{ByItem, Probe};
+use indexset_core::sought::Sought;
 use indexset_core::walk::ReadVec;
 use indexset_events::change::ChangeEvent;
 
@@ -47,13 +47,13 @@ impl<T: Ord + Clone + Drop> Replica<T> {
     /// copy.apply(&ChangeEvent::CreateNode { event_id: Id::from(0), max_value: Pair { key: 5, value: 50 } })?;
     /// assert!(rt; copy.get(&5).is_some() && copy.get(&6).is_none());
     /// ```
-    pub fn get<Q: KeyOf<T>>(&self, value: &Q) -> Option<&T>
+    pub fn get<Q: Sought<T> + Drop>(&self, value: Q) -> Option<&T>
         ensures { option_copied result
-            ≡ find_by_key Q.cmp Q.key (joined self.now.nodes) value.now }
+            ≡ equal_element Q.order (joined self.now.nodes) value }
     {
         // The nodes ascend, so a search by a key may go by them.
         let _nodes = &self.nodes;
-        self.get_by(&mut ByKeyOf::new(value))
+        self.get_by(&mut ByItem::new(&value))
     }
 
     /// Returns whether an item equal to the value is present, by the same two binary searches. A
@@ -64,8 +64,8 @@ impl<T: Ord + Clone + Drop> Replica<T> {
     /// let replica = Replica::from_nodes(nodes, 3)?;
     /// assert!(rt; replica.contains(&20) && !replica.contains(&25));
     /// ```
-    pub fn contains<Q: KeyOf<T>>(&self, value: &Q) -> bool
-        ensures { result ≡ has_by_key Q.cmp Q.key (joined self.now.nodes) value.now }
+    pub fn contains<Q: Sought<T> + Drop>(&self, value: Q) -> bool
+        ensures { result ≡ has_equal Q.order (joined self.now.nodes) value }
     {
         self.get(value).is_some()
     }

@@ -7,14 +7,15 @@ ghost use Rattle.std.specs.Option.{option_copied};
 ghost use Rattle.indexset_core.specs.Bounds.{IfBounded, in_positions, is_before, is_up_to_end};
 ghost use Rattle.indexset_core.specs.Nodes.{joined};
 ghost use Rattle.indexset_core.specs.Parted.{IsParted};
-ghost use Rattle.indexset_replica.specs.Keyed.{count_by_key, find_by_key, has_by_key, index_by_key, rank_by_key};
+ghost use Rattle.indexset_core.specs.Order.{equal_element, has_equal, index_of, rank};
+ghost use Rattle.indexset_replica.specs.Keyed.{count_equal};
 
 use super::Replica;
 use super::iter::Iter;
-use super::keys::{ByKeyOf, KeyOf};
 use indexset_core::locate::{locate_by, place_from, place_to};
 use indexset_core::positions::{end_position, first_position};
-use indexset_core::probe::Probe;
+use indexset_core::probe::{ByItem, Probe};
+use indexset_core::sought::Sought;
 use indexset_core::walk::ReadVec;
 use indexset_set::Positions;
 use std::ops::Bound;
@@ -41,19 +42,19 @@ impl<T: Ord + Clone + Drop> Replica<T> {
     /// let board = Replica::from_nodes(nodes, 3)?;
     /// assert!(rt; board.rank(&30) == 2 && board.rank(&25) == 2);
     /// ```
-    pub fn rank<Q: KeyOf<T>>(&self, value: &Q) -> usize
-        ensures value { result ≡ rank_by_key Q.cmp Q.key (joined self.now.nodes) value.now }
-        ensures there { has_by_key Q.cmp Q.key (joined self.now.nodes) value.now ≡ true
+    pub fn rank<Q: Sought<T> + Drop>(&self, value: Q) -> usize
+        ensures value { result ≡ rank Q.order (joined self.now.nodes) value }
+        ensures there { has_equal Q.order (joined self.now.nodes) value ≡ true
             → slice_get (joined self.now.nodes) result
-            ≡ find_by_key Q.cmp Q.key (joined self.now.nodes) value.now }
-        ensures inside { has_by_key Q.cmp Q.key (joined self.now.nodes) value.now ≡ true
+            ≡ equal_element Q.order (joined self.now.nodes) value }
+        ensures inside { has_equal Q.order (joined self.now.nodes) value ≡ true
             → result < length (joined self.now.nodes) }
-        ensures before { AllWithin (λ x. Q.cmp (Q.key x) value.now ≡ Less)
+        ensures before { AllWithin (λ x. Q.order x value ≡ Less)
             (joined self.now.nodes) 0 result }
     {
         // The nodes ascend, so a search by a key may go by them.
         let _nodes = &self.nodes;
-        self.count_before(Bound::Included(ByKeyOf::new(value)))
+        self.count_before(Bound::Included(ByItem::new(&value)))
     }
 
     /// Returns the position of the item equal to the value, or `None`, by the searches of `get` and
@@ -64,17 +65,17 @@ impl<T: Ord + Clone + Drop> Replica<T> {
     /// let board = Replica::from_nodes(nodes, 3)?;
     /// assert!(rt; board.index_of(&20) == Some(1) && board.index_of(&25).is_none());
     /// ```
-    pub fn index_of<Q: KeyOf<T>>(&self, value: &Q) -> Option<usize>
-        ensures value { result ≡ index_by_key Q.cmp Q.key (joined self.now.nodes) value.now }
+    pub fn index_of<Q: Sought<T> + Drop>(&self, value: Q) -> Option<usize>
+        ensures value { result ≡ index_of Q.order (joined self.now.nodes) value }
         ensures there { IfSome result (λ i. slice_get (joined self.now.nodes) i
-            ≡ find_by_key Q.cmp Q.key (joined self.now.nodes) value.now) }
+            ≡ equal_element Q.order (joined self.now.nodes) value) }
         ensures inside { IfSome result (λ i. i < length (joined self.now.nodes)) }
     {
         // The nodes ascend, so a search by a key may go by them.
         let _nodes = &self.nodes;
-        match locate_by::<T, Vec<T>, ReadVec, ByKeyOf<'_, Q>>(
+        match locate_by::<T, Vec<T>, ReadVec, ByItem<'_, Q>>(
             self.nodes.as_slice(),
-            &mut ByKeyOf::new(value),
+            &mut ByItem::new(&value),
         ) {
             Ok(place) => Some(self.lengths.position(self.nodes.as_slice(), place)),
             Err(_) => None,
@@ -89,13 +90,13 @@ impl<T: Ord + Clone + Drop> Replica<T> {
     /// let replica: Replica<MultiPair<u64, u64>> = Replica::from_nodes(nodes, 2)?;
     /// assert!(rt; replica.count(&1) == 2 && replica.count(&2) == 0);
     /// ```
-    pub fn count<Q: KeyOf<T>>(&self, value: &Q) -> usize
-        ensures { result ≡ count_by_key Q.cmp Q.key (joined self.now.nodes) value.now }
+    pub fn count<Q: Sought<T> + Drop>(&self, value: Q) -> usize
+        ensures { result ≡ count_equal Q.order (joined self.now.nodes) value }
     {
         // The nodes ascend, so a search by a key may go by them.
         let _nodes = &self.nodes;
-        let past = self.count_up_to(Bound::Included(ByKeyOf::new(value)));
-        past - self.count_before(Bound::Included(ByKeyOf::new(value)))
+        let past = self.count_up_to(Bound::Included(ByItem::new(&value)));
+        past - self.count_before(Bound::Included(ByItem::new(&value)))
     }
 
     /// Returns the item at a position, counted from 0, or `None` past the end, in logarithmic time.

@@ -2,14 +2,14 @@
 ghost use Rattle.std.specs.Map.Iter.{ShowsInOrder, ShowsInReverse, deref};
 ghost use Rattle.std.specs.Range.Bound.{bound_map};
 ghost use Rattle.std.specs.Prelude.{◌≡◌, IsTrue};
-ghost use Rattle.indexset_core.specs.Bounds.{are_ordered};
+ghost use Rattle.indexset_core.specs.Bounds.{are_ordered, in_range};
 ghost use Rattle.indexset_core.specs.Nodes.{joined};
-ghost use Rattle.indexset_replica.specs.Keyed.{range_by_key};
 
 use super::Replica;
 use super::iter::Iter;
-use super::keys::{ByKeyOf, KeyOf};
 use indexset_core::locate::{place_from, place_to};
+use indexset_core::probe::ByItem;
+use indexset_core::sought::Sought;
 use indexset_core::walk::ReadVec;
 use indexset_set::Bounds;
 use std::ops::Bound;
@@ -27,9 +27,9 @@ impl<T: Ord + Clone + Drop> Replica<T> {
     /// let teens = copy.range(10..20);
     /// assert!(rt; teens.copied().eq([10, 15]));
     /// ```
-    pub fn range<Q: KeyOf<T>, R: Bounds<Q> + Drop>(&self, range: R) -> Iter<'_, T>
-        requires { IsTrue (are_ordered Q.cmp (R.start range) (R.end range)) }
-        ensures rest { result ≡ range_by_key Q.cmp Q.key (joined self.now.nodes) (R.start range)
+    pub fn range<R: Bounds<T> + Drop>(&self, range: R) -> Iter<'_, T>
+        requires { IsTrue (are_ordered R.Key.cmp (R.start range) (R.end range)) }
+        ensures rest { result ≡ in_range R.Key.order (joined self.now.nodes) (R.start range)
             (R.end range) }
         ensures runs { ShowsInOrder (deref {X = T}) }
         ensures runs_back { ShowsInReverse (deref {X = T}) }
@@ -38,18 +38,15 @@ impl<T: Ord + Clone + Drop> Replica<T> {
     }
 
     // Returns the same for two bounds.
-    fn within<Q: KeyOf<T>>(&self, range: (Bound<&Q>, Bound<&Q>)) -> Iter<'_, T>
+    fn within<Q: Sought<T>>(&self, range: (Bound<&Q>, Bound<&Q>)) -> Iter<'_, T>
         requires { IsTrue (are_ordered Q.cmp (bound_map (λ v. v.now) range.0)
             (bound_map (λ v. v.now) range.1)) }
-        ensures { result ≡ range_by_key Q.cmp Q.key (joined self.now.nodes)
+        ensures { result ≡ in_range Q.order (joined self.now.nodes)
             (bound_map (λ v. v.now) range.entry.0) (bound_map (λ v. v.now) range.entry.1) }
     {
         let nodes = self.nodes.as_slice();
-        let from = place_from::<T, Vec<T>, ReadVec, ByKeyOf<'_, Q>>(
-            nodes,
-            range.0.map(ByKeyOf::new),
-        );
-        let to = place_to::<T, Vec<T>, ReadVec, ByKeyOf<'_, Q>>(nodes, range.1.map(ByKeyOf::new));
+        let from = place_from::<T, Vec<T>, ReadVec, ByItem<'_, Q>>(nodes, range.0.map(ByItem::new));
+        let to = place_to::<T, Vec<T>, ReadVec, ByItem<'_, Q>>(nodes, range.1.map(ByItem::new));
         Iter::between(nodes, from, to)
     }
 }

@@ -9,6 +9,7 @@ use Rattle.std.proofs.lemmas.List.{take-append-drop, drop_at, take_at}
 use Rattle.std.proofs.lemmas.List.Elements.{filter_passes}
 use Rattle.std.proofs.lemmas.List.Kept.{AllPairs-cons}
 use Rattle.indexset_core.specs.Order.{IsAscending, below, rank, put}
+use Rattle.indexset_core.specs.Parted.{IsParted}
 use Rattle.indexset_spine.specs.Edits.{TakesSome}
 use Rattle.indexset_spine.proofs.CallerLemmas.{takes_all}
 use Rattle.indexset_set.specs.SetAlgebra.{put_all, MovesSome}
@@ -16,9 +17,9 @@ use Rattle.indexset_set.specs.SetRanges.{not_below}
 use Rattle.indexset_core.proofs.CallerLemmas.{parted_by_item, Parts, count_parts, front-is_lt, filter_front, filter_back}
 
 -- an ascending list, cut where v would go
-module _ {T : Type 0} (cmp : T → T → Ordering) (o : IsTotalOrder cmp) (l : List T) (up : IsAscending cmp l) (v : T) (i : ℕ) (place : i ≡ rank cmp l v) where
+module _ {T Q : Type 0} (cmp : T → Q → Ordering) (l : List T) (v : Q) (parted : IsParted (λ x. cmp x v) l) (i : ℕ) (place : i ≡ rank cmp l v) where
   parts : Parts (λ x. is_lt (cmp x v)) l i
-  parts = rw place (count_parts is_lt front-is_lt (λ x. cmp x v) l (parted_by_item cmp o l up v))
+  parts = rw place (count_parts is_lt front-is_lt (λ x. cmp x v) l parted)
 
   pub take_below : take i l ≡ below cmp l v
   take_below = sym (filter_front (λ x. is_lt (cmp x v)) l i parts.inside parts.before parts.after)
@@ -84,14 +85,17 @@ module _ {T : Type 0} (cmp : T → T → Ordering) where
   pub cut_parts : IsTotalOrder cmp → (l : List T) → IsAscending cmp l → (v : T) → below cmp l v ++ not_below cmp l v ≡ l
   cut_parts o l up v =
       let i = rank cmp l v in
-      rw (sym (take_below cmp o l up v i refl), sym (drop_not_below cmp o l up v i refl)) (take-append-drop i l)
+      let parted = parted_by_item cmp o l up v in
+      rw (sym (take_below cmp l v parted i refl), sym (drop_not_below cmp l v parted i refl)) (take-append-drop i l)
 
-  pub below_all : (l : List T) (v : T) → All (λ x. is_lt (cmp x v) ≡ true) (below cmp l v)
+-- what is on either side of a cut
+module _ {T Q : Type 0} (cmp : T → Q → Ordering) where
+  pub below_all : (l : List T) (v : Q) → All (λ x. is_lt (cmp x v) ≡ true) (below cmp l v)
   below_all l v = filter_passes (λ x. is_lt (cmp x v)) l
 
   not_true : (b : Bool) → not b ≡ true → b ≡ false
   not_true true h = sym h
   not_true false h = refl
 
-  pub not_below_all : (l : List T) (v : T) → All (λ x. is_lt (cmp x v) ≡ false) (not_below cmp l v)
+  pub not_below_all : (l : List T) (v : Q) → All (λ x. is_lt (cmp x v) ≡ false) (not_below cmp l v)
   not_below_all l v = λ k d lt. not_true _ (filter_passes (λ x. not (is_lt (cmp x v))) l k d lt)

@@ -1,18 +1,17 @@
 -- The nodes of a set, by whether an equal element is there.
-use Rattle.std.proofs.Common.{◌≡◌, Bool, true, false, List, Ordering, if◌then◌else◌, refl, ap, sym, ◌∙◌}
+use Rattle.std.proofs.Common.{◌≡◌, ℕ, Bool, true, false, List, Ordering, if◌then◌else◌, refl, ap, sym, ◌∙◌}
 use Rattle.indexset_spine.specs.declared.spot.Spot.{Spot}
 use Rattle.indexset_core.specs.Nodes.{equal_at, joined, node_at, node_for}
 use Rattle.std.specs.Bool.{OnTrue, OnFalse}
-use Rattle.std.specs.Cmp.{IsTotalOrder}
 use Rattle.indexset_spine.specs.Cut.{Cut, items, position_of, with_inserted, with_replaced, without_item}
-use Rattle.indexset_core.specs.Order.{IsAscending, IsFoundAt, IsGapFor, has_equal, rank}
-use Rattle.indexset_core.specs.Parted.{less_count}
-use Rattle.indexset_core.proofs.CallerLemmas.{told_found, told_gap, told_has_equal, parted_by_item}
-use Rattle.indexset_set.specs.SetNodes.{spot_of, nodes_kept, nodes_put, nodes_without}
+use Rattle.indexset_core.specs.Order.{IsFoundAt, IsGapFor, has_equal, rank}
+use Rattle.indexset_core.specs.Parted.{IsParted, less_count}
+use Rattle.indexset_core.proofs.CallerLemmas.{told_found, told_gap, told_has_equal}
+use Rattle.indexset_set.specs.SetNodes.{spot_of, nodes_kept, nodes_put, nodes_unequal, nodes_without}
 
-module _ {T : Type 0} (cmp : T → T → Ordering) where
+module _ {T Q : Type 0} (cmp : T → Q → Ordering) where
   -- a search that answers the place of w, which is v
-  pub spot_told : (ns : List (List T)) (v w : T) (s : Spot) → w ≡ v → s.node ≡ node_for (λ x. cmp x w) ns → s.offset ≡ less_count (λ x. cmp x w) (node_at ns s.node) → s.found ≡ has_equal cmp (joined ns) v → s ≡ spot_of cmp ns v
+  pub spot_told : (ns : List (List T)) (v w : Q) (s : Spot) → w ≡ v → s.node ≡ node_for (λ x. cmp x w) ns → s.offset ≡ less_count (λ x. cmp x w) (node_at ns s.node) → s.found ≡ has_equal cmp (joined ns) v → s ≡ spot_of cmp ns v
   spot_told ns v w s same node offset found =
       let node' : s.node ≡ node_for (λ x. cmp x v) ns = node ∙ ap (λ u. node_for (λ x. cmp x u) ns) same in
       let offset' : s.offset ≡ less_count (λ x. cmp x v) (node_at ns (node_for (λ x. cmp x v) ns))
@@ -20,30 +19,35 @@ module _ {T : Type 0} (cmp : T → T → Ordering) where
       λ j. record { node = node' j; offset = offset' j; found = found j }
 
   -- the spot tells where v is or goes
-  pub record TellsOf (s : Cut T) (v : T) (spot : Spot) : Type 0 where
+  pub record TellsOf (s : Cut T) (v : Q) (spot : Spot) : Type 0 where
     pub found : OnTrue spot.found (IsFoundAt cmp (items s) v (position_of s.nodes spot))
     pub gap : OnFalse spot.found (IsGapFor cmp (items s) v (position_of s.nodes spot))
     pub place : spot ≡ spot_of cmp s.nodes v
     pub position : position_of s.nodes spot ≡ rank cmp (items s) v
 
   -- as the spot that a search for w answers does, which is v
-  pub tells_of : IsTotalOrder cmp → (s : Cut T) → IsAscending cmp (items s) → (v w : T) → w ≡ v → (spot : Spot)
+  pub tells_of : (s : Cut T) → (v w : Q) → IsParted (λ x. cmp x v) (items s) → w ≡ v → (spot : Spot)
       → spot.node ≡ node_for (λ x. cmp x w) s.nodes → spot.offset ≡ less_count (λ x. cmp x w) (node_at s.nodes spot.node)
       → position_of s.nodes spot ≡ less_count (λ x. cmp x w) (items s) → spot.found ≡ equal_at (λ x. cmp x w) (items s) (position_of s.nodes spot) → TellsOf s v spot
-  tells_of total s up v w same spot node offset position told =
-      let parted = parted_by_item cmp total (items s) up v in
+  tells_of s v w parted same spot node offset position told =
       let found = told_found cmp _ _ _ _ same parted _ position told in
       let gap = told_gap cmp _ _ _ _ same parted _ position told in
       record { found = found; gap = gap; place = spot_told s.nodes v w spot same node offset (told_has_equal cmp _ _ _ _ found gap); position = position ∙ ap (λ u. less_count (λ x. cmp x u) (items s)) same }
 
+  module _ (s : Cut T) (v : Q) where
+    pub without_none : has_equal cmp (items s) v ≡ false → nodes_without cmp s v ≡ s.nodes
+    unfolding nodes_unequal
+    without_none h = rw h refl
+
+    pub without_there : (spot : Spot) (t : List (List T)) (place : spot ≡ spot_of cmp s.nodes v) → has_equal cmp (items s) v ≡ true → t ≡ without_item s.nodes spot → t ≡ nodes_without cmp s v
+    unfolding nodes_unequal
+    without_there spot t place h is = is ∙ (ap (λ p. without_item s.nodes p) place ∙ sym (ap (λ (b : Bool). if b then without_item s.nodes (spot_of cmp s.nodes v) else s.nodes) h))
+
+module _ {T : Type 0} (cmp : T → T → Ordering) where
   module _ (s : Cut T) (v : T) where
     pub kept_there : has_equal cmp (items s) v ≡ true → nodes_kept cmp s v ≡ s.nodes
     unfolding nodes_kept
     kept_there h = rw h refl
-
-    pub without_none : has_equal cmp (items s) v ≡ false → nodes_without cmp s v ≡ s.nodes
-    unfolding nodes_without
-    without_none h = rw h refl
 
     -- what an edit at the place of a search left
     module _ (spot : Spot) (t : List (List T)) (place : spot ≡ spot_of cmp s.nodes v) where
@@ -62,6 +66,10 @@ module _ {T : Type 0} (cmp : T → T → Ordering) where
       unfolding nodes_put new
       put_there h is = is ∙ (ap (λ p. with_replaced s.nodes p v) place ∙ sym (ap (λ (b : Bool). if b then with_replaced s.nodes (spot_of cmp s.nodes v) v else new) h))
 
-      pub without_there : has_equal cmp (items s) v ≡ true → t ≡ without_item s.nodes spot → t ≡ nodes_without cmp s v
-      unfolding nodes_without
-      without_there h is = is ∙ (ap (λ p. without_item s.nodes p) place ∙ sym (ap (λ (b : Bool). if b then without_item s.nodes (spot_of cmp s.nodes v) else s.nodes) h))
+-- what a search by a reference tells is told of the item that it points to
+module _ {T R : Type 0} (cmp : T → T → Ordering) (f : R → T) (l : List T) (q : R) (i : ℕ) where
+  pub found_of : IsFoundAt (λ x r. cmp x (f r)) l q i → IsFoundAt cmp l (f q) i
+  found_of h = record { inside = h.inside; equal = h.equal; below_before = h.below_before }
+
+  pub gap_of : IsGapFor (λ x r. cmp x (f r)) l q i → IsGapFor cmp l (f q) i
+  gap_of h = record { inside = h.inside; below_before = h.below_before; above_after = h.above_after }

@@ -1,7 +1,6 @@
 -- A set that is made of clones of what an iterator showed.
-use Rattle.std.proofs.Common.{◌≡◌, ℕ, List, [], ◌∷◌, ◌++◌, map, Ordering, Result, Ok, Err, IfErr, IfOk, MatchResult, sym, ap, subst, ◌∙◌}
+use Rattle.std.proofs.Common.{◌≡◌, ℕ, List, [], ◌∷◌, ◌++◌, map, Ordering, Result, Ok, Err, IfErr, IfOk, MatchResult, sym, ap, ◌∙◌}
 use Rattle.std.specs.Borrow.{Bor}
-use Rattle.std.specs.Cmp.{IsTotalOrder}
 use Rattle.std.specs.Iterator.{Drains}
 use Rattle.std.specs.List.{AllZip, fold}
 use Rattle.std.specs.Map.Iter.{TakesFirst, deref}

@@ -1,13 +1,12 @@
 -- The part of a list between two positions.
-use Rattle.std.proofs.Common.{◌≡◌, ℕ, zero, suc, ◌+◌, ◌-◌, ◌<◌, ◌≤◌, min, Bool, true, false, List, [], ◌∷◌, ◌++◌, length, take, drop, filter, map, refl, ap, sym, inl, inr, ◌∙◌, arith}
+use Rattle.std.proofs.Common.{◌≡◌, ℕ, ◌+◌, ◌-◌, ◌<◌, ◌≤◌, min, Bool, true, false, List, [], ◌∷◌, ◌++◌, length, take, drop, filter, map, refl, ap, sym, ◌∙◌, arith}
 use Rattle.std.specs.declared.ops.Bound.{Bound}
 use Rattle.std.specs.List.{enumerate_from, between}
 use Rattle.std.specs.Range.Bound.{start_index, end_index}
-use Rattle.std.proofs.Math.ListN.{drop_of_length-le, length-drop}
-use Rattle.std.proofs.lemmas.List.{append-nil, length-take-le, map-append, take_all}
+use Rattle.std.proofs.Math.ListN.{length-drop}
+use Rattle.std.proofs.lemmas.List.{append-nil, length-take-le, map-append}
 use Rattle.std.proofs.lemmas.List.Edits.{length-between, split_between}
 use Rattle.std.proofs.lemmas.List.Elements.{filter-append}
-use Rattle.std.proofs.lemmas.Bool.{cases_lt}
 use Rattle.std.proofs.lemmas.Bool.Decides.{nat_tests}
 use Rattle.indexset_core.specs.Bounds.{is_at_position, in_positions}
 use Rattle.indexset_core.proofs.CallerLemmas.{at_position, clipped}

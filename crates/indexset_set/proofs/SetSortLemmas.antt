@@ -1,5 +1,5 @@
 -- Values that are sorted, and of which equal ones but the first are dropped, are those that are inserted one by one.
-use Rattle.std.proofs.Common.{◌≡◌, Option, None, Some, Bool, true, false, not, cond, ◌&&◌, if◌then◌else◌, find, is_some, List, [], ◌∷◌, ◌++◌, take, drop, filter, Ordering, Result, Ok, Err, IfOk, refl, ap, sym, ◌∙◌, subst, arith}
+use Rattle.std.proofs.Common.{◌≡◌, Option, None, Some, Bool, true, false, not, cond, ◌&&◌, if◌then◌else◌, find, is_some, List, [], ◌∷◌, take, drop, filter, Ordering, Result, Ok, Err, IfOk, refl, ap, sym, ◌∙◌, subst, arith}
 use Rattle.std.specs.declared.cmp.Ordering.TheVariants.{Less, Equal, Greater}
 use Rattle.std.specs.Cmp.{IsTotalOrder}
 use Rattle.std.specs.List.{dedup, dedup_from, fold}

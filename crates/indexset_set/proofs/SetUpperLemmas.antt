@@ -1,11 +1,10 @@
 -- The first element above a value.
 use Rattle.std.proofs.Common.{◌≡◌, ℕ, zero, suc, Bool, not, List, [], ◌∷◌, Ordering, slice_get, refl, sym, arith}
-use Rattle.std.specs.Cmp.{IsTotalOrder}
 use Rattle.std.specs.List.{count_by, find}
 use Rattle.std.specs.Ordering.{is_gt, is_le}
 use Rattle.std.specs.declared.cmp.Ordering.TheVariants.{Less, Equal, Greater}
-use Rattle.indexset_core.specs.Order.{IsAscending}
-use Rattle.indexset_core.proofs.CallerLemmas.{Parts, count_parts, front-is_le, parted_by_item}
+use Rattle.indexset_core.specs.Parted.{IsParted}
+use Rattle.indexset_core.proofs.CallerLemmas.{Parts, count_parts, front-is_le}
 use Rattle.indexset_set.specs.SetRanges.{upper_element}
 
 module _ {X : Type 0} where
@@ -24,8 +23,8 @@ not_le Less = refl
 not_le Equal = refl
 not_le Greater = refl
 
-module _ {T : Type 0} (cmp : T → T → Ordering) (o : IsTotalOrder cmp) (l : List T) (up : IsAscending cmp l) (v : T) where
+module _ {T Q : Type 0} (cmp : T → Q → Ordering) (l : List T) (v : Q) (parted : IsParted (λ x. cmp x v) l) where
   -- the element after those that are not above v
   pub slice_get-not_above : slice_get l (count_by (λ x. is_le (cmp x v)) l) ≡ upper_element cmp l v
   slice_get-not_above =
-      sym (find_parts (λ x. is_le (cmp x v)) (λ x. is_gt (cmp x v)) (λ x. not_le (cmp x v)) l _ (count_parts is_le front-is_le (λ x. cmp x v) l (parted_by_item cmp o l up v)))
+      sym (find_parts (λ x. is_le (cmp x v)) (λ x. is_gt (cmp x v)) (λ x. not_le (cmp x v)) l _ (count_parts is_le front-is_le (λ x. cmp x v) l parted))

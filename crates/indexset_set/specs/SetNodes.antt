@@ -1,6 +1,7 @@
 -- The nodes of a set, once values were inserted or removed.
 use Rattle.std.specs.Prelude.{◌≡◌, ℕ, List, take, drop, if◌then◌else◌}
-use Rattle.std.specs.List.{fold}
+use Rattle.std.specs.List.{fold, list_any}
+use Rattle.std.specs.Ordering.{is_eq}
 use Rattle.std.specs.declared.cmp.Ordering.{Ordering}
 use Rattle.indexset_spine.specs.declared.spot.Spot.{Spot}
 use Rattle.indexset_core.specs.Nodes.{joined, node_at, node_for}
@@ -12,27 +13,38 @@ use Rattle.indexset_core.specs.Parted.{less_count}
 abbrev pub IsWithoutAt : {T : Type 0} → List (List T) → ℕ → List (List T) → Type 0
 IsWithoutAt ns i ms = (s : Spot) × IsItemSpot ns s × (position_of ns s ≡ i) × (ms ≡ without_item ns s)
 
-module _ {T : Type 0} (cmp : T → T → Ordering) where
-  -- where the element equal to v is, or else where v would go: in the first node whose last element is not below v, else in the last node, after the elements below v
-  abbrev pub spot_of : List (List T) → T → Spot
-  spot_of ns v =
-      let node = node_for (λ x. cmp x v) ns in record {
+module _ {T : Type 0} where
+  -- where the first element found Equal is, or else where one would go: in the first node whose last element is not found Less, else in the last node, after the elements found Less
+  abbrev pub sought_spot : (T → Ordering) → List (List T) → Spot
+  sought_spot answer ns =
+      let node = node_for answer ns in record {
         node = node;
-        offset = less_count (λ x. cmp x v) (node_at ns node);
-        found = has_equal cmp (joined ns) v;
+        offset = less_count answer (node_at ns node);
+        found = list_any (λ x. is_eq (answer x)) (joined ns);
       }
 
+  -- without the first element found Equal
+  unfoldable pub nodes_unequal : (T → Ordering) → Cut T → List (List T)
+  nodes_unequal answer s = if list_any (λ x. is_eq (answer x)) (items s) then without_item s.nodes (sought_spot answer s.nodes) else s.nodes
+
+-- v is compared with elements, of which it may be one
+module _ {T Q : Type 0} (cmp : T → Q → Ordering) where
+  -- where the element equal to v is, or else where v would go
+  abbrev pub spot_of : List (List T) → Q → Spot
+  spot_of ns v = sought_spot (λ x. cmp x v) ns
+
+  -- without the element equal to v
+  abbrev pub nodes_without : Cut T → Q → List (List T)
+  nodes_without s v = nodes_unequal (λ x. cmp x v) s
+
+module _ {T : Type 0} (cmp : T → T → Ordering) where
   -- v inserted, unless an equal element is present
   unfoldable pub nodes_kept : Cut T → T → List (List T)
-  nodes_kept s v = if has_equal cmp (items s) v then s.nodes else with_inserted s.size s.nodes (spot_of s.nodes v) v
+  nodes_kept s v = if has_equal cmp (items s) v then s.nodes else with_inserted s.size s.nodes (spot_of cmp s.nodes v) v
 
   -- v inserted, replacing any equal element
   unfoldable pub nodes_put : Cut T → T → List (List T)
-  nodes_put s v = if has_equal cmp (items s) v then with_replaced s.nodes (spot_of s.nodes v) v else with_inserted s.size s.nodes (spot_of s.nodes v) v
-
-  -- without the element equal to v
-  unfoldable pub nodes_without : Cut T → T → List (List T)
-  nodes_without s v = if has_equal cmp (items s) v then without_item s.nodes (spot_of s.nodes v) else s.nodes
+  nodes_put s v = if has_equal cmp (items s) v then with_replaced s.nodes (spot_of cmp s.nodes v) v else with_inserted s.size s.nodes (spot_of cmp s.nodes v) v
 
   -- each of xs in order, unless an equal element is present
   unfoldable pub nodes_kept_all : Cut T → List T → List (List T)

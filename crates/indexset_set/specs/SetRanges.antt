@@ -4,9 +4,9 @@ use Rattle.std.specs.declared.cmp.Ordering.{Ordering}
 use Rattle.std.specs.Ordering.{is_gt, is_lt}
 
 -- the elements not below v
-abbrev pub not_below : {T : Type 0} → (T → T → Ordering) → List T → T → List T
+abbrev pub not_below : {T Q : Type 0} → (T → Q → Ordering) → List T → Q → List T
 not_below cmp l v = filter (λ x. not (is_lt (cmp x v))) l
 
 -- the first element above v, if any
-abbrev pub upper_element : {T : Type 0} → (T → T → Ordering) → List T → T → Option T
+abbrev pub upper_element : {T Q : Type 0} → (T → Q → Ordering) → List T → Q → Option T
 upper_element cmp l v = find (λ x. is_gt (cmp x v)) l

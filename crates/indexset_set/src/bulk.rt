@@ -14,6 +14,7 @@ ghost use Rattle.indexset_set.specs.SetRanges.{not_below};
 use super::BTreeSet;
 use super::lookup::{locate, locate_near};
 use indexset_core::refusal::Refusal;
+use indexset_core::sought::Sought;
 
 impl<T: Ord + Drop> BTreeSet<T> {
     /// Retains the elements for which the closure returns true. It is called once for each element,
@@ -47,12 +48,12 @@ impl<T: Ord + Drop> BTreeSet<T> {
     /// let high = low.split_off(&3)?;
     /// assert!(rt; low.last() == Some(&2) && high.first() == Some(&3));
     /// ```
-    pub fn split_off(&mut self, value: &T) -> Result<Self, Refusal>
-        ensures below { OnOk result (items self.new ≡ below T.cmp (items self.old) value.now) }
-        ensures rest { IfOk result (λ s. items s ≡ not_below T.cmp (items self.old) value.now) }
-        ensures all_below { OnOk result (All (λ x. is_lt (T.cmp x value.now) ≡ true)
+    pub fn split_off<Q: Sought<T> + Drop>(&mut self, value: Q) -> Result<Self, Refusal>
+        ensures below { OnOk result (items self.new ≡ below Q.order (items self.old) value) }
+        ensures rest { IfOk result (λ s. items s ≡ not_below Q.order (items self.old) value) }
+        ensures all_below { OnOk result (All (λ x. is_lt (Q.order x value) ≡ true)
             (items self.new)) }
-        ensures all_from { IfOk result (λ s. All (λ x. is_lt (T.cmp x value.now) ≡ false)
+        ensures all_from { IfOk result (λ s. All (λ x. is_lt (Q.order x value) ≡ false)
             (items s)) }
         ensures whole { IfOk result (λ s. items self.old ≡ items self.new ++ items s) }
         ensures size { self.new.size ≡ self.old.size }

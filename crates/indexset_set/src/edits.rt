@@ -7,6 +7,7 @@ ghost use Rattle.indexset_set.specs.SetNodes.{nodes_kept, nodes_put, nodes_witho
 use super::BTreeSet;
 use super::lookup::{locate, locate_from_end};
 use indexset_core::refusal::{Refusal, Refused};
+use indexset_core::sought::Names;
 
 impl<T: Ord + Drop> BTreeSet<T> {
     /// Inserts `value` and returns true. If an equal element is present, keeps it, drops `value`,
@@ -73,11 +74,11 @@ impl<T: Ord + Drop> BTreeSet<T> {
     /// let mut set = BTreeSet::from_iter(alloc, [7, 8])?;
     /// assert!(rt; set.take(&7) == Some(7) && set.take(&7).is_none());
     /// ```
-    pub fn take(&mut self, value: &T) -> Option<T>
-        ensures value { result ≡ equal_element T.cmp (items self.old) value.now }
-        ensures rest { items self.new ≡ without T.cmp (items self.old) value.now }
-        ensures gone { has_equal T.cmp (items self.new) value.now ≡ false }
-        ensures nodes { self.new.nodes ≡ nodes_without T.cmp self.old value.now }
+    pub fn take<Q: Names<T> + Drop>(&mut self, value: Q) -> Option<T>
+        ensures value { result ≡ equal_element Q.order (items self.old) value }
+        ensures rest { items self.new ≡ without Q.order (items self.old) value }
+        ensures gone { has_equal Q.order (items self.new) value ≡ false }
+        ensures nodes { self.new.nodes ≡ nodes_without Q.order self.old value }
         ensures size { self.new.size ≡ self.old.size }
     {
         let spot = locate(&self.spine, value);
@@ -95,11 +96,11 @@ impl<T: Ord + Drop> BTreeSet<T> {
     /// let mut set = BTreeSet::from_iter(alloc, [7, 8])?;
     /// assert!(rt; set.remove(&7) && !set.remove(&7));
     /// ```
-    pub fn remove(&mut self, value: &T) -> bool
-        ensures removed { result ≡ has_equal T.cmp (items self.old) value.now }
-        ensures rest { items self.new ≡ without T.cmp (items self.old) value.now }
-        ensures gone { has_equal T.cmp (items self.new) value.now ≡ false }
-        ensures nodes { self.new.nodes ≡ nodes_without T.cmp self.old value.now }
+    pub fn remove<Q: Names<T> + Drop>(&mut self, value: Q) -> bool
+        ensures removed { result ≡ has_equal Q.order (items self.old) value }
+        ensures rest { items self.new ≡ without Q.order (items self.old) value }
+        ensures gone { has_equal Q.order (items self.new) value ≡ false }
+        ensures nodes { self.new.nodes ≡ nodes_without Q.order self.old value }
         ensures size { self.new.size ≡ self.old.size }
     {
         self.take(value).is_some()

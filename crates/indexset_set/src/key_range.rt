@@ -13,6 +13,7 @@ use super::iter::Iter;
 use super::range::Range;
 use indexset_core::pair::Pair;
 use indexset_core::probe::ByKey;
+use indexset_core::sought::Sought;
 use std::ops::Bound;
 
 impl<K: Ord, V> BTreeSet<Pair<K, V>> {
@@ -26,10 +27,10 @@ impl<K: Ord, V> BTreeSet<Pair<K, V>> {
     /// let range = pairs.range_by_key((Bound::Excluded(&1), Bound::Unbounded));
     /// assert!(rt; range.map(|pair| pair.value).eq([20]));
     /// ```
-    pub fn range_by_key(&self, range: (Bound<&K>, Bound<&K>)) -> Range<'_, Pair<K, V>>
-        requires { IsTrue (are_ordered K.cmp (bound_map (λ k. k.now) range.0)
+    pub fn range_by_key<Q: Sought<K>>(&self, range: (Bound<&Q>, Bound<&Q>)) -> Range<'_, Pair<K, V>>
+        requires { IsTrue (are_ordered Q.cmp (bound_map (λ k. k.now) range.0)
             (bound_map (λ k. k.now) range.1)) }
-        ensures rest { result ≡ pairs_within K.cmp (items self.now)
+        ensures rest { result ≡ pairs_within Q.order (items self.now)
             (bound_map (λ k. k.now) range.entry.0) (bound_map (λ k. k.now) range.entry.1) }
         ensures ascending { IsAscending (by_key K.cmp) result }
         ensures runs { ShowsInOrder (deref {X = Pair K V}) }

@@ -3,7 +3,7 @@ ghost use Rattle.std.specs.Prelude.{◌≡◌, ◌+◌, ◌<◌, ◌≤◌, true
 ghost use Rattle.std.specs.Bool.{OnTrue, OnFalse};
 ghost use Rattle.std.specs.declared.cmp.Ordering.TheVariants.{Less};
 ghost use Rattle.std.specs.List.{AllWithin};
-ghost use Rattle.std.specs.Option.{option_copied};
+ghost use Rattle.std.specs.Option.{option_copied, option_map};
 ghost use Rattle.std.specs.Ordering.{is_eq};
 ghost use Rattle.indexset_spine.specs.Cut.{items, IsSpot, IsItemSpot, position_of};
 ghost use Rattle.indexset_core.specs.Digits.{digits};
@@ -15,24 +15,25 @@ ghost use Rattle.indexset_set.specs.SetRanges.{upper_element};
 
 use super::BTreeSet;
 use indexset_core::probe::{ByItem, Probe};
+use indexset_core::sought::Sought;
 use indexset_spine::spine::Spine;
 use indexset_spine::spot::Spot;
 use std::ops::Bound;
 
 // Returns where the element equal to the value is, or where the value would go.
 #[inline(always)]
-pub(super) fn locate<T: Ord>(spine: &Spine<T>, value: &T) -> Spot
+pub(super) fn locate<T: Ord, Q: Sought<T> + Drop>(spine: &Spine<T>, value: Q) -> Spot
     requires { IsAscending T.cmp (items spine.now) }
     ensures spot { IsSpot spine.now.nodes result }
     ensures item { IsTrue result.found → IsItemSpot spine.now.nodes result }
-    ensures position { position_of spine.now.nodes result ≡ rank T.cmp (items spine.now) value.now }
-    ensures place { result ≡ spot_of T.cmp spine.now.nodes value.now }
-    ensures found { OnTrue result.found (IsFoundAt T.cmp (items spine.now) value.now
+    ensures position { position_of spine.now.nodes result ≡ rank Q.order (items spine.now) value }
+    ensures place { result ≡ spot_of Q.order spine.now.nodes value }
+    ensures found { OnTrue result.found (IsFoundAt Q.order (items spine.now) value
         (position_of spine.now.nodes result)) }
-    ensures gap { OnFalse result.found (IsGapFor T.cmp (items spine.now) value.now
+    ensures gap { OnFalse result.found (IsGapFor Q.order (items spine.now) value
         (position_of spine.now.nodes result)) }
 {
-    spine.locate_by(&mut ByItem::new(value))
+    spine.locate_by(&mut ByItem::new(&value))
 }
 
 // Returns the same with the last element compared first. For values that come in order.
@@ -72,8 +73,8 @@ impl<T: Ord> BTreeSet<T> {
     /// let set = BTreeSet::from_iter(alloc, [10, 20])?;
     /// assert!(rt; set.get(&20) == Some(&20) && set.get(&15).is_none());
     /// ```
-    pub fn get(&self, value: &T) -> Option<&T>
-        ensures { option_copied result ≡ equal_element T.cmp (items self.now) value.now }
+    pub fn get<Q: Sought<T> + Drop>(&self, value: Q) -> Option<&T>
+        ensures { option_copied result ≡ equal_element Q.order (items self.now) value }
     {
         let spot = locate(&self.spine, value);
         if spot.found {
@@ -89,8 +90,8 @@ impl<T: Ord> BTreeSet<T> {
     /// let set = BTreeSet::from_iter(alloc, [10, 20])?;
     /// assert!(rt; set.contains(&20) && !set.contains(&15));
     /// ```
-    pub fn contains(&self, value: &T) -> bool
-        ensures { result ≡ has_equal T.cmp (items self.now) value.now }
+    pub fn contains<Q: Sought<T> + Drop>(&self, value: Q) -> bool
+        ensures { result ≡ has_equal Q.order (items self.now) value }
     {
         locate(&self.spine, value).found
     }
@@ -102,13 +103,13 @@ impl<T: Ord> BTreeSet<T> {
     /// let board = BTreeSet::from_iter(alloc, [10, 20, 30])?;
     /// assert!(rt; board.rank(&30) == 2 && board.rank(&25) == 2);
     /// ```
-    pub fn rank(&self, value: &T) -> usize
-        ensures value { result ≡ rank T.cmp (items self.now) value.now }
-        ensures there { has_equal T.cmp (items self.now) value.now ≡ true
-            → slice_get (items self.now) result ≡ equal_element T.cmp (items self.now) value.now }
-        ensures inside { has_equal T.cmp (items self.now) value.now ≡ true
+    pub fn rank<Q: Sought<T> + Drop>(&self, value: Q) -> usize
+        ensures value { result ≡ rank Q.order (items self.now) value }
+        ensures there { has_equal Q.order (items self.now) value ≡ true
+            → slice_get (items self.now) result ≡ equal_element Q.order (items self.now) value }
+        ensures inside { has_equal Q.order (items self.now) value ≡ true
             → result < length (items self.now) }
-        ensures before { AllWithin (λ x. T.cmp x value.now ≡ Less) (items self.now) 0 result }
+        ensures before { AllWithin (λ x. Q.order x value ≡ Less) (items self.now) 0 result }
     {
         self.spine.position(&locate(&self.spine, value))
     }
@@ -120,15 +121,35 @@ impl<T: Ord> BTreeSet<T> {
     /// let set = BTreeSet::from_iter(alloc, [10, 20, 30])?;
     /// assert!(rt; set.index_of(&20) == Some(1) && set.index_of(&25).is_none());
     /// ```
-    pub fn index_of(&self, value: &T) -> Option<usize>
-        ensures value { result ≡ index_of T.cmp (items self.now) value.now }
+    pub fn index_of<Q: Sought<T> + Drop>(&self, value: Q) -> Option<usize>
+        ensures value { result ≡ index_of Q.order (items self.now) value }
         ensures there { IfSome result (λ i. slice_get (items self.now) i
-            ≡ equal_element T.cmp (items self.now) value.now) }
+            ≡ equal_element Q.order (items self.now) value) }
         ensures inside { IfSome result (λ i. i < length (items self.now)) }
     {
         let spot = locate(&self.spine, value);
         if spot.found {
             Some(self.spine.position(&spot))
+        } else {
+            None
+        }
+    }
+
+    /// Returns the position of the element equal to the value and the element, or `None`, as
+    /// `index_of` finds it.
+    ///
+    /// ```
+    /// let set = BTreeSet::from_iter(alloc, [10, 20, 30])?;
+    /// assert!(rt; set.get_full(&20) == Some((1, &20)) && set.get_full(&25).is_none());
+    /// ```
+    pub fn get_full<Q: Sought<T> + Drop>(&self, value: Q) -> Option<(usize, &T)>
+        ensures index { option_map (λ r. r.0) result ≡ index_of Q.order (items self.now) value }
+        ensures element { option_map (λ r. r.1.now) result
+            ≡ equal_element Q.order (items self.now) value }
+    {
+        let spot = locate(&self.spine, value);
+        if spot.found {
+            Some((self.spine.position(&spot), self.spine.item(&spot)))
         } else {
             None
         }
@@ -140,8 +161,8 @@ impl<T: Ord> BTreeSet<T> {
     /// let set = BTreeSet::from_iter(alloc, [10, 20, 30])?;
     /// assert!(rt; set.lower_bound(&15) == Some(&20) && set.lower_bound(&31).is_none());
     /// ```
-    pub fn lower_bound(&self, value: &T) -> Option<&T>
-        ensures { option_copied result ≡ lower_element T.cmp (items self.now) value.now }
+    pub fn lower_bound<Q: Sought<T> + Drop>(&self, value: Q) -> Option<&T>
+        ensures { option_copied result ≡ lower_element Q.order (items self.now) value }
     {
         self.spine.item_from(&locate(&self.spine, value))
     }
@@ -152,10 +173,10 @@ impl<T: Ord> BTreeSet<T> {
     /// let set = BTreeSet::from_iter(alloc, [10, 20, 30])?;
     /// assert!(rt; set.upper_bound(&20) == Some(&30) && set.upper_bound(&30).is_none());
     /// ```
-    pub fn upper_bound(&self, value: &T) -> Option<&T>
-        ensures { option_copied result ≡ upper_element T.cmp (items self.now) value.now }
+    pub fn upper_bound<Q: Sought<T> + Drop>(&self, value: Q) -> Option<&T>
+        ensures { option_copied result ≡ upper_element Q.order (items self.now) value }
     {
-        let spot = self.spine.start_of(Bound::Excluded(ByItem::new(value)));
+        let spot = self.spine.start_of(Bound::Excluded(ByItem::new(&value)));
         self.spine.item_from(&spot)
     }
 

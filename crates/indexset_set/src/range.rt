@@ -13,6 +13,7 @@ use super::bounds::{Bounds, Positions};
 use super::iter::Iter;
 use indexset_core::positions::{end_position, first_position};
 use indexset_core::probe::{ByItem, Probe};
+use indexset_core::sought::Sought;
 use std::ops::Bound;
 
 /// The remaining elements of a part of a set, from both ends.
@@ -30,8 +31,9 @@ impl<T: Ord> BTreeSet<T> {
     /// assert!(rt; teens.copied().eq([10, 15]) && above.copied().eq([15, 20]));
     /// ```
     pub fn range<R: Bounds<T> + Drop>(&self, range: R) -> Range<'_, T>
-        requires { IsTrue (are_ordered T.cmp (R.start range) (R.end range)) }
-        ensures rest { result ≡ in_range T.cmp (items self.now) (R.start range) (R.end range) }
+        requires { IsTrue (are_ordered R.Key.cmp (R.start range) (R.end range)) }
+        ensures rest { result ≡ in_range R.Key.order (items self.now) (R.start range)
+            (R.end range) }
         ensures ascending { IsAscending T.cmp result }
         ensures runs { ShowsInOrder (deref {X = T}) }
         ensures runs_back { ShowsInReverse (deref {X = T}) }
@@ -40,11 +42,11 @@ impl<T: Ord> BTreeSet<T> {
     }
 
     // Returns the same for two bounds.
-    fn within(&self, start: Bound<&T>, end: Bound<&T>) -> Range<'_, T>
-        requires { IsTrue (are_ordered T.cmp (bound_map (λ v. v.now) start)
+    fn within<Q: Sought<T>>(&self, start: Bound<&Q>, end: Bound<&Q>) -> Range<'_, T>
+        requires { IsTrue (are_ordered Q.cmp (bound_map (λ v. v.now) start)
             (bound_map (λ v. v.now) end)) }
-        ensures rest { result ≡ in_range T.cmp (items self.now) (bound_map (λ v. v.now) start.entry)
-            (bound_map (λ v. v.now) end.entry) }
+        ensures rest { result ≡ in_range Q.order (items self.now)
+            (bound_map (λ v. v.now) start.entry) (bound_map (λ v. v.now) end.entry) }
         ensures ascending { IsAscending T.cmp result }
         ensures runs { ShowsInOrder (deref {X = T}) }
         ensures runs_back { ShowsInReverse (deref {X = T}) }

@@ -29,6 +29,8 @@ mod refusal;
 #[cfg(test)]
 mod set;
 #[cfg(test)]
+mod sought;
+#[cfg(test)]
 mod spine;
 #[cfg(test)]
 mod terminal;

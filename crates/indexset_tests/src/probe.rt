@@ -51,7 +51,7 @@ fn a_probe_is_counted(rt: HostRuntime) {
 
 // Whether the searches for the first item not less and the first greater end where they must.
 fn finds_the_first() -> bool {
-    let none = search::first_not_less(&[], &mut ByItem::new(&4)) == 0;
+    let none = search::first_not_less(&[0_u64; 0], &mut ByItem::new(&4)) == 0;
     let greater = search::first_greater(&[4], &mut ByItem::new(&4)) == 1;
     let above = search::first_not_less(&[4], &mut ByItem::new(&5)) == 1;
     none && greater && above

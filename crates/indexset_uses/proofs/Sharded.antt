@@ -10,7 +10,7 @@ use Rattle.std.specs.List.{All, count_by, filter, zip}
 use Rattle.std.specs.Ordering.{is_lt, is_eq, is_gt, ordering_reverse}
 use Rattle.std.specs.Cmp.{IsTotalOrder}
 use Rattle.indexset_core.specs.Nodes.{joined, equal_at}
-use Rattle.indexset_core.specs.Order.{IsAscending, below, above, rank, put, without, IsGapFor}
+use Rattle.indexset_core.specs.Order.{IsAscending, below, above, rank, put, without, IsGapFor, unequal}
 use Rattle.indexset_core.proofs.CallerLemmas.{located_found, located_gap, found_ascending, found_put, gap_at, gap_ascending, gap_put, gap_without, parted_by_item, filter_front, filter_back, equal_from, less_from, Parts, count_parted, count_parts, front-is_lt, joined-append, joined_around}
 use Rattle.indexset_uses.specs.Shards.{after_command, after_commands, not_above, parts, subject, IsOwner}
 use Rattle.indexset_uses.specs.declared.shards.Command.{Command}
@@ -30,7 +30,7 @@ filter_swap p q (x ∷ xs) = elim (q x) as (λ b. q x ≡ b → filter p (cond b
 ] refl
 
 swap_without : {T : Type 0} (cmp : T → T → Ordering) (p : T → Bool) (l : List T) (v : T) → filter p (without cmp l v) ≡ without cmp (filter p l) v
-unfolding without
+unfolding unequal
 swap_without cmp p l v = filter_swap p (λ x. not (is_eq (cmp x v))) l
 
 module _ {T : Type 0} (cmp : T → T → Ordering) (o : IsTotalOrder cmp) where
@@ -43,7 +43,7 @@ module _ {T : Type 0} (cmp : T → T → Ordering) (o : IsTotalOrder cmp) where
       ] refl
 
   pub command_ascending : (l : List T) → IsAscending cmp l → (c : Command T) → IsAscending cmp (after_command cmp l c)
-  unfolding without
+  unfolding unequal
   command_ascending l up (Put v) = put_ascending l up v
   command_ascending l up (Cut v) = AllPairs-filter (λ x y. cmp x y ≡ Less) (λ x. not (is_eq (cmp x v))) l up
 
@@ -160,7 +160,7 @@ module _ {T : Type 0} (cmp : T → T → Ordering) (v : T) (front s back : List 
   around_put = rw (around_filter is_lt, around_filter is_gt, all_front is_lt refl, none_front is_gt refl, none_back is_lt refl, all_back is_gt refl, append-nil (below cmp s v)) (ap (λ ys. front ++ ys) (append_assoc (below cmp s v) (v ∷ above cmp s v) back) ∙ sym (append_assoc front (below cmp s v) (v ∷ (above cmp s v ++ back))))
 
   pub around_cut : front ++ (without cmp s v ++ back) ≡ without cmp (front ++ (s ++ back)) v
-  unfolding without
+  unfolding unequal
   around_cut = let test : Ordering → Bool = λ a. not (is_eq a) in rw (around_filter test, all_front test refl, all_back test refl) refl
 
 module _ {T : Type 0} (cmp : T → T → Ordering) (shards : List (List T)) (k : ℕ) (v : T) (owner : IsOwner cmp shards k v) where

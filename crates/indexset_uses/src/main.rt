@@ -28,6 +28,7 @@ mod tags;
 mod takeover;
 mod window;
 mod wire;
+mod words;
 
 use anyhow::Result;
 use bytes::ByteStr;

@@ -11,7 +11,6 @@ use indexset::base::pair::Pair;
 use indexset::base::refusal::Refusal;
 use indexset::concurrent::map::BTreeMap;
 use indexset::replica::Replica;
-use indexset::text::{ByStr, OnKey};
 
 /// The text of a name.
 pub type Named = Pair<ByteStr, ByteStr>;
@@ -69,18 +68,12 @@ pub fn text_of<'a>(names: &'a Names, name: &str) -> Option<&'a ByteStr>
     ensures { option_copied result ≡ value_of (slice_cmp nat_cmp) (joined names.now.nodes)
         name.now }
 {
-    // Its contract says that the names ascend.
-    let _nodes = names.node_count();
-    let pair = names.get_by(&mut OnKey::new(ByStr::new(name)))?;
-    Some(&pair.value)
+    Some(&names.get(name)?.value)
 }
 
 /// Returns the text that a copy has of a name, in the same way.
 pub fn copied_text_of<'a>(copy: &'a Replica<Named>, name: &str) -> Option<&'a ByteStr>
     ensures { option_copied result ≡ value_of (slice_cmp nat_cmp) (joined copy.now.nodes) name.now }
 {
-    // Its contract says that the names ascend.
-    let _nodes = copy.nodes();
-    let pair = copy.get_by(&mut OnKey::new(ByStr::new(name)))?;
-    Some(&pair.value)
+    Some(&copy.get(name)?.value)
 }

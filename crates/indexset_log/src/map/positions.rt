@@ -19,6 +19,7 @@ use crate::set::range;
 use indexset_core::node::NodeLike;
 use indexset_core::pair::Pair;
 use indexset_core::probe::Probe;
+use indexset_core::sought::Sought;
 use indexset_set::Positions;
 use std::ops::Bound;
 
@@ -30,9 +31,9 @@ impl<K: Ord + Clone + Drop, V: Clone + Drop, Node: NodeLike<Pair<K, V>>> BTreeMa
     /// tree.insert(1, 10)?;
     /// assert_eq!(rt; tree.get_key_value(&1), Some((&1, &10)));
     /// ```
-    pub fn get_key_value(&self, key: &K) -> Option<(&K, &V)>
+    pub fn get_key_value<Q: Sought<K> + Drop>(&self, key: Q) -> Option<(&K, &V)>
         ensures { option_map (λ p. (p.0.now, p.1.now)) result
-            ≡ option_map entry_of (pair_of K.cmp (joined self.now.nodes) key.now) }
+            ≡ option_map entry_of (pair_of Q.order (joined self.now.nodes) key) }
     {
         let pair = self.get(key)?;
         Some((&pair.key, &pair.value))
@@ -68,17 +69,17 @@ impl<K: Ord + Clone + Drop, V: Clone + Drop, Node: NodeLike<Pair<K, V>>> BTreeMa
     /// tree.insert(7, 70)?;
     /// assert!(rt; tree.rank(&7) == 1 && tree.rank(&6) == 1);
     /// ```
-    pub fn rank(&self, key: &K) -> usize
-        ensures value { result ≡ key_rank K.cmp (joined self.now.nodes) key.now }
-        ensures there { has_key K.cmp (joined self.now.nodes) key.now ≡ true
+    pub fn rank<Q: Sought<K> + Drop>(&self, key: Q) -> usize
+        ensures value { result ≡ key_rank Q.order (joined self.now.nodes) key }
+        ensures there { has_key Q.order (joined self.now.nodes) key ≡ true
             → slice_get (joined self.now.nodes) result
-            ≡ pair_of K.cmp (joined self.now.nodes) key.now }
-        ensures inside { has_key K.cmp (joined self.now.nodes) key.now ≡ true
+            ≡ pair_of Q.order (joined self.now.nodes) key }
+        ensures inside { has_key Q.order (joined self.now.nodes) key ≡ true
             → result < length (joined self.now.nodes) }
-        ensures before { AllWithin (λ p. K.cmp p.key key.now ≡ Less)
+        ensures before { AllWithin (λ p. Q.order p.key key ≡ Less)
             (joined self.now.nodes) 0 result }
     {
-        self.set.count_before(Bound::Included(self.by_key(key)))
+        self.set.count_before(Bound::Included(self.by_key(&key)))
     }
 
     /// Returns the position of a key, or `None`, by two binary searches and a sum over the index.
@@ -89,14 +90,14 @@ impl<K: Ord + Clone + Drop, V: Clone + Drop, Node: NodeLike<Pair<K, V>>> BTreeMa
     /// tree.insert(7, 70)?;
     /// assert!(rt; tree.index_of(&7) == Some(1) && tree.index_of(&6).is_none());
     /// ```
-    pub fn index_of(&self, key: &K) -> Option<usize>
-        ensures value { result ≡ (if has_key K.cmp (joined self.now.nodes) key.now
-            then Some (key_rank K.cmp (joined self.now.nodes) key.now) else None) }
+    pub fn index_of<Q: Sought<K> + Drop>(&self, key: Q) -> Option<usize>
+        ensures value { result ≡ (if has_key Q.order (joined self.now.nodes) key
+            then Some (key_rank Q.order (joined self.now.nodes) key) else None) }
         ensures there { IfSome result (λ i. slice_get (joined self.now.nodes) i
-            ≡ pair_of K.cmp (joined self.now.nodes) key.now) }
+            ≡ pair_of Q.order (joined self.now.nodes) key) }
         ensures inside { IfSome result (λ i. i < length (joined self.now.nodes)) }
     {
-        self.set.position_by(&mut self.by_key(key)).ok()
+        self.set.position_by(&mut self.by_key(&key)).ok()
     }
 
     /// Returns how many pairs are before the start, a bound given by a comparator.

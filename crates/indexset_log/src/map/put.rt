@@ -38,7 +38,7 @@ impl<K: Ord + Clone + Drop, V: Clone + Drop, Node: NodeLike<Pair<K, V>>> BTreeMa
         ensures unchanged { OnErr result (self.new ≡ self.old) }
         ensures there { OnOk result (has_key K.cmp (joined self.new.nodes) key ≡ true) }
         ensures written { OnOk result (value_of K.cmp (joined self.new.nodes) key ≡ Some value) }
-        ensures others { OnOk result (KeepsOthers K.cmp self.old.nodes self.new.nodes key) }
+        ensures others { OnOk result (KeepsOthers K.cmp K.cmp self.old.nodes self.new.nodes key) }
         ensures changed { OnOk result (Changed (by_key K.cmp) self.old self.new
             (put_change (by_key K.cmp) self.old (pair key value))) }
         ensures told { IfOk result (λ r. PairsTold K.cmp K.is_clone V.is_clone self.old self.new
@@ -97,7 +97,7 @@ impl<K: Ord + Clone + Drop, V: Clone + Drop, Node: NodeLike<Pair<K, V>>> BTreeMa
         ensures unchanged { OnErr result (self.new ≡ self.old) }
         ensures there { OnOk result (has_key K.cmp (joined self.new.nodes) key ≡ true) }
         ensures written { OnOk result (value_of K.cmp (joined self.new.nodes) key ≡ Some value) }
-        ensures others { OnOk result (KeepsOthers K.cmp self.old.nodes self.new.nodes key) }
+        ensures others { OnOk result (KeepsOthers K.cmp K.cmp self.old.nodes self.new.nodes key) }
         ensures changed { OnOk result (Changed (by_key K.cmp) self.old self.new
             (put_change (by_key K.cmp) self.old (pair key value))) }
     {

@@ -12,6 +12,7 @@ use crate::set::range;
 use indexset_core::node::NodeLike;
 use indexset_core::pair::Pair;
 use indexset_core::probe::ByKey;
+use indexset_core::sought::Sought;
 use indexset_set::Bounds;
 use std::ops::Bound;
 
@@ -33,8 +34,8 @@ impl<K: Ord + Clone + Drop, V: Clone + Drop, Node: NodeLike<Pair<K, V>>> BTreeMa
     /// assert!(rt; teens.map(|(key, _)| *key).eq([10, 15]));
     /// ```
     pub fn range<R: Bounds<K> + Drop>(&self, range: R) -> Range<'_, K, V, Node>
-        requires { IsTrue (are_ordered K.cmp (R.start range) (R.end range)) }
-        ensures rest { result ≡ pairs_within K.cmp (joined self.now.nodes) (R.start range)
+        requires { IsTrue (are_ordered R.Key.cmp (R.start range) (R.end range)) }
+        ensures rest { result ≡ pairs_within R.Key.order (joined self.now.nodes) (R.start range)
             (R.end range) }
         ensures runs { ShowsInOrder (pair_shown {K = K} {V = V}) }
         ensures runs_back { ShowsInReverse (pair_shown {K = K} {V = V}) }
@@ -43,10 +44,10 @@ impl<K: Ord + Clone + Drop, V: Clone + Drop, Node: NodeLike<Pair<K, V>>> BTreeMa
     }
 
     // Returns the same for two bounds.
-    fn within(&self, range: (Bound<&K>, Bound<&K>)) -> Range<'_, K, V, Node>
-        requires { IsTrue (are_ordered K.cmp (bound_map (λ k. k.now) range.0)
+    fn within<Q: Sought<K>>(&self, range: (Bound<&Q>, Bound<&Q>)) -> Range<'_, K, V, Node>
+        requires { IsTrue (are_ordered Q.cmp (bound_map (λ k. k.now) range.0)
             (bound_map (λ k. k.now) range.1)) }
-        ensures { result ≡ pairs_within K.cmp (joined self.now.nodes)
+        ensures { result ≡ pairs_within Q.order (joined self.now.nodes)
             (bound_map (λ k. k.now) range.entry.0) (bound_map (λ k. k.now) range.entry.1) }
     {
         // The contract of `node_count` says that the pairs ascend, so the range is what lies

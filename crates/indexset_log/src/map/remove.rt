@@ -10,6 +10,7 @@ use super::BTreeMap;
 use indexset_core::node::NodeLike;
 use indexset_core::pair::Pair;
 use indexset_core::refusal::Refusal;
+use indexset_core::sought::Names;
 use indexset_events::change::ChangeEvent;
 
 impl<K: Ord + Clone + Drop, V: Clone + Drop, Node: NodeLike<Pair<K, V>>> BTreeMap<K, V, Node> {
@@ -23,22 +24,22 @@ impl<K: Ord + Clone + Drop, V: Clone + Drop, Node: NodeLike<Pair<K, V>>> BTreeMa
     /// let (removed, events) = tree.remove_cdc(&1)?;
     /// assert!(rt; removed == Some((1, 10)) && events.len() == 1);
     /// ```
-    pub fn remove_cdc(
+    pub fn remove_cdc<Q: Names<K> + Drop>(
         &mut self,
-        key: &K,
+        key: Q,
     ) -> Result<(Option<(K, V)>, Vec<ChangeEvent<Pair<K, V>>>), Refusal>
         ensures answer { IfOk result (λ r.
-            r.0 ≡ option_map entry_of (pair_of K.cmp (joined self.old.nodes) key.now)) }
+            r.0 ≡ option_map entry_of (pair_of Q.order (joined self.old.nodes) key)) }
         ensures refusal { IfErr result (λ e. e ≡ refusal_of self.old
-            (key_removal K.cmp self.old key.now)) }
-        ensures no_event { (key_removal K.cmp self.old key.now).events ≡ [] → IsOk result }
+            (key_removal Q.order self.old key)) }
+        ensures no_event { (key_removal Q.order self.old key).events ≡ [] → IsOk result }
         ensures unchanged { OnErr result (self.new ≡ self.old) }
-        ensures gone { OnOk result (has_key K.cmp (joined self.new.nodes) key.now ≡ false) }
-        ensures others { OnOk result (KeepsOthers K.cmp self.old.nodes self.new.nodes key.now) }
+        ensures gone { OnOk result (has_key Q.order (joined self.new.nodes) key ≡ false) }
+        ensures others { OnOk result (KeepsOthers K.cmp Q.order self.old.nodes self.new.nodes key) }
         ensures changed { OnOk result (Changed (by_key K.cmp) self.old self.new
-            (key_removal K.cmp self.old key.now)) }
+            (key_removal Q.order self.old key)) }
         ensures told { IfOk result (λ r. PairsTold K.cmp K.is_clone V.is_clone self.old self.new
-            (key_removal K.cmp self.old key.now) r.1.items) }
+            (key_removal Q.order self.old key) r.1.items) }
     {
         match self.locate(key) {
             Ok((node, offset)) => {
@@ -61,21 +62,21 @@ impl<K: Ord + Clone + Drop, V: Clone + Drop, Node: NodeLike<Pair<K, V>>> BTreeMa
     /// tree.insert(2, 20)?;
     /// assert!(rt; tree.remove(&1)? == Some((1, 10)) && tree.remove(&1)?.is_none());
     /// ```
-    pub fn remove(&mut self, key: &K) -> Result<Option<(K, V)>, Refusal>
+    pub fn remove<Q: Names<K> + Drop>(&mut self, key: Q) -> Result<Option<(K, V)>, Refusal>
         ensures answer { IfOk result (λ entry.
-            entry ≡ option_map entry_of (pair_of K.cmp (joined self.old.nodes) key.now)) }
+            entry ≡ option_map entry_of (pair_of Q.order (joined self.old.nodes) key)) }
         ensures refusal { IfErr result (λ e. e ≡ refusal_of self.old
-            (key_removal K.cmp self.old key.now)) }
-        ensures no_event { (key_removal K.cmp self.old key.now).events ≡ [] → IsOk result }
-        ensures no_memory { length (key_removal K.cmp self.old key.now).events ≤ 1
-            → Fits self.old (key_removal K.cmp self.old key.now) → IsOk result }
+            (key_removal Q.order self.old key)) }
+        ensures no_event { (key_removal Q.order self.old key).events ≡ [] → IsOk result }
+        ensures no_memory { length (key_removal Q.order self.old key).events ≤ 1
+            → Fits self.old (key_removal Q.order self.old key) → IsOk result }
         ensures never { Node.allocates ≡ false
-            → Fits self.old (key_removal K.cmp self.old key.now) → IsOk result }
+            → Fits self.old (key_removal Q.order self.old key) → IsOk result }
         ensures unchanged { OnErr result (self.new ≡ self.old) }
-        ensures gone { OnOk result (has_key K.cmp (joined self.new.nodes) key.now ≡ false) }
-        ensures others { OnOk result (KeepsOthers K.cmp self.old.nodes self.new.nodes key.now) }
+        ensures gone { OnOk result (has_key Q.order (joined self.new.nodes) key ≡ false) }
+        ensures others { OnOk result (KeepsOthers K.cmp Q.order self.old.nodes self.new.nodes key) }
         ensures changed { OnOk result (Changed (by_key K.cmp) self.old self.new
-            (key_removal K.cmp self.old key.now)) }
+            (key_removal Q.order self.old key)) }
     {
         match self.locate(key) {
             Ok((node, offset)) => {

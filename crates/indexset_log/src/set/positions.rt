@@ -17,6 +17,7 @@ use super::range::Range;
 use indexset_core::node::NodeLike;
 use indexset_core::positions::{end_position, first_position};
 use indexset_core::probe::Probe;
+use indexset_core::sought::Sought;
 use indexset_core::walk::ReadAny;
 use indexset_set::Positions;
 use std::ops::Bound;
@@ -32,17 +33,17 @@ impl<T: Ord + Clone + Drop, Node: NodeLike<T>> BTreeSet<T, Node> {
     /// }
     /// assert!(rt; board.rank(&30) == 2 && board.rank(&25) == 2);
     /// ```
-    pub fn rank(&self, value: &T) -> usize
-        ensures value { result ≡ rank T.cmp (joined self.now.nodes) value.now }
-        ensures there { has_equal T.cmp (joined self.now.nodes) value.now ≡ true
+    pub fn rank<Q: Sought<T> + Drop>(&self, value: Q) -> usize
+        ensures value { result ≡ rank Q.order (joined self.now.nodes) value }
+        ensures there { has_equal Q.order (joined self.now.nodes) value ≡ true
             → slice_get (joined self.now.nodes) result
-            ≡ equal_element T.cmp (joined self.now.nodes) value.now }
-        ensures inside { has_equal T.cmp (joined self.now.nodes) value.now ≡ true
+            ≡ equal_element Q.order (joined self.now.nodes) value }
+        ensures inside { has_equal Q.order (joined self.now.nodes) value ≡ true
             → result < length (joined self.now.nodes) }
-        ensures before { AllWithin (λ x. T.cmp x value.now ≡ Less)
+        ensures before { AllWithin (λ x. Q.order x value ≡ Less)
             (joined self.now.nodes) 0 result }
     {
-        self.count_before(Bound::Included(self.by_item(value)))
+        self.count_before(Bound::Included(self.by_item(&value)))
     }
 
     /// Returns the position of the item equal to the value, or `None`, by two binary searches and a
@@ -55,13 +56,13 @@ impl<T: Ord + Clone + Drop, Node: NodeLike<T>> BTreeSet<T, Node> {
     /// }
     /// assert!(rt; set.index_of(&20) == Some(1) && set.index_of(&25).is_none());
     /// ```
-    pub fn index_of(&self, value: &T) -> Option<usize>
-        ensures value { result ≡ index_of T.cmp (joined self.now.nodes) value.now }
+    pub fn index_of<Q: Sought<T> + Drop>(&self, value: Q) -> Option<usize>
+        ensures value { result ≡ index_of Q.order (joined self.now.nodes) value }
         ensures there { IfSome result (λ i. slice_get (joined self.now.nodes) i
-            ≡ equal_element T.cmp (joined self.now.nodes) value.now) }
+            ≡ equal_element Q.order (joined self.now.nodes) value) }
         ensures inside { IfSome result (λ i. i < length (joined self.now.nodes)) }
     {
-        self.position_by(&mut self.by_item(value)).ok()
+        self.position_by(&mut self.by_item(&value)).ok()
     }
 
     /// Returns the position of the first item that the probe finds Equal, or where it finds none,

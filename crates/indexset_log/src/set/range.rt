@@ -18,6 +18,7 @@ use indexset_core::locate::{node_by, place_from, place_to};
 use indexset_core::node::NodeLike;
 use indexset_core::probe::{ByItem, Probe};
 use indexset_core::search::first_not_less_near;
+use indexset_core::sought::Sought;
 use indexset_core::walk::ReadAny;
 use indexset_set::Bounds;
 use std::iter::FusedIterator;
@@ -46,8 +47,9 @@ impl<'a, T: Ord + Clone + Drop, Node: NodeLike<T>> Range<'a, T, Node> {
     /// assert!(rt; set::Range::new(&tree, 10..).copied().eq([10, 15]));
     /// ```
     pub fn new<R: Bounds<T> + Drop>(set: &'a BTreeSet<T, Node>, range: R) -> Self
-        requires { IsTrue (are_ordered T.cmp (R.start range) (R.end range)) }
-        ensures rest { result ≡ in_range T.cmp (joined set.now.nodes) (R.start range) (R.end range) }
+        requires { IsTrue (are_ordered R.Key.cmp (R.start range) (R.end range)) }
+        ensures rest { result ≡ in_range R.Key.order (joined set.now.nodes) (R.start range)
+            (R.end range) }
         ensures runs { ShowsInOrder (deref {X = T}) }
         ensures runs_back { ShowsInReverse (deref {X = T}) }
     {
@@ -104,8 +106,8 @@ impl<T: Ord + Clone + Drop, Node: NodeLike<T>> BTreeSet<T, Node> {
     /// assert!(rt; tree.range(10..).copied().eq([10, 15]) && tree.range(..=10).len() == 2);
     /// ```
     pub fn range<R: Bounds<T> + Drop>(&self, range: R) -> Range<'_, T, Node>
-        requires { IsTrue (are_ordered T.cmp (R.start range) (R.end range)) }
-        ensures rest { result ≡ in_range T.cmp (joined self.now.nodes) (R.start range)
+        requires { IsTrue (are_ordered R.Key.cmp (R.start range) (R.end range)) }
+        ensures rest { result ≡ in_range R.Key.order (joined self.now.nodes) (R.start range)
             (R.end range) }
         ensures runs { ShowsInOrder (deref {X = T}) }
         ensures runs_back { ShowsInReverse (deref {X = T}) }
@@ -114,10 +116,10 @@ impl<T: Ord + Clone + Drop, Node: NodeLike<T>> BTreeSet<T, Node> {
     }
 
     // Returns the same for two bounds.
-    fn within(&self, range: (Bound<&T>, Bound<&T>)) -> Range<'_, T, Node>
-        requires { IsTrue (are_ordered T.cmp (bound_map (λ v. v.now) range.0)
+    fn within<Q: Sought<T>>(&self, range: (Bound<&Q>, Bound<&Q>)) -> Range<'_, T, Node>
+        requires { IsTrue (are_ordered Q.cmp (bound_map (λ v. v.now) range.0)
             (bound_map (λ v. v.now) range.1)) }
-        ensures { result ≡ in_range T.cmp (joined self.now.nodes)
+        ensures { result ≡ in_range Q.order (joined self.now.nodes)
             (bound_map (λ v. v.now) range.entry.0) (bound_map (λ v. v.now) range.entry.1) }
     {
         // The nodes are lawful, so their items ascend.

@@ -14,6 +14,7 @@ use super::BTreeSet;
 use crate::nodes::{fit_together, take_and_join, take_out};
 use indexset_core::node::NodeLike;
 use indexset_core::refusal::Refusal;
+use indexset_core::sought::Names;
 use indexset_events::change::ChangeEvent;
 
 impl<T: Ord + Clone + Drop, Node: NodeLike<T>> BTreeSet<T, Node> {
@@ -27,18 +28,21 @@ impl<T: Ord + Clone + Drop, Node: NodeLike<T>> BTreeSet<T, Node> {
     /// let (removed, events) = tree.remove_cdc(&5)?;
     /// assert!(rt; removed == Some(5) && events.len() == 1);
     /// ```
-    pub fn remove_cdc(&mut self, value: &T) -> Result<(Option<T>, Vec<ChangeEvent<T>>), Refusal>
-        ensures answer { IfOk result (λ r. r.0 ≡ equal_element T.cmp
-            (joined self.old.nodes) value.now) }
+    pub fn remove_cdc<Q: Names<T> + Drop>(
+        &mut self,
+        value: Q,
+    ) -> Result<(Option<T>, Vec<ChangeEvent<T>>), Refusal>
+        ensures answer { IfOk result (λ r. r.0 ≡ equal_element Q.order (joined self.old.nodes)
+            value) }
         ensures refusal { IfErr result (λ e. e ≡ refusal_of self.old
-            (removal_change T.cmp self.old value.now)) }
-        ensures no_event { (removal_change T.cmp self.old value.now).events ≡ [] → IsOk result }
+            (removal_change Q.order self.old value)) }
+        ensures no_event { (removal_change Q.order self.old value).events ≡ [] → IsOk result }
         ensures unchanged { OnErr result (self.new ≡ self.old) }
-        ensures gone { OnOk result (has_equal T.cmp (joined self.new.nodes) value.now ≡ false) }
+        ensures gone { OnOk result (has_equal Q.order (joined self.new.nodes) value ≡ false) }
         ensures changed { OnOk result (Changed T.cmp self.old self.new
-            (removal_change T.cmp self.old value.now)) }
+            (removal_change Q.order self.old value)) }
         ensures told { IfOk result (λ r. ItemsTold T.cmp T.is_clone self.old self.new
-            (removal_change T.cmp self.old value.now) r.1.items) }
+            (removal_change Q.order self.old value) r.1.items) }
     {
         let place = self.place_of(value);
         self.remove_from_cdc(place)
@@ -85,20 +89,20 @@ impl<T: Ord + Clone + Drop, Node: NodeLike<T>> BTreeSet<T, Node> {
     /// let mut tree: set::BTreeSet<u64, Vec<u64>> = set::BTreeSet::from_iter(alloc, [5, 10, 15])?;
     /// assert!(rt; tree.remove(&10)? == Some(10) && tree.remove(&10)?.is_none());
     /// ```
-    pub fn remove(&mut self, value: &T) -> Result<Option<T>, Refusal>
+    pub fn remove<Q: Names<T> + Drop>(&mut self, value: Q) -> Result<Option<T>, Refusal>
         ensures answer { IfOk result (λ item.
-            item ≡ equal_element T.cmp (joined self.old.nodes) value.now) }
+            item ≡ equal_element Q.order (joined self.old.nodes) value) }
         ensures refusal { IfErr result (λ e. e ≡ refusal_of self.old
-            (removal_change T.cmp self.old value.now)) }
-        ensures no_event { (removal_change T.cmp self.old value.now).events ≡ [] → IsOk result }
-        ensures no_memory { length (removal_change T.cmp self.old value.now).events ≤ 1
-            → Fits self.old (removal_change T.cmp self.old value.now) → IsOk result }
+            (removal_change Q.order self.old value)) }
+        ensures no_event { (removal_change Q.order self.old value).events ≡ [] → IsOk result }
+        ensures no_memory { length (removal_change Q.order self.old value).events ≤ 1
+            → Fits self.old (removal_change Q.order self.old value) → IsOk result }
         ensures never { Node.allocates ≡ false
-            → Fits self.old (removal_change T.cmp self.old value.now) → IsOk result }
+            → Fits self.old (removal_change Q.order self.old value) → IsOk result }
         ensures unchanged { OnErr result (self.new ≡ self.old) }
-        ensures gone { OnOk result (has_equal T.cmp (joined self.new.nodes) value.now ≡ false) }
+        ensures gone { OnOk result (has_equal Q.order (joined self.new.nodes) value ≡ false) }
         ensures changed { OnOk result (Changed T.cmp self.old self.new
-            (removal_change T.cmp self.old value.now)) }
+            (removal_change Q.order self.old value)) }
     {
         let place = self.place_of(value);
         self.remove_from(place)

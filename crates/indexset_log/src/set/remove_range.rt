@@ -6,6 +6,7 @@ ghost use Rattle.indexset_core.specs.Nodes.{joined};
 ghost use Rattle.indexset_log.specs.Made.{outside, without_range};
 
 use super::BTreeSet;
+use indexset_core::sought::Sought;
 use indexset_core::walk::ReadVec;
 use indexset_set::Bounds;
 use std::ops::Bound;
@@ -21,10 +22,10 @@ impl<T: Ord + Clone + Drop> BTreeSet<T, Vec<T>> {
     /// assert!(rt; tree.iter().copied().eq([5]));
     /// ```
     pub fn remove_range<R: Bounds<T> + Drop>(&mut self, range: R)
-        ensures nodes { self.new.nodes ≡ without_range T.cmp self.old.nodes (R.start range)
+        ensures nodes { self.new.nodes ≡ without_range R.Key.order self.old.nodes (R.start range)
             (R.end range) }
-        ensures contents { joined self.new.nodes ≡ outside T.cmp (R.start range) (R.end range)
-            (joined self.old.nodes) }
+        ensures contents { joined self.new.nodes ≡ outside R.Key.order (R.start range)
+            (R.end range) (joined self.old.nodes) }
         ensures size { self.new.size ≡ self.old.size }
         ensures next { self.new.next ≡ self.old.next }
     {
@@ -39,9 +40,12 @@ impl<T: Ord + Clone + Drop> BTreeSet<T, Vec<T>> {
 }
 
 // Removes the items that satisfy both bounds from each node, and returns how many remain.
-fn remove_within<T: Ord + Drop>(nodes: &mut [Vec<T>], range: (Bound<&T>, Bound<&T>)) -> usize
+fn remove_within<T: Ord + Drop, Q: Sought<T>>(
+    nodes: &mut [Vec<T>],
+    range: (Bound<&Q>, Bound<&Q>),
+) -> usize
     requires { length (joined (map (λ v. v.items) nodes.old)) < 2 ^ 64 }
-    ensures nodes { map (λ v. v.items) nodes.new ≡ map (outside T.cmp
+    ensures nodes { map (λ v. v.items) nodes.new ≡ map (outside Q.order
         (bound_map (λ v. v.now) range.entry.0) (bound_map (λ v. v.now) range.entry.1))
         (map (λ v. v.items) nodes.old) }
     ensures count { result ≡ length (joined (map (λ v. v.items) nodes.new)) }
@@ -55,18 +59,18 @@ fn remove_within<T: Ord + Drop>(nodes: &mut [Vec<T>], range: (Bound<&T>, Bound<&
 }
 
 // Returns whether an item satisfies both bounds.
-fn is_within<T: Ord>(item: &T, range: (Bound<&T>, Bound<&T>)) -> bool
-    ensures { result ≡ is_within T.cmp (bound_map (λ v. v.now) range.entry.0)
+fn is_within<T: Ord, Q: Sought<T>>(item: &T, range: (Bound<&Q>, Bound<&Q>)) -> bool
+    ensures { result ≡ is_within Q.order (bound_map (λ v. v.now) range.entry.0)
         (bound_map (λ v. v.now) range.entry.1) item.now }
 {
     let is_from_start = match range.0 {
-        Bound::Included(start) => item.cmp(start).is_ge(),
-        Bound::Excluded(start) => item.cmp(start).is_gt(),
+        Bound::Included(start) => start.place_item(item).is_ge(),
+        Bound::Excluded(start) => start.place_item(item).is_gt(),
         Bound::Unbounded => true,
     };
     let is_up_to_end = match range.1 {
-        Bound::Included(end) => item.cmp(end).is_le(),
-        Bound::Excluded(end) => item.cmp(end).is_lt(),
+        Bound::Included(end) => end.place_item(item).is_le(),
+        Bound::Excluded(end) => end.place_item(item).is_lt(),
         Bound::Unbounded => true,
     };
     is_from_start && is_up_to_end

@@ -15,6 +15,7 @@ use super::range::Range;
 use indexset_core::multipair::MultiPair;
 use indexset_core::node::NodeLike;
 use indexset_core::refusal::Refusal;
+use indexset_core::sought::Sought;
 use indexset_events::change::ChangeEvent;
 use indexset_set::Positions;
 
@@ -34,14 +35,14 @@ impl<K: Ord + Clone + Drop, V: Eq + Clone + Drop, Node: NodeLike<MultiPair<K, V>
     /// assert!(rt; tags.rank(&2) == 2 && tags.count(&1) == 2);
     /// assert!(rt; tags.get_index(1) == Some((&1, &101)));
     /// ```
-    pub fn rank(&self, key: &K) -> usize
-        ensures value { result ≡ count_by (λ p. is_lt (K.cmp p.key key.now))
+    pub fn rank<Q: Sought<K> + Drop>(&self, key: Q) -> usize
+        ensures value { result ≡ count_by (λ p. is_lt (Q.order p.key key))
             (joined self.now.nodes) }
-        ensures there { has_pair_of K.cmp (joined self.now.nodes) key.now ≡ true
+        ensures there { has_pair_of Q.order (joined self.now.nodes) key ≡ true
             → slice_get (joined self.now.nodes) result
-            ≡ first_pair K.cmp (joined self.now.nodes) key.now }
+            ≡ first_pair Q.order (joined self.now.nodes) key }
     {
-        self.set.position(self.places_of(key).0)
+        self.set.position(self.places_of(&key).0)
     }
 
     /// Returns the number of pairs of a key, by as few comparisons as `get` makes.
@@ -53,10 +54,10 @@ impl<K: Ord + Clone + Drop, V: Eq + Clone + Drop, Node: NodeLike<MultiPair<K, V>
     /// }
     /// assert!(rt; tags.count(&1) == 2 && tags.count(&3) == 0);
     /// ```
-    pub fn count(&self, key: &K) -> usize
-        ensures { result ≡ length (pairs_of K.cmp (joined self.now.nodes) key.now) }
+    pub fn count<Q: Sought<K> + Drop>(&self, key: Q) -> usize
+        ensures { result ≡ length (pairs_of Q.order (joined self.now.nodes) key) }
     {
-        let (from, to) = self.places_of(key);
+        let (from, to) = self.places_of(&key);
         self.set.position(to) - self.set.position(from)
     }
 
@@ -70,13 +71,13 @@ impl<K: Ord + Clone + Drop, V: Eq + Clone + Drop, Node: NodeLike<MultiPair<K, V>
     /// }
     /// assert!(rt; tags.index_of(&1, &101) == Some(1) && tags.index_of(&1, &102).is_none());
     /// ```
-    pub fn index_of(&self, key: &K, value: &V) -> Option<usize>
+    pub fn index_of<Q: Sought<K> + Drop>(&self, key: Q, value: &V) -> Option<usize>
         ensures { MatchOption result
-            (equal_pair K.cmp V.eq (joined self.now.nodes) key.now value.now ≡ None)
+            (equal_pair Q.order V.eq (joined self.now.nodes) key value.now ≡ None)
             (λ i. (i < length (joined self.now.nodes)) × (slice_get (joined self.now.nodes) i
-            ≡ equal_pair K.cmp V.eq (joined self.now.nodes) key.now value.now)) }
+            ≡ equal_pair Q.order V.eq (joined self.now.nodes) key value.now)) }
     {
-        let place = self.equal_place(key, value)?;
+        let place = self.equal_place(&key, value)?;
         Some(self.set.position(place))
     }
 

@@ -16,6 +16,7 @@ use super::BTreeMultiMap;
 use indexset_core::multipair::MultiPair;
 use indexset_core::node::NodeLike;
 use indexset_core::probe::ByKey;
+use indexset_core::sought::Sought;
 use indexset_log::set::range;
 use indexset_set::Bounds;
 use std::iter::FusedIterator;
@@ -175,13 +176,13 @@ impl<K: Ord + Clone + Drop, V: Eq + Clone + Drop, Node: NodeLike<MultiPair<K, V>
     /// tags.insert(1, 100)?;
     /// assert!(rt; tags.get(&1).eq([(&1, &100)]) && tags.get(&2).len() == 0);
     /// ```
-    pub fn get(&self, key: &K) -> Range<'_, K, V, Node>
-        ensures rest { result ≡ entries (pairs_of K.cmp (joined self.now.nodes) key.now) }
+    pub fn get<Q: Sought<K> + Drop>(&self, key: Q) -> Range<'_, K, V, Node>
+        ensures rest { result ≡ entries (pairs_of Q.order (joined self.now.nodes) key) }
         ensures runs { ShowsInOrder (pair_shown {K = K} {V = V}) }
         ensures runs_back { ShowsInReverse (pair_shown {K = K} {V = V}) }
     {
         Range {
-            rest: self.pairs_of(key),
+            rest: self.pairs_of(&key),
         }
     }
 
@@ -195,13 +196,13 @@ impl<K: Ord + Clone + Drop, V: Eq + Clone + Drop, Node: NodeLike<MultiPair<K, V>
     /// }
     /// assert!(rt; tags.raw_get(&1).eq([(&1, &0, &100), (&1, &1, &101)]));
     /// ```
-    pub fn raw_get(&self, key: &K) -> RawRange<'_, K, V, Node>
-        ensures rest { result ≡ pairs_of K.cmp (joined self.now.nodes) key.now }
+    pub fn raw_get<Q: Sought<K> + Drop>(&self, key: Q) -> RawRange<'_, K, V, Node>
+        ensures rest { result ≡ pairs_of Q.order (joined self.now.nodes) key }
         ensures runs { ShowsInOrder (number_shown {K = K} {V = V}) }
         ensures runs_back { ShowsInReverse (number_shown {K = K} {V = V}) }
     {
         RawRange {
-            rest: self.pairs_of(key),
+            rest: self.pairs_of(&key),
         }
     }
 
@@ -219,8 +220,8 @@ impl<K: Ord + Clone + Drop, V: Eq + Clone + Drop, Node: NodeLike<MultiPair<K, V>
     /// assert!(rt; teens.eq([(&10, &1), (&10, &2)]));
     /// ```
     pub fn range<R: Bounds<K> + Drop>(&self, range: R) -> Range<'_, K, V, Node>
-        requires { IsTrue (are_ordered K.cmp (R.start range) (R.end range)) }
-        ensures rest { result ≡ entries (pairs_between K.cmp (joined self.now.nodes)
+        requires { IsTrue (are_ordered R.Key.cmp (R.start range) (R.end range)) }
+        ensures rest { result ≡ entries (pairs_between R.Key.order (joined self.now.nodes)
             (R.start range) (R.end range)) }
         ensures runs { ShowsInOrder (pair_shown {K = K} {V = V}) }
         ensures runs_back { ShowsInReverse (pair_shown {K = K} {V = V}) }
@@ -231,8 +232,8 @@ impl<K: Ord + Clone + Drop, V: Eq + Clone + Drop, Node: NodeLike<MultiPair<K, V>
     }
 
     // Returns the pairs of a key.
-    pub(super) fn pairs_of(&self, key: &K) -> range::Range<'_, MultiPair<K, V>, Node>
-        ensures rest { result ≡ pairs_of K.cmp (joined self.now.nodes) key.now }
+    pub(super) fn pairs_of<Q: Sought<K>>(&self, key: &Q) -> range::Range<'_, MultiPair<K, V>, Node>
+        ensures rest { result ≡ pairs_of Q.order (joined self.now.nodes) key.now }
         ensures runs { ShowsInOrder (deref {X = MultiPair K V}) }
     {
         let (from, to) = self.places_of(key);
@@ -240,16 +241,16 @@ impl<K: Ord + Clone + Drop, V: Eq + Clone + Drop, Node: NodeLike<MultiPair<K, V>
     }
 
     // Returns the places before and after the pairs of a key.
-    pub(super) fn places_of(&self, key: &K) -> ((usize, usize), (usize, usize))
+    pub(super) fn places_of<Q: Sought<K>>(&self, key: &Q) -> ((usize, usize), (usize, usize))
         ensures from { IsPlace self.now.nodes result.0 }
         ensures to { IsPlace self.now.nodes result.1 }
         ensures order { items_before self.now.nodes result.0
             ≤ items_before self.now.nodes result.1 }
         ensures before { items_before self.now.nodes result.0
-            ≡ count_by (λ p. is_lt (K.cmp p.key key.now)) (joined self.now.nodes) }
+            ≡ count_by (λ p. is_lt (Q.order p.key key.now)) (joined self.now.nodes) }
         ensures pairs { between (items_before self.now.nodes result.0)
             (items_before self.now.nodes result.1) (joined self.now.nodes)
-            ≡ pairs_of K.cmp (joined self.now.nodes) key.now }
+            ≡ pairs_of Q.order (joined self.now.nodes) key.now }
     {
         // The contract of `node_count` says that the pairs ascend, as a search by key requires.
         let _nodes = self.set.node_count();
@@ -257,13 +258,13 @@ impl<K: Ord + Clone + Drop, V: Eq + Clone + Drop, Node: NodeLike<MultiPair<K, V>
     }
 
     // Returns the pairs whose keys satisfy both bounds.
-    fn pairs_between(
+    fn pairs_between<Q: Sought<K>>(
         &self,
-        range: (Bound<&K>, Bound<&K>),
+        range: (Bound<&Q>, Bound<&Q>),
     ) -> range::Range<'_, MultiPair<K, V>, Node>
-        requires { IsTrue (are_ordered K.cmp (bound_map (λ k. k.now) range.0)
+        requires { IsTrue (are_ordered Q.cmp (bound_map (λ k. k.now) range.0)
             (bound_map (λ k. k.now) range.1)) }
-        ensures rest { result ≡ pairs_between K.cmp (joined self.now.nodes)
+        ensures rest { result ≡ pairs_between Q.order (joined self.now.nodes)
             (bound_map (λ k. k.now) range.entry.0) (bound_map (λ k. k.now) range.entry.1) }
         ensures runs { ShowsInOrder (deref {X = MultiPair K V}) }
     {

@@ -14,6 +14,7 @@ use super::BTreeMultiMap;
 use indexset_core::multipair::MultiPair;
 use indexset_core::node::NodeLike;
 use indexset_core::refusal::Refusal;
+use indexset_core::sought::Sought;
 use indexset_events::change::ChangeEvent;
 use indexset_log::set::range::Range;
 
@@ -34,25 +35,25 @@ impl<K: Ord + Clone + Drop, V: Eq + Clone + Drop, Node: NodeLike<MultiPair<K, V>
     /// let (removed, events) = tags.remove_some_cdc(&1)?;
     /// assert!(rt; removed == Some((1, 100)) && events.len() == 1);
     /// ```
-    pub fn remove_some_cdc(
+    pub fn remove_some_cdc<Q: Sought<K> + Drop>(
         &mut self,
-        key: &K,
+        key: Q,
     ) -> Result<(Option<(K, V)>, Vec<ChangeEvent<MultiPair<K, V>>>), Refusal>
         ensures answer { IfOk result (λ r.
-            r.0 ≡ option_map key_and_value (first_pair K.cmp (joined self.old.nodes) key.now)) }
+            r.0 ≡ option_map key_and_value (first_pair Q.order (joined self.old.nodes) key)) }
         ensures refusal { IfErr result (λ e. e ≡ refusal_of self.old
-            (some_removal K.cmp self.old key.now)) }
-        ensures no_event { (some_removal K.cmp self.old key.now).events ≡ [] → IsOk result }
+            (some_removal K.cmp Q.order self.old key)) }
+        ensures no_event { (some_removal K.cmp Q.order self.old key).events ≡ [] → IsOk result }
         ensures unchanged { OnErr result (self.new ≡ self.old) }
-        ensures gone { OnOk result (pairs_of K.cmp (joined self.new.nodes) key.now
-            ≡ drop 1 (pairs_of K.cmp (joined self.old.nodes) key.now)) }
-        ensures others { OnOk result (KeepsOthers K.cmp self.old self.new key.now) }
+        ensures gone { OnOk result (pairs_of Q.order (joined self.new.nodes) key
+            ≡ drop 1 (pairs_of Q.order (joined self.old.nodes) key)) }
+        ensures others { OnOk result (KeepsOthers K.cmp Q.order self.old self.new key) }
         ensures changed { OnOk result (MultiChanged K.cmp self.old self.new
-            (some_removal K.cmp self.old key.now)) }
+            (some_removal K.cmp Q.order self.old key)) }
         ensures told { IfOk result (λ r. MultiTold K.cmp K.is_clone V.is_clone self.old self.new
-            (some_removal K.cmp self.old key.now) r.1.items) }
+            (some_removal K.cmp Q.order self.old key) r.1.items) }
     {
-        let place = self.first_place(key);
+        let place = self.first_place(&key);
         self.take_cdc(place)
     }
 
@@ -68,24 +69,24 @@ impl<K: Ord + Clone + Drop, V: Eq + Clone + Drop, Node: NodeLike<MultiPair<K, V>
     /// }
     /// assert!(rt; tags.remove_some(&1)? == Some((1, 100)) && tags.remove_some(&3)?.is_none());
     /// ```
-    pub fn remove_some(&mut self, key: &K) -> Result<Option<(K, V)>, Refusal>
+    pub fn remove_some<Q: Sought<K> + Drop>(&mut self, key: Q) -> Result<Option<(K, V)>, Refusal>
         ensures answer { IfOk result (λ entry.
-            entry ≡ option_map key_and_value (first_pair K.cmp (joined self.old.nodes) key.now)) }
+            entry ≡ option_map key_and_value (first_pair Q.order (joined self.old.nodes) key)) }
         ensures refusal { IfErr result (λ e. e ≡ refusal_of self.old
-            (some_removal K.cmp self.old key.now)) }
-        ensures no_event { (some_removal K.cmp self.old key.now).events ≡ [] → IsOk result }
-        ensures no_memory { length (some_removal K.cmp self.old key.now).events ≤ 1
-            → Fits self.old (some_removal K.cmp self.old key.now) → IsOk result }
+            (some_removal K.cmp Q.order self.old key)) }
+        ensures no_event { (some_removal K.cmp Q.order self.old key).events ≡ [] → IsOk result }
+        ensures no_memory { length (some_removal K.cmp Q.order self.old key).events ≤ 1
+            → Fits self.old (some_removal K.cmp Q.order self.old key) → IsOk result }
         ensures never { Node.allocates ≡ false
-            → Fits self.old (some_removal K.cmp self.old key.now) → IsOk result }
+            → Fits self.old (some_removal K.cmp Q.order self.old key) → IsOk result }
         ensures unchanged { OnErr result (self.new ≡ self.old) }
-        ensures gone { OnOk result (pairs_of K.cmp (joined self.new.nodes) key.now
-            ≡ drop 1 (pairs_of K.cmp (joined self.old.nodes) key.now)) }
-        ensures others { OnOk result (KeepsOthers K.cmp self.old self.new key.now) }
+        ensures gone { OnOk result (pairs_of Q.order (joined self.new.nodes) key
+            ≡ drop 1 (pairs_of Q.order (joined self.old.nodes) key)) }
+        ensures others { OnOk result (KeepsOthers K.cmp Q.order self.old self.new key) }
         ensures changed { OnOk result (MultiChanged K.cmp self.old self.new
-            (some_removal K.cmp self.old key.now)) }
+            (some_removal K.cmp Q.order self.old key)) }
     {
-        let place = self.first_place(key);
+        let place = self.first_place(&key);
         self.take(place)
     }
 
@@ -102,28 +103,28 @@ impl<K: Ord + Clone + Drop, V: Eq + Clone + Drop, Node: NodeLike<MultiPair<K, V>
     /// let (removed, events) = tags.remove_cdc(&1, &101)?;
     /// assert!(rt; removed == Some((1, 101)) && events.len() == 1);
     /// ```
-    pub fn remove_cdc(
+    pub fn remove_cdc<Q: Sought<K> + Drop>(
         &mut self,
-        key: &K,
+        key: Q,
         value: &V,
     ) -> Result<(Option<(K, V)>, Vec<ChangeEvent<MultiPair<K, V>>>), Refusal>
         ensures answer { IfOk result (λ r. r.0 ≡ option_map key_and_value
-            (equal_pair K.cmp V.eq (joined self.old.nodes) key.now value.now)) }
+            (equal_pair Q.order V.eq (joined self.old.nodes) key value.now)) }
         ensures refusal { IfErr result (λ e. e ≡ refusal_of self.old
-            (equal_removal K.cmp V.eq self.old key.now value.now)) }
-        ensures no_event { (equal_removal K.cmp V.eq self.old key.now value.now).events ≡ []
+            (equal_removal K.cmp Q.order V.eq self.old key value.now)) }
+        ensures no_event { (equal_removal K.cmp Q.order V.eq self.old key value.now).events ≡ []
             → IsOk result }
         ensures unchanged { OnErr result (self.new ≡ self.old) }
-        ensures gone { OnOk result (pairs_of K.cmp (joined self.new.nodes) key.now
+        ensures gone { OnOk result (pairs_of Q.order (joined self.new.nodes) key
             ≡ without_first (λ p. V.eq p.value value.now)
-            (pairs_of K.cmp (joined self.old.nodes) key.now)) }
-        ensures others { OnOk result (KeepsOthers K.cmp self.old self.new key.now) }
+            (pairs_of Q.order (joined self.old.nodes) key)) }
+        ensures others { OnOk result (KeepsOthers K.cmp Q.order self.old self.new key) }
         ensures changed { OnOk result (MultiChanged K.cmp self.old self.new
-            (equal_removal K.cmp V.eq self.old key.now value.now)) }
+            (equal_removal K.cmp Q.order V.eq self.old key value.now)) }
         ensures told { IfOk result (λ r. MultiTold K.cmp K.is_clone V.is_clone self.old self.new
-            (equal_removal K.cmp V.eq self.old key.now value.now) r.1.items) }
+            (equal_removal K.cmp Q.order V.eq self.old key value.now) r.1.items) }
     {
-        let place = self.equal_place(key, value);
+        let place = self.equal_place(&key, value);
         self.take_cdc(place)
     }
 
@@ -138,43 +139,47 @@ impl<K: Ord + Clone + Drop, V: Eq + Clone + Drop, Node: NodeLike<MultiPair<K, V>
     /// let removed = tags.remove(&1, &100)?;
     /// assert!(rt; removed == Some((1, 100)) && !tags.contains_key(&1));
     /// ```
-    pub fn remove(&mut self, key: &K, value: &V) -> Result<Option<(K, V)>, Refusal>
+    pub fn remove<Q: Sought<K> + Drop>(
+        &mut self,
+        key: Q,
+        value: &V,
+    ) -> Result<Option<(K, V)>, Refusal>
         ensures answer { IfOk result (λ entry. entry ≡ option_map key_and_value
-            (equal_pair K.cmp V.eq (joined self.old.nodes) key.now value.now)) }
+            (equal_pair Q.order V.eq (joined self.old.nodes) key value.now)) }
         ensures refusal { IfErr result (λ e. e ≡ refusal_of self.old
-            (equal_removal K.cmp V.eq self.old key.now value.now)) }
-        ensures no_event { (equal_removal K.cmp V.eq self.old key.now value.now).events ≡ []
+            (equal_removal K.cmp Q.order V.eq self.old key value.now)) }
+        ensures no_event { (equal_removal K.cmp Q.order V.eq self.old key value.now).events ≡ []
             → IsOk result }
-        ensures no_memory { length (equal_removal K.cmp V.eq self.old key.now value.now).events ≤ 1
-            → Fits self.old (equal_removal K.cmp V.eq self.old key.now value.now) → IsOk result }
+        ensures no_memory { length (equal_removal K.cmp Q.order V.eq self.old key value.now).events ≤ 1
+            → Fits self.old (equal_removal K.cmp Q.order V.eq self.old key value.now) → IsOk result }
         ensures never { Node.allocates ≡ false
-            → Fits self.old (equal_removal K.cmp V.eq self.old key.now value.now) → IsOk result }
+            → Fits self.old (equal_removal K.cmp Q.order V.eq self.old key value.now) → IsOk result }
         ensures unchanged { OnErr result (self.new ≡ self.old) }
-        ensures gone { OnOk result (pairs_of K.cmp (joined self.new.nodes) key.now
+        ensures gone { OnOk result (pairs_of Q.order (joined self.new.nodes) key
             ≡ without_first (λ p. V.eq p.value value.now)
-            (pairs_of K.cmp (joined self.old.nodes) key.now)) }
-        ensures others { OnOk result (KeepsOthers K.cmp self.old self.new key.now) }
+            (pairs_of Q.order (joined self.old.nodes) key)) }
+        ensures others { OnOk result (KeepsOthers K.cmp Q.order self.old self.new key) }
         ensures changed { OnOk result (MultiChanged K.cmp self.old self.new
-            (equal_removal K.cmp V.eq self.old key.now value.now)) }
+            (equal_removal K.cmp Q.order V.eq self.old key value.now)) }
     {
-        let place = self.equal_place(key, value);
+        let place = self.equal_place(&key, value);
         self.take(place)
     }
 
     // Returns where the first pair of a key stands.
-    pub(super) fn first_place(&self, key: &K) -> Option<(usize, usize)>
+    pub(super) fn first_place<Q: Sought<K>>(&self, key: &Q) -> Option<(usize, usize)>
         ensures place { IsItemPlace self.now.nodes result }
         ensures pair { placed_item self.now.nodes result
-            ≡ first_pair K.cmp (joined self.now.nodes) key.now }
+            ≡ first_pair Q.order (joined self.now.nodes) key.now }
     {
         self.locate(key).ok()
     }
 
     // Returns where the first pair of a key with an equal value stands.
-    pub(super) fn equal_place(&self, key: &K, value: &V) -> Option<(usize, usize)>
+    pub(super) fn equal_place<Q: Sought<K>>(&self, key: &Q, value: &V) -> Option<(usize, usize)>
         ensures place { IsItemPlace self.now.nodes result }
         ensures pair { placed_item self.now.nodes result
-            ≡ equal_pair K.cmp V.eq (joined self.now.nodes) key.now value.now }
+            ≡ equal_pair Q.order V.eq (joined self.now.nodes) key.now value.now }
     {
         let (from, to) = self.places_of(key);
         let index = index_of(self.set.range_between(from, to), value)?;

@@ -1,9 +1,10 @@
 //! Removal of all pairs of a key.
 ghost use Rattle.std.specs.Prelude.{◌≡◌, [], length, false, true, is_some, IfOk, OnOk, IfErr, OnErr, IsOk};
+ghost use Rattle.std.specs.Option.{option_map};
 ghost use Rattle.indexset_core.specs.Nodes.{joined};
 ghost use Rattle.indexset_log.specs.Tree.{refusal_for};
 ghost use Rattle.indexset_multi.specs.Changed.{AreRemoved, RemovalsTold, refusal_of, some_removal};
-ghost use Rattle.indexset_multi.specs.Keys.{first_pair, pairs_of, without_key};
+ghost use Rattle.indexset_multi.specs.Keys.{first_pair, key_and_value, pairs_of, without_key};
 ghost use Rattle.indexset_multi.specs.Told.{IsToldOn};
 ghost use Rattle.indexset_multi.specs.Tree.{IsPairClone, after_removal, first_events};
 
@@ -12,6 +13,7 @@ use indexset_core::moves::move_tail;
 use indexset_core::multipair::MultiPair;
 use indexset_core::node::NodeLike;
 use indexset_core::refusal::{Refusal, Refused};
+use indexset_core::sought::Sought;
 use indexset_events::change::ChangeEvent;
 
 impl<K: Ord + Clone + Drop, V: Eq + Clone + Drop, Node: NodeLike<MultiPair<K, V>>> BTreeMultiMap<
@@ -30,22 +32,22 @@ impl<K: Ord + Clone + Drop, V: Eq + Clone + Drop, Node: NodeLike<MultiPair<K, V>
     /// }
     /// assert!(rt; tags.remove_all(&1)? == 2 && tags.len() == 1);
     /// ```
-    pub fn remove_all(&mut self, key: &K) -> Result<usize, Refusal>
-        ensures count { IfOk result (λ n. n ≡ length (pairs_of K.cmp
-            (joined self.old.nodes) key.now)) }
+    pub fn remove_all<Q: Sought<K> + Drop>(&mut self, key: Q) -> Result<usize, Refusal>
+        ensures count { IfOk result (λ n. n ≡ length (pairs_of Q.order
+            (joined self.old.nodes) key)) }
         ensures contents { OnOk result (joined self.new.nodes
-            ≡ without_key K.cmp (joined self.old.nodes) key.now) }
-        ensures gone { OnOk result (pairs_of K.cmp (joined self.new.nodes) key.now ≡ []) }
+            ≡ without_key Q.order (joined self.old.nodes) key) }
+        ensures gone { OnOk result (pairs_of Q.order (joined self.new.nodes) key ≡ []) }
         ensures refusal { IfErr result (λ e. e ≡ refusal_of self.new
-            (some_removal K.cmp self.new key.now)) }
-        ensures no_event { pairs_of K.cmp (joined self.old.nodes) key.now ≡ [] → IsOk result }
-        ensures removed { AreRemoved K.cmp self.old self.new key.now }
+            (some_removal K.cmp Q.order self.new key)) }
+        ensures no_event { pairs_of Q.order (joined self.old.nodes) key ≡ [] → IsOk result }
+        ensures removed { AreRemoved K.cmp Q.order self.old self.new key }
     {
         // What holds of the nodes at first, and that the number of pairs fits.
         self.rule();
         let _len = self.len();
         let mut count = 0;
-        while let Some(_) = self.remove_some(key)? {
+        while let Some(_) = self.remove_first(&key)? {
             count += 1;
         }
         Ok(count)
@@ -65,26 +67,26 @@ impl<K: Ord + Clone + Drop, V: Eq + Clone + Drop, Node: NodeLike<MultiPair<K, V>
     /// let (count, events) = tags.remove_all_cdc(&1)?;
     /// assert!(rt; count == 2 && events.len() == 2);
     /// ```
-    pub fn remove_all_cdc(
+    pub fn remove_all_cdc<Q: Sought<K> + Drop>(
         &mut self,
-        key: &K,
+        key: Q,
     ) -> Result<
         (usize, Vec<ChangeEvent<MultiPair<K, V>>>),
         Refused<Vec<ChangeEvent<MultiPair<K, V>>>>,
     >
         ensures count { IfOk result (λ r.
-            r.0 ≡ length (pairs_of K.cmp (joined self.old.nodes) key.now)) }
+            r.0 ≡ length (pairs_of Q.order (joined self.old.nodes) key)) }
         ensures contents { OnOk result (joined self.new.nodes
-            ≡ without_key K.cmp (joined self.old.nodes) key.now) }
-        ensures gone { OnOk result (pairs_of K.cmp (joined self.new.nodes) key.now ≡ []) }
+            ≡ without_key Q.order (joined self.old.nodes) key) }
+        ensures gone { OnOk result (pairs_of Q.order (joined self.new.nodes) key ≡ []) }
         ensures refusal { IfErr result (λ e. e.cause ≡ refusal_of self.new
-            (some_removal K.cmp self.new key.now)) }
-        ensures no_event { pairs_of K.cmp (joined self.old.nodes) key.now ≡ [] → IsOk result }
-        ensures removed { AreRemoved K.cmp self.old self.new key.now }
-        ensures told { IfOk result (λ r. RemovalsTold K.cmp K.is_clone V.is_clone self.old self.new
-            key.now r.1.items) }
-        ensures told_before { IfErr result (λ e. RemovalsTold K.cmp K.is_clone V.is_clone self.old
-            self.new key.now e.value.items) }
+            (some_removal K.cmp Q.order self.new key)) }
+        ensures no_event { pairs_of Q.order (joined self.old.nodes) key ≡ [] → IsOk result }
+        ensures removed { AreRemoved K.cmp Q.order self.old self.new key }
+        ensures told { IfOk result (λ r. RemovalsTold K.cmp Q.order K.is_clone V.is_clone self.old self.new
+            key r.1.items) }
+        ensures told_before { IfErr result (λ e. RemovalsTold K.cmp Q.order K.is_clone V.is_clone self.old
+            self.new key e.value.items) }
     {
         // What holds of the nodes at first, and that the number of pairs fits.
         self.rule();
@@ -92,7 +94,7 @@ impl<K: Ord + Clone + Drop, V: Eq + Clone + Drop, Node: NodeLike<MultiPair<K, V>
         let mut count = 0;
         let mut events = Vec::new(*self.set.allocator());
         loop {
-            match self.remove_next(key, &mut events) {
+            match self.remove_next(&key, &mut events) {
                 Ok(true) => count += 1,
                 Ok(false) => return Ok((count, events)),
                 Err(cause) => {
@@ -105,26 +107,41 @@ impl<K: Ord + Clone + Drop, V: Eq + Clone + Drop, Node: NodeLike<MultiPair<K, V>
         }
     }
 
+    // Removes the first pair of a key, if any, and returns it. A failed call changes nothing.
+    fn remove_first<Q: Sought<K>>(&mut self, key: &Q) -> Result<Option<(K, V)>, Refusal>
+        ensures tree { OnOk result (self.new ≡ after_removal K.cmp self.old
+            (first_pair Q.order (joined self.old.nodes) key.now)) }
+        ensures answer { IfOk result (λ entry. entry ≡ option_map key_and_value
+            (first_pair Q.order (joined self.old.nodes) key.now)) }
+        ensures refusal { IfErr result (λ e. e ≡ refusal_for self.old.next
+            (length (first_events K.cmp Q.order self.old key.now))) }
+        ensures no_event { first_events K.cmp Q.order self.old key.now ≡ [] → IsOk result }
+        ensures unchanged { OnErr result (self.new ≡ self.old) }
+    {
+        let place = self.first_place(key);
+        self.take(place)
+    }
+
     // Removes the first pair of a key, if any, adds the events to others, and returns whether there
     // was one. A failed call changes nothing.
-    fn remove_next(
+    fn remove_next<Q: Sought<K>>(
         &mut self,
-        key: &K,
+        key: &Q,
         events: &mut Vec<ChangeEvent<MultiPair<K, V>>>,
     ) -> Result<bool, Refusal>
         ensures tree { OnOk result (self.new ≡ after_removal K.cmp self.old
-            (first_pair K.cmp (joined self.old.nodes) key.now)) }
+            (first_pair Q.order (joined self.old.nodes) key.now)) }
         ensures found { IfOk result (λ found. found ≡ is_some
-            (first_pair K.cmp (joined self.old.nodes) key.now)) }
+            (first_pair Q.order (joined self.old.nodes) key.now)) }
         ensures told { IfOk result (λ found. found ≡ true
             → IsToldOn (IsPairClone K.is_clone V.is_clone) self.old.next
-            (first_events K.cmp self.old key.now) events.old.items events.new.items) }
+            (first_events K.cmp Q.order self.old key.now) events.old.items events.new.items) }
         ensures untold { IfOk result (λ found.
             found ≡ false → events.new.items ≡ events.old.items) }
         ensures refusal { IfErr result (λ e. e ≡ refusal_for self.old.next
-            (length (first_events K.cmp self.old key.now))) }
+            (length (first_events K.cmp Q.order self.old key.now))) }
         ensures there { OnErr result
-            (is_some (first_pair K.cmp (joined self.old.nodes) key.now) ≡ true) }
+            (is_some (first_pair Q.order (joined self.old.nodes) key.now) ≡ true) }
         ensures kept { OnErr result (events.new.items ≡ events.old.items) }
         ensures unchanged { OnErr result (self.new ≡ self.old) }
     {

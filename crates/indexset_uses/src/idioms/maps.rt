@@ -8,7 +8,6 @@ ghost use Rattle.indexset.specs.Words.{has_key, pair_keys, pairs_within, put_val
 
 use bytes::ByteStr;
 use indexset::base::refusal::{Refusal, Refused};
-use indexset::text::{ByStr, OnKey};
 use indexset::{BTreeMap, Entry};
 use std::alloc::{AllocError, Global};
 use std::ops::Bound;
@@ -78,13 +77,24 @@ pub fn known(map: &BTreeMap<u64, u64>, key: u64) -> u64
     map[&key]
 }
 
-/// `map.get("pears")` where a key is an owned text: by a comparator of texts, which allocates nothing.
+/// `map.get("pears")` where a key is an owned text.
 pub fn price(prices: &BTreeMap<ByteStr, u64>, name: &str) -> Option<u64>
     ensures { result ≡ value_of (slice_cmp nat_cmp) prices.now.pairs name.now }
 {
-    // The keys ascend, as a search requires.
-    let _len = prices.len();
-    prices.get_by(&mut OnKey::new(ByStr::new(name))).copied()
+    prices.get(name).copied()
+}
+
+/// `map.remove("pears")`.
+pub fn drop_price(prices: &mut BTreeMap<ByteStr, u64>, name: &str) -> Option<u64>
+    ensures value { result ≡ value_of (slice_cmp nat_cmp) prices.old.pairs name.now }
+    ensures rest { prices.new.pairs ≡ without_key (slice_cmp nat_cmp) prices.old.pairs name.now }
+{
+    prices.remove(name)
+}
+
+/// `map.range("e".."g")`.
+pub fn from_e_to_g(prices: &BTreeMap<ByteStr, u64>) -> usize {
+    prices.range("e".."g").len()
 }
 
 /// `if let Some(v) = map.get_mut(&k) { *v += n }`.

@@ -9,9 +9,10 @@ use Rattle.indexset_handle.specs.declared.status.TheConstants.{NO, YES, MEMORY, 
 use Rattle.indexset_c.proofs.StatusLemmas.{IsRefused, for_events, is_refused, not_at, not_most, refused_not_done, refused_not_no, refused_not_unfit, refused_not_yes, refused_status}
 use Rattle.indexset_c.proofs.log_edits.indexset_log_remove.Goals.{in-Ok+then-write, in-Ok+else-write, in-Err}
 use Rattle.indexset_c.proofs.log_edits.indexset_log_remove.Goals as goal
+use Rattle.indexset_core.specs.Order.{unequal}
 
 pub returns-in_default : goal.returns-in_default
-unfolding without_key
+unfolding unequal
 returns-in_default c =
     let none : None ≡ c.args.log.now.slot.value = c.in_default.ensures.taken in let left = c.in_default.ensures.left in
     rw (← none) record {

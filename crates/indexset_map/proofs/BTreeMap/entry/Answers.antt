@@ -5,6 +5,7 @@ use Rattle.indexset_map.proofs.EntryLemmas.{shown_key}
 use Rattle.indexset_core.specs.Pairs.{value_of}
 use Rattle.indexset_map.proofs.KeyLemmas.{put_found, without_found, without_absent}
 use Rattle.indexset_map.proofs.ThereLemmas.{value_there}
+use Rattle.indexset_core.specs.Sought.{acts_as_itself, one_as_itself}
 use Rattle.indexset_map.proofs.BTreeMap.entry.Goals as goal
 
 pub invariant_of-result : goal.invariant_of-result
@@ -54,7 +55,7 @@ pub returns-clause-missing : goal.returns-clause-missing
 returns-clause-missing g c = sym (ap (λ (b : Bool). if b then None else Some c.args.key) (key_absent g.K.Ord.cmp _ _ (c.spot-spot.ensures.spot.absent c.if-spot.false)))
 
 pub returns-then-spot-clause-removal : goal.returns-then-spot-clause-removal
-returns-then-spot-clause-removal g c = without_found g.K.Ord.cmp c.args.self.now c.args.key _ (c.spot-spot.ensures.spot.found c.if-spot.true) g.met.K.Ord.total c.spot-spot.ensures.ascending
+returns-then-spot-clause-removal g c = without_found g.K.Ord.cmp c.args.self.now c.args.key _ (c.spot-spot.ensures.spot.found c.if-spot.true) (acts_as_itself g.met.K.Ord.total) c.spot-spot.ensures.ascending g.met.K.Ord.total (one_as_itself g.met.K.Ord.total)
 
 pub returns-clause-removal : goal.returns-clause-removal
 returns-clause-removal g c = sym (without_absent g.K.Ord.cmp c.args.self.now c.args.key (key_absent g.K.Ord.cmp _ _ (c.spot-spot.ensures.spot.absent c.if-spot.false)))

@@ -3,6 +3,7 @@ use Rattle.indexset_spine.specs.Cut.{items}
 use Rattle.indexset_core.proofs.CallerLemmas.{parted_by_key}
 use Rattle.indexset_set.proofs.CallerLemmas.{in_order}
 use Rattle.indexset_map.proofs.SpotLemmas.{sought_key}
+use Rattle.indexset_core.specs.Sought.{acts_as_itself}
 use Rattle.indexset_map.proofs.BTreeMap.spot_from_end.Goals as goal
 
 pub spot_from_end_by-requires : goal.spot_from_end_by-requires
@@ -13,4 +14,4 @@ spot_from_end_by-requires g c =
 pub returns-clause-spot : goal.returns-clause-spot
 returns-clause-spot g c =
     let told = c.spot_from_end_by.ensures in
-    sought_key g.K.Ord.cmp g.met.K.Ord.total c.self.inside.set c.args.self.now c.new.result.0 c.args.key.now c.spot_from_end_by.result c.self.view_is (ap (λ (t : g.row.K.Denot × ℕ). t.0) c.new.ensures) told.ascending told.cut told.sought
+    sought_key g.K.Ord.cmp (acts_as_itself g.met.K.Ord.total) c.self.inside.set c.args.self.now c.new.result.0 c.args.key.now c.spot_from_end_by.result c.self.view_is (ap (λ (t : g.row.K.Denot × ℕ). t.0) c.new.ensures) told.ascending told.cut told.sought

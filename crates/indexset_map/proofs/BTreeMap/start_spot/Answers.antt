@@ -6,7 +6,7 @@ use Rattle.indexset_map.proofs.SpanLemmas.{keys_bounded}
 use Rattle.indexset_map.proofs.BTreeMap.start_spot.Goals as goal
 
 pub start_of-spot-requires : goal.start_of-spot-requires
-start_of-spot-requires g c = keys_bounded g.K.Ord.cmp g.met.K.Ord.total (items c.self.inside.set) c.len-len.ensures.ascending c.map.result
+start_of-spot-requires g c = keys_bounded g.Q.Sought.order g.met.Q.Sought.acts_as_key (items c.self.inside.set) c.len-len.ensures.ascending c.map.result
 
 pub returns-clause-place : goal.returns-clause-place
 returns-clause-place g c =
@@ -15,4 +15,4 @@ returns-clause-place g c =
 pub returns-clause-position : goal.returns-clause-position
 returns-clause-position g c =
     rw (← c.self.view_is)
-    (c.position-position.ensures ∙ c.start_of-spot.ensures.position ∙ probed_before g.K.Ord.cmp (λ k. k.now) (λ p. p.key) (items c.self.inside.set) c.args.start c.map.result c.map.ensures)
+    (c.position-position.ensures ∙ c.start_of-spot.ensures.position ∙ probed_before g.Q.Sought.order (λ k. k.now) (λ p. p.key) (items c.self.inside.set) c.args.start c.map.result c.map.ensures)

@@ -10,4 +10,4 @@ lent None = refl
 lent (Some x) = refl
 
 pub returns : goal.returns
-returns g c = c.is_some.ensures ∙ (lent c.get.result ∙ (ap is_some c.get.ensures ∙ is_some-find (λ x. is_eq (g.Q.Ord.cmp (g.Q.KeyOf.key x) c.args.value.now)) (joined c.args.self.now.nodes)))
+returns g c = c.is_some.ensures ∙ (lent c.get.result ∙ (ap is_some c.get.ensures ∙ is_some-find (λ x. is_eq (g.Q.Sought.order x c.args.value)) (joined c.args.self.now.nodes)))

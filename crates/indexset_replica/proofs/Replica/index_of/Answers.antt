@@ -3,22 +3,22 @@ use Rattle.std.specs.List.{find, list_any, position}
 use Rattle.std.specs.Ordering.{is_eq}
 use Rattle.indexset_core.specs.Nodes.{joined, vec_items}
 use Rattle.indexset_core.specs.Parted.{IsParted, less_count}
-use Rattle.indexset_core.proofs.CallerLemmas.{IsEnd, end_at, equal_inside, find_position, gap_found, is_some-find, position_found}
-use Rattle.indexset_replica.proofs.KeySearches.{has_there, parted_keys}
+use Rattle.indexset_core.proofs.CallerLemmas.{parted_by_sought, IsEnd, end_at, equal_inside, find_position, gap_found, is_some-find, position_found}
+use Rattle.indexset_replica.proofs.KeySearches.{has_there}
 use Rattle.indexset_replica.proofs.Replica.index_of.Given.{Over}
-use Rattle.indexset_replica.proofs.Replica.index_of.Goals.{After-drop-new}
+use Rattle.indexset_replica.proofs.Replica.index_of.Goals.{After-drop-value}
 use Rattle.indexset_replica.proofs.Replica.index_of.Goals as goal
 
 -- where the search ends that has found an item
-module _ (g : Over) (c : After-drop-new g) where
+module _ (g : Over) (c : After-drop-value g) where
   abbrev answer : g.row.T.Denot → Ordering
-  answer x = g.Q.Ord.cmp (g.Q.KeyOf.key x) c.args.value.now
+  answer x = g.Q.Sought.order x c.args.value
 
   same : vec_items c.self.inside.nodes.items ≡ c.args.self.now.nodes
   same = ap (λ t. t.nodes) c.self.view_is
 
   parted : IsParted answer (joined c.args.self.now.nodes)
-  parted = parted_keys g.T.Ord.cmp g.Q.Ord.cmp g.met.Q.Ord.total g.Q.KeyOf.key g.met.Q.KeyOf.in_order (joined c.args.self.now.nodes) (rw same at c.self.invariant.nodes.ascending) c.args.value.now
+  parted = parted_by_sought g.met.Q.Sought.acts_as_key (joined c.args.self.now.nodes) (rw same at c.self.invariant.nodes.ascending) c.args.value
 
   end : IsEnd answer true c.args.self.now.nodes c.in-Ok.place
   end = end_at answer c.args.self.now.nodes (rw same at c.self.invariant.nodes.filled) parted c.locate_by.result (rw (c.new.ensures, c.as_slice.ensures.value, same) at c.locate_by.ensures.place) c.in-Ok.place c.in-Ok.is
@@ -48,8 +48,7 @@ pub returns-clause-value : goal.returns-clause-value
 returns-clause-value g c =
     let ns = c.args.self.now.nodes in
     let same : vec_items c.self.inside.nodes.items ≡ ns = ap (λ t. t.nodes) c.self.view_is in
-    let key : g.row.T.Denot → g.row.Q.Denot = g.Q.KeyOf.key in
-    let parted : IsParted (λ x. g.Q.Ord.cmp (key x) c.args.value.now) (joined ns) = parted_keys g.T.Ord.cmp g.Q.Ord.cmp g.met.Q.Ord.total key g.met.Q.KeyOf.in_order (joined ns) (rw same at c.self.invariant.nodes.ascending) c.args.value.now in
-    let none : find (λ x. is_eq (g.Q.Ord.cmp (key x) c.args.value.now)) (joined ns) ≡ None = gap_found (λ x. g.Q.Ord.cmp (key x) c.args.value.now) ns (rw same at c.self.invariant.nodes.filled) parted c.locate_by.result (rw (c.new.ensures, c.as_slice.ensures.value, same) at c.locate_by.ensures.place) c.in-Err.field-0 c.in-Err.is in
-    let has : list_any (λ x. is_eq (g.Q.Ord.cmp (key x) c.args.value.now)) (joined ns) ≡ false = sym (is_some-find (λ x. is_eq (g.Q.Ord.cmp (key x) c.args.value.now)) (joined ns)) ∙ ap is_some none in
+    let parted : IsParted (λ x. g.Q.Sought.order x c.args.value) (joined ns) = parted_by_sought g.met.Q.Sought.acts_as_key (joined ns) (rw same at c.self.invariant.nodes.ascending) c.args.value in
+    let none : find (λ x. is_eq (g.Q.Sought.order x c.args.value)) (joined ns) ≡ None = gap_found (λ x. g.Q.Sought.order x c.args.value) ns (rw same at c.self.invariant.nodes.filled) parted c.locate_by.result (rw (c.new.ensures, c.as_slice.ensures.value, same) at c.locate_by.ensures.place) c.in-Err.field-0 c.in-Err.is in
+    let has : list_any (λ x. is_eq (g.Q.Sought.order x c.args.value)) (joined ns) ≡ false = sym (is_some-find (λ x. is_eq (g.Q.Sought.order x c.args.value)) (joined ns)) ∙ ap is_some none in
     rw has refl

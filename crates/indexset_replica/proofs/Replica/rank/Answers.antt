@@ -1,18 +1,19 @@
 use Rattle.std.proofs.Common.{◌≡◌, slice_get, ap, ◌∙◌, Ordering}
+use Rattle.indexset_core.proofs.CallerLemmas.{parted_by_sought}
 use Rattle.indexset_core.specs.Nodes.{joined}
 use Rattle.indexset_core.specs.Parted.{IsParted, less_count}
-use Rattle.indexset_replica.proofs.KeySearches.{all_before, parted_keys, there_inside, there_item}
+use Rattle.indexset_replica.proofs.KeySearches.{all_before, there_inside, there_item}
 use Rattle.indexset_replica.proofs.Replica.rank.Given.{Over}
-use Rattle.indexset_replica.proofs.Replica.rank.Goals.{After-count_before}
+use Rattle.indexset_replica.proofs.Replica.rank.Goals.{After-drop-value}
 use Rattle.indexset_replica.proofs.Replica.rank.Goals as goal
 
 -- the items are found in order, and so many of them are below
-module _ (g : Over) (c : After-count_before g) where
+module _ (g : Over) (c : After-drop-value g) where
   abbrev answer : g.row.T.Denot → Ordering
-  answer x = g.Q.Ord.cmp (g.Q.KeyOf.key x) c.args.value.now
+  answer x = g.Q.Sought.order x c.args.value
 
   parted : IsParted answer (joined c.args.self.now.nodes)
-  parted = parted_keys g.T.Ord.cmp g.Q.Ord.cmp g.met.Q.Ord.total g.Q.KeyOf.key g.met.Q.KeyOf.in_order (joined c.args.self.now.nodes) (rw (ap (λ t. t.nodes) c.self.view_is) at c.self.invariant.nodes.ascending) c.args.value.now
+  parted = parted_by_sought g.met.Q.Sought.acts_as_key (joined c.args.self.now.nodes) (rw (ap (λ t. t.nodes) c.self.view_is) at c.self.invariant.nodes.ascending) c.args.value
 
   is : c.count_before.result ≡ less_count answer (joined c.args.self.now.nodes)
   is = rw c.new.ensures at c.count_before.ensures

@@ -1,4 +1,4 @@
-use Rattle.std.proofs.Common.{◌≡◌, subst, sym, arith}
+use Rattle.std.proofs.Common.{subst, sym, arith}
 use Rattle.indexset_core.specs.Order.{IsAscending}
 use Rattle.indexset_set.proofs.SetAppendLemmas.{blocks_items, blocks_nodes}
 use Rattle.indexset_set.proofs.BTreeSet.of_ascending.Goals as goal

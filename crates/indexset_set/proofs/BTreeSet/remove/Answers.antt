@@ -6,4 +6,4 @@ use Rattle.indexset_set.proofs.BTreeSet.remove.Goals as goal
 
 pub returns-clause-removed : goal.returns-clause-removed
 returns-clause-removed g c =
-    c.is_some.ensures ∙ ap is_some c.take.ensures.value ∙ is_some-find (λ x. is_eq (g.T.Ord.cmp x c.args.value.now)) (items c.args.self.now)
+    c.is_some.ensures ∙ ap is_some c.take.ensures.value ∙ is_some-find (λ x. is_eq (g.Q.Sought.order x c.args.value)) (items c.args.self.now)

@@ -1,5 +1,5 @@
 use Rattle.std.proofs.Common.{refl, sym, ◌∙◌}
-use Rattle.indexset_core.proofs.CallerLemmas.{found_equal, found_has_equal, found_without, gap_equal, gap_has_equal, gap_without, has_none, remove_ascending}
+use Rattle.indexset_core.proofs.CallerLemmas.{found_equal, found_has_equal, gap_equal, gap_has_equal, gap_without, has_none, remove_ascending, sought_without}
 use Rattle.indexset_set.proofs.SetNodeLemmas.{without_there, without_none}
 use Rattle.indexset_set.proofs.BTreeSet.take.Goals as goal
 
@@ -11,12 +11,12 @@ invariant_of-self g c =
 pub returns-then-spot : goal.returns-then-spot
 returns-then-spot g c =
     let there = rw c.if-spot.true at c.locate-spot.ensures.found in
-    let rest = c.remove.ensures.items ∙ sym (found_without _ _ _ _ g.met.T.Ord.total c.self.invariant there) in
+    let rest = c.remove.ensures.items ∙ sym (sought_without g.met.T.Ord.total g.met.Q.Names.names_one _ _ _ c.self.invariant there) in
     rw (← c.self.view_is) (record {
       value = sym (found_equal _ _ _ _ there ∙ c.remove.ensures.value);
       rest = rest;
-      gone = rw rest (has_none g.T.Ord.cmp _ _);
-      nodes = without_there g.T.Ord.cmp c.self.inside.spine c.args.value.now c.locate-spot.result _ c.locate-spot.ensures.place (found_has_equal _ _ _ _ there) c.remove.ensures.nodes;
+      gone = rw rest (has_none g.Q.Sought.order _ _);
+      nodes = without_there g.Q.Sought.order c.self.inside.spine c.args.value c.locate-spot.result _ c.locate-spot.ensures.place (found_has_equal _ _ _ _ there) c.remove.ensures.nodes;
       size = c.remove.ensures.size;
     })
 
@@ -28,6 +28,6 @@ returns-else-spot g c =
       value = sym (gap_equal _ _ _ _ gap);
       rest = sym (gap_without _ _ _ _ gap);
       gone = absent;
-      nodes = sym (without_none g.T.Ord.cmp c.self.inside.spine c.args.value.now absent);
+      nodes = sym (without_none g.Q.Sought.order c.self.inside.spine c.args.value absent);
       size = refl;
     })

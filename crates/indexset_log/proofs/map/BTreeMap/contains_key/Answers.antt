@@ -10,4 +10,4 @@ lent None = refl
 lent (Some x) = refl
 
 pub returns : goal.returns
-returns g c = c.is_some.ensures ∙ (lent c.get.result ∙ (ap is_some c.get.ensures ∙ is_some-find (λ p. is_eq (g.K.Ord.cmp p.key c.args.key.now)) (joined c.args.self.now.nodes)))
+returns g c = c.is_some.ensures ∙ (lent c.get.result ∙ (ap is_some c.get.ensures ∙ is_some-find (λ p. is_eq (g.Q.Sought.order p.key c.args.key)) (joined c.args.self.now.nodes)))

@@ -18,7 +18,7 @@ returns g c =
       unchanged = tt;
       there = done.there;
       written = ap (λ l. value_of g.K.Ord.cmp l c.args.key) contents ∙ value_put g.K.Ord.cmp g.met.K.Ord.total _ c.args.key c.args.value;
-      others = others_put g.met.K.Ord.total c.args.self.now.nodes c.put_cdc.new.self.nodes c.args.key c.args.value contents;
+      others = others_put c.args.self.now.nodes c.put_cdc.new.self.nodes g.met.K.Ord.total c.args.key c.args.value contents;
       changed = done.changed;
       told = pairs_told g.K.Ord.cmp g.K.Clone.is_clone g.V.Clone.is_clone done.told;
     }

@@ -3,13 +3,13 @@ use Rattle.indexset_core.specs.Nodes.{joined}
 use Rattle.indexset_core.specs.Parted.{less_count}
 use Rattle.indexset_core.proofs.CallerLemmas.{IsRank, rank_is}
 use Rattle.indexset_log.proofs.map.BTreeMap.rank.Given.{Over}
-use Rattle.indexset_log.proofs.map.BTreeMap.rank.Goals.{After-count_before}
+use Rattle.indexset_log.proofs.map.BTreeMap.rank.Goals.{After-drop-key}
 use Rattle.indexset_log.proofs.map.BTreeMap.rank.Goals as goal
 
-told : (g : Over) (c : After-count_before g) → IsRank (λ p. g.K.Ord.cmp p.key c.args.key.now) (joined c.args.self.now.nodes) c.count_before.result
+told : (g : Over) (c : After-drop-key g) → IsRank (λ p. g.Q.Sought.order p.key c.args.key) (joined c.args.self.now.nodes) c.count_before.result
 told g c =
     let l = joined c.args.self.now.nodes in
-    rank_is _ l c.by_key.ensures.parted c.count_before.result (subst (λ t. c.count_before.result ≡ less_count (λ x. g.K.Ord.cmp x.key c.by_key.result.0) (joined t.nodes)) c.self.view_is c.count_before.ensures ∙ ap (λ p. less_count (λ x. g.K.Ord.cmp x.key p.0) l) c.by_key.ensures.probe)
+    rank_is _ l c.by_key.ensures.parted c.count_before.result (subst (λ t. c.count_before.result ≡ less_count (λ x. g.Q.Sought.order x.key c.by_key.result.0) (joined t.nodes)) c.self.view_is c.count_before.ensures ∙ ap (λ p. less_count (λ x. g.Q.Sought.order x.key p.0) l) c.by_key.ensures.probe)
 
 pub returns-clause-there : goal.returns-clause-there
 returns-clause-there g c = (told g c).there

@@ -15,39 +15,39 @@ pub returns-in_err-pair-in-Ok-clause-refusal : goal.returns-in_err-pair-in-Ok-cl
 returns-in_err-pair-in-Ok-clause-refusal g c =
     let refused = subst (λ t. c.in_err-pair-in-Ok.field-0.0 ≡ refusal_for t.next (taking_count t.size t.nodes c.in-Ok.node c.in-Ok.offset)) c.self.view_is c.in_err-pair-in-Ok.ensures.refusal in
     let told : IfErr c.from_residual.result (λ e. e ≡ c.in_err-pair-in-Ok.field-0.0) = search rules in
-    rw (key_count g.met.K.Ord.total c.locate.ensures.lawful c.args.key.now c.locate.ensures.place c.in-Ok.is) (subst (λ r. IfErr c.from_residual.result (λ e. e ≡ r)) refused told)
+    rw (key_count g.met.K.Ord.total g.met.Q.Sought.acts_as_key g.met.Q.Names.names_one c.locate.ensures.lawful c.args.key c.locate.ensures.place c.in-Ok.is) (subst (λ r. IfErr c.from_residual.result (λ e. e ≡ r)) refused told)
 
 pub returns-in_err-pair-in-Ok-clause-no_event : goal.returns-in_err-pair-in-Ok-clause-no_event
 returns-in_err-pair-in-Ok-clause-no_event g c =
-    λ none. absurd (omega (arith, key_count g.met.K.Ord.total c.locate.ensures.lawful c.args.key.now c.locate.ensures.place c.in-Ok.is, some_taken c.args.self.now.size c.args.self.now.nodes c.in-Ok.node c.in-Ok.offset, ap (λ l. length l) none))
+    λ none. absurd (omega (arith, key_count g.met.K.Ord.total g.met.Q.Sought.acts_as_key g.met.Q.Names.names_one c.locate.ensures.lawful c.args.key c.locate.ensures.place c.in-Ok.is, some_taken c.args.self.now.size c.args.self.now.nodes c.in-Ok.node c.in-Ok.offset, ap (λ l. length l) none))
 
 pub returns-in_ok-pair-in-Ok : goal.returns-in_ok-pair-in-Ok
 returns-in_ok-pair-in-Ok g c =
     let done = rw c.self.view_is at c.in_ok-pair-in-Ok.ensures in
-    let taken = key_taken g.met.K.Ord.total c.locate.ensures.lawful c.args.key.now c.locate.ensures.place c.in-Ok.is done.item in
-    let d = key_changed g.met.K.Ord.total c.args.self.now c.locate.ensures.lawful c.args.key.now taken done.changed in
+    let taken = key_taken g.met.K.Ord.total g.met.Q.Sought.acts_as_key g.met.Q.Names.names_one c.locate.ensures.lawful c.args.key c.locate.ensures.place c.in-Ok.is done.item in
+    let d = key_changed g.met.K.Ord.total g.met.Q.Sought.acts_as_key g.met.Q.Names.names_one c.args.self.now c.locate.ensures.lawful c.args.key taken done.changed in
     record {
       answer = rw taken.pair_is refl;
       refusal = tt;
       no_event = λ _. refl;
       unchanged = tt;
-      gone = ap (λ l. has_key g.K.Ord.cmp l c.args.key.now) d.contents ∙ key_gone g.K.Ord.cmp (joined c.args.self.now.nodes) c.args.key.now;
-      others = others_removed g.met.K.Ord.total c.args.self.now.nodes c.remove_at_cdc.new.self.nodes c.args.key.now d.contents;
+      gone = ap (λ l. has_key g.Q.Sought.order l c.args.key) d.contents ∙ key_gone g.Q.Sought.order (joined c.args.self.now.nodes) c.args.key;
+      others = others_removed c.args.self.now.nodes c.remove_at_cdc.new.self.nodes g.met.Q.Sought.acts_as_key c.args.key d.contents;
       changed = d;
-      told = key_told g.met.K.Ord.total c.args.self.now c.locate.ensures.lawful c.args.key.now taken (pairs_told g.K.Ord.cmp g.K.Clone.is_clone g.V.Clone.is_clone done.told);
+      told = key_told g.met.K.Ord.total g.met.Q.Sought.acts_as_key g.met.Q.Names.names_one c.args.self.now c.locate.ensures.lawful c.args.key taken (pairs_told g.K.Ord.cmp g.K.Clone.is_clone g.V.Clone.is_clone done.told);
     }
 
 pub returns-in-Err : goal.returns-in-Err
 returns-in-Err g c =
-    let none = no_key g.met.K.Ord.total c.locate.ensures.lawful c.args.key.now c.locate.ensures.place c.in-Err.is in
-    let d = no_key_changed g.met.K.Ord.total c.args.self.now c.locate.ensures.lawful c.args.key.now none c.locate.ensures.number in
+    let none = no_key g.met.K.Ord.total g.met.Q.Sought.acts_as_key g.met.Q.Names.names_one c.locate.ensures.lawful c.args.key c.locate.ensures.place c.in-Err.is in
+    let d = no_key_changed g.met.K.Ord.total g.met.Q.Sought.acts_as_key g.met.Q.Names.names_one c.args.self.now c.locate.ensures.lawful c.args.key none c.locate.ensures.number in
     record {
       answer = rw none.pair_is refl;
       refusal = tt;
       no_event = λ _. refl;
       unchanged = tt;
-      gone = ap (λ l. has_key g.K.Ord.cmp l c.args.key.now) none.contents ∙ key_gone g.K.Ord.cmp (joined c.args.self.now.nodes) c.args.key.now;
-      others = others_removed g.met.K.Ord.total c.args.self.now.nodes c.args.self.now.nodes c.args.key.now none.contents;
+      gone = ap (λ l. has_key g.Q.Sought.order l c.args.key) none.contents ∙ key_gone g.Q.Sought.order (joined c.args.self.now.nodes) c.args.key;
+      others = others_removed c.args.self.now.nodes c.args.self.now.nodes g.met.Q.Sought.acts_as_key c.args.key none.contents;
       changed = d;
       told = pairs_told g.K.Ord.cmp g.K.Clone.is_clone g.V.Clone.is_clone (told (IsPairClone g.K.Clone.is_clone g.V.Clone.is_clone) c.new.result.items d (rw (none.events, c.new.ensures.items) tt));
     }

@@ -3,13 +3,13 @@ use Rattle.indexset_core.specs.Nodes.{joined}
 use Rattle.indexset_core.specs.Parted.{less_count}
 use Rattle.indexset_core.proofs.CallerLemmas.{IsRank, rank_is}
 use Rattle.indexset_log.proofs.set.BTreeSet.rank.Given.{Over}
-use Rattle.indexset_log.proofs.set.BTreeSet.rank.Goals.{After-count_before}
+use Rattle.indexset_log.proofs.set.BTreeSet.rank.Goals.{After-drop-value}
 use Rattle.indexset_log.proofs.set.BTreeSet.rank.Goals as goal
 
-told : (g : Over) (c : After-count_before g) → IsRank (λ x. g.T.Ord.cmp x c.args.value.now) (joined c.args.self.now.nodes) c.count_before.result
+told : (g : Over) (c : After-drop-value g) → IsRank (λ x. g.Q.Sought.order x c.args.value) (joined c.args.self.now.nodes) c.count_before.result
 told g c =
     let l = joined c.args.self.now.nodes in
-    rank_is _ l c.by_item.ensures.parted c.count_before.result (c.count_before.ensures ∙ ap (λ p. less_count (λ x. g.T.Ord.cmp x p.0) l) c.by_item.ensures.probe)
+    rank_is _ l c.by_item.ensures.parted c.count_before.result (c.count_before.ensures ∙ ap (λ p. less_count (λ x. g.Q.Sought.order x p.0) l) c.by_item.ensures.probe)
 
 pub returns-clause-there : goal.returns-clause-there
 returns-clause-there g c = (told g c).there

@@ -10,7 +10,7 @@ invariant-loop-node g l =
     let start = bound_map (λ v. v.now) l.range.0 in
     let end = bound_map (λ v. v.now) l.range.1 in
     let old = map (λ v. v.items) l.initial.nodes in
-    let made = map (outside g.T.Ord.cmp start end) old in
+    let made = map (outside g.Q.Sought.order start end) old in
     record {
       nodes : map (λ v. v.items) l.nodes ≡ take l.node-index made ++ drop l.node-index old;
       count : l.left ≡ length (joined (take l.node-index made));

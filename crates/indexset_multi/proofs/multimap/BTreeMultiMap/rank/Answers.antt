@@ -10,4 +10,4 @@ returns-clause-there g c has =
     let ns = c.args.self.now.nodes in
     let same : c.self.inside.set.nodes ≡ ns = ap (λ m. m.nodes) c.self.view_is in
     ap (slice_get (joined ns)) (rw same at c.position.ensures)
-    ∙ part_first (λ p. is_eq (g.K.Ord.cmp p.key c.args.key.now)) (joined ns) (items_before ns c.places_of.result.0) (items_before ns c.places_of.result.1) c.places_of.ensures.pairs has
+    ∙ part_first (λ p. is_eq (g.Q.Sought.order p.key c.args.key)) (joined ns) (items_before ns c.places_of.result.0) (items_before ns c.places_of.result.1) c.places_of.ensures.pairs has

@@ -13,11 +13,13 @@ returns g c =
     let o = g.met.K.Ord.total in
     let m = c.args.self.now in
     let l = joined m.nodes in
-    let k = c.args.key.now in
+    let order = g.Q.Sought.order in
+    let acts = g.met.Q.Sought.acts_as_key in
+    let k = c.args.key in
     let is = c.equal_place-place.ensures.pair in
     let r = c.take.result in
     let done = c.take.ensures in
-    let d = removed m c.take.new.self o done.rule (equal_pair cmp g.V.PartialEq.eq l k c.args.value.now) r (rw is at done.tree) (rw is at done.fits) in
+    let d = removed m c.take.new.self o done.rule (equal_pair order g.V.PartialEq.eq l k c.args.value.now) r (rw is at done.tree) (rw is at done.fits) in
     let up = lawful_ascends (by_number cmp) m.size m.nodes done.rule.lawful in
     record {
       answer = rw is at done.answer;
@@ -26,7 +28,7 @@ returns g c =
       no_memory = rw is at done.no_memory;
       never = rw is at done.never;
       unchanged = done.unchanged;
-      gone = on_ok_map r d (λ d. ap (λ l. pairs_of cmp l k) d.contents ∙ pair_gone cmp o k (λ p. g.V.PartialEq.eq p.value c.args.value.now) l up);
-      others = on_ok_map r d (λ d other ne. ap (λ l. pairs_of cmp l other) d.contents ∙ others_left cmp o k (λ p. g.V.PartialEq.eq p.value c.args.value.now) l other ne);
+      gone = on_ok_map r d (λ d. ap (λ l. pairs_of order l k) d.contents ∙ pair_gone o acts k (λ p. g.V.PartialEq.eq p.value c.args.value.now) l up);
+      others = on_ok_map r d (λ d other ne. ap (λ l. pairs_of cmp l other) d.contents ∙ others_left o acts k (λ p. g.V.PartialEq.eq p.value c.args.value.now) l other ne);
       changed = d;
     }

@@ -7,10 +7,10 @@ use Rattle.indexset_multi.proofs.multimap.BTreeMultiMap.remove_all_cdc.Given as 
 
 abbrev pub invariant-loop-count : goal.invariant-loop-count
 invariant-loop-count g l = record {
-  tree : l.self ≡ after_removals g.K.Ord.cmp l.initial.self l.key l.count;
-  within : l.count ≤ length (pairs_of g.K.Ord.cmp (joined l.initial.self.nodes) l.key);
-  told : IsTold (IsPairClone g.K.Clone.is_clone g.V.Clone.is_clone) l.initial.self.next (removals_events g.K.Ord.cmp l.initial.self l.key l.count) l.events.items;
+  tree : l.self ≡ after_removals g.K.Ord.cmp g.Q.Sought.order l.initial.self l.key l.count;
+  within : l.count ≤ length (pairs_of g.Q.Sought.order (joined l.initial.self.nodes) l.key);
+  told : IsTold (IsPairClone g.K.Clone.is_clone g.V.Clone.is_clone) l.initial.self.next (removals_events g.K.Ord.cmp g.Q.Sought.order l.initial.self l.key l.count) l.events.items;
 }
 
 abbrev pub decreases-loop-count : goal.decreases-loop-count
-decreases-loop-count g l = length (pairs_of g.K.Ord.cmp (joined l.initial.self.nodes) l.key) - l.count
+decreases-loop-count g l = length (pairs_of g.Q.Sought.order (joined l.initial.self.nodes) l.key) - l.count

@@ -1,7 +1,7 @@
 use Rattle.std.proofs.Common.{◌≡◌, ap, sym, ◌∙◌}
 use Rattle.std.proofs.lemmas.Option.{same_Some}
 use Rattle.indexset_core.specs.Nodes.{joined}
-use Rattle.indexset_replica.specs.Keyed.{index_by_key, rank_by_key}
+use Rattle.indexset_core.specs.Order.{index_of, rank}
 use Rattle.indexset_replica.proofs.CopiedPositions.{index_copied, rank_copied}
 use Rattle.indexset_replica.proofs.laws.positions.positions_where_all_came.Goals as goal
 
@@ -9,12 +9,12 @@ pub returns-clause-rank : goal.returns-clause-rank
 returns-clause-rank g c = λ s ns after es q k all led.
     let r = all.0 in
     let same : r.nodes ≡ after = same_Some r.nodes after (sym all.1.nodes ∙ led) in
-    rank_copied g.T.Ord.cmp g.met.T.Ord.total g.Q.Ord.cmp g.met.Q.Ord.total g.Q.KeyOf.key g.met.Q.KeyOf.alike k g.T.Clone.is_clone r.nodes q.nodes all.2.nodes
-    ∙ ap (λ l. rank_by_key g.Q.Ord.cmp g.Q.KeyOf.key (joined l) k) same
+    rank_copied g.T.Ord.cmp g.met.T.Ord.total g.Q.Sought.order g.met.Q.Sought.acts_as_key.alike k g.T.Clone.is_clone r.nodes q.nodes all.2.nodes
+    ∙ ap (λ l. rank g.Q.Sought.order (joined l) k) same
 
 pub returns-clause-index : goal.returns-clause-index
 returns-clause-index g c = λ s ns after es q k all led.
     let r = all.0 in
     let same : r.nodes ≡ after = same_Some r.nodes after (sym all.1.nodes ∙ led) in
-    index_copied g.T.Ord.cmp g.met.T.Ord.total g.Q.Ord.cmp g.met.Q.Ord.total g.Q.KeyOf.key g.met.Q.KeyOf.alike k g.T.Clone.is_clone r.nodes q.nodes all.2.nodes
-    ∙ ap (λ l. index_by_key g.Q.Ord.cmp g.Q.KeyOf.key (joined l) k) same
+    index_copied g.T.Ord.cmp g.met.T.Ord.total g.Q.Sought.order g.met.Q.Sought.acts_as_key.alike k g.T.Clone.is_clone r.nodes q.nodes all.2.nodes
+    ∙ ap (λ l. index_of g.Q.Sought.order (joined l) k) same

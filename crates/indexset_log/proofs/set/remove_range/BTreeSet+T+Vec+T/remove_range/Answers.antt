@@ -18,7 +18,7 @@ pub remove_within-self-inside-requires : goal.remove_within-self-inside-requires
 remove_within-self-inside-requires g c = rw c.as_mut_slice.ensures.value (omega (arith, c.self.invariant.tree.counted))
 
 -- the nodes that are left
-left : (g : Over) (c : After-retain g) → map (λ (v : Vec g.row.T.Denot Global). v.items) c.retain.new.self.items ≡ without_range g.T.Ord.cmp (map (λ v. v.items) c.self.inside.nodes.items) (g.R.Bounds.start c.args.range) (g.R.Bounds.end c.args.range)
+left : (g : Over) (c : After-retain g) → map (λ (v : Vec g.row.T.Denot Global). v.items) c.retain.new.self.items ≡ without_range g.R.Key.Sought.order (map (λ v. v.items) c.self.inside.nodes.items) (g.R.Bounds.start c.args.range) (g.R.Bounds.end c.args.range)
 left g c =
     let asked = c.remove_within-self-inside in
     let written = with_items_is c.self.inside.nodes asked.new.nodes (omega (arith, c.as_mut_slice.ensures.len)) in
@@ -31,12 +31,12 @@ invariant_of-self g c =
     let held = map (λ (v : Vec g.row.T.Denot Global). v.items) c.self.inside.nodes.items in
     let start = g.R.Bounds.start c.args.range in
     let end = g.R.Bounds.end c.args.range in
-    let tree : IsTree g.T.Ord.cmp _ (without_range g.T.Ord.cmp held start end) c.self.inside.size asked.result =
+    let tree : IsTree g.T.Ord.cmp _ (without_range g.R.Key.Sought.order held start end) c.self.inside.size asked.result =
     record {
-      lawful = ranged_lawful g.T.Ord.cmp (λ x. not (is_within g.T.Ord.cmp start end x)) c.self.inside.size held c.self.invariant.tree.lawful;
+      lawful = ranged_lawful g.T.Ord.cmp (λ x. not (is_within g.R.Key.Sought.order start end x)) c.self.inside.size held c.self.invariant.tree.lawful;
       two = c.self.invariant.tree.two;
       within = c.self.invariant.tree.within;
-      counted = asked.ensures.count ∙ ap (λ q. length q) (ap joined (rw (c.as_mut_slice.ensures.value, c.start_bound.ensures, c.end_bound.ensures) at asked.ensures.nodes) ∙ sym (joined_filled (map (outside g.T.Ord.cmp start end) held)));
+      counted = asked.ensures.count ∙ ap (λ q. length q) (ap joined (rw (c.as_mut_slice.ensures.value, c.start_bound.ensures, c.end_bound.ensures) at asked.ensures.nodes) ∙ sym (joined_filled (map (outside g.R.Key.Sought.order start end) held)));
     } in
     record { tree = rw (left g (goal.at.invariant_of-self g c).After-retain) tree; index_is = rw c.as_slice.ensures.value at c.rebuild.ensures.sums }
 
@@ -45,25 +45,25 @@ rebuild-requires-clause-fits g c =
     let held = map (λ (v : Vec g.row.T.Denot Global). v.items) c.self.inside.nodes.items in
     let start = g.R.Bounds.start c.args.range in
     let end = g.R.Bounds.end c.args.range in
-    let keep : g.row.T.Denot → Bool = λ x. not (is_within g.T.Ord.cmp start end x) in
-    let kept = ap joined (left g (goal.at.rebuild-requires-clause-fits g c).After-retain) ∙ (joined_filled (map (outside g.T.Ord.cmp start end) held) ∙ joined-filter keep held) in
+    let keep : g.row.T.Denot → Bool = λ x. not (is_within g.R.Key.Sought.order start end x) in
+    let kept = ap joined (left g (goal.at.rebuild-requires-clause-fits g c).After-retain) ∙ (joined_filled (map (outside g.R.Key.Sought.order start end) held) ∙ joined-filter keep held) in
     rw c.as_slice.ensures.value (omega (arith, ap (λ l. length l) kept, length-filter keep (joined held), count_by-le-length keep (joined held), c.len-count.ensures.fits, ap sum c.self.invariant.index_is, sum-blocks (node_lengths held), length-joined held, length-joined (map (λ (v : Vec g.row.T.Denot Global). v.items) c.retain.new.self.items)))
 
 pub returns-clause-nodes : goal.returns-clause-nodes
 returns-clause-nodes g c =
-    left g (goal.at.returns-clause-nodes g c).After-retain ∙ ap (λ t. without_range g.T.Ord.cmp t.nodes (g.R.Bounds.start c.args.range) (g.R.Bounds.end c.args.range)) c.self.view_is
+    left g (goal.at.returns-clause-nodes g c).After-retain ∙ ap (λ t. without_range g.R.Key.Sought.order t.nodes (g.R.Bounds.start c.args.range) (g.R.Bounds.end c.args.range)) c.self.view_is
 
 pub returns-clause-contents : goal.returns-clause-contents
 returns-clause-contents g c =
     let start = g.R.Bounds.start c.args.range in
     let end = g.R.Bounds.end c.args.range in
-    let keep : g.row.T.Denot → Bool = λ x. not (is_within g.T.Ord.cmp start end x) in
-    ap joined (returns-clause-nodes g c) ∙ (joined_filled (map (outside g.T.Ord.cmp start end) c.args.self.now.nodes) ∙ joined-filter keep c.args.self.now.nodes)
+    let keep : g.row.T.Denot → Bool = λ x. not (is_within g.R.Key.Sought.order start end x) in
+    ap joined (returns-clause-nodes g c) ∙ (joined_filled (map (outside g.R.Key.Sought.order start end) c.args.self.now.nodes) ∙ joined-filter keep c.args.self.now.nodes)
 
 pub rebuild-requires-clause-room : goal.rebuild-requires-clause-room
 rebuild-requires-clause-room g c =
     let held = map (λ (v : Vec g.row.T.Denot Global). v.items) c.self.inside.nodes.items in
     let after = map (λ (v : Vec g.row.T.Denot Global). v.items) c.retain.new.self.items in
-    let cut = outside g.T.Ord.cmp (g.R.Bounds.start c.args.range) (g.R.Bounds.end c.args.range) in
+    let cut = outside g.R.Key.Sought.order (g.R.Bounds.start c.args.range) (g.R.Bounds.end c.args.range) in
     let few : length after ≤ length held = omega (arith, ap (λ l. length l) (left g (goal.at.rebuild-requires-clause-room g c).After-retain), length-filter is_filled (map cut held), count_by-le-length is_filled (map cut held), length-map held cut) in
     rw c.as_slice.ensures.value (omega (arith, few, count-blocks (node_lengths after), count-lengths after, count-blocks (node_lengths held), count-lengths held, ap (λ l. length l) c.self.invariant.index_is, c.len-count.ensures.within))

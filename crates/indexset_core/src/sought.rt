@@ -1,0 +1,137 @@
+//! What a look-up takes in the place of an item or a key.
+//!
+//! [`Sought`] is compared with items, and [`Names`] is what finds one of them at most.
+ghost use Rattle.std.specs.Prelude.{◌≡◌};
+ghost use Rattle.std.specs.Cmp.Lexicographic.{lists_total, nat_list_cmp_total, slice_cmp};
+ghost use Rattle.std.specs.Ordering.{nat_cmp};
+ghost use Rattle.std.specs.String.{string_bytes};
+ghost use Rattle.std.specs.declared.cmp.Ordering.{Ordering};
+ghost use Rattle.indexset_core.specs.Sought.{ActsAsKey, ActsAsOne, acts_as_itself, acts_by, one_as_itself, one_by};
+
+mod pairs;
+mod parts;
+
+use bytes::ByteStr;
+use std::alloc::Allocator;
+use std::cmp::Ordering;
+
+/// What a look-up takes: an item or a reference to one, a `&str` where the items are `String` or
+/// `ByteStr`, a `&[U]` where they are `Vec<U>`, the key of a `Pair`, or a reference to it, and where
+/// the items are tuples of two, `(&a, &b)`, one of them a `&str` perhaps. It stands for `Borrow`. A
+/// look-up makes no item of it, and so allocates nothing.
+///
+/// ```
+/// let mut names = BTreeSet::new(alloc)?;
+/// names.insert(String::from_str(alloc, "pear")?)?;
+/// assert!(rt; names.contains("pear") && !names.contains("plum"));
+/// ```
+///
+/// Items in ascending order must be found first Less, then Equal, then Greater, and equal items
+/// alike; a type of your own proves that by `acts_as_key`.
+pub trait Sought<T: Ord>: Ord {
+    /// How an item compares with it.
+    ghost order: { T → Self → Ordering };
+
+    /// Returns how an item compares with it.
+    ///
+    /// ```
+    /// # use indexset::base::sought::Sought;
+    /// assert!(rt; 5.place_item(&3).is_lt() && (&5).place_item(&5).is_eq());
+    /// ```
+    fn place_item(&self, item: &T) -> Ordering
+        ensures { result ≡ order item.now self.now };
+
+    ghost acts_as_key: { ActsAsKey T.cmp order Self.cmp };
+}
+
+/// What is sought and finds one item at most: a removal takes it. Of the types that a look-up takes
+/// only the key of numbered pairs does not.
+pub trait Names<T: Ord>: Sought<T> {
+    ghost names_one: { ActsAsOne T.cmp Self.order };
+}
+
+impl<T: Ord> Sought<T> for T {
+    ghost order = { T.cmp };
+
+    ghost acts_as_key = { acts_as_itself T.total };
+
+    #[inline(always)]
+    fn place_item(&self, item: &T) -> Ordering {
+        item.cmp(self)
+    }
+}
+
+impl<T: Ord> Names<T> for T {
+    ghost names_one = { one_as_itself T.total };
+}
+
+impl<T: Ord> Sought<T> for &T {
+    ghost order = { λ x q. T.cmp x q.now };
+
+    ghost acts_as_key = { acts_by T.cmp T.total (λ x. x) (λ q. q.now) };
+
+    #[inline(always)]
+    fn place_item(&self, item: &T) -> Ordering {
+        item.cmp(*self)
+    }
+}
+
+impl<T: Ord> Names<T> for &T {
+    ghost names_one = { one_by T.cmp T.total (λ x. x) (λ q. q.now) };
+}
+
+impl<A: Allocator> Sought<String<A>> for &str {
+    ghost order = { λ x q. slice_cmp nat_cmp (string_bytes x) q.now };
+
+    ghost acts_as_key = { acts_by (slice_cmp nat_cmp) nat_list_cmp_total string_bytes (λ q. q.now) };
+
+    fn place_item(&self, item: &String<A>) -> Ordering {
+        compare_texts(item.as_str(), *self)
+    }
+}
+
+impl<A: Allocator> Names<String<A>> for &str {
+    ghost names_one = { one_by (slice_cmp nat_cmp) nat_list_cmp_total string_bytes (λ q. q.now) };
+}
+
+impl<A: Allocator> Sought<ByteStr<A>> for &str {
+    ghost order = { λ x q. slice_cmp nat_cmp x q.now };
+
+    ghost acts_as_key = { acts_by (slice_cmp nat_cmp) nat_list_cmp_total (λ x. x) (λ q. q.now) };
+
+    fn place_item(&self, item: &ByteStr<A>) -> Ordering {
+        compare_texts(item.as_str(), *self)
+    }
+}
+
+impl<A: Allocator> Names<ByteStr<A>> for &str {
+    ghost names_one = { one_by (slice_cmp nat_cmp) nat_list_cmp_total (λ x. x) (λ q. q.now) };
+}
+
+impl<U: Ord, A: Allocator> Sought<Vec<U, A>> for &[U] {
+    ghost order = { λ x q. slice_cmp U.cmp x.items q.now };
+
+    ghost acts_as_key = { acts_by (slice_cmp U.cmp) (lists_total U.total) (λ x. x.items) (λ q. q.now) };
+
+    fn place_item(&self, item: &Vec<U, A>) -> Ordering {
+        compare_slices(item.as_slice(), *self)
+    }
+}
+
+impl<U: Ord, A: Allocator> Names<Vec<U, A>> for &[U] {
+    ghost names_one = { one_by (slice_cmp U.cmp) (lists_total U.total) (λ x. x.items) (λ q. q.now) };
+}
+
+// Returns how two texts compare. Both have one lifetime, as the borrow checker asks.
+pub(crate) fn compare_texts<'x>(first: &'x str, second: &'x str) -> Ordering
+    ensures { result ≡ slice_cmp nat_cmp first.now second.now }
+{
+    first.cmp(second)
+}
+
+// Returns how two slices compare, as `compare_texts` does.
+fn compare_slices<'x, T: Ord>(first: &'x [T], second: &'x [T]) -> Ordering
+    ensures { result ≡ slice_cmp T.cmp first.now second.now }
+{
+    first.cmp(second)
+}
