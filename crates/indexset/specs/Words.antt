@@ -28,6 +28,7 @@
 -- What contracts see of a value: of a set `cut nodes size`, whose list is `items s`; of a map `Contents`: `pairs`, node lengths, node size; of a logged tree `Tree`: nodes, node size, number of the next event, whose list is `joined t.nodes`; of a multimap `MultiTree`, with the number of the next new pair; of a replica `ReplicaState`: nodes and the number of the event that it expects.
 
 pub use Rattle.indexset_spine.specs.Cut.{items}
+pub use Rattle.indexset_spine.specs.Extract.{Extracts, InThree, in_three}
 pub use Rattle.indexset_core.specs.Order.{IsAscending, below, above, rank, has_equal, index_of, equal_element, lower_element, put, keep, without}
 pub use Rattle.indexset_core.specs.Bounds.{are_ordered, is_within, in_range, in_positions}
 pub use Rattle.indexset_core.specs.Digits.{digits}
@@ -35,8 +36,10 @@ pub use Rattle.indexset_core.specs.Pairs.{by_key, entry_of, has_key, key_rank, p
 pub use Rattle.indexset_core.specs.MultiPairs.{by_number}
 pub use Rattle.indexset_core.specs.declared.multipair.MultiPair.{MultiPair}
 pub use Rattle.indexset_set.specs.SetAlgebra.{difference, intersection, symmetric_difference, union, put_all}
+pub use Rattle.indexset_set.specs.SetExtract.{CalledOn, ExtractsOne, extract_items, extract_pred, extract_set}
 pub use Rattle.indexset_set.specs.SetRanges.{not_below, upper_element}
 pub use Rattle.indexset_map.specs.Contents.{with_entry, with_pairs, without_at, without_entry}
+pub use Rattle.indexset_map.specs.Extract.{ExtractsPair, extract_map, extract_map_pred, extract_pairs}
 pub use Rattle.indexset_map.specs.Walk.{HasWritten, walk_back, walk_front, written}
 pub use Rattle.indexset_core.specs.Nodes.{joined, vec_items, IsNodeList}
 pub use Rattle.indexset_events.specs.Clones.{IsEventClone}

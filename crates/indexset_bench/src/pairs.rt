@@ -40,8 +40,7 @@ pub fn answer_pairs<T: Key, W: Write>(
 {
     match command {
         PairCommand::Put(key, value) => {
-            let done = pairs.insert_cdc(key, value);
-            let (old, events) = done.map_err(|refused| refused.cause)?;
+            let (old, events) = pairs.insert_cdc(key, value)?;
             write_change(writer, echo, reply_to_put(old), &events)
         }
         PairCommand::Cut(key) => {

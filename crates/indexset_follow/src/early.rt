@@ -47,11 +47,11 @@ impl<T: Key> Early<T> {
     {
         let number = event.id().inner();
         if let Some(events) = &mut self.events {
-            events.insert(number, event).map_err(|_| RunFault::Memory)?;
+            events.insert(number, event)?;
             return Ok(());
         }
-        let mut events = BTreeMap::new(alloc).map_err(|_| RunFault::Memory)?;
-        events.insert(number, event).map_err(|_| RunFault::Memory)?;
+        let mut events = BTreeMap::new(alloc)?;
+        events.insert(number, event)?;
         self.events = Some(events);
         Ok(())
     }

@@ -43,11 +43,3 @@ err_same r a b = cc
 pub on_ok_any : {T E : Type 0} {P : Type 0} (r : Result T E) → P → OnOk r P
 on_ok_any (Ok x) p = p
 on_ok_any (Err e) p = tt
-
-ok_same : {T E : Type 0} {x y : T} (r : Result T E) → r ≡ Ok x → r ≡ Ok y → x ≡ y
-ok_same r a b = cc
-
--- what was mapped was no error
-pub mapped_ok : {X E F : Type 0} (s : Result X E) (r : Result X F) (x : X) (Q : E → F → Type 0) → MatchResult s (λ y. r ≡ Ok y) (λ e. IsErrAnd r (Q e)) → r ≡ Ok x → s ≡ Ok x
-mapped_ok (Ok y) r x Q came is = ap Ok (ok_same r came is)
-mapped_ok (Err e) r x Q came is = absurd (subst (λ r. IsErrAnd r (Q e)) is came)

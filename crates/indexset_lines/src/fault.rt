@@ -1,6 +1,6 @@
 //! What ends a run before its input does.
 
-use indexset_core::refusal::Refusal;
+use indexset_core::refusal::{Refusal, Refused};
 use std::error::Error;
 use std::fmt;
 
@@ -70,5 +70,16 @@ impl From<Refusal> for RunFault {
             Refusal::Numbers => RunFault::Numbers,
             _ => RunFault::Memory,
         }
+    }
+}
+
+impl<X: Drop> From<Refused<X>> for RunFault {
+    ghost use Rattle.std.specs.Prelude.{◌≡◌};
+    ghost use Rattle.indexset_lines.specs.Fault.{fault_of};
+
+    ghost from_gives = { λ refused fault. fault ≡ fault_of refused.cause };
+
+    fn from(refused: Refused<X>) -> RunFault {
+        RunFault::from(refused.cause)
     }
 }

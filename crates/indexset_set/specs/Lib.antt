@@ -2,6 +2,7 @@ pub mod Merge
 pub mod SetAlgebra
 pub mod SetCopy
 pub mod SetCursor
+pub mod SetExtract
 pub mod SetLends
 pub mod SetNodes
 pub mod SetPairs

@@ -1,5 +1,5 @@
 //! Calls on a set of pairs that write values.
-ghost use Rattle.std.specs.Prelude.{◌≡◌, ◌+◌, ◌<◌, ◌≤◌, Some, find, length, nat_lt, slice_get};
+ghost use Rattle.std.specs.Prelude.{◌≡◌, ◌+◌, ◌<◌, ◌≤◌, Some, MatchOption, find, length, nat_lt, slice_get};
 ghost use Rattle.std.specs.Map.Iter.{deref_pair_mut};
 ghost use Rattle.std.specs.Option.{option_copied_mut, option_map};
 ghost use Rattle.std.specs.Borrow.{sem};
@@ -7,14 +7,18 @@ ghost use Rattle.std.specs.List.Retain.{RetainsInTurn};
 ghost use Rattle.std.specs.Ordering.{is_eq};
 ghost use Rattle.indexset_spine.specs.Cut.{items};
 ghost use Rattle.indexset_core.specs.Digits.{digits};
+ghost use Rattle.indexset_core.specs.Nodes.{node_lengths};
 ghost use Rattle.indexset_core.specs.Parted.{less_count};
 ghost use Rattle.indexset_set.specs.SetProbes.{FindsInOrder};
+ghost use Rattle.indexset_spine.specs.Extract.{Extracts, IsStretch, in_three};
+ghost use Rattle.indexset_spine.specs.Lengths.{lengths_without};
 ghost use Rattle.indexset_core.specs.Pairs.{entry_of, CalledOnPair};
 
 use super::BTreeSet;
 use super::inner::value_in;
 use indexset_core::pair::Pair;
 use indexset_core::probe::Probe;
+use indexset_spine::stretch::Stretch;
 
 impl<K: Ord, V> BTreeSet<Pair<K, V>> {
     ghost use Rattle.indexset_set.specs.SetLends.{lends_value, lends_pair, lends_pair_if, lends_value_if};
@@ -141,5 +145,35 @@ impl<K: Ord + Drop, V: Drop> BTreeSet<Pair<K, V>> {
                 ensures again { F.IsAlwaysCallable f.exit }
             { f(&pair.key, &mut pair.value) },
         );
+    }
+
+    /// Calls the closure for each pair of a stretch in turn, up to the first for which it returns
+    /// true, and removes that one and returns it, with the value that the closure left. Those before
+    /// it stay, with the values that it left, and are no longer of the stretch. It allocates nothing.
+    pub fn extract_pair<F: FnMut(&K, &mut V) -> bool>(
+        &mut self,
+        at: &mut Stretch,
+        f: &mut F,
+    ) -> Option<Pair<K, V>>
+        requires callable { F.IsAlwaysCallable f.old }
+        requires at { IsStretch (node_lengths self.old.nodes) (length (items self.old)) at.old }
+        ensures extracted { Extracts (CalledOnPair F.FnMut) f.old
+            (in_three (items self.old) at.old.front at.old.back) result f.new
+            (in_three (items self.new) at.new.front at.new.back) }
+        ensures lengths { MatchOption result
+            (node_lengths self.new.nodes ≡ node_lengths self.old.nodes)
+            (λ _. node_lengths self.new.nodes
+            ≡ lengths_without (node_lengths self.old.nodes) at.new.front) }
+        ensures at { IsStretch (node_lengths self.new.nodes) (length (items self.new)) at.new }
+        ensures callable { F.IsAlwaysCallable f.new }
+        ensures size { self.new.size ≡ self.old.size }
+    {
+        let mut ask = |pair: &mut Pair<K, V>| -> bool
+            requires { F.IsAlwaysCallable f.now }
+            ensures called { CalledOnPair F.FnMut f.entry.now pair.old result f.exit.now pair.new }
+            ensures again { F.IsAlwaysCallable f.exit.now }
+            ensures held { f.exit.ghost_name ≡ f.entry.ghost_name }
+        { f(&pair.key, &mut pair.value) };
+        self.spine.extract(at, &mut ask)
     }
 }

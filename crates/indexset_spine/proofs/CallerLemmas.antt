@@ -6,6 +6,7 @@ pub use Rattle.indexset_spine.proofs.CutEdits.{joined_set, node_filled, position
 pub use Rattle.indexset_spine.proofs.CutLemmas.{joined-set}
 pub use Rattle.indexset_spine.proofs.EditSteps.{put_short}
 pub use Rattle.indexset_spine.proofs.EndLemmas.{end_node, end_offset}
+pub use Rattle.indexset_spine.proofs.ExtractSteps.{extract_goes, extracts_fewer, extracts_keep, extracts_stay, extracts_through}
 pub use Rattle.indexset_index.proofs.CallerLemmas.{count-lengths, length-at}
 pub use Rattle.indexset_spine.proofs.NodeLengthLemmas.{node_lengths-set_joined, node_lengths-without}
 pub use Rattle.indexset_spine.proofs.PlaceLemmas.{item_place, item_spot, lengths_placed, place_position, place_spot, spot_place}

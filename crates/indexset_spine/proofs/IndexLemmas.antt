@@ -1,6 +1,6 @@
 -- The index of a spine: the lengths of its nodes as sums, and what an edit does to them.
 use Rattle.std.proofs.Common.{◌≡◌, ℕ, suc, ◌+◌, ◌-◌, ◌/◌, ◌<◌, ◌≤◌, ◌==◌, ◌&&◌, Bool, true, false, not, filter, List, [], ◌∷◌, ◌++◌, length, sum, take, drop, get_or, slice_set, nat_lt, if◌then◌else◌, refl, sym, ap, ◌∙◌, arith, length-append, length-drop}
-use Rattle.std.proofs.lemmas.List.{length-map, take-map, take-append-le, take-take, length-take-le, get_or-map, map-set}
+use Rattle.std.proofs.lemmas.List.{take-map, take-append-le, take-take, length-take-le, map-set}
 use Rattle.std.proofs.lemmas.List.Edits.{length-insert, length-remove}
 use Rattle.std.specs.List.{splice, insert, remove}
 use Rattle.indexset_core.specs.Nodes.{joined, node_lengths, node_at}

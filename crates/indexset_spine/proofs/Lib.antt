@@ -8,6 +8,7 @@ pub mod CutLemmas
 pub mod CutSplits
 pub mod EditSteps
 pub mod EndLemmas
+pub mod ExtractSteps
 pub mod IndexLemmas
 pub mod IntoLemmas
 pub mod MergeSteps

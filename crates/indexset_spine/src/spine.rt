@@ -13,6 +13,7 @@ ghost use Rattle.indexset_spine.specs.Lengths.{node_of};
 mod append;
 mod bounds;
 mod ends;
+mod extract;
 mod insert;
 mod make;
 mod merge;

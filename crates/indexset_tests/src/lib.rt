@@ -9,6 +9,8 @@ pub mod callers;
 #[cfg(test)]
 mod events;
 #[cfg(test)]
+mod extract;
+#[cfg(test)]
 mod fenwick;
 #[cfg(test)]
 mod long_runs;

@@ -135,7 +135,8 @@ pub fn has_value(map: &BTreeMap<u64, u64>, sought: u64) -> bool {
 }
 
 // `for (k, v) in &mut map`, `for v in map.values_mut()` and `for (k, v) in map.range_mut(..)` are
-// refused: a walk lends from itself, and what it lends comes back before the next. So it is
+// refused: a walk lends from itself, and what it lends comes back before the next (the smallest
+// case is in docs/DECISIONS.md). So it is
 // `let mut values = map.values_mut(); while let Some(value) = values.next() { .. }`, or with a
 // proof of what it writes as `raise` of `prices.rt`.
 
@@ -193,9 +194,18 @@ pub fn drain(map: &mut BTreeMap<u64, u64>) -> u64
     total
 }
 
-/// `map.retain(|_, v| ..)`; `extract_if`, which returns what goes, is not here.
+/// `map.retain(|_, v| ..)`.
 pub fn drop_zeros(map: &mut BTreeMap<u64, u64>) {
     map.retain(|_, value| *value > 0);
+}
+
+/// `map.extract_if(..k, |_, v| ..).collect()`.
+pub fn take_zeros(
+    alloc: Global,
+    map: &mut BTreeMap<u64, u64>,
+    end: u64,
+) -> Result<Vec<(u64, u64)>, AllocError> {
+    map.extract_if(..end, |_, value| *value == 0).collect(alloc)
 }
 
 /// `map.split_off(&k)`.

@@ -98,6 +98,11 @@ pub fn keep_below(set: &mut BTreeSet<u64>, value: u64) {
     set.retain(|element| *element < value);
 }
 
+/// `set.extract_if(.., |x| ..).count()`.
+pub fn drop_above(set: &mut BTreeSet<u64>, value: u64) -> usize {
+    set.extract_if(.., |element| *element > value).count()
+}
+
 /// `&a & &b`: with a `Result`, as it clones.
 pub fn common(a: &BTreeSet<u64>, b: &BTreeSet<u64>) -> Result<BTreeSet<u64>, Refusal>
     ensures { IfOk result (λ both. items both ≡ intersection nat_cmp (items a.now) (items b.now)) }

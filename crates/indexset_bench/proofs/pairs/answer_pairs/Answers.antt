@@ -9,7 +9,7 @@ use Rattle.indexset_bench.specs.PairText.{event_text, lines_for}
 use Rattle.indexset_bench.specs.declared.pair_command.PairCommand.TheVariants.{Put, Cut}
 use Rattle.indexset_bench.specs.declared.reply.Reply.TheVariants.{GoneValue, New, Nothing, OldValue}
 use Rattle.indexset_bench.proofs.Acts.{tree_led}
-use Rattle.indexset_lines.proofs.CallerLemmas.{mapped_ok, on_ok_any, write_not_memory, write_not_numbers, write_not_read}
+use Rattle.indexset_lines.proofs.CallerLemmas.{on_ok_any, write_not_memory, write_not_numbers, write_not_read}
 use Rattle.indexset_bench.proofs.PairChanges.{gone_reply, put_some}
 use Rattle.indexset_bench.proofs.pairs.answer_pairs.Goals as goal
 
@@ -20,12 +20,12 @@ returns-in_err-old-in-Put-clause-only_changes g c refused =
 pub returns-in_ok-old-in-Put : goal.returns-in_ok-old-in-Put
 returns-in_ok-old-in-Put g c =
     let old = c.args.pairs.now in
-    let done = rw (mapped_ok c.insert_cdc-done.result c.map_err.result _ _ c.map_err.ensures.cases c.in_ok-old-in-Put.was) at c.insert_cdc-done.ensures in
+    let done = c.in_ok-old-in-Put.ensures in
     let last = c.write_change in
     let replied : c.reply_to_put.result ≡ change_reply g.T.Ord.cmp old (Put c.in-Put.key c.in-Put.value) = c.reply_to_put.ensures ∙ ap (λ o. option_map_or OldValue o New) done.answer in
     let events : c.deref.result.now ≡ told_events g.T.Ord.cmp old (Put c.in-Put.key c.in-Put.value) = c.deref.ensures.value ∙ done.told.events (g.met.T.Key.identical, g.met.T.Key.identical) in
     rw c.in-Put.is (record {
-      pairs = on_ok_any last.result (tree_led (by_key g.T.Ord.cmp) old c.insert_cdc-done.new.self (pair_events g.T.Ord.cmp old (Put c.in-Put.key c.in-Put.value)) done.changed.table done.changed.size done.changed.next);
+      pairs = on_ok_any last.result (tree_led (by_key g.T.Ord.cmp) old c.insert_cdc.new.self (pair_events g.T.Ord.cmp old (Put c.in-Put.key c.in-Put.value)) done.changed.table done.changed.size done.changed.next);
       told = on_ok_weaker last.result (subst (Appends _ _) (λ i. echo_text c.args.echo ++ (reply_ended g.T.Key.texts (replied i) ++ lines_for (event_text g.T.Key.texts) (events i)))) last.ensures.told;
       memory_refused = λ e. write_not_memory (sym (rw e at last.ensures.fault));
       numbers_refused = λ e. write_not_numbers (sym (rw e at last.ensures.fault));

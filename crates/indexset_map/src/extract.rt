@@ -1,0 +1,136 @@
+//! Pairs that leave a map one by one, as a closure picks them.
+ghost use Rattle.std.specs.Prelude.{◌≡◌, IsTrue, MatchOption, length};
+ghost use Rattle.std.specs.Fn.{always_mut};
+ghost use Rattle.std.specs.Iterator.{at_most};
+ghost use Rattle.std.specs.List.{between};
+ghost use Rattle.std.specs.Option.{option_map};
+ghost use Rattle.std.specs.Range.Bound.{bound_map};
+ghost use Rattle.indexset_core.specs.Bounds.{are_ordered};
+ghost use Rattle.indexset_core.specs.Pairs.{CalledOnPair, pair, pairs_within};
+ghost use Rattle.indexset_spine.specs.Extract.{Extracts, IsStretch, in_three};
+ghost use Rattle.indexset_spine.specs.Lengths.{lengths_without};
+
+use super::BTreeMap;
+use indexset_core::pair::Pair;
+use indexset_core::sought::Sought;
+use indexset_set::Bounds;
+use indexset_spine::stretch::Stretch;
+use std::iter::FusedIterator;
+use std::ops::Bound;
+
+/// The pairs of a range of a map that a closure picks, in order of their keys. Each leaves the map
+/// as the iterator returns it. Once the iterator is dropped, those that it has not returned stay,
+/// with the values that the closure left.
+#[derive(Drop)]
+#[must_use]
+pub struct ExtractIfMap<'a, K: Ord, V, F> {
+    map: &'a mut BTreeMap<K, V>,
+    at: Stretch,
+    pred: F,
+    ghost stretch: { IsStretch map.now.lengths (length map.now.pairs) at },
+}
+
+impl<K: Ord + Drop, V: Drop> BTreeMap<K, V> {
+    ghost use Rattle.indexset_map.specs.Extract.{extract_pairs, extract_map, extract_map_pred};
+
+    /// Returns an iterator that calls the closure for each pair whose key is within the range, in
+    /// order, and removes and returns those for which it returns true. A pair costs as in a walk, and
+    /// one that goes moves those after it in its node. It allocates nothing. The start must not be
+    /// past the end, nor at it where both are excluded.
+    ///
+    /// ```
+    /// let mut prices = BTreeMap::from_iter(alloc, [("pear", 120), ("fig", 45), ("plum", 80)])?;
+    /// let dear = prices.extract_if(.., |_, price| *price > 70);
+    /// assert!(rt; dear.eq([("pear", 120), ("plum", 80)]));
+    /// assert!(rt; prices.len() == 1 && prices.contains_key(&"fig"));
+    /// ```
+    pub fn extract_if<F: FnMut(&K, &mut V) -> bool, R: Bounds<K> + Drop>(
+        &mut self,
+        range: R,
+        pred: F,
+    ) -> ExtractIfMap<'_, K, V, F>
+        requires callable { F.IsAlwaysCallable pred }
+        requires order { IsTrue (are_ordered R.Key.cmp (R.start range) (R.end range)) }
+        ensures same_map { (extract_map result).ghost_name ≡ self.entry.ghost_name }
+        ensures unchanged { (extract_map result).now ≡ self.old }
+        ensures unasked { (extract_pairs result).unasked ≡ pairs_within R.Key.order self.old.pairs
+            (R.start range) (R.end range) }
+        ensures pred { extract_map_pred result ≡ pred }
+    {
+        let at = self.stretch(range.start_bound(), range.end_bound());
+        ExtractIfMap {
+            map: self,
+            at,
+            pred,
+        }
+    }
+
+    // Returns the stretch of the pairs between two bounds.
+    fn stretch<Q: Sought<K>>(&self, start: Bound<&Q>, end: Bound<&Q>) -> Stretch
+        requires { IsTrue (are_ordered Q.cmp (bound_map (λ k. k.now) start)
+            (bound_map (λ k. k.now) end)) }
+        ensures at { IsStretch self.now.lengths (length self.now.pairs) result }
+        ensures rest { between result.front result.back self.now.pairs ≡ pairs_within Q.order
+            self.now.pairs (bound_map (λ k. k.now) start.entry)
+            (bound_map (λ k. k.now) end.entry) }
+    {
+        // A map says here that its keys ascend, so the two positions cut out the range.
+        let _len = self.len();
+        let (spot, from) = self.start_spot(start);
+        let back = self.end_position(end);
+        Stretch {
+            front: from.min(back),
+            back,
+            node: spot.node,
+            start: from - spot.offset,
+        }
+    }
+
+    // Calls the closure for each pair of a stretch in turn, up to the first for which it returns
+    // true, and removes that one and returns it.
+    fn extract<F: FnMut(&K, &mut V) -> bool>(
+        &mut self,
+        at: &mut Stretch,
+        pred: &mut F,
+    ) -> Option<(K, V)>
+        requires callable { F.IsAlwaysCallable pred.old }
+        requires at { IsStretch self.old.lengths (length self.old.pairs) at.old }
+        ensures extracted { Extracts (CalledOnPair F.FnMut) pred.old
+            (in_three self.old.pairs at.old.front at.old.back)
+            (option_map (λ entry. pair entry.0 entry.1) result) pred.new
+            (in_three self.new.pairs at.new.front at.new.back) }
+        ensures lengths { MatchOption result (self.new.lengths ≡ self.old.lengths)
+            (λ _. self.new.lengths ≡ lengths_without self.old.lengths at.new.front) }
+        ensures at { IsStretch self.new.lengths (length self.new.pairs) at.new }
+        ensures callable { F.IsAlwaysCallable pred.new }
+        ensures size { self.new.size ≡ self.old.size }
+    {
+        let Pair { key, value } = self.set.extract_pair(at, pred)?;
+        Some((key, value))
+    }
+}
+
+impl<'a, K: Ord + Drop, V: Drop, F: FnMut(&K, &mut V) -> bool> Iterator for ExtractIfMap<'a, K, V, F> {
+    ghost use Rattle.indexset_map.specs.Extract.{ExtractsPair, extract_pairs, extract_map_pred};
+
+    type Item = (K, V);
+
+    ghost can_next = { λ s. always_mut F.FnMut (extract_map_pred s) };
+
+    ghost next_gives = { ExtractsPair F.FnMut };
+
+    ghost remaining = { λ s. at_most (length (extract_pairs s).unasked) };
+
+    fn next(&mut self) -> Option<(K, V)> {
+        self.map.extract(&mut self.at, &mut self.pred)
+    }
+
+    fn size_hint(&self) -> (usize, Option<usize>) {
+        (0, Some(self.at.back - self.at.front))
+    }
+}
+
+impl<'a, K: Ord, V, F: Drop> FusedIterator for ExtractIfMap<'a, K, V, F>
+where
+    ExtractIfMap<'a, K, V, F>: Iterator,
+{}

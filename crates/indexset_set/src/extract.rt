@@ -1,0 +1,136 @@
+//! Elements that leave a set one by one, as a closure picks them.
+ghost use Rattle.std.specs.Prelude.{◌≡◌, IsTrue, MatchOption, length};
+ghost use Rattle.std.specs.Fn.{CalledAt, always_mut};
+ghost use Rattle.std.specs.Iterator.{at_most};
+ghost use Rattle.std.specs.List.{between};
+ghost use Rattle.std.specs.Range.Bound.{bound_map};
+ghost use Rattle.indexset_core.specs.Bounds.{are_ordered, in_range};
+ghost use Rattle.indexset_core.specs.Nodes.{node_lengths};
+ghost use Rattle.indexset_spine.specs.Cut.{items};
+ghost use Rattle.indexset_spine.specs.Extract.{Extracts, IsStretch, in_three};
+ghost use Rattle.indexset_spine.specs.Lengths.{lengths_without};
+
+use super::BTreeSet;
+use super::bounds::Bounds;
+use indexset_core::probe::ByItem;
+use indexset_core::sought::Sought;
+use indexset_spine::stretch::Stretch;
+use std::iter::FusedIterator;
+use std::ops::Bound;
+
+/// The elements of a range of a set that a closure picks, in order. Each leaves the set as the
+/// iterator returns it. Once the iterator is dropped, those that it has not returned stay.
+#[derive(Drop)]
+#[must_use]
+pub struct ExtractIf<'a, T: Ord, F> {
+    set: &'a mut BTreeSet<T>,
+    at: Stretch,
+    pred: F,
+    ghost stretch: { IsStretch (node_lengths set.now.nodes) (length (items set.now)) at },
+}
+
+impl<T: Ord + Drop> BTreeSet<T> {
+    ghost use Rattle.indexset_set.specs.SetExtract.{CalledOn, extract_items, extract_pred, extract_set};
+
+    /// Returns an iterator that calls the closure for each element within the range, in order, and
+    /// removes and returns those for which it returns true. An element costs as in a walk, and one
+    /// that goes moves those after it in its node. It allocates nothing. The start must not be past
+    /// the end, nor at it where both are excluded.
+    ///
+    /// ```
+    /// let mut set = BTreeSet::from_iter(alloc, 1..=6)?;
+    /// assert!(rt; set.extract_if(..5, |element| element % 2 == 0).eq([2, 4]));
+    /// assert!(rt; set.iter().copied().eq([1, 3, 5, 6]));
+    /// ```
+    pub fn extract_if<F: FnMut(&T) -> bool, R: Bounds<T> + Drop>(
+        &mut self,
+        range: R,
+        pred: F,
+    ) -> ExtractIf<'_, T, F>
+        requires callable { F.IsAlwaysCallable pred }
+        requires order { IsTrue (are_ordered R.Key.cmp (R.start range) (R.end range)) }
+        ensures same_set { (extract_set result).ghost_name ≡ self.entry.ghost_name }
+        ensures unchanged { (extract_set result).now ≡ self.old }
+        ensures unasked { (extract_items result).unasked ≡ in_range R.Key.order (items self.old)
+            (R.start range) (R.end range) }
+        ensures pred { extract_pred result ≡ pred }
+    {
+        let at = self.stretch(range.start_bound(), range.end_bound());
+        ExtractIf {
+            set: self,
+            at,
+            pred,
+        }
+    }
+
+    // Returns the stretch of the elements between two bounds.
+    fn stretch<Q: Sought<T>>(&self, start: Bound<&Q>, end: Bound<&Q>) -> Stretch
+        requires { IsTrue (are_ordered Q.cmp (bound_map (λ v. v.now) start)
+            (bound_map (λ v. v.now) end)) }
+        ensures at { IsStretch (node_lengths self.now.nodes) (length (items self.now)) result }
+        ensures rest { between result.front result.back (items self.now) ≡ in_range Q.order
+            (items self.now) (bound_map (λ v. v.now) start.entry)
+            (bound_map (λ v. v.now) end.entry) }
+    {
+        let from = self.spine.start_of(start.map(ByItem::new));
+        let to = self.spine.end_of(end.map(ByItem::new));
+        let front = self.spine.position(&from);
+        Stretch {
+            front,
+            back: self.spine.position(&to),
+            node: from.node,
+            start: front - from.offset,
+        }
+    }
+
+    // Calls the closure for each element of a stretch in turn, up to the first for which it returns
+    // true, and removes that one and returns it.
+    fn extract<F: FnMut(&T) -> bool>(&mut self, at: &mut Stretch, pred: &mut F) -> Option<T>
+        requires callable { F.IsAlwaysCallable pred.old }
+        requires at { IsStretch (node_lengths self.old.nodes) (length (items self.old)) at.old }
+        ensures extracted { Extracts (CalledOn F.FnMut) pred.old
+            (in_three (items self.old) at.old.front at.old.back) result pred.new
+            (in_three (items self.new) at.new.front at.new.back) }
+        ensures lengths { MatchOption result
+            (node_lengths self.new.nodes ≡ node_lengths self.old.nodes)
+            (λ _. node_lengths self.new.nodes
+            ≡ lengths_without (node_lengths self.old.nodes) at.new.front) }
+        ensures at { IsStretch (node_lengths self.new.nodes) (length (items self.new)) at.new }
+        ensures callable { F.IsAlwaysCallable pred.new }
+        ensures size { self.new.size ≡ self.old.size }
+    {
+        let mut ask = |x: &mut T| -> bool
+            requires { F.IsAlwaysCallable pred.now }
+            ensures called { CalledAt F.FnMut pred.entry.now x.old result pred.exit.now }
+            ensures again { F.IsAlwaysCallable pred.exit.now }
+            ensures same { x.new ≡ x.old }
+            ensures held { pred.exit.ghost_name ≡ pred.entry.ghost_name }
+        { pred(x) };
+        self.spine.extract(at, &mut ask)
+    }
+}
+
+impl<'a, T: Ord + Drop, F: FnMut(&T) -> bool> Iterator for ExtractIf<'a, T, F> {
+    ghost use Rattle.indexset_set.specs.SetExtract.{ExtractsOne, extract_items, extract_pred};
+
+    type Item = T;
+
+    ghost can_next = { λ s. always_mut F.FnMut (extract_pred s) };
+
+    ghost next_gives = { ExtractsOne F.FnMut };
+
+    ghost remaining = { λ s. at_most (length (extract_items s).unasked) };
+
+    fn next(&mut self) -> Option<T> {
+        self.set.extract(&mut self.at, &mut self.pred)
+    }
+
+    fn size_hint(&self) -> (usize, Option<usize>) {
+        (0, Some(self.at.back - self.at.front))
+    }
+}
+
+impl<'a, T: Ord, F: Drop> FusedIterator for ExtractIf<'a, T, F>
+where
+    ExtractIf<'a, T, F>: Iterator,
+{}
