@@ -1,5 +1,5 @@
 -- Pairs as the entries of std's map, so that std's lemmas serve, and what a written value does to sums, `All` and look-ups.
-use Rattle.std.proofs.Common.{◌≡◌, ℕ, ◌+◌, true, false, List, [], ◌∷◌, length, map, Ordering, Some, refl, ap, subst, sym, ◌∙◌}
+use Rattle.std.proofs.Common.{◌≡◌, ℕ, ◌+◌, true, false, List, [], ◌∷◌, length, map, Ordering, Some, None, refl, ap, subst, sym, ◌∙◌}
 use Rattle.std.specs.Cmp.{IsTotalOrder}
 use Rattle.std.specs.List.{All, sum_by}
 use Rattle.std.specs.Map.{keys_of, lookup, values_of}
@@ -14,7 +14,7 @@ use Rattle.std.proofs.lemmas.Bool.{false≢true}
 use Rattle.std.proofs.lemmas.Cmp.{alike_right, tied_back}
 use Rattle.indexset_core.proofs.CallerLemmas.{equal_from}
 use Rattle.indexset_core.specs.declared.pair.Pair.{Pair}
-use Rattle.indexset_core.specs.Pairs.{entry_of, pair_keys, pair_values, set_value, value_of, set_found}
+use Rattle.indexset_core.specs.Pairs.{entry_of, has_key, pair_keys, pair_values, put_value, set_value, value_of, set_found}
 
 module _ {K V : Type 0} where
   pub values_entries : (l : List (Pair K V)) → values_of (map entry_of l) ≡ pair_values l
@@ -53,6 +53,26 @@ module _ {K V : Type 0} where
       pub all_set_value : (P : V → Type 0) (l : List (Pair K V)) → All P (pair_values l) → P w → All P (pair_values (set_value cmp l k w))
       all_set_value P l all holds =
           subst (All P) (written l) (All-values-set_value (λ q. is_eq (cmp q k)) P (map entry_of l) w (subst (All P) (sym (values_entries l)) all) holds)
+
+      -- a key that is not there has no value to write
+      pub set_value_absent : (l : List (Pair K V)) → value_of cmp l k ≡ None → set_value cmp l k w ≡ l
+      unfolding set_found
+      set_value_absent [] none = refl
+      set_value_absent (p ∷ l) none = elim (is_eq (cmp p.key k)) as (λ b. is_eq (cmp p.key k) ≡ b → set_value cmp (p ∷ l) k w ≡ p ∷ l) [
+        | true ↦ λ e. let some : Some p.value ≡ None = rw e at none in absurd (cc)
+        | false ↦ λ e. rw e (ap (λ rest. p ∷ rest) (set_value_absent l (rw e at none)))
+      ] refl
+
+      -- an insertion of a key that is there writes its value
+      pub put_value_there : (l : List (Pair K V)) (v : V) → value_of cmp l k ≡ Some v → put_value cmp l k w ≡ set_value cmp l k w
+      unfolding put_value
+      put_value_there l v is = let there : has_key cmp l k ≡ true = found l is in rw there refl where
+        found : (l : List (Pair K V)) → value_of cmp l k ≡ Some v → has_key cmp l k ≡ true
+        found [] is = absurd (cc)
+        found (p ∷ l) is = elim (is_eq (cmp p.key k)) as (λ b. is_eq (cmp p.key k) ≡ b → has_key cmp (p ∷ l) k ≡ true) [
+          | true ↦ λ e. rw e refl
+          | false ↦ λ e. rw e (found l (rw e at is))
+        ] refl
 
       pub keys_set_value : (l : List (Pair K V)) → pair_keys (set_value cmp l k w) ≡ pair_keys l
       keys_set_value l = sym (ap keys_of (set_value_entries l) ∙ keys_entries (set_value cmp l k w)) ∙ (maps.keys-set_value (λ q. is_eq (cmp q k)) (map entry_of l) w ∙ keys_entries l)

@@ -1,4 +1,3 @@
-pub mod Accounts
 pub mod Shards
 pub mod Standings
 pub mod Wire

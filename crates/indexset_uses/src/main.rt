@@ -2,18 +2,15 @@
 //! contract. The program prints what they return.
 #![tactic(auto)]
 
-mod accounts;
 mod change_log;
 mod copies;
 mod counting;
 mod follower;
 mod idioms;
 mod journal;
-mod leaderboard;
 mod listing;
 mod matching;
 mod names;
-mod order_book;
 mod orders;
 mod prices;
 mod programs;
@@ -26,9 +23,7 @@ mod stock;
 mod strings;
 mod tags;
 mod takeover;
-mod window;
 mod wire;
-mod words;
 
 use anyhow::Result;
 use bytes::ByteStr;

@@ -1,130 +1,26 @@
-//! What the programs in small return: a time window, an order book, a leaderboard, a secondary
-//! index, a map and its copy, standings read from a copy, accounts.
+//! What the programs in small return: a secondary index, a map and its copy, standings read from a
+//! copy.
 
-ghost use Rattle.std.specs.Prelude.{◌<◌, ◌≤◌, [], length};
+ghost use Rattle.std.specs.Prelude.{◌≤◌, [], length};
 ghost use Rattle.std.specs.Ordering.{nat_cmp};
 ghost use Rattle.indexset.specs.Words.{by_key, IsBeginning};
 ghost use Rattle.indexset_uses.specs.Standings.{HoldsBeginning, IsHistory};
 
-use crate::accounts::{self, Accounts};
 use crate::follower::{Balance, Primary};
-use crate::leaderboard::{self, Board, Entry};
-use crate::order_book::{self, Book};
 use crate::secondary_index::{self, Index};
 use crate::standings::{self, Ranking, Scores};
-use crate::window::{self, Window};
 use anyhow::Result;
 use bytes::ByteStr;
 use indexset::base::pair::Pair;
 use indexset::cdc::change::ChangeEvent;
 use indexset::replica::Replica;
-use indexset::{BTreeMap, BTreeSet};
 use std::cmp::Reverse;
 
 /// Prints what each returns.
 pub fn show(rt: &HostRuntime) -> Result<()> {
-    show_window(rt)?;
-    show_order_book(rt)?;
-    show_leaderboard(rt)?;
     show_index(rt)?;
     show_follower(rt)?;
-    show_standings(rt)?;
-    show_accounts(rt)
-}
-
-fn show_window(rt: &HostRuntime) -> Result<()> {
-    let mut window = BTreeMap::new(rt.alloc())?;
-    play_window(rt, &mut window)
-}
-
-fn play_window(rt: &HostRuntime, window: &mut Window) -> Result<()> {
-    for (time, value) in [(100, 7), (130, 9), (160, 8), (190, 6)] {
-        window::push(window, time, value)?;
-    }
-    println!(rt; "oldest: {:?}", window::oldest(window))?;
-    println!(rt; "expired: {:?}", window::expire(window, 130)?)?;
-    println!(rt; "left: {window:?}")?;
-    println!(rt; "from 160 on: {}", window::since(window, 160).len())?;
-    Ok(())
-}
-
-fn show_order_book(rt: &HostRuntime) -> Result<()> {
-    let bids = BTreeMap::new(rt.alloc())?;
-    let asks = BTreeMap::new(rt.alloc())?;
-    play_order_book(rt, &mut Book { bids, asks })
-}
-
-fn play_order_book(rt: &HostRuntime, book: &mut Book) -> Result<()> {
-    for (price, quantity) in [(98, 5), (99, 2), (98, 4)] {
-        order_book::add(&mut book.bids, price, quantity)?;
-    }
-    order_book::add(&mut book.asks, 101, 3)?;
-    println!(rt; "best bid: {:?}", order_book::best_bid(book))?;
-    println!(rt; "best ask: {:?}", order_book::best_ask(book))?;
-    println!(rt;
-        "left at 99: {:?}",
-        order_book::reduce(&mut book.bids, 99, 2)
-    )?;
-    println!(rt;
-        "left at 98: {:?}",
-        order_book::reduce(&mut book.bids, 98, 1)
-    )?;
-    println!(rt;
-        "left at 97: {:?}",
-        order_book::reduce(&mut book.bids, 97, 1)
-    )?;
-    println!(rt; "bids: {:?}", book.bids)?;
-    Ok(())
-}
-
-fn show_leaderboard(rt: &HostRuntime) -> Result<()> {
-    let mut board = BTreeSet::new(rt.alloc())?;
-    fill_leaderboard(rt, &mut board)?;
-    show_places(rt, &board)?;
-    for number in 0..3 {
-        show_page(rt, &board, number)?;
-    }
-    Ok(())
-}
-
-fn fill_leaderboard(rt: &HostRuntime, board: &mut Board) -> Result<()> {
-    for (score, player) in [(300, 1), (100, 2), (500, 3), (300, 4), (200, 5), (300, 1)] {
-        let new = leaderboard::add(board, entry(score, player))?;
-        println!(rt; "{score} by player {player} is new: {new}")?;
-    }
-    Ok(())
-}
-
-fn show_places(rt: &HostRuntime, board: &Board) -> Result<()> {
-    println!(rt;
-        "place of player 5: {:?}",
-        leaderboard::place(board, entry(200, 5))
-    )?;
-    println!(rt;
-        "place of player 6: {:?}",
-        leaderboard::place(board, entry(200, 6))
-    )?;
-    println!(rt;
-        "better than 200: {}",
-        leaderboard::better(board, entry(200, 5))
-    )?;
-    Ok(())
-}
-
-fn show_page(rt: &HostRuntime, board: &Board, number: usize) -> Result<()>
-    requires { number < 3 }
-{
-    println!(rt; "page {number}:")?;
-    let page = leaderboard::page(rt.alloc(), board, number, 2)?;
-    for entry in page.as_slice() {
-        println!(rt; "  {} by player {}", entry.score.0, entry.player)?;
-    }
-    Ok(())
-}
-
-fn entry(score: u64, player: u64) -> Entry {
-    let score = Reverse(score);
-    Entry { score, player }
+    show_standings(rt)
 }
 
 fn show_index(rt: &HostRuntime) -> Result<()> {
@@ -237,19 +133,5 @@ fn show_ranks(rt: &HostRuntime, ranking: &Ranking) -> Result<()> {
     for entry in standings::page(ranking, 0, 2) {
         println!(rt; "  {} by player {}", entry.key.0, entry.value)?;
     }
-    Ok(())
-}
-
-fn show_accounts(rt: &HostRuntime) -> Result<()> {
-    let mut accounts = BTreeMap::from(rt.alloc(), [(1, 50), (2, 20)])?;
-    play_accounts(rt, &mut accounts)
-}
-
-fn play_accounts(rt: &HostRuntime, accounts: &mut Accounts) -> Result<()> {
-    for amount in [30, 30] {
-        let paid = accounts::transfer(accounts, 1, 2, amount);
-        println!(rt; "paid {amount}: {paid:?}")?;
-    }
-    println!(rt; "balances: {accounts:?}")?;
     Ok(())
 }
