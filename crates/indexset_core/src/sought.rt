@@ -17,8 +17,8 @@ use std::cmp::Ordering;
 
 /// What a look-up takes: an item or a reference to one, a `&str` where the items are `String` or
 /// `ByteStr`, a `&[U]` where they are `Vec<U>`, the key of a `Pair`, or a reference to it, and where
-/// the items are tuples of two, `(&a, &b)`, one of them a `&str` perhaps. It stands for `Borrow`. A
-/// look-up makes no item of it, and so allocates nothing.
+/// the items are tuples of two, `(&a, &b)`, a `&str` in the place of a text. It stands for `Borrow`.
+/// A look-up makes no item of it, and so allocates nothing.
 ///
 /// ```
 /// let mut names = BTreeSet::new(alloc)?;

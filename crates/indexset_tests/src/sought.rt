@@ -73,6 +73,20 @@ fn a_vec_is_found_by_a_slice(rt: HostRuntime) -> Result<(), Fail> {
 }
 
 #[test]
+fn a_pair_of_texts_is_found_by_two_borrowed_ones(rt: HostRuntime) -> Result<(), Fail> {
+    let mut towns = BTreeSet::new(rt.alloc())?;
+    for (land, town) in [("fr", "lyon"), ("de", "ulm"), ("fr", "nice")] {
+        let land = String::from_str(rt.alloc(), land)?;
+        towns.insert((land, ByteStr::copy_from_str(rt.alloc(), town)?))?;
+    }
+    assert!(rt; towns.contains(("fr", "nice")) && !towns.contains(("de", "nice")));
+    assert!(rt; towns.rank(("fr", "lyon")) == 1 && towns.index_of(("fr", "nice")) == Some(2));
+    assert!(rt; towns.range(("e", "")..).len() == 2 && towns.remove(("de", "ulm")));
+    assert!(rt; towns.len() == 2);
+    Ok(())
+}
+
+#[test]
 fn a_pair_is_found_by_its_key(rt: HostRuntime) -> Result<(), Fail> {
     let pairs = BTreeSet::from_iter(rt.alloc(), [Pair { key: 5, value: 50 }])?;
     assert!(rt; pairs.contains(&5) && !pairs.contains(6));

@@ -84,3 +84,59 @@ impl<A: Ord, Z: Allocator> Sought<(A, ByteStr<Z>)> for (&A, &str) {
 impl<A: Ord, Z: Allocator> Names<(A, ByteStr<Z>)> for (&A, &str) {
     ghost names_one = { one_by (then_both A.cmp (slice_cmp nat_cmp)) (both_total A.total nat_list_cmp_total) (λ x. x) (λ q. (q.0.now, q.1.now)) };
 }
+
+impl<Y: Allocator, Z: Allocator> Sought<(String<Y>, String<Z>)> for (&str, &str) {
+    ghost order = { λ x q. ordering_then (slice_cmp nat_cmp (string_bytes x.0) q.0.now) (slice_cmp nat_cmp (string_bytes x.1) q.1.now) };
+
+    ghost acts_as_key = { acts_by (then_both (slice_cmp nat_cmp) (slice_cmp nat_cmp)) (both_total nat_list_cmp_total nat_list_cmp_total) (λ x. (string_bytes x.0, string_bytes x.1)) (λ q. (q.0.now, q.1.now)) };
+
+    fn place_item(&self, item: &(String<Y>, String<Z>)) -> Ordering {
+        compare_texts(item.0.as_str(), self.0).then(compare_texts(item.1.as_str(), self.1))
+    }
+}
+
+impl<Y: Allocator, Z: Allocator> Names<(String<Y>, String<Z>)> for (&str, &str) {
+    ghost names_one = { one_by (then_both (slice_cmp nat_cmp) (slice_cmp nat_cmp)) (both_total nat_list_cmp_total nat_list_cmp_total) (λ x. (string_bytes x.0, string_bytes x.1)) (λ q. (q.0.now, q.1.now)) };
+}
+
+impl<Y: Allocator, Z: Allocator> Sought<(String<Y>, ByteStr<Z>)> for (&str, &str) {
+    ghost order = { λ x q. ordering_then (slice_cmp nat_cmp (string_bytes x.0) q.0.now) (slice_cmp nat_cmp x.1 q.1.now) };
+
+    ghost acts_as_key = { acts_by (then_both (slice_cmp nat_cmp) (slice_cmp nat_cmp)) (both_total nat_list_cmp_total nat_list_cmp_total) (λ x. (string_bytes x.0, x.1)) (λ q. (q.0.now, q.1.now)) };
+
+    fn place_item(&self, item: &(String<Y>, ByteStr<Z>)) -> Ordering {
+        compare_texts(item.0.as_str(), self.0).then(compare_texts(item.1.as_str(), self.1))
+    }
+}
+
+impl<Y: Allocator, Z: Allocator> Names<(String<Y>, ByteStr<Z>)> for (&str, &str) {
+    ghost names_one = { one_by (then_both (slice_cmp nat_cmp) (slice_cmp nat_cmp)) (both_total nat_list_cmp_total nat_list_cmp_total) (λ x. (string_bytes x.0, x.1)) (λ q. (q.0.now, q.1.now)) };
+}
+
+impl<Y: Allocator, Z: Allocator> Sought<(ByteStr<Y>, String<Z>)> for (&str, &str) {
+    ghost order = { λ x q. ordering_then (slice_cmp nat_cmp x.0 q.0.now) (slice_cmp nat_cmp (string_bytes x.1) q.1.now) };
+
+    ghost acts_as_key = { acts_by (then_both (slice_cmp nat_cmp) (slice_cmp nat_cmp)) (both_total nat_list_cmp_total nat_list_cmp_total) (λ x. (x.0, string_bytes x.1)) (λ q. (q.0.now, q.1.now)) };
+
+    fn place_item(&self, item: &(ByteStr<Y>, String<Z>)) -> Ordering {
+        compare_texts(item.0.as_str(), self.0).then(compare_texts(item.1.as_str(), self.1))
+    }
+}
+
+impl<Y: Allocator, Z: Allocator> Names<(ByteStr<Y>, String<Z>)> for (&str, &str) {
+    ghost names_one = { one_by (then_both (slice_cmp nat_cmp) (slice_cmp nat_cmp)) (both_total nat_list_cmp_total nat_list_cmp_total) (λ x. (x.0, string_bytes x.1)) (λ q. (q.0.now, q.1.now)) };
+}
+
+impl<Y: Allocator, Z: Allocator> Sought<(ByteStr<Y>, ByteStr<Z>)> for (&str, &str) {
+    ghost order = { λ x q. ordering_then (slice_cmp nat_cmp x.0 q.0.now) (slice_cmp nat_cmp x.1 q.1.now) };
+
+    ghost acts_as_key = { acts_by (then_both (slice_cmp nat_cmp) (slice_cmp nat_cmp)) (both_total nat_list_cmp_total nat_list_cmp_total) (λ x. x) (λ q. (q.0.now, q.1.now)) };
+
+    fn place_item(&self, item: &(ByteStr<Y>, ByteStr<Z>)) -> Ordering {
+        compare_texts(item.0.as_str(), self.0).then(compare_texts(item.1.as_str(), self.1))
+    }
+}
+
+impl<Y: Allocator, Z: Allocator> Names<(ByteStr<Y>, ByteStr<Z>)> for (&str, &str) {
+    ghost names_one = { one_by (then_both (slice_cmp nat_cmp) (slice_cmp nat_cmp)) (both_total nat_list_cmp_total nat_list_cmp_total) (λ x. x) (λ q. (q.0.now, q.1.now)) };
+}
