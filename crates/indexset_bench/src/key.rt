@@ -1,13 +1,16 @@
 //! Keys and values that may stand in lines.
 
-ghost use Rattle.std.specs.Prelude.{◌≡◌, Bool, false, IfErr, IfOk, IsOk, Some, refl};
+ghost use Rattle.std.specs.Prelude.{◌≡◌, Bool, false, IfErr, IfOk, IsOk, OnOk, Some, refl};
+ghost use Rattle.std.specs.Io.KnownBytes.{Appends};
 ghost use Rattle.indexset_bench.specs.Texts.{AreWords, Texts, number_texts, number_words, pair_of, two_keys};
 
+use crate::write::write_number;
 use indexset_core::pair::Pair;
 use indexset_events::parts::{cut, read_number};
 use indexset_lines::RunFault;
 use std::alloc::{AllocError, Global};
 use std::fmt;
+use std::io::Write;
 
 /// A type of keys and values, each of which has one text: the bytes that `{}` writes.
 pub trait Key: Ord + Clone + fmt::Display + Drop {
@@ -21,6 +24,12 @@ pub trait Key: Ord + Clone + fmt::Display + Drop {
     fn read_key(alloc: Global, text: &[u8]) -> Result<Option<Self>, AllocError>
         ensures value { IfOk result (λ value. value ≡ texts.reading text.now) }
         ensures never { allocates ≡ false → IsOk result };
+
+    /// Writes the text, as `{}` does.
+    fn write_text<W: Write>(&self, writer: &mut W) -> Result<(), RunFault>
+        ensures told { OnOk result (Appends (W.contents writer.old) (W.contents writer.new)
+            (texts.spelling self.now)) }
+        ensures fault { IfErr result (λ fault. fault ≡ RunFault.Write) };
 
     /// `{}` writes the text.
     ghost shown: { (x : Self) → Self.output x ≡ Some (texts.spelling x) };
@@ -45,6 +54,10 @@ impl Key for u64 {
 
     fn read_key(_alloc: Global, text: &[u8]) -> Result<Option<u64>, AllocError> {
         Ok(read_number(text))
+    }
+
+    fn write_text<W: Write>(&self, writer: &mut W) -> Result<(), RunFault> {
+        write_number(writer, *self)
     }
 }
 

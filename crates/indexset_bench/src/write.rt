@@ -1,18 +1,52 @@
 //! What is written: lines of a reply, of events and of nodes.
 
-ghost use Rattle.std.specs.Prelude.{◌≡◌, ◌++◌, OnOk, IfErr};
+ghost use Rattle.std.specs.Prelude.{◌≡◌, ◌++◌, OnOk, IfErr, codes};
+ghost use Rattle.std.specs.Fmt.{decimal};
 ghost use Rattle.std.specs.Io.KnownBytes.{Appends};
 ghost use Rattle.indexset_bench.specs.Pairs.{echo_text, reply_ended};
-ghost use Rattle.indexset_bench.specs.PairText.{ended, event_text, lines_for, node_text};
+ghost use Rattle.indexset_bench.specs.PairText.{ended, event_head, event_text, lines_for, node_text, pair_text};
 
 use crate::key::Key;
 use crate::pair_text::{EventText, PairText};
 use crate::pairs::Pairs;
 use crate::reply::Reply;
 use indexset_core::pair::Pair;
-use indexset_events::change::ChangeEvent;
+use indexset_events::change::{ChangeEvent, Id};
 use indexset_lines::RunFault;
+use itoa::Buffer;
 use std::io::Write;
+
+/// Writes bytes.
+pub fn write_bytes<W: Write>(writer: &mut W, bytes: &[u8]) -> Result<(), RunFault>
+    ensures told { OnOk result (Appends (W.contents writer.old) (W.contents writer.new) bytes.now) }
+    ensures fault { IfErr result (λ fault. fault ≡ RunFault.Write) }
+{
+    writer.write_all(bytes).map_err(|_| RunFault::Write)
+}
+
+/// Writes a number.
+pub fn write_number<W: Write>(writer: &mut W, number: u64) -> Result<(), RunFault>
+    ensures told { OnOk result (Appends (W.contents writer.old) (W.contents writer.new)
+        (decimal number)) }
+    ensures fault { IfErr result (λ fault. fault ≡ RunFault.Write) }
+{
+    let mut buffer = Buffer::new();
+    write_bytes(writer, buffer.format(number).as_bytes())
+}
+
+/// Writes a pair.
+pub(crate) fn write_pair<T: Key, W: Write>(
+    writer: &mut W,
+    pair: &Pair<T, T>,
+) -> Result<(), RunFault>
+    ensures told { OnOk result (Appends (W.contents writer.old) (W.contents writer.new)
+        (pair_text T.texts pair.now)) }
+    ensures fault { IfErr result (λ fault. fault ≡ RunFault.Write) }
+{
+    pair.key.write_text(writer)?;
+    write_bytes(writer, b":".as_slice())?;
+    pair.value.write_text(writer)
+}
 
 /// Writes a reply as a line.
 pub fn write_line<T: Key, W: Write>(writer: &mut W, reply: Reply<T>) -> Result<(), RunFault>
@@ -20,7 +54,10 @@ pub fn write_line<T: Key, W: Write>(writer: &mut W, reply: Reply<T>) -> Result<(
         (reply_ended T.texts reply)) }
     ensures fault { IfErr result (λ fault. fault ≡ RunFault.Write) }
 {
-    writer.writeln(reply).map_err(|_| RunFault::Write)
+    match reply {
+        Reply::New => write_bytes(writer, b"new\n".as_slice()),
+        reply => writer.writeln(reply).map_err(|_| RunFault::Write),
+    }
 }
 
 /// Writes the number that a caller gave a command, where it gave one, as `#17` and a space.
@@ -51,6 +88,66 @@ pub(crate) fn write_change<T: Key, W: Write>(
     write_events(writer, events)
 }
 
+/// Writes an event of an item that comes to its place or leaves it as a line, by its parts.
+fn write_placed<T: Key, W: Write>(
+    writer: &mut W,
+    id: Id,
+    word: &[u8],
+    max: &Pair<T, T>,
+    value: &Pair<T, T>,
+    index: usize,
+) -> Result<(), RunFault>
+    ensures told { OnOk result (Appends (W.contents writer.old) (W.contents writer.new)
+        (ended (event_head T.texts id word.now max.now ++ codes " " ++ pair_text T.texts value.now
+        ++ codes " " ++ decimal index))) }
+    ensures fault { IfErr result (λ fault. fault ≡ RunFault.Write) }
+{
+    write_number(writer, id.inner())?;
+    write_bytes(writer, word)?;
+    write_pair(writer, max)?;
+    write_bytes(writer, b" ".as_slice())?;
+    write_pair(writer, value)?;
+    write_bytes(writer, b" ".as_slice())?;
+    write_number(writer, index as u64)?;
+    write_bytes(writer, b"\n".as_slice())
+}
+
+/// Writes an event as a line. The two kinds that most changes tell are written part by part, which
+/// is quicker than by a format.
+fn write_event<T: Key, W: Write>(
+    writer: &mut W,
+    event: &ChangeEvent<Pair<T, T>>,
+) -> Result<(), RunFault>
+    ensures told { OnOk result (Appends (W.contents writer.old) (W.contents writer.new)
+        (ended (event_text T.texts event.now))) }
+    ensures fault { IfErr result (λ fault. fault ≡ RunFault.Write) }
+{
+    match event {
+        ChangeEvent::InsertAt {
+            event_id,
+            max_value,
+            value,
+            index,
+        } => {
+            let word = b" insert ".as_slice();
+            write_placed(writer, *event_id, word, max_value, value, *index)
+        }
+        ChangeEvent::RemoveAt {
+            event_id,
+            max_value,
+            value,
+            index,
+        } => {
+            let word = b" remove ".as_slice();
+            write_placed(writer, *event_id, word, max_value, value, *index)
+        }
+        _ => {
+            let shown = EventText(event);
+            writer.writeln(shown).map_err(|_| RunFault::Write)
+        }
+    }
+}
+
 /// Writes each event as a line.
 pub fn write_events<T: Key, W: Write>(
     writer: &mut W,
@@ -61,8 +158,7 @@ pub fn write_events<T: Key, W: Write>(
     ensures fault { IfErr result (λ fault. fault ≡ RunFault.Write) }
 {
     for event in events {
-        let shown = EventText(event);
-        writer.writeln(shown).map_err(|_| RunFault::Write)?;
+        write_event(writer, event)?;
     }
     Ok(())
 }

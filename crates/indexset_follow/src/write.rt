@@ -14,7 +14,7 @@ use crate::others::Voice;
 use crate::reads::nodes::WalkNodes;
 use crate::reply::Reply;
 use indexset_bench::key::Key;
-use indexset_bench::write::write_node;
+use indexset_bench::write::{write_bytes, write_node, write_number};
 use indexset_bench::{Replica, RunFault};
 use indexset_core::pair::Pair;
 use std::io::Write;
@@ -28,7 +28,14 @@ pub fn write_reply<W: Write>(writer: &mut W, reply: Reply) -> Result<(), RunFaul
         (reply_ended reply)) }
     ensures fault { IfErr result (λ fault. fault ≡ RunFault.Write) }
 {
-    writer.writeln(reply).map_err(|_| RunFault::Write)
+    match reply {
+        Reply::Next(number) => {
+            write_bytes(writer, b"next ".as_slice())?;
+            write_number(writer, number)?;
+            write_bytes(writer, b"\n".as_slice())
+        }
+        reply => writer.writeln(reply).map_err(|_| RunFault::Write),
+    }
 }
 
 /// Writes what a follower tells of its reply to an event or a line of a snapshot.

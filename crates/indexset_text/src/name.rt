@@ -9,10 +9,12 @@ ghost use Rattle.indexset_text.specs.Names.{name_text, name_texts};
 ghost use Rattle.indexset_text.specs.Names.Laws.{EscapesOthers, name_words};
 
 use indexset_bench::key::Key;
+use indexset_lines::RunFault;
 use percent_encoding::{AsciiSet, NON_ALPHANUMERIC, percent_decode, percent_encode};
 use std::alloc::{AllocError, Global};
 use std::cmp::Ordering;
 use std::fmt;
+use std::io::Write;
 use std::marker::Model;
 
 /// Returns the bytes that are escaped: all but letters, digits and `-._~`.
@@ -132,5 +134,9 @@ impl Key for Name {
         } else {
             Ok(None)
         }
+    }
+
+    fn write_text<W: Write>(&self, writer: &mut W) -> Result<(), RunFault> {
+        write!(writer, "{self}").map_err(|_| RunFault::Write)
     }
 }
