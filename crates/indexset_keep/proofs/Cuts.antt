@@ -1,5 +1,5 @@
 -- A text is cut into its lines.
-use Rattle.std.proofs.Common.{None, Some, ◌≡◌, ◌≢◌, ℕ, ◌+◌, ◌<◌, Bool, true, false, cond, eqb, take, drop, get_or, List, [], ◌∷◌, ◌++◌, length, refl, sym, ap, subst, ◌∙◌, arith, append_assoc, append-nil, length-append}
+use Rattle.std.proofs.Common.{None, Some, ◌≡◌, ◌≢◌, ℕ, ◌+◌, ◌-◌, ◌<◌, Bool, true, false, cond, eqb, take, drop, get_or, List, [], ◌∷◌, ◌++◌, length, refl, sym, ap, subst, ◌∙◌, arith, append_assoc, append-nil, length-append}
 use Rattle.std.specs.Prelude.{nat_lt}
 use Rattle.std.proofs.lemmas.Bool.{eqb-false, ne_eqb}
 use borrow.Author.Tests.{ltb-false}
@@ -12,8 +12,7 @@ use Rattle.indexset_lines.specs.Lines.{HasNoEnd, IsWhole, before_first, lines_of
 use Rattle.indexset_lines.proofs.Lines.{whole_lines-append}
 use Rattle.indexset_events.specs.Spelling.{cut_at}
 use Rattle.indexset_events.specs.Spelling.Laws.{cut_sound, none_some, some_inj}
-use Rattle.indexset_keep.specs.Told.{is_told, told_lines}
-use Rattle.indexset_bench.specs.Texts.{Texts}
+use Rattle.indexset_keep.specs.Told.{inner}
 
 -- the place of the first line end, and the length where there is none
 abbrev spot : List ℕ → ℕ
@@ -66,11 +65,30 @@ module _ (done : List (List ℕ)) (left line rest : List ℕ) (cut : cut_at 10 l
   pub shorter : length rest < length left
   shorter = omega (arith, ap length (cut_sound 10 left line rest cut), length-append line (10 ∷ rest))
 
-module _ {T : Type 0} (texts : Texts T) (done : List (List ℕ)) (left line rest : List ℕ) (cut : cut_at 10 left ≡ Some (line, rest)) where
-  -- the same of lines that are kept
-  pub told_more : done ++ told_lines texts (whole_lines left) ≡ (done ++ told_lines texts (line ∷ [])) ++ told_lines texts (whole_lines rest)
-  told_more = ap (λ ls. done ++ told_lines texts ls) (cut_lines left line rest cut) ∙ at (is_told texts line)
-    where
-      at : (b : Bool) → done ++ cond b (line ∷ told_lines texts (whole_lines rest)) (told_lines texts (whole_lines rest)) ≡ (done ++ cond b (line ∷ []) []) ++ told_lines texts (whole_lines rest)
-      at true = sym (append_assoc done (line ∷ []) (told_lines texts (whole_lines rest)))
-      at false = ap (λ ls. ls ++ told_lines texts (whole_lines rest)) (sym (append-nil done))
+-- ---- lines between the first and the last
+
+-- a line and more of them, but for the last
+abbrev pub but_last : List ℕ → List (List ℕ) → List (List ℕ)
+but_last line lines = take (length lines) (line ∷ lines)
+
+inner_two : (a b : List ℕ) (lines : List (List ℕ)) → inner (a ∷ b ∷ lines) ≡ but_last b lines
+inner_two a b lines =
+    let count : length (a ∷ b ∷ lines) - 2 ≡ length lines = omega arith in
+    ap (λ n. take n (b ∷ lines)) count
+
+pub inner_cut : (text a b c d : List ℕ) → cut_at 10 text ≡ Some (a, b) → cut_at 10 b ≡ Some (c, d) → inner (whole_lines text) ≡ but_last c (whole_lines d)
+inner_cut text a b c d first second = ap inner (cut_lines text a b first ∙ ap (λ ls. a ∷ ls) (cut_lines b c d second)) ∙ inner_two a c (whole_lines d)
+
+pub inner_none : (text : List ℕ) → cut_at 10 text ≡ None → inner (whole_lines text) ≡ []
+inner_none text none = ap inner (uncut_lines text none)
+
+pub inner_one : (text a b : List ℕ) → cut_at 10 text ≡ Some (a, b) → cut_at 10 b ≡ None → inner (whole_lines text) ≡ []
+inner_one text a b first none = ap inner (cut_lines text a b first ∙ ap (λ ls. a ∷ ls) (uncut_lines b none))
+
+module _ (done : List (List ℕ)) (line left next rest : List ℕ) (cut : cut_at 10 left ≡ Some (next, rest)) where
+  -- a line that another follows goes behind those so far
+  pub but_last_more : done ++ but_last line (whole_lines left) ≡ (done ++ line ∷ []) ++ but_last next (whole_lines rest)
+  but_last_more = ap (λ ls. done ++ but_last line ls) (cut_lines left next rest cut) ∙ sym (append_assoc done (line ∷ []) (but_last next (whole_lines rest)))
+
+pub but_last_end : (line left : List ℕ) → cut_at 10 left ≡ None → but_last line (whole_lines left) ≡ []
+but_last_end line left none = ap (but_last line) (uncut_lines left none)

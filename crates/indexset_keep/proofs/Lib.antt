@@ -1,6 +1,7 @@
 mod Cuts
 mod Edited
 mod FollowedOn
+mod Inner
 mod Onward
 mod Published
 mod Reading

@@ -62,7 +62,7 @@ module _ {T : Type 0} (cmp : T → T → Ordering) (texts : Texts T) where
   pub begins : (size : ℕ) → 2 ≤ size → size < 2 ^ 64 → IsSound cmp texts (leader_of (fresh size) 0)
   begins size two few = sound (leader_of (fresh size) 0) (record { two = two; few = few; lawful = none_lawful (order cmp) size; held = tt }) (omega arith)
 
-number_kept : (d : ℕ) → d < 2 ^ 64 → (echo : Option ℕ) → EchoFits echo → option_map_or (max d) echo d < 2 ^ 64
+pub number_kept : (d : ℕ) → d < 2 ^ 64 → (echo : Option ℕ) → EchoFits echo → option_map_or (max d) echo d < 2 ^ 64
 number_kept d known None fit = known
 number_kept d known (Some n) fit = max_fits d n known fit
 

@@ -35,8 +35,9 @@ use Rattle.indexset_keep.specs.Sound.{IsSoundCopy, IsSoundFollower}
 use Rattle.indexset_keep.specs.Tells.{lines_told}
 use Rattle.indexset_keep.specs.declared.followed.Tells.{Tells}
 use Rattle.indexset_keep.specs.declared.followed.Tells.TheVariants.{Nothing, Line, Steps, Snapshot}
-use Rattle.indexset_keep.specs.Told.{answer_kept, kept_by, kept_in, told_lines}
+use Rattle.indexset_keep.specs.Told.{answer_kept, inner, inner_kept, kept_by, kept_in, told_lines}
 use Rattle.indexset_keep.proofs.FollowedOn.{followed_on}
+use Rattle.indexset_keep.proofs.Inner.{leading_inner, next_inner}
 use Rattle.indexset_keep.proofs.Onward.{line_leads, line_sound}
 use Rattle.indexset_keep.proofs.Soundness.{copy_sound, holding_sound, leader_sound}
 use Rattle.indexset_keep.proofs.Soundness.{line_sound as follower_sound}
@@ -65,6 +66,14 @@ module _ {T : Type 0} (texts : Texts T) where
       at : (b : Bool) → told_lines texts (whole_lines (if b && true then [] else reply_ended reply.Held)) ≡ []
       at true = refl
       at false = refl
+
+held_inner : (v : Voice) → inner (whole_lines (voiced v reply.Held)) ≡ []
+unfolding whole_lines
+held_inner v = at v.is_quiet
+  where
+    at : (b : Bool) → inner (whole_lines (if b && true then [] else reply_ended reply.Held)) ≡ []
+    at true = refl
+    at false = refl
 
 module _ {T : Type 0} (cmp : T → T → Ordering) where
   -- ---- a follower that is told to lead or to follow
@@ -225,6 +234,20 @@ module _ {T : Type 0} (cmp : T → T → Ordering) (texts : Texts T) (total : Is
         at false false true is true none fits = line_leads cmp texts total spelled v.others l sound line fits
         at false false false is d none fits = line_leads cmp texts total spelled v.others l sound line fits
 
+    -- of the answer to a line that is no read, the lines between the first and the last are kept
+    leading_between : (line : List ℕ) → query_of texts line ≡ None → (copy_held (role_after cmp texts (held size window (Leading l)) line)).next < 2 ^ 64
+        → inner (whole_lines (held_reply cmp texts v (held size window (Leading l)) line)) ≡ told_lines texts (whole_lines (held_reply cmp texts v (held size window (Leading l)) line))
+    leading_between line none fits = at (is_lead line) (is_follow line) (starts line) refl (is_filled l.pairs.nodes) fits
+      where
+        at : (a b c : Bool) → starts line ≡ c → (d : Bool) → (copy_held (next_role a b c d line)).next < 2 ^ 64 → inner (whole_lines (next_reply a b c d line)) ≡ told_lines texts (whole_lines (next_reply a b c d line))
+        at true b c _ d fits = next_inner l.pairs.next less ∙ sym (next_keeps texts l.pairs.next less)
+        at false true c _ d fits = next_inner l.pairs.next less ∙ sym (next_keeps texts l.pairs.next less)
+        at false false true is false fits =
+            let told = start_told cmp texts line is v emptied in
+            ap (λ t. inner (whole_lines t)) told ∙ held_inner v ∙ sym (ap (λ t. told_lines texts (whole_lines t)) told ∙ held_told texts v)
+        at false false true is true fits = leading_inner cmp texts total spelled v.others l sound line none fits
+        at false false false is d fits = leading_inner cmp texts total spelled v.others l sound line none fits
+
     leading_sound : (line : List ℕ) → (copy_held (role_after cmp texts (held size window (Leading l)) line)).next < 2 ^ 64 → IsSoundRole cmp texts (role_after cmp texts (held size window (Leading l)) line)
     leading_sound line fits = at (is_lead line) (is_follow line) (starts line) (is_filled l.pairs.nodes) refl fits
       where
@@ -255,3 +278,28 @@ module _ {T : Type 0} (cmp : T → T → Ordering) (texts : Texts T) (total : Is
 
   pub map_sound : (v : Voice) (h : Held T) (line : List ℕ) → IsSoundMap cmp texts h → (copy_held (after_input cmp texts h line).role).next < 2 ^ 64 → IsSoundMap cmp texts (after_input cmp texts h line)
   map_sound v h line sound fits = record { two = sound.two; few = sound.few; role = role_sound v h.size h.window sound.two sound.few h.role sound.role (without_return line) fits }
+
+  -- of a line that a leader reads, the lines of its answer between the first and the last are kept
+  module _ (v : Voice) (h : Held T) (line : List ℕ) (l : Leader T) (is : h.role ≡ Leading l) (sound : IsSoundMap cmp texts h) (fits : (copy_held (after_input cmp texts h line).role).next < 2 ^ 64) where
+    abbrev bare : List ℕ
+    bare = without_return line
+
+    abbrev answer : List ℕ
+    answer = input_reply cmp texts v h line
+
+    -- those lines of it, if this is the read that the line asks for
+    abbrev unless_read : Option (Query T) → List (List ℕ) → List (List ℕ)
+    unless_read q lines = option_map_or {U = List (List ℕ)} (λ q. []) q lines
+
+    answer_between : query_of texts bare ≡ None → inner (whole_lines answer) ≡ told_lines texts (whole_lines answer)
+    answer_between none =
+        let led : IsSound cmp texts l × (l.pairs.next < 2 ^ 64) = subst (IsSoundRole cmp texts) is sound.role in
+        let few : (copy_held (role_after cmp texts (held h.size h.window (Leading l)) bare)).next < 2 ^ 64 = subst (λ r. (copy_held (role_after cmp texts (held h.size h.window r) bare)).next < 2 ^ 64) is fits in
+        subst (λ r. inner (whole_lines (held_reply cmp texts v (held h.size h.window r) bare)) ≡ told_lines texts (whole_lines (held_reply cmp texts v (held h.size h.window r) bare))) (sym is) (leading_between v h.size h.window l led.0 led.1 bare none few)
+
+    pub inner_told : inner_kept texts bare answer ≡ kept_by cmp texts (input_reply cmp texts v) h line
+    inner_told = at (query_of texts bare) refl ∙ leading_told cmp texts (input_reply cmp texts v) h line l is
+      where
+        at : (q : Option (Query T)) → query_of texts bare ≡ q → inner_kept texts bare answer ≡ answer_kept texts bare answer
+        at (Some q) asked = ap (λ q. unless_read q (inner (whole_lines answer))) asked ∙ sym (ap (λ q. unless_read q (told_lines texts (whole_lines answer))) asked)
+        at None asked = ap (λ q. unless_read q (inner (whole_lines answer))) asked ∙ answer_between asked ∙ sym (ap (λ q. unless_read q (told_lines texts (whole_lines answer))) asked)

@@ -134,13 +134,15 @@ module _ {T : Type 0} (texts : Texts T) where
     number_cut : (text : List ℕ) → cut_at 32 (echo_text (Some n) ++ text) ≡ Some (35 ∷ decimal n, text)
     number_cut text = ap (cut_at 32) (number_first text) ∙ cut_told 32 (35 ∷ decimal n) text (number_apart 32 (lacks_tested 32 (codes "#") refl) (number_lacks 32 (omega arith) n small))
 
+    pub number_whole : (line : List ℕ) → HasNoEnd line → HasNoEnd (echo_text (Some n) ++ line)
+    number_whole line none = subst HasNoEnd (sym (number_first line)) (All-append (λ x. x ≢ 10) (35 ∷ decimal n) (32 ∷ line) (number_apart 10 (lacks_tested 10 (codes "#") refl) (number_lacks 10 (omega arith) n small)) (All-cons (λ x. x ≢ 10) 32 line (omega arith) none))
+
     -- a line that begins with a number of a command is not kept
     passes_first : (line : List ℕ) → HasNoEnd line → Keeps texts (ended (echo_text (Some n) ++ line)) []
     passes_first line none =
         let cut = number_cut line in
         let other = no_number 35 (decimal n) (omega arith) in
-        let whole = subst HasNoEnd (sym (number_first line)) (All-append (λ x. x ≢ 10) (35 ∷ decimal n) (32 ∷ line) (number_apart 10 (lacks_tested 10 (codes "#") refl) (number_lacks 10 (omega arith) n small)) (All-cons (λ x. x ≢ 10) 32 line (omega arith) none)) in
-        passes texts (echo_text (Some n) ++ line) whole (rw (cut, other) refl)
+        passes texts (echo_text (Some n) ++ line) (number_whole line none) (rw (cut, other) refl)
 
     -- and so a text is kept as without it, behind its first line
     passes_number : (line more : List ℕ) (ls : List (List ℕ)) → HasNoEnd line → Keeps texts more ls → Keeps texts (echo_text (Some n) ++ (ended line ++ more)) ls
@@ -188,7 +190,7 @@ module _ {T : Type 0} (texts : Texts T) where
   pub done_alone : (d n : ℕ) → event_of texts (mark_line (Done d n)) ≡ None
   done_alone d n = let cut = done_cut d n in rw (cut, no_number 100 (codes "one") (omega arith)) refl
 
-done_whole : (d n : ℕ) → d < 2 ^ 64 → n < 2 ^ 64 → HasNoEnd (mark_line (Done d n))
+pub done_whole : (d n : ℕ) → d < 2 ^ 64 → n < 2 ^ 64 → HasNoEnd (mark_line (Done d n))
 done_whole d n small less =
     All-append (λ x. x ≢ 10) (codes "done ") (decimal d ++ 32 ∷ decimal n) (lacks_tested 10 (codes "done ") refl)
     (All-append (λ x. x ≢ 10) (decimal d) (32 ∷ decimal n) (number_lacks 10 (omega arith) d small)

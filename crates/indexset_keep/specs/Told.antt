@@ -1,5 +1,5 @@
 -- The lines that a map keeps of a line that it reads.
-use Rattle.std.specs.Prelude.{Bool, true, false, ◌||◌, is_some, Option, None, Some, ℕ, List, [], filter}
+use Rattle.std.specs.Prelude.{Bool, true, false, ◌||◌, is_some, Option, None, Some, ℕ, ◌-◌, List, [], filter, length, take, drop}
 use Rattle.std.specs.Option.{option_map_or}
 use Rattle.indexset_lines.specs.Lines.{whole_lines}
 use Rattle.indexset_follow.specs.EventLine.{event_of}
@@ -21,6 +21,10 @@ is_done (Some (Start n d)) = false
 is_done (Some (End count sum)) = false
 is_done (Some (Done d n)) = true
 
+-- all but the first and the last
+abbrev pub inner : List (List ℕ) → List (List ℕ)
+inner lines = take (length lines - 2) (drop 1 lines)
+
 module _ {T : Type 0} (texts : Texts T) where
   -- the line tells an event, or which commands were done
   abbrev pub is_told : List ℕ → Bool
@@ -33,6 +37,10 @@ module _ {T : Type 0} (texts : Texts T) where
   -- those of the answer to a line of a leader: a read has none
   abbrev pub answer_kept : List ℕ → List ℕ → List (List ℕ)
   answer_kept line answer = option_map_or (λ q. []) (query_of texts line) (told_lines (whole_lines answer))
+
+  -- of the answer to a line of a leader, the lines between the first and the last: a read has none
+  abbrev pub inner_kept : List ℕ → List ℕ → List (List ℕ)
+  inner_kept line answer = option_map_or (λ q. []) (query_of texts line) (inner (whole_lines answer))
 
 module _ {T : Type 0} (cmp : T → T → Ordering) (texts : Texts T) where
   -- of a line that a map reads in a role, where this is its answer

@@ -8,15 +8,15 @@ ghost use Rattle.indexset_follow.specs.Store.{after_input, held_cut, input_reply
 ghost use Rattle.indexset_journal.specs.Kept.{texts};
 ghost use Rattle.indexset_keep.specs.Keep.{Leads, MayLead};
 ghost use Rattle.indexset_keep.specs.Map.{map_held};
-ghost use Rattle.indexset_keep.specs.Roles.{IsSoundRole, copy_held, settled};
+ghost use Rattle.indexset_keep.specs.Roles.{IsSoundMap, IsSoundRole, copy_held, settled};
 ghost use Rattle.indexset_keep.specs.Tells.{lines_told};
-ghost use Rattle.indexset_keep.specs.Told.{answer_kept, kept_by};
+ghost use Rattle.indexset_keep.specs.Told.{inner_kept, kept_by};
 
 use crate::fault::KeepFault;
 use crate::followed::{Tells, followed};
 use crate::kept::Kept;
 use crate::role::next_number;
-use crate::text::push_told_lines;
+use crate::text::push_inner_lines;
 use indexset_bench::key::Key;
 use indexset_follow::reads::query::read_query;
 use indexset_follow::role::Role;
@@ -58,7 +58,8 @@ impl Batch {
             ≡ held_cut T.cmp T.texts map.old.voice) }
         ensures answers { OnOk result (self.new.answers.items ≡ self.old.answers.items
             ++ input_reply T.cmp T.texts map.old.voice (map_held map.old) line.now) }
-        ensures told { OnOk result (texts self.new.told.items ≡ texts self.old.told.items
+        ensures told { OnOk result (IsSoundMap T.cmp T.texts (map_held map.old)
+            → texts self.new.told.items ≡ texts self.old.told.items
             ++ kept_by T.cmp T.texts (input_reply T.cmp T.texts map.old.voice) (map_held map.old)
             line.now) }
         ensures next { OnOk result ((copy_held map.new.role).next < 2 ^ 64) }
@@ -77,8 +78,8 @@ impl Batch {
         Ok(())
     }
 
-    /// Carries out a line of a leader: the lines of its answer are kept that tell events, or which
-    /// commands were done.
+    /// Carries out a line of a leader. Of the answer to a read nothing is kept, and of another the
+    /// lines between the reply and the next number: these tell events, and which commands were done.
     fn answer_leading<T: Key>(&mut self, map: &mut Map<T>, line: &[u8]) -> Result<(), RunFault>
         ensures map { OnOk result (map_held map.new
             ≡ after_input T.cmp T.texts (map_held map.old) line.now) }
@@ -89,13 +90,13 @@ impl Batch {
         ensures answers { OnOk result (self.new.answers.items ≡ self.old.answers.items
             ++ input_reply T.cmp T.texts map.old.voice (map_held map.old) line.now) }
         ensures told { OnOk result (texts self.new.told.items ≡ texts self.old.told.items
-            ++ answer_kept T.texts (without_return line.now)
+            ++ inner_kept T.texts (without_return line.now)
             (input_reply T.cmp T.texts map.old.voice (map_held map.old) line.now)) }
     {
         let from = self.answers.len();
         map.answer(&mut self.answers, line)?;
         if read_query::<T>(map.alloc, without_return(line))?.is_none() {
-            push_told_lines::<T>(map.alloc, &mut self.told, &self.answers[from..])?;
+            push_inner_lines(map.alloc, &mut self.told, &self.answers[from..])?;
         }
         Ok(())
     }

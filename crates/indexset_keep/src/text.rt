@@ -3,12 +3,9 @@
 ghost use Rattle.std.specs.Prelude.{◌≡◌, ◌∷◌, ◌++◌, [], IfErr, IfOk, OnOk, take};
 ghost use Rattle.indexset_journal.specs.Kept.{texts};
 ghost use Rattle.indexset_lines.specs.Lines.{whole_lines};
-ghost use Rattle.indexset_keep.specs.Told.{is_done, is_told, told_lines};
+ghost use Rattle.indexset_keep.specs.Told.{inner};
 
-use indexset_bench::key::Key;
 use indexset_events::parts::cut;
-use indexset_follow::event::read_event;
-use indexset_follow::mark::{Mark, read_mark};
 use indexset_lines::RunFault;
 use std::alloc::Global;
 
@@ -26,57 +23,30 @@ pub fn push_text_lines(alloc: Global, lines: &mut Vec<Vec<u8>>, text: &[u8]) -> 
     Ok(())
 }
 
-/// Appends the lines of a text that have their ends, and tell an event or which commands were done.
-pub fn push_told_lines<T: Key>(
+/// Appends the lines of a text that have their ends, but for the first and the last.
+pub(crate) fn push_inner_lines(
     alloc: Global,
     lines: &mut Vec<Vec<u8>>,
     text: &[u8],
 ) -> Result<(), RunFault>
-    ensures lines { OnOk result (texts lines.new.items ≡ texts lines.old.items
-        ++ told_lines T.texts (whole_lines text.now)) }
+    ensures lines { OnOk result
+        (texts lines.new.items ≡ texts lines.old.items ++ inner (whole_lines text.now)) }
     ensures fault { IfErr result (λ fault. fault ≡ RunFault.Memory) }
 {
-    let mut left = text;
-    while let Some((line, rest)) = cut(left, b'\n') {
-        push_told_line::<T>(alloc, lines, line)?;
+    let Some((_, behind)) = cut(text, b'\n') else {
+        return Ok(());
+    };
+    let Some((second, behind)) = cut(behind, b'\n') else {
+        return Ok(());
+    };
+    let mut line = second;
+    let mut left = behind;
+    while let Some((next, rest)) = cut(left, b'\n') {
+        push_line(alloc, lines, line)?;
+        line = next;
         left = rest;
     }
     Ok(())
-}
-
-/// Appends a copy of a line, where it tells an event or which commands were done.
-fn push_told_line<T: Key>(
-    alloc: Global,
-    lines: &mut Vec<Vec<u8>>,
-    line: &[u8],
-) -> Result<(), RunFault>
-    ensures lines { OnOk result
-        (texts lines.new.items ≡ texts lines.old.items ++ told_lines T.texts (line.now ∷ [])) }
-    ensures fault { IfErr result (λ fault. fault ≡ RunFault.Memory) }
-{
-    if is_told::<T>(alloc, line)? {
-        push_line(alloc, lines, line)?;
-    }
-    Ok(())
-}
-
-/// Returns whether a line tells an event, or which commands were done.
-fn is_told<T: Key>(alloc: Global, line: &[u8]) -> Result<bool, RunFault>
-    ensures told { IfOk result (λ told. told ≡ is_told T.texts line.now) }
-    ensures fault { IfErr result (λ fault. fault ≡ RunFault.Memory) }
-{
-    let event = read_event::<T>(alloc, line)?;
-    Ok(event.is_some() || is_done(read_mark(line)))
-}
-
-/// Returns whether a mark tells which commands were done.
-fn is_done(mark: Option<Mark>) -> bool
-    ensures { result ≡ is_done mark }
-{
-    match mark {
-        Some(Mark::Done(_, _)) => true,
-        _ => false,
-    }
 }
 
 /// Appends copies of the first `count` lines, or of all where they are fewer.

@@ -22,7 +22,7 @@ pub returns-in_err-put-in-Whole-clause-some : goal.returns-in_err-put-in-Whole-c
 returns-in_err-put-in-Whole-clause-some g c =
     let read = rw c.in-Whole.is at c.in_ok-next_line.ensures.ok in
     let ok = c.in_ok-answer-in-Whole.ensures in
-    let far = read_on g.T.Ord.cmp g.T.Key.texts g.met.T.Ord.total g.met.T.Key.words _ _ _ _ _ _ _ _ _ _ _ _ _ _ _ c.loop.invariant.0 c.loop.invariant.1 _ _ _ _ _ _ _ c.next_line.ensures.unwritten read.0 read.1 c.as_slice.ensures.value ok.answers ok.told ok.map ok.next in
+    let far = read_on g.T.Ord.cmp g.T.Key.texts g.met.T.Ord.total g.met.T.Key.words _ _ _ _ _ _ _ _ _ _ _ _ _ _ _ c.loop.invariant.0 c.loop.invariant.1 _ _ _ _ _ _ _ c.next_line.ensures.unwritten read.0 read.1 c.as_slice.ensures.value ok.answers (ok.told c.loop.invariant.0.sound) ok.map ok.next in
     rw (refused c.from_residual-in_err-put-in-Whole.result _ c.from_residual-in_err-put-in-Whole.ensures)
     (failed g.T.Ord.cmp g.T.Key.texts _ _ _ _ _ _ _ _ _ _ _ _ _ _ _ far _ _ _ _ [] _ (Consumes-nil _) (Keeps-refl _)
     (λ other. let it = c.in_err-put-in-Whole.ensures.keep_failed other in (it.0 (state_held far.between) far.waits far.sound.role, it.1))
@@ -62,7 +62,7 @@ pub loop-preserved : goal.loop-preserved
 loop-preserved g c =
     let read = rw c.in-Whole.is at c.in_ok-next_line.ensures.ok in
     let ok = c.in_ok-answer-in-Whole.ensures in
-    let far = read_on g.T.Ord.cmp g.T.Key.texts g.met.T.Ord.total g.met.T.Key.words _ _ _ _ _ _ _ _ _ _ _ _ _ _ _ c.loop.invariant.0 c.loop.invariant.1 _ _ _ _ _ _ _ c.next_line.ensures.unwritten read.0 read.1 c.as_slice.ensures.value ok.answers ok.told ok.map ok.next in
+    let far = read_on g.T.Ord.cmp g.T.Key.texts g.met.T.Ord.total g.met.T.Key.words _ _ _ _ _ _ _ _ _ _ _ _ _ _ _ c.loop.invariant.0 c.loop.invariant.1 _ _ _ _ _ _ _ c.next_line.ensures.unwritten read.0 read.1 c.as_slice.ensures.value ok.answers (ok.told c.loop.invariant.0.sound) ok.map ok.next in
     let alike = ok.alike ∙ c.loop.invariant.1 in
     let cut = ok.cut_alike ∙ c.loop.invariant.2 in
     elim c.if-is_asked.branch [

@@ -1,25 +1,28 @@
-use Rattle.std.proofs.Common.{◌≡◌, ◌∙◌, ◌++◌, ap, subst, sym}
+use Rattle.std.proofs.Common.{rules, ◌≡◌, ◌∙◌, ◌++◌, ◌<◌, ◌^◌, ap, subst, sym}
 use Rattle.indexset_events.specs.Spelling.Laws.{some_inj}
 use Rattle.indexset_follow.specs.Follow.{after_line}
-use Rattle.indexset_follow.specs.Store.{input_reply, without_return}
+use Rattle.indexset_follow.specs.Store.{after_input, input_reply, without_return}
 use Rattle.indexset_follow.specs.declared.role.Role.TheVariants.{Following}
 use Rattle.indexset_journal.specs.Kept.{texts}
 use Rattle.indexset_keep.specs.Followed.{line_kept}
 use Rattle.indexset_keep.specs.Map.{map_held}
 use Rattle.indexset_keep.specs.Roles.{copy_held}
 use Rattle.indexset_keep.specs.Tells.{lines_told}
-use Rattle.indexset_keep.proofs.Roles.{following_told, leading_told}
+use Rattle.indexset_keep.proofs.Roles.{following_told, inner_told}
 use Rattle.indexset_keep.proofs.batch.Batch.answer.Goals.{in-Leading, in-Following+in_ok-followed-in-Following, in-None+in_ok-answer_leading-in-None, in-Some+in_ok-answer_following-in-Some}
 use Rattle.indexset_keep.proofs.batch.Batch.answer.Goals as goal
 
 pub returns-clause-told : goal.returns-clause-told
-returns-clause-told g c =
+returns-clause-told g c sound =
     let h = map_held c.args.map.now in
     let reply = input_reply g.T.Ord.cmp g.T.Key.texts c.args.map.now.voice in
     let line = c.args.line.now in
     elim c.match-map.branch [
       | in-Leading w ↦ elim c.match-kept.branch [
-        | in-None+in_ok-answer_leading-in-None v ↦ rw v.self-is (v.in_ok-answer_leading-in-None.ensures.told ∙ ap (λ ls. texts c.args.self.now.told.items ++ ls) (leading_told g.T.Ord.cmp g.T.Key.texts reply h line _ w.in-Leading.is))
+        | in-None+in_ok-answer_leading-in-None v ↦
+            let small : (copy_held c.match-kept.map.role).next < 2 ^ 64 = search rules in
+            let fits : (copy_held (after_input g.T.Ord.cmp g.T.Key.texts h line).role).next < 2 ^ 64 = subst (λ held. (copy_held held.role).next < 2 ^ 64) (ap map_held v.map-is ∙ v.in_ok-answer_leading-in-None.ensures.map) small in
+            rw v.self-is (v.in_ok-answer_leading-in-None.ensures.told ∙ ap (λ ls. texts c.args.self.now.told.items ++ ls) (inner_told g.T.Ord.cmp g.T.Key.texts g.met.T.Ord.total g.met.T.Key.words c.args.map.now.voice h line _ w.in-Leading.is sound fits))
         | in-Some+in_ok-answer_following-in-Some v ↦ absurd (cc (w.kept-is, v.in-Some.is))
       ]
       | in-Following+in_ok-followed-in-Following w ↦ elim c.match-kept.branch [
