@@ -8,7 +8,7 @@ use Rattle.std.specs.Fmt.{decimal}
 use Rattle.std.specs.Option.{option_and_then, option_map, option_map_or}
 use Rattle.indexset_lines.specs.Lines.{HasNoEnd, IsWhole, lines_of, whole_lines}
 use Rattle.indexset_lines.proofs.Lines.{IsWhole-end, whole_lines-append}
-use Rattle.indexset_bench.specs.PairCommand.{CommandFits, pair_meaning, pair_spelling}
+use Rattle.indexset_bench.specs.PairCommand.{CommandFits, pair_meaning}
 use Rattle.indexset_bench.specs.PairText.{ended, event_text, lines_for}
 use Rattle.indexset_bench.specs.Pairs.{PairTree, change_reply, echo_text, pair_reply, pairs_after, reply_ended, told_events}
 use Rattle.indexset_bench.specs.Reply.{reply_text}
@@ -42,7 +42,7 @@ use Rattle.indexset_follow.proofs.Snapshots.{first_line}
 use Rattle.indexset_keep.specs.Leads.{IsSound}
 use Rattle.indexset_keep.specs.Told.{inner, told_lines}
 use Rattle.indexset_keep.proofs.Onward.{good, number_kept}
-use Rattle.indexset_keep.proofs.Told.{EchoFits, command_keeps, done_lines, done_whole, next_keeps, number_fits, number_whole, others_keep}
+use Rattle.indexset_keep.proofs.Told.{EchoFits, command_keeps, done_lines, done_whole, number_fits, number_whole, others_keep}
 use Rattle.std.specs.declared.cmp.Ordering.{Ordering}
 use Rattle.std.specs.Cmp.{IsTotalOrder}
 
