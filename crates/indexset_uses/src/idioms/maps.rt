@@ -1,5 +1,5 @@
 //! What is written over std's `BTreeMap`.
-ghost use Rattle.std.specs.Prelude.{◌≡◌, ◌+◌, ◌-◌, ◌^◌, [], IsTrue, Some, length, min, slice_get, unwrap_or, OnOk, IfOk};
+ghost use Rattle.std.specs.Prelude.{◌≡◌, ◌+◌, ◌-◌, ◌^◌, [], ◌∷◌, IsTrue, Some, length, min, slice_get, unwrap_or, OnOk, IfOk};
 ghost use Rattle.std.specs.Cmp.Lexicographic.{slice_cmp};
 ghost use Rattle.std.specs.Option.{option_map};
 ghost use Rattle.std.specs.Ordering.{nat_cmp};
@@ -93,7 +93,10 @@ pub fn drop_price(prices: &mut BTreeMap<ByteStr, u64>, name: &str) -> Option<u64
 }
 
 /// `map.range("e".."g")`.
-pub fn from_e_to_g(prices: &BTreeMap<ByteStr, u64>) -> usize {
+pub fn from_e_to_g(prices: &BTreeMap<ByteStr, u64>) -> usize
+    ensures { result ≡ length (pairs_within (slice_cmp nat_cmp) prices.now.pairs
+        (Included (101 ∷ [])) (Excluded (103 ∷ []))) }
+{
     prices.range("e".."g").len()
 }
 
