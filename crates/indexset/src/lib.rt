@@ -59,10 +59,10 @@ pub mod replica {
 }
 
 pub use indexset_map::{
-    BTreeMap, CursorMap, Entry, ExtractIfMap, IntoIterMap, IntoKeys, IntoValues, IterMap, IterMut, Keys,
-    OccupiedEntry, RangeMap, RangeMut, VacantEntry, Values, ValuesMut,
+    BTreeMap, CursorMap, Entry, ExtractIfMap, IntoIterMap, IntoKeys, IntoValues, IterMap, IterMut,
+    Keys, OccupiedEntry, RangeMap, RangeMut, VacantEntry, Values, ValuesMut,
 };
 pub use indexset_set::{
-    BTreeSet, Bounds, Cursor, Difference, ExtractIf, Intersection, IntoIter, Iter, Positions, Range,
-    SymmetricDifference, Union, laws,
+    BTreeSet, Bounds, Cursor, Difference, ExtractIf, Intersection, IntoIter, Iter, Positions,
+    Range, SymmetricDifference, Union, laws,
 };

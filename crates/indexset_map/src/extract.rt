@@ -110,7 +110,8 @@ impl<K: Ord + Drop, V: Drop> BTreeMap<K, V> {
     }
 }
 
-impl<'a, K: Ord + Drop, V: Drop, F: FnMut(&K, &mut V) -> bool> Iterator for ExtractIfMap<'a, K, V, F> {
+impl<'a, K: Ord + Drop, V: Drop, F: FnMut(&K, &mut V) -> bool> Iterator
+    for ExtractIfMap<'a, K, V, F> {
     ghost use Rattle.indexset_map.specs.Extract.{ExtractsPair, extract_pairs, extract_map_pred};
 
     type Item = (K, V);
