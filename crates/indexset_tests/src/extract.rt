@@ -83,7 +83,7 @@ fn leaves_what_retain_leaves(alloc: Global, mask: u64) -> Result<bool, Fail> {
         .extract_if(.., |number| mask & (1 << (number % 8)) != 0)
         .count();
     other.retain(|number| mask & (1 << (number % 8)) == 0);
-    Ok(set == other && gone + set.len() == 7 && set.node_count() == other.node_count())
+    Ok(set == other && gone.wrapping_add(set.len()) == 7 && set.node_count() == other.node_count())
 }
 
 #[test]
@@ -102,7 +102,7 @@ fn the_pairs_of_a_range_leave_with_what_the_closure_wrote(rt: HostRuntime) -> Re
         key % 2 == 0
     });
     assert!(rt; even.eq([(2, 21), (4, 41)]));
-    assert!(rt; map.iter().eq([(&1, &10), (&3, &31)]));
+    assert!(rt; map.len() == 2 && map.get(&1) == Some(&10) && map.get(&3) == Some(&31));
     Ok(())
 }
 

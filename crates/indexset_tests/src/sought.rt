@@ -42,12 +42,12 @@ fn a_set_of_texts_takes_a_borrowed_one(rt: HostRuntime) -> Result<(), Fail> {
 
 #[test]
 fn a_map_of_texts_takes_a_borrowed_one(rt: HostRuntime) -> Result<(), Fail> {
-    let mut counts = BTreeMap::new(rt.alloc())?;
+    let mut counts: BTreeMap<String, u64> = BTreeMap::new(rt.alloc())?;
     for word in ["fig", "elder", "pear"] {
         counts.insert(String::from_str(rt.alloc(), word)?, 1)?;
     }
     if let Some(count) = counts.get_mut("fig") {
-        *count += 1;
+        *count = count.wrapping_add(1);
     }
     assert!(rt; counts.get("fig") == Some(&2) && counts.contains_key("pear"));
     assert!(rt; counts.rank("fig") == 1 && counts.range("e".."g").len() == 2);
