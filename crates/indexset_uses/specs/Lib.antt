@@ -1,3 +1,2 @@
 pub mod Shards
-pub mod Standings
 pub mod Wire

@@ -5,7 +5,6 @@
 mod change_log;
 mod copies;
 mod counting;
-mod follower;
 mod idioms;
 mod journal;
 mod listing;
@@ -13,12 +12,9 @@ mod matching;
 mod names;
 mod orders;
 mod prices;
-mod programs;
 mod runs;
 mod scores;
-mod secondary_index;
 mod shards;
-mod standings;
 mod stock;
 mod strings;
 mod tags;
@@ -40,7 +36,30 @@ fn main(rt: HostRuntime) -> Result<()> {
     show_takeover(&rt)?;
     show_stock(&rt)?;
     show_wire(&rt)?;
-    programs::show(&rt)
+    show_idioms(&rt)
+}
+
+fn show_idioms(rt: &HostRuntime) -> Result<()> {
+    let mut set = BTreeSet::new(rt.alloc())?;
+    idioms::sets::extend_to(&mut set, 5)?;
+    let dropped = idioms::sets::drop_above(&mut set, 2);
+    println!(rt; "dropped {dropped}: {set:?}")?;
+    let mut map = idioms::maps::two(rt.alloc())?;
+    let last = idioms::maps::last_values(rt.alloc(), &map, 1)?;
+    println!(rt;
+        "{map:?}: greatest {:?}, last {last:?}",
+        idioms::maps::greatest(&map)
+    )?;
+    map.insert(2, 0)?;
+    map.insert(5, 0)?;
+    let taken = idioms::maps::take_zeros(rt.alloc(), &mut map, 5)?;
+    println!(rt; "taken {taken:?}: {map:?}")?;
+    let mut groups = BTreeMap::new(rt.alloc())?;
+    for value in [10, 20] {
+        idioms::maps::group(rt.alloc(), &mut groups, value % 3, value)?;
+    }
+    println!(rt; "{groups:?}")?;
+    Ok(())
 }
 
 fn show_scores(rt: &HostRuntime) -> Result<()> {

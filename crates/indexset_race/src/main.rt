@@ -1,0 +1,79 @@
+//! A race, entered in one place and read in another. `NAME SECONDS` enters a result, `get NUMBER`
+//! sends the copy an event, in any order, twice or never, `? SECONDS` asks how many were faster.
+#![tactic(auto)]
+
+ghost use Rattle.std.specs.Prelude.{◌≡◌, [], Some, length};
+ghost use Rattle.std.specs.Ordering.{nat_cmp};
+ghost use Rattle.indexset.specs.Words.{by_number, replay, IsBeginning, IsNumberedFrom};
+
+use anyhow::Result;
+use bytes::ByteStr;
+use indexset::base::multipair::MultiPair;
+use indexset::cdc::change::ChangeEvent;
+use indexset::cdc::laws;
+use indexset::concurrent::multimap::BTreeMultiMap;
+use indexset::replica::Replica;
+
+/// A time, and who took it.
+type Entry = MultiPair<u64, ByteStr>;
+
+/// The results, all their events, and a copy, which holds what the first of the events lead to.
+#[derive(Drop)]
+struct Race {
+    results: BTreeMultiMap<u64, ByteStr, Vec<Entry>>,
+    events: Vec<ChangeEvent<Entry>>,
+    copy: Replica<Entry>,
+    ghost numbered: { IsNumberedFrom 0 events.items × (results.next ≡ length events.items) },
+    ghost replayed: { replay (by_number nat_cmp) [] events.items ≡ Some results.nodes },
+    ghost copied: { IsBeginning (by_number nat_cmp) 0 [] events.items copy },
+}
+
+fn main(rt: HostRuntime) -> Result<()> {
+    Race {
+        results: BTreeMultiMap::with_maximum_node_size(rt.alloc(), 4),
+        events: Vec::new(rt.alloc()),
+        copy: Replica::new(rt.alloc(), 0),
+    }
+    .run(&rt)
+}
+
+impl Race {
+    fn run(&mut self, rt: &HostRuntime) -> Result<()> {
+        for line in rt.lines(rt.alloc()) {
+            self.answer(rt, line?.as_str())?;
+        }
+        for MultiPair { key, value, .. } in self.copy.iter() {
+            println!(rt; "{key} {value}")?;
+        }
+        Ok(())
+    }
+
+    fn answer(&mut self, rt: &HostRuntime, line: &str) -> Result<()> {
+        match line.split_once(' ') {
+            Some(("?", time)) => println!(rt; "{}", self.copy.rank(&time.parse::<u64>()?))?,
+            Some(("get", number)) => self.send(number.parse()?)?,
+            Some((name, time)) => self.enter(rt, name, time.parse()?)?,
+            None => println!(rt; "not understood: {line}")?,
+        }
+        Ok(())
+    }
+
+    // Enters a time behind those that equal it. With room for its events, none is lost.
+    fn enter(&mut self, rt: &HostRuntime, name: &str, time: u64) -> Result<()> {
+        self.events.reserve(3)?;
+        let name = ByteStr::copy_from_str(rt.alloc(), name)?;
+        let mut told = self.results.push_cdc(time, name)?;
+        laws::replay_in_parts::<Entry>();
+        laws::numbered_by_place::<Entry>();
+        laws::numbered_in_parts::<Entry>();
+        let _appended = self.events.append(&mut told);
+        Ok(())
+    }
+
+    fn send(&mut self, number: usize) -> Result<()> {
+        if number < self.events.len() {
+            self.copy.follow(self.events.as_slice(), &[number])?;
+        }
+        Ok(())
+    }
+}
