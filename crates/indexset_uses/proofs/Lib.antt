@@ -1,2 +1,3 @@
 mod Copied
+mod Retained
 mod Sharded

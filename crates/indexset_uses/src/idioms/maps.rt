@@ -1,10 +1,11 @@
 //! What is written over std's `BTreeMap`.
-ghost use Rattle.std.specs.Prelude.{◌≡◌, ◌+◌, ◌-◌, ◌^◌, [], ◌∷◌, IsTrue, Some, length, min, slice_get, unwrap_or, OnOk, IfOk};
-ghost use Rattle.std.specs.Cmp.Lexicographic.{slice_cmp};
+ghost use Rattle.std.specs.Prelude.{◌≡◌, ◌==◌, ◌&&◌, ◌+◌, ◌-◌, ◌^◌, [], ◌∷◌, not, nat_lt, IsTrue, Some, drop, length, min, slice_get, take, unwrap_or, MatchOption, OnOk, IfOk};
+ghost use Rattle.std.specs.Cmp.Lexicographic.{pointwise, slice_cmp};
+ghost use Rattle.std.specs.List.{All, filter, list_any};
 ghost use Rattle.std.specs.Option.{option_map};
 ghost use Rattle.std.specs.Ordering.{nat_cmp};
 ghost use Rattle.std.specs.declared.ops.Bound.TheVariants.{Included, Excluded, Unbounded};
-ghost use Rattle.indexset.specs.Words.{has_key, pair_keys, pairs_within, put_value, value_of, without_key};
+ghost use Rattle.indexset.specs.Words.{has_key, pair_keys, pair_values, pairs_within, put_value, set_value, value_of, without_key};
 
 use bytes::ByteStr;
 use indexset::base::refusal::{Refusal, Refused};
@@ -28,7 +29,10 @@ pub fn count(counts: &mut BTreeMap<u64, u64>, word: u64) -> Result<(), Refused<(
 }
 
 /// `map.entry(k).or_default()`.
-pub fn at_least_zero(map: &mut BTreeMap<u64, u64>, key: u64) -> Result<(), Refused<(u64, u64)>> {
+pub fn at_least_zero(map: &mut BTreeMap<u64, u64>, key: u64) -> Result<(), Refused<(u64, u64)>>
+    ensures { OnOk result (map.new.pairs ≡ put_value nat_cmp map.old.pairs key
+        (unwrap_or (value_of nat_cmp map.old.pairs key) 0)) }
+{
     map.entry(key).or_default()?;
     Ok(())
 }
@@ -38,7 +42,11 @@ pub fn claim(
     map: &mut BTreeMap<u64, u64>,
     key: u64,
     owner: u64,
-) -> Result<bool, Refused<(u64, u64)>> {
+) -> Result<bool, Refused<(u64, u64)>>
+    ensures free { IfOk result (λ free. free ≡ not (has_key nat_cmp map.old.pairs key)) }
+    ensures owned { OnOk result (value_of nat_cmp map.new.pairs key
+        ≡ Some (unwrap_or (value_of nat_cmp map.old.pairs key) owner)) }
+{
     match map.entry(key) {
         Entry::Occupied(_) => Ok(false),
         Entry::Vacant(entry) => {
@@ -101,7 +109,11 @@ pub fn from_e_to_g(prices: &BTreeMap<ByteStr, u64>) -> usize
 }
 
 /// `if let Some(v) = map.get_mut(&k) { *v += n }`.
-pub fn raise(map: &mut BTreeMap<u64, u64>, key: u64, more: u64) {
+pub fn raise(map: &mut BTreeMap<u64, u64>, key: u64, more: u64)
+    ensures { MatchOption (value_of nat_cmp map.old.pairs key) (map.new.pairs ≡ map.old.pairs)
+        (λ value. map.new.pairs ≡ set_value nat_cmp map.old.pairs key
+        (min (value + more) (2 ^ 64 - 1))) }
+{
     if let Some(value) = map.get_mut(&key) {
         *value = value.saturating_add(more);
     }
@@ -128,7 +140,9 @@ pub fn forget(map: &mut BTreeMap<u64, u64>, key: u64) -> Option<u64>
 }
 
 /// `for (k, v) in &map { .. }`.
-pub fn has_value(map: &BTreeMap<u64, u64>, sought: u64) -> bool {
+pub fn has_value(map: &BTreeMap<u64, u64>, sought: u64) -> bool
+    ensures { result ≡ list_any (λ pair. pair.value == sought) map.now.pairs }
+{
     for (_, value) in map {
         if *value == sought {
             return true;
@@ -198,7 +212,9 @@ pub fn drain(map: &mut BTreeMap<u64, u64>) -> u64
 }
 
 /// `map.retain(|_, v| ..)`.
-pub fn drop_zeros(map: &mut BTreeMap<u64, u64>) {
+pub fn drop_zeros(map: &mut BTreeMap<u64, u64>)
+    ensures { map.new.pairs ≡ filter (λ pair. nat_lt 0 pair.value) map.old.pairs }
+{
     map.retain(|_, value| *value > 0);
 }
 
@@ -229,13 +245,20 @@ pub fn join(map: &mut BTreeMap<u64, u64>, other: &mut BTreeMap<u64, u64>) -> Res
 }
 
 /// `map.first_entry()`.
-pub fn lower_first(map: &mut BTreeMap<u64, u64>) {
+pub fn lower_first(map: &mut BTreeMap<u64, u64>)
+    ensures keys { pair_keys map.new.pairs ≡ pair_keys map.old.pairs }
+    ensures rest { drop 1 map.new.pairs ≡ drop 1 map.old.pairs }
+    ensures first { All (λ value. value ≡ 0) (take 1 (pair_values map.new.pairs)) }
+{
     if let Some(mut entry) = map.first_entry() {
         *entry.get_mut() = 0;
     }
 }
 
 /// `a == b`.
-pub fn is_same(a: &BTreeMap<u64, u64>, b: &BTreeMap<u64, u64>) -> bool {
+pub fn is_same(a: &BTreeMap<u64, u64>, b: &BTreeMap<u64, u64>) -> bool
+    ensures { result ≡ pointwise (λ p q. (p.key == q.key) && (p.value == q.value))
+        a.now.pairs b.now.pairs }
+{
     a == b
 }

@@ -1,6 +1,6 @@
 //! What is written over std's `BTreeSet`.
-ghost use Rattle.std.specs.Prelude.{◌≡◌, ◌≤◌, ◌-◌, [], ◌∷◌, length, slice_get, OnOk, IfOk};
-ghost use Rattle.std.specs.List.{fold};
+ghost use Rattle.std.specs.Prelude.{◌≡◌, ◌≤◌, ◌-◌, [], ◌∷◌, nat_lt, length, slice_get, OnOk, IfOk};
+ghost use Rattle.std.specs.List.{filter, fold, list_any};
 ghost use Rattle.std.specs.Ordering.{nat_cmp};
 ghost use Rattle.std.specs.declared.ops.Bound.TheVariants.{Included, Excluded, Unbounded};
 ghost use Rattle.indexset.specs.Words.{difference, has_equal, in_range, intersection, items, keep, put, rank, without};
@@ -84,7 +84,9 @@ pub fn at_position(set: &BTreeSet<u64>, i: usize) -> Option<u64>
 }
 
 /// `for x in &set { .. }`.
-pub fn has_above(set: &BTreeSet<u64>, value: u64) -> bool {
+pub fn has_above(set: &BTreeSet<u64>, value: u64) -> bool
+    ensures { result ≡ list_any (λ element. nat_lt value element) (items set.now) }
+{
     for element in set {
         if *element > value {
             return true;
@@ -94,7 +96,9 @@ pub fn has_above(set: &BTreeSet<u64>, value: u64) -> bool {
 }
 
 /// `set.retain(|x| ..)`.
-pub fn keep_below(set: &mut BTreeSet<u64>, value: u64) {
+pub fn keep_below(set: &mut BTreeSet<u64>, value: u64)
+    ensures { items set.new ≡ filter (λ element. nat_lt element value) (items set.old) }
+{
     set.retain(|element| *element < value);
 }
 
