@@ -4,9 +4,10 @@
 usage: speed.py [--seconds S] [--rounds R] [--folder FOLDER]. Commands go out one after each answer, in groups that are
 answered together, and from a pipe at full speed. SQLite, by Python's module, gets the same rows in the same
 transactions, with synchronous=FULL; Redis syncs its file at each group (appendfsync always), and is left out where it
-is not installed. What goes out is made before the clock starts. A disk is now quick and now slow, so they take turns:
-a rate is the median of R turns of S seconds. The files stand in a folder of the disk that is measured. Recovery is the
-time from the start of the program to its first answer, the least of three.
+is not installed. Each size of groups begins with empty files, and what goes out is made before the clock starts. A disk
+is now quick and now slow, so they take turns: a rate is the median of R turns of S seconds. The files stand in a folder
+of the disk that is measured. Recovery is the time from the start of the program to its first answer, the least of
+three.
 
 It needs the built `indexset_store`, proved where the figures are to be told.
 """
@@ -199,22 +200,31 @@ def row(name: str, cells: list[str]) -> None:
     print("|" + "|".join([name, *cells]) + "|", flush=True)
 
 
+@contextlib.contextmanager
+def opened(folder: pathlib.Path) -> Iterator[list[Sender]]:
+    """What commands are sent to, each with empty files of its own."""
+    with contextlib.ExitStack() as senders:
+        found: list[Sender] = [senders.enter_context(Store(fresh(folder, "store")).running())]
+        found += [Rows(mode, fresh(folder, mode) / "rows.db") for mode in ("DELETE", "WAL")]
+        if shutil.which("redis-server"):
+            found.append(senders.enter_context(redis(fresh(folder, "redis"))))
+        yield found
+
+
 def answers(folder: pathlib.Path, seconds: float, rounds: int) -> None:
     """Commands a second, each kept before it is answered."""
     piped = Store(fresh(folder, "piped"))
-    pace = f"{PIPED / piped.piped(commands(PIPED, piped.chance)):,.0f}"
-    with contextlib.ExitStack() as open_senders:
-        senders: list[Sender] = [open_senders.enter_context(Store(fresh(folder, "store")).running())]
-        senders += [Rows(mode, fresh(folder, mode) / "rows.db") for mode in ("DELETE", "WAL")]
-        if shutil.which("redis-server"):
-            senders.append(open_senders.enter_context(redis(fresh(folder, "redis"))))
-        else:
-            print("redis-server is not installed: left out")
-        columns = [rates(senders, group, seconds, rounds) for group in GROUPS]
+    rows = {piped.name: [f"{PIPED / piped.piped(commands(PIPED, piped.chance)):,.0f}"]}
+    for group in reversed(GROUPS):
+        with opened(fresh(folder, f"groups{group}")) as senders:
+            for sender, rate in zip(senders, rates(senders, group, seconds, rounds)):
+                rows.setdefault(sender.name, ["–"]).insert(0, rate)
     row("commands a second", ["one at a time", f"groups of {GROUPS[1]}", *(f"of {it:,}" for it in GROUPS[2:]), "from a pipe"])
     row("---", ["---"] * 5)
-    for at, sender in enumerate(senders):
-        row(sender.name, [column[at] for column in columns] + ["–" if at else pace])
+    for name, cells in rows.items():
+        row(name, cells)
+    if not shutil.which("redis-server"):
+        print("redis-server is not installed: left out")
 
 
 def recoveries(folder: pathlib.Path) -> None:
