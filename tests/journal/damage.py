@@ -32,6 +32,7 @@ sys.dont_write_bytecode = True
 sys.path.insert(0, str(TOP / "tools"))
 from kept import sum_of  # noqa: E402
 from programs import built  # noqa: E402
+from seals import seal_of  # noqa: E402
 
 REFUSED = 6
 SENTENCES = {
@@ -185,7 +186,7 @@ def of_damage(bench: Bench, room: pathlib.Path, stride: int, seed: int) -> Itera
 
 
 def sealed(lines: list[str]) -> list[str]:
-    return [*lines, f"seal {sum_of(['seal 0', *lines])}"]
+    return [*lines, f"seal {seal_of(0, lines)}"]
 
 
 def statements(lines: list[str]) -> list[str]:

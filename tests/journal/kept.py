@@ -1,6 +1,6 @@
 """The file of a map that is kept, as Python's SQLite reads a copy of it, and a model of the lines in it.
 
-All of it is written from docs/FOLLOWING.md: the nodes that events lead to, the sum of a snapshot, and the seals.
+All of it is written from docs/FOLLOWING.md: the nodes that events lead to, and the sum of a snapshot.
 """
 
 from __future__ import annotations
@@ -12,6 +12,8 @@ import pathlib
 import shutil
 import sqlite3
 from collections.abc import Iterable
+
+from seals import seal_of
 
 WORDS = ("create", "drop", "insert", "remove", "split", "merge")
 
@@ -136,7 +138,7 @@ def unsealed(lines: list[str]) -> list[str]:
     seal, group, found = 0, list[str](), list[str]()
     for line in lines:
         if line.startswith("seal "):
-            seal, group = sum_of([f"seal {seal}", *group]), []
+            seal, group = seal_of(seal, group), []
             if line != f"seal {seal}":
                 raise Wrong(f"{line} is kept, and {seal} is right")
         else:

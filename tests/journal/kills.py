@@ -1,11 +1,11 @@
 #!/usr/bin/env python3
 """Kills a map that is kept in a file, in either role, at moments by a seed, and compares what is found with what was told.
 
-usage: kills.py [SEED] [KILLS]. A leader gets commands in bursts, or one after each answer, `compact` among them in some
-runs; in the others the file grows until the program compacts it by itself. A follower with a file of its own gets the
-leader's events, some lost, doubled and out of order within its window, and snapshots, some of them wrong. After some
-kills of the leader the follower leads in its place, told so or from its file, and the file of the old leader becomes
-the follower's.
+usage: kills.py [SEED] [KILLS], where PYTHONHASHSEED=0 makes it quicker (seals.py). A leader gets commands in bursts, or
+one after each answer, `compact` among them in some runs; in the others the file grows until the program compacts it by
+itself. A follower with a file of its own gets the leader's events, some lost, doubled and out of order within its
+window, and snapshots, some of them wrong. After some kills of the leader the follower leads in its place, told so or
+from its file, and the file of the old leader becomes the follower's.
 
 After each kill the file is copied and read by SQLite, whose integrity check it passes; its seals are computed anew.
 Each event that was told is kept in its place, or below the snapshot; numbers have no gap, and none has two events; a

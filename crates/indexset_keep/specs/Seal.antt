@@ -1,10 +1,9 @@
 -- Seals of kept lines.
-use Rattle.std.specs.Prelude.{ℕ, ◌==◌, if◌then◌else◌, List, [], ◌∷◌, ◌++◌, Option, None, Some, codes, take}
+use Rattle.std.specs.Prelude.{ℕ, ◌==◌, if◌then◌else◌, List, [], ◌∷◌, ◌++◌, Option, None, Some, codes}
 use Rattle.std.specs.Fmt.{decimal}
-use Rattle.std.specs.Int.{w64, from_be_bytes}
+use Rattle.std.specs.Hash.DefaultHasher as sip
 use Rattle.std.specs.Option.{option_and_then, option_map_or}
 use Rattle.std.specs.Str.{bytes_eq}
-use Rattle.sha2.specs.Sha256.{sha256}
 use Rattle.indexset_bench.specs.PairText.{ended, lines_for}
 use Rattle.indexset_events.specs.Nodes.{is_filled}
 use Rattle.indexset_events.specs.Spelling.{cut_at, number_of}
@@ -17,9 +16,9 @@ seal_line seal = codes "seal " ++ decimal seal
 abbrev pub seal_read : List ℕ → Option ℕ
 seal_read line = option_and_then (λ cut. if bytes_eq cut.0 (codes "seal") then number_of cut.1 else None) (cut_at 32 line)
 
--- the first 64 bits of the SHA-256 of a text
+-- the SipHash-1-3 of a text, with both keys 0
 abbrev pub sum_of_text : List ℕ → ℕ
-sum_of_text text = from_be_bytes w64 (take 8 (sha256 text))
+sum_of_text text = sip.finish (sip.write sip.initial text)
 
 -- the seal of lines behind another seal
 unfoldable pub seal_of : ℕ → List (List ℕ) → ℕ

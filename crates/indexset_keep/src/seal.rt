@@ -7,12 +7,12 @@ ghost use Rattle.indexset_keep.specs.Seal.{last_seal, seal_line, seal_of, seal_r
 use indexset_events::parts::{cut, read_number};
 use indexset_journal::JournalError;
 use indexset_lines::RunFault;
-use sha2::{Digest, Sha256};
 use std::alloc::Global;
+use std::hash::{DefaultHasher, Hasher};
 use std::io::Write;
 
-/// Returns the seal of lines that are kept behind the seal of others: the first 64 bits of the
-/// SHA-256 of that seal and these lines.
+/// Returns the seal of lines that are kept behind the seal of others: the SipHash-1-3 of that seal
+/// and these lines, with both keys 0.
 pub fn seal_of(alloc: Global, seal: u64, lines: &[Vec<u8>]) -> Result<u64, RunFault>
     ensures seal { IfOk result (λ sealed. sealed ≡ seal_of seal (texts lines.now)) }
     ensures fault { IfErr result (λ fault. fault ≡ RunFault.Memory) }
@@ -27,16 +27,13 @@ pub fn seal_of(alloc: Global, seal: u64, lines: &[Vec<u8>]) -> Result<u64, RunFa
     Ok(sum_of_text(text.as_slice()))
 }
 
-/// Returns the first 64 bits of the SHA-256 of a text.
+/// Returns the SipHash-1-3 of a text, with both keys 0.
 fn sum_of_text(text: &[u8]) -> u64
     ensures { result ≡ sum_of_text text.now }
 {
-    let mut hasher = Sha256::new();
-    hasher.update(text);
-    let digest = hasher.finalize();
-    u64::from_be_bytes([
-        digest[0], digest[1], digest[2], digest[3], digest[4], digest[5], digest[6], digest[7],
-    ])
+    let mut hasher = DefaultHasher::new();
+    hasher.write(text);
+    hasher.finish()
 }
 
 /// Returns the line of a seal.
