@@ -2,9 +2,9 @@
 //! sends the copy an event, in any order, twice or never, `? SECONDS` asks how many were faster.
 #![tactic(auto)]
 
-ghost use Rattle.std.specs.Prelude.{◌≡◌, [], Some, length};
+ghost use Rattle.std.specs.Prelude.{◌≡◌, [], OnOk, Some, length};
 ghost use Rattle.std.specs.Ordering.{nat_cmp};
-ghost use Rattle.indexset.specs.Words.{by_number, replay, IsBeginning, IsNumberedFrom};
+ghost use Rattle.indexset.specs.Words.{by_number, replay, IsAdded, IsBeginning, IsNumberedFrom};
 
 use anyhow::Result;
 use bytes::ByteStr;
@@ -58,9 +58,10 @@ impl Race {
         Ok(())
     }
 
-    // Enters a time behind those that equal it. With room for its events, none is lost.
-    fn enter(&mut self, rt: &HostRuntime, name: &str, time: u64) -> Result<()> {
-        self.events.reserve(3)?;
+    fn enter(&mut self, rt: &HostRuntime, name: &str, time: u64) -> Result<()>
+        ensures { OnOk result (IsAdded nat_cmp self.old.results self.new.results time name.now) }
+    {
+        self.events.reserve(3)?; // With room for its events, none is lost.
         let name = ByteStr::copy_from_str(rt.alloc(), name)?;
         let mut told = self.results.push_cdc(time, name)?;
         laws::replay_in_parts::<Entry>();

@@ -1,5 +1,5 @@
 //! What is written over std's `BTreeMap`.
-ghost use Rattle.std.specs.Prelude.{◌≡◌, ◌==◌, ◌&&◌, ◌+◌, ◌-◌, ◌^◌, [], ◌∷◌, not, nat_lt, IsTrue, Some, drop, length, min, slice_get, take, unwrap_or, MatchOption, OnOk, IfOk};
+ghost use Rattle.std.specs.Prelude.{◌≡◌, if◌then◌else◌, ◌==◌, ◌&&◌, ◌+◌, ◌-◌, ◌^◌, [], ◌∷◌, not, nat_lt, IsTrue, Some, drop, length, min, slice_get, take, unwrap_or, MatchOption, OnOk, IfOk};
 ghost use Rattle.std.specs.Cmp.Lexicographic.{pointwise, slice_cmp};
 ghost use Rattle.std.specs.List.{All, filter, list_any};
 ghost use Rattle.std.specs.Option.{option_map};
@@ -44,8 +44,8 @@ pub fn claim(
     owner: u64,
 ) -> Result<bool, Refused<(u64, u64)>>
     ensures free { IfOk result (λ free. free ≡ not (has_key nat_cmp map.old.pairs key)) }
-    ensures owned { OnOk result (value_of nat_cmp map.new.pairs key
-        ≡ Some (unwrap_or (value_of nat_cmp map.old.pairs key) owner)) }
+    ensures owned { OnOk result (map.new.pairs ≡ (if has_key nat_cmp map.old.pairs key
+        then map.old.pairs else put_value nat_cmp map.old.pairs key owner)) }
 {
     match map.entry(key) {
         Entry::Occupied(_) => Ok(false),
