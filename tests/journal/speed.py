@@ -1,13 +1,13 @@
 #!/usr/bin/env python3
 """Times a map that is kept in a file, beside SQLite with the same commits, and Redis with its append-only file.
 
-usage: speed.py [--seconds S] [--rounds R] [--folder FOLDER]. Commands go out one after each answer, in groups that are
+usage: speed.py [--seconds S] [--rounds R] [--one-file] [--folder FOLDER]. Commands go out one after each answer, in groups that are
 answered together, and from a pipe at full speed. SQLite, by Python's module, gets the same rows in the same
 transactions, with synchronous=FULL; Redis syncs its file at each group (appendfsync always), and is left out where it
-is not installed. Each size of groups begins with empty files, and what goes out is made before the clock starts. A disk
-is now quick and now slow, so they take turns: a rate is the median of R turns of S seconds. The files stand in a folder
-of the disk that is measured. Recovery is the time from the start of the program to its first answer, the least of
-three.
+is not installed. Each size of groups begins with empty files, unless one file is asked for, and what goes out is made
+before the clock starts. A disk is now quick and now slow, so they take turns: a rate is the median of R turns of S
+seconds. The files stand in a folder of the disk that is measured. Recovery is the time from the start of the program
+to its first answer, the least of three.
 
 It needs the built `indexset_store`, proved where the figures are to be told.
 """
@@ -41,6 +41,7 @@ KEY_BITS = 40  # of keys that hardly come twice, so that a command tells one eve
 PIPED = 300_000  # commands at full speed
 KEPT = (10**4, 10**5, 10**6)  # lines
 TABLE = "CREATE TABLE kept (number INTEGER PRIMARY KEY, line TEXT NOT NULL) STRICT"
+
 
 class Sender(Protocol):
     """What commands are sent to."""
@@ -211,18 +212,21 @@ def opened(folder: pathlib.Path) -> Iterator[list[Sender]]:
         yield found
 
 
-def answers(folder: pathlib.Path, seconds: float, rounds: int) -> None:
+def answers(folder: pathlib.Path, seconds: float, rounds: int, has_one_file: bool) -> None:
     """Commands a second, each kept before it is answered."""
     piped = Store(fresh(folder, "piped"))
-    rows = {piped.name: [f"{PIPED / piped.piped(commands(PIPED, piped.chance)):,.0f}"]}
-    for group in reversed(GROUPS):
-        with opened(fresh(folder, f"groups{group}")) as senders:
-            for sender, rate in zip(senders, rates(senders, group, seconds, rounds)):
-                rows.setdefault(sender.name, ["–"]).insert(0, rate)
+    pace = f"{PIPED / piped.piped(commands(PIPED, piped.chance)):,.0f}"
+    rows: dict[str, list[str]] = {}
+    with contextlib.ExitStack() as open_senders:
+        one = open_senders.enter_context(opened(fresh(folder, "all"))) if has_one_file else None
+        for group in GROUPS:
+            with contextlib.nullcontext(one) if one else opened(fresh(folder, f"groups{group}")) as senders:
+                for sender, rate in zip(senders, rates(senders, group, seconds, rounds)):
+                    rows.setdefault(sender.name, []).append(rate)
     row("commands a second", ["one at a time", f"groups of {GROUPS[1]}", *(f"of {it:,}" for it in GROUPS[2:]), "from a pipe"])
     row("---", ["---"] * 5)
     for name, cells in rows.items():
-        row(name, cells)
+        row(name, [*cells, pace if name == piped.name else "–"])
     if not shutil.which("redis-server"):
         print("redis-server is not installed: left out")
 
@@ -267,11 +271,12 @@ def main() -> int:
     ask = argparse.ArgumentParser(description="Times a map that is kept in a file.")
     ask.add_argument("--seconds", type=float, default=0.5, help="for each turn")
     ask.add_argument("--rounds", type=int, default=11, help="turns of each")
+    ask.add_argument("--one-file", action="store_true", help="for all sizes of groups, so that the later ones meet a larger map")
     ask.add_argument("--folder", type=pathlib.Path, default=pathlib.Path(tempfile.gettempdir()), help="on the disk that is measured")
     given = ask.parse_args()
     with tempfile.TemporaryDirectory(dir=given.folder) as folder:
         print(f"SQLite {sqlite3.sqlite_version}, {os.cpu_count()} processors\n")
-        answers(pathlib.Path(folder), given.seconds, given.rounds)
+        answers(pathlib.Path(folder), given.seconds, given.rounds, given.one_file)
         recoveries(pathlib.Path(folder))
     return 0
 
