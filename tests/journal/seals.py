@@ -1,6 +1,7 @@
 """The seals of kept lines, from their definition in docs/DURABILITY.md.
 
-Python's own hash of bytes is a seal where PYTHONHASHSEED is 0, from Python 3.11 on, and takes a hundredth of the time.
+Python's own hash of bytes is a seal where PYTHONHASHSEED is 0, from Python 3.11 on, and is quicker. In `tests/run`
+kills.py takes it, and damage.py `siphash`.
 """
 
 from __future__ import annotations
@@ -14,7 +15,7 @@ State = tuple[int, int, int, int]
 
 START: State = (0x736F6D6570736575, 0x646F72616E646F6D, 0x6C7967656E657261, 0x7465646279746573)
 LOW = 2**64 - 1
-IS_OWN = os.environ.get("PYTHONHASHSEED") == "0" and sys.hash_info.algorithm == "siphash13"
+HASH_IS_SIPHASH = os.environ.get("PYTHONHASHSEED") == "0" and sys.hash_info.algorithm == "siphash13"
 
 
 def rotated(word: int, by: int) -> int:
@@ -44,4 +45,4 @@ def siphash(text: bytes) -> int:
 def seal_of(seal: int, lines: Iterable[str]) -> int:
     """The seal of lines behind another seal."""
     text = "".join(f"{line}\n" for line in (f"seal {seal}", *lines)).encode()
-    return hash(text) & LOW if IS_OWN else siphash(text)
+    return hash(text) & LOW if HASH_IS_SIPHASH else siphash(text)
