@@ -3,8 +3,8 @@ ghost use Rattle.std.specs.Prelude.{◌≡◌, ℕ, ◌+◌, ◌≤◌, length, 
 ghost use Rattle.std.specs.List.{All, count_by};
 ghost use Rattle.indexset_core.specs.Bounds.{IfBounded, is_before, is_up_to_end};
 ghost use Rattle.indexset_core.specs.Digits.{digits};
-ghost use Rattle.indexset_core.specs.Nodes.{joined, node_lengths, node_for};
-ghost use Rattle.indexset_core.specs.Parted.{IsParted, less_count};
+ghost use Rattle.indexset_core.specs.Nodes.{equal_at, joined, node_at, node_for, node_lengths};
+ghost use Rattle.indexset_core.specs.Parted.{IsParted, less_count, not_greater_count};
 ghost use Rattle.indexset_core.specs.Places.{IsPlace, items_before, located};
 
 use crate::probe::{Past, Probe};
@@ -111,7 +111,48 @@ pub fn place_by<T, Node, R: ReadNode<T, Node>, P: Probe<T>>(
     (node, offset)
 }
 
-/// Returns the place after the items before the start, as `place_by` finds it, or by no comparison
+// Returns the place before the first item that is found Greater, as `place_by` finds one: by one
+// comparison more where that is the end of a node, and by a second search where the next node
+// begins with an item that is found Equal.
+fn place_past<T, Node, R: ReadNode<T, Node>, P: Probe<T> + Drop>(
+    nodes: &[Node],
+    mut probe: P,
+) -> (usize, usize)
+    requires filled { 2 ≤ length nodes.now → All (λ n. 1 ≤ n)
+        (node_lengths (map R.list nodes.now)) }
+    requires parted { IsParted (P.answer probe) (joined (map R.list nodes.now)) }
+    ensures place { IsPlace (map R.list nodes.now) result }
+    ensures before { items_before (map R.list nodes.now) result
+        ≡ not_greater_count (P.answer probe) (joined (map R.list nodes.now)) }
+{
+    if nodes.is_empty() {
+        return (0, 0);
+    }
+    let node = node_by::<T, Node, R, P>(nodes, &mut probe);
+    let items = R::items_of(&nodes[node]);
+    let offset = search::not_greater_len(items, &mut probe, nodes.len());
+    if offset == items.len() && begins_equal::<T, Node, R, P>(nodes, node + 1, &mut probe) {
+        return place_by::<T, Node, R, Past<P>>(nodes, &mut Past::new(probe));
+    }
+    (node, offset)
+}
+
+// Returns whether a node is there and begins with an item that is found Equal.
+fn begins_equal<T, Node, R: ReadNode<T, Node>, P: Probe<T>>(
+    nodes: &[Node],
+    node: usize,
+    probe: &mut P,
+) -> bool
+    ensures begins { result ≡ equal_at (P.answer probe.old) (node_at (map R.list nodes.now) node) 0 }
+    ensures fixed { P.answer probe.new ≡ P.answer probe.old }
+{
+    match nodes.get(node) {
+        Some(node) => search::is_equal_at(R::items_of(node), 0, probe),
+        None => false,
+    }
+}
+
+/// Returns the place after the items before the start, by two binary searches, or by no comparison
 /// where it is unbounded.
 pub fn place_from<T, Node, R: ReadNode<T, Node>, P: Probe<T> + Drop>(
     nodes: &[Node],
@@ -126,13 +167,12 @@ pub fn place_from<T, Node, R: ReadNode<T, Node>, P: Probe<T> + Drop>(
 {
     match start {
         Bound::Included(mut probe) => place_by::<T, Node, R, P>(nodes, &mut probe),
-        Bound::Excluded(probe) => { place_by::<T, Node, R, Past<P>>(nodes, &mut Past::new(probe)) }
+        Bound::Excluded(probe) => place_past::<T, Node, R, P>(nodes, probe),
         Bound::Unbounded => (0, 0),
     }
 }
 
-/// Returns the place after the items that are not past the end, as `place_by` finds it, or by no
-/// comparison where it is unbounded.
+/// Returns the place after the items that are not past the end, found in the same way.
 pub fn place_to<T, Node, R: ReadNode<T, Node>, P: Probe<T> + Drop>(
     nodes: &[Node],
     end: Bound<P>,
@@ -145,7 +185,7 @@ pub fn place_to<T, Node, R: ReadNode<T, Node>, P: Probe<T> + Drop>(
         ≡ count_by (is_up_to_end (λ x p. P.answer p x) end) (joined (map R.list nodes.now)) }
 {
     match end {
-        Bound::Included(probe) => { place_by::<T, Node, R, Past<P>>(nodes, &mut Past::new(probe)) }
+        Bound::Included(probe) => place_past::<T, Node, R, P>(nodes, probe),
         Bound::Excluded(mut probe) => place_by::<T, Node, R, P>(nodes, &mut probe),
         Bound::Unbounded => last_place::<T, Node, R>(nodes),
     }

@@ -192,8 +192,12 @@ impl<'a, T, Node, R: ReadNode<T, Node>> DoubleEndedIterator for Walk<'a, T, Node
             } else if self.front.is_empty() {
                 return None;
             } else {
-                self.back = self.front;
-                self.front = &[];
+                // The front keeps half: were it emptied, two ends that take in turn would pass the
+                // rest to and fro at each step.
+                let front = self.front;
+                let (first, last) = front.split_at(front.len() / 2);
+                self.front = first;
+                self.back = last;
             }
         }
     }

@@ -1,0 +1,17 @@
+use Rattle.std.proofs.Common.{◌+◌, ◌<◌, ◌≡◌, ◌≤◌, length}
+use Rattle.std.specs.Ordering.{is_le}
+use Rattle.indexset_core.specs.Digits.{digits}
+use Rattle.indexset_core.proofs.NearLemmas.{IsPastEqual}
+use Rattle.indexset_core.proofs.PartedLemmas.{Narrowed}
+use Rattle.indexset_core.proofs.search.first_greater_near.Given as goal
+
+abbrev pub invariant-loop-left : goal.invariant-loop-left
+invariant-loop-left g l = record {
+  narrowed : Narrowed (λ x. is_le (g.P.Probe.answer l.initial.probe x)) l.items l.low (l.low + l.left);
+  past : 0 < l.past → IsPastEqual (g.P.Probe.answer l.initial.probe) l.items l.past l.low;
+  fixed : g.P.Probe.answer l.probe ≡ g.P.Probe.answer l.initial.probe;
+  few : g.P.Probe.asked l.probe + digits l.left ≤ g.P.Probe.asked l.initial.probe + digits (length l.items);
+}
+
+abbrev pub decreases-loop-left : goal.decreases-loop-left
+decreases-loop-left g l = l.left
