@@ -45,7 +45,8 @@ def compared(keys: int, runs: list[list[Rows]]) -> list[tuple[float, list[str]]]
 
 def main() -> None:
     words = argparse.ArgumentParser(description=__doc__, formatter_class=argparse.RawDescriptionHelpFormatter)
-    words.add_argument("programs", nargs=2, metavar=("BEFORE", "AFTER"))
+    words.add_argument("before")
+    words.add_argument("after")
     words.add_argument("--keys", default=KEYS)
     words.add_argument("--minutes", type=float, default=5)
     words.add_argument("--processor", type=int, default=3)
@@ -54,7 +55,7 @@ def main() -> None:
     lines: list[tuple[float, list[str]]] = []
     sizes = [int(it) for it in given.keys.split(",")]
     for keys in sizes:
-        runs = rounds(given.programs, keys, given.minutes * 60 / len(sizes), given.processor)
+        runs = rounds([given.before, given.after], keys, given.minutes * 60 / len(sizes), given.processor)
         print(f"{keys:,} keys: {len(runs[0])} rounds", flush=True)
         lines += compared(keys, runs)
     lines.sort(key=lambda it: -it[0])

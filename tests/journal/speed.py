@@ -3,8 +3,8 @@
 
 usage: speed.py [--seconds S] [--rounds R] [--one-file] [--folder FOLDER]. Commands go out one after each answer, in
 groups that are answered together, and from a pipe at full speed. SQLite, by Python's module, gets the same rows in the
-same transactions, with synchronous=FULL; Redis syncs its file at each group (appendfsync always), and is left out where
-it is not installed. Each size of groups begins with empty files, unless one file is asked for, and what goes out is
+same transactions, with synchronous=FULL, in this process and behind a pipe as the program is (rows_by_pipe.py); Redis
+syncs its file at each group (appendfsync always), and is left out where it is not installed. Each size of groups begins with empty files, unless one file is asked for, and what goes out is
 made before the clock starts. A disk is now quick and now slow, so they take turns: a rate is the median of R turns of S
 seconds. The files stand in a folder of the disk that is measured. Recovery is the time from the start of the program to
 its first answer, the least of three.
@@ -35,12 +35,12 @@ sys.dont_write_bytecode = True
 sys.path[:0] = [str(TOP / "tools"), str(TOP / "examples")]
 from programs import built  # noqa: E402
 from resp import Redis, Word  # noqa: E402
+from rows_by_pipe import SEAL, keep, opened as opened_rows  # noqa: E402
 
 GROUPS = (1, 10, 100, 1000)  # commands
 KEY_BITS = 40  # of keys that hardly come twice, so that a command tells one event, and now and then a split
 PIPED = 300_000  # commands at full speed
 KEPT = (10**4, 10**5, 10**6)  # lines
-TABLE = "CREATE TABLE kept (number INTEGER PRIMARY KEY, line TEXT NOT NULL) STRICT"
 
 
 class Sender(Protocol):
@@ -133,15 +133,22 @@ class Store:
         return (copy / "map.db").stat().st_size
 
 
+class Served(Store):
+    """SQLite in WAL mode behind a pipe, which answers as the program does."""
+
+    name = "SQLite, WAL, behind a pipe"
+
+    def __init__(self, folder: pathlib.Path) -> None:
+        super().__init__(folder)
+        self.words = [sys.executable, str(TOP / "tests/journal/rows_by_pipe.py"), str(self.file)]
+
+
 class Rows:
     """SQLite, which gets rows as the program keeps them, in the same transactions."""
 
     def __init__(self, mode: str, file: pathlib.Path) -> None:
         self.name = f"SQLite, {mode}"
-        self.kept = sqlite3.connect(file, isolation_level=None)
-        self.kept.execute(f"PRAGMA journal_mode={mode}")
-        self.kept.execute("PRAGMA synchronous=FULL")
-        self.kept.execute(TABLE)
+        self.kept = opened_rows(str(file), mode)
         self.number, self.chance = 0, random.Random(1)
 
     def pair(self) -> str:
@@ -149,14 +156,12 @@ class Rows:
 
     def made(self, group: int) -> list[tuple[int, str]]:
         rows = [(self.number + it, f"{self.number + it} insert {self.pair()} {self.pair()} 117") for it in range(group)]
-        rows.append((self.number + group, "seal 11149498871045915152"))
+        rows.append((self.number + group, SEAL))
         self.number += group + 1
         return rows
 
     def send(self, group: list[tuple[int, str]]) -> None:
-        self.kept.execute("BEGIN")
-        self.kept.executemany("INSERT INTO kept VALUES (?, ?)", group)
-        self.kept.execute("COMMIT")
+        keep(self.kept, group)
 
 
 class Remote:
@@ -207,6 +212,7 @@ def opened(folder: pathlib.Path) -> Iterator[list[Sender]]:
     with contextlib.ExitStack() as senders:
         found: list[Sender] = [senders.enter_context(Store(fresh(folder, "store")).running())]
         found += [Rows(mode, fresh(folder, mode) / "rows.db") for mode in ("DELETE", "WAL")]
+        found.append(senders.enter_context(Served(fresh(folder, "served")).running()))
         if shutil.which("redis-server"):
             found.append(senders.enter_context(redis(fresh(folder, "redis"))))
         yield found

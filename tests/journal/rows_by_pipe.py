@@ -1,0 +1,58 @@
+#!/usr/bin/env python3
+"""Keeps commands `put KEY VALUE` in a SQLite file in WAL mode, for times beside `indexset_store --keep`.
+
+    rows_by_pipe.py FILE
+
+All commands of its input that have come get a row each, and one for a seal, by one commit; then each is answered, by
+as many bytes as the program answers. It holds the pairs in a dict, without an order.
+"""
+
+from __future__ import annotations
+
+import os
+import sqlite3
+import sys
+
+TABLE = "CREATE TABLE kept (number INTEGER PRIMARY KEY, line TEXT NOT NULL) STRICT"
+SEAL = "seal 11149498871045915152"
+
+
+def opened(file: str, mode: str) -> sqlite3.Connection:
+    """An empty file, each commit of which is on the disk when it returns."""
+    kept = sqlite3.connect(file, isolation_level=None)
+    kept.execute(f"PRAGMA journal_mode={mode}")
+    kept.execute("PRAGMA synchronous=FULL")
+    kept.execute(TABLE)
+    return kept
+
+
+def keep(kept: sqlite3.Connection, rows: list[tuple[int, str]]) -> None:
+    kept.execute("BEGIN")
+    kept.executemany("INSERT INTO kept VALUES (?, ?)", rows)
+    kept.execute("COMMIT")
+
+
+def main() -> int:
+    kept = opened(sys.argv[1], "WAL")
+    held: dict[int, int] = {}
+    number, events, rest = 0, 0, b""
+    while came := os.read(0, 1 << 16):
+        *lines, rest = (rest + came).split(b"\n")
+        rows, answers = list[tuple[int, str]](), list[str]()
+        for line in lines:
+            _, key, value = line.split(b" ")
+            held[int(key)] = int(value)
+            pair = f"{int(key)}:{int(value)}"
+            rows.append((number, f"{events} insert {pair} {pair} 117"))
+            answers.append(f"new\n{rows[-1][1]}\nnext {events + 1}\n")
+            number, events = number + 1, events + 1
+        if rows:
+            keep(kept, [*rows, (number, SEAL)])
+            number += 1
+            sys.stdout.write("".join(answers))
+            sys.stdout.flush()
+    return 0
+
+
+if __name__ == "__main__":
+    sys.exit(main())
