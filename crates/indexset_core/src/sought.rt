@@ -11,14 +11,14 @@ ghost use Rattle.indexset_core.specs.Sought.{ActsAsKey, ActsAsOne, acts_as_itsel
 mod pairs;
 mod parts;
 
-use bytes::ByteStr;
+use bytes::{ByteStr, Bytes};
 use std::alloc::Allocator;
 use std::cmp::Ordering;
 
 /// What a look-up takes: an item or a reference to one, a `&str` where the items are `String` or
-/// `ByteStr`, a `&[U]` where they are `Vec<U>`, the key of a `Pair`, or a reference to it, and where
-/// the items are tuples of two, `(&a, &b)`, a `&str` in the place of a text. It stands for `Borrow`.
-/// A look-up makes no item of it, and so allocates nothing.
+/// `ByteStr`, a `&[U]` where they are `Vec<U>`, a `&[u8]` where they are `Bytes`, the key of a
+/// `Pair`, or a reference to it, and where the items are tuples of two, `(&a, &b)`, a `&str` in the
+/// place of a text. It stands for `Borrow`. A look-up makes no item of it, and so allocates nothing.
 ///
 /// ```
 /// let mut names = BTreeSet::new(alloc)?;
@@ -120,6 +120,20 @@ impl<U: Ord, A: Allocator> Sought<Vec<U, A>> for &[U] {
 
 impl<U: Ord, A: Allocator> Names<Vec<U, A>> for &[U] {
     ghost names_one = { one_by (slice_cmp U.cmp) (lists_total U.total) (λ x. x.items) (λ q. q.now) };
+}
+
+impl<A: Allocator> Sought<Bytes<A>> for &[u8] {
+    ghost order = { λ x q. slice_cmp nat_cmp x q.now };
+
+    ghost acts_as_key = { acts_by (slice_cmp nat_cmp) nat_list_cmp_total (λ x. x) (λ q. q.now) };
+
+    fn place_item(&self, item: &Bytes<A>) -> Ordering {
+        compare_slices(item.as_slice(), *self)
+    }
+}
+
+impl<A: Allocator> Names<Bytes<A>> for &[u8] {
+    ghost names_one = { one_by (slice_cmp nat_cmp) nat_list_cmp_total (λ x. x) (λ q. q.now) };
 }
 
 // Returns how two texts compare. Both have one lifetime, as the borrow checker asks.

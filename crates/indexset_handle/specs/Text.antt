@@ -6,8 +6,6 @@ use denote.Builtin.{u64}
 use mir.Syntax.{impl, tnil, dnil}
 use Rattle.std.specs.Prelude.{ℕ, List, [], ◌++◌, Option, drop, length, map, slice_get, take}
 use Rattle.std.specs.Option.{option_map, option_map_or}
-use Rattle.std.specs.declared.cmp.Ordering.{Ordering}
-use Rattle.std.specs.declared.cmp.Ordering.TheVariants.{Less, Equal, Greater}
 use Rattle.std.specs.Global.{Global}
 use Rattle.std.specs.contracts.alloc.Global as Heap
 use Rattle.std.specs.contracts.impls.GlobalAllocator.TheImpl.{ghosts as frees, dict}
@@ -21,12 +19,6 @@ use Rattle.indexset_core.specs.Pairs.{pair_keys}
 use Rattle.indexset_handle.specs.Holds.{holds}
 use Rattle.indexset_map.specs.Contents.{Contents}
 use Rattle.indexset_map.specs.contracts.BTreeMap as Map
-
--- Less for Less, and else Equal
-abbrev pub not_below : Ordering → Ordering
-not_below Less = Less
-not_below Equal = Equal
-not_below Greater = Equal
 
 -- the pairs in order: none where there is no map
 abbrev pub text_pairs : Option (Contents (List ℕ) ℕ) → List (Pair (List ℕ) ℕ)

@@ -1,5 +1,5 @@
 //! What changes a map from byte strings.
-ghost use Rattle.std.specs.Prelude.{◌≡◌, ◌<◌, true, None, Some, IfOk, IsOk, OnErr, OnOk, length};
+ghost use Rattle.std.specs.Prelude.{◌≡◌, ◌<◌, true, None, Some, IfOk, IsOk, IsSome, OnErr, OnOk, OnSome, length};
 ghost use Rattle.std.specs.Cmp.Lexicographic.{slice_cmp};
 ghost use Rattle.std.specs.Ordering.{nat_cmp};
 ghost use Rattle.indexset_core.specs.Pairs.{has_key, put_value, set_value_at, value_of, without_key};
@@ -23,8 +23,21 @@ fn replace_at(map: &mut TextMap, position: usize, value: u64) -> u64
     }
 }
 
-/// Makes a value that of a key, and returns the value before. Where the key is new, its bytes are
-/// copied.
+// Replaces the value of a key, and returns the one before, or `None` where the key is not there.
+fn replace_value(map: &mut TextMap, key: &[u8], value: u64) -> Option<u64>
+    ensures before { result ≡ value_of (slice_cmp nat_cmp) map.old.pairs key.now }
+    ensures ok { OnSome result (map.new.pairs
+        ≡ put_value (slice_cmp nat_cmp) map.old.pairs key.now value) }
+    ensures same { result ≡ None → map.new ≡ map.old }
+    ensures there { has_key (slice_cmp nat_cmp) map.old.pairs key.now ≡ true → IsSome result }
+{
+    let i = position_of(map, key)?;
+    Some(replace_at(map, i, value))
+}
+
+/// Makes a value that of a key, and returns the value before. The bytes of the key are copied first,
+/// so that one search serves a new key and one that is there, whose value needs no copy where there
+/// is no memory for it.
 pub fn put(
     alloc: Global,
     map: &mut TextMap,
@@ -37,15 +50,15 @@ pub fn put(
     ensures unchanged { OnErr result (map.new ≡ map.old) }
     ensures no_memory { has_key (slice_cmp nat_cmp) map.old.pairs key.now ≡ true → IsOk result }
 {
-    match position_of(map, key) {
-        Some(i) => Ok(Some(replace_at(map, i, value))),
-        None => {
-            let copied = Bytes::copy_from_slice(alloc, key)?;
-            match map.insert(copied, value) {
-                Ok(before) => Ok(before),
-                Err(_) => Err(AllocError),
-            }
-        }
+    let Ok(copied) = Bytes::copy_from_slice(alloc, key) else {
+        return match replace_value(map, key, value) {
+            Some(before) => Ok(Some(before)),
+            None => Err(AllocError),
+        };
+    };
+    match map.insert(copied, value) {
+        Ok(before) => Ok(before),
+        Err(_) => Err(AllocError),
     }
 }
 
@@ -55,7 +68,5 @@ pub fn take(map: &mut TextMap, key: &[u8]) -> Option<u64>
     ensures rest { map.new.pairs ≡ without_key (slice_cmp nat_cmp) map.old.pairs key.now }
     ensures same { result ≡ None → map.new ≡ map.old }
 {
-    let i = position_of(map, key)?;
-    let (_key, value) = map.pop_index(i);
-    Some(value)
+    map.remove(key)
 }

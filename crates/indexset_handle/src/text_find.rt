@@ -9,7 +9,7 @@ ghost use Rattle.indexset_handle.specs.Cursors.{cursor_position};
 ghost use Rattle.indexset_handle.specs.Elements.{key_count_up_to};
 
 use crate::cursor::{self, Cursor};
-use crate::text_probe::{ByBytes, FromBytes};
+use crate::text_probe::ByBytes;
 use crate::text_slot::TextMap;
 
 /// Returns the position of a key, or `None` where it is not there.
@@ -28,12 +28,7 @@ pub fn position_of(map: &TextMap, key: &[u8]) -> Option<usize>
 pub fn rank_of(map: &TextMap, key: &[u8]) -> usize
     ensures { result ≡ key_rank (slice_cmp nat_cmp) map.now.pairs key.now }
 {
-    // Tells that the keys ascend.
-    let len = map.len();
-    match map.get_key_value_by(&mut FromBytes::new(key)) {
-        Some((stored, _)) => map.rank(stored),
-        None => len,
-    }
+    map.rank(key)
 }
 
 /// Returns how many keys are not above a key.
@@ -52,9 +47,7 @@ pub fn count_to(map: &TextMap, key: &[u8]) -> usize
 pub fn get(map: &TextMap, key: &[u8]) -> Option<u64>
     ensures { result ≡ value_of (slice_cmp nat_cmp) map.now.pairs key.now }
 {
-    // Tells that the keys ascend.
-    let _len = map.len();
-    map.get_by(&mut ByBytes::new(key)).copied()
+    map.get(key).copied()
 }
 
 /// Returns a cursor at the first pair whose key is not below `from`, or at the end.

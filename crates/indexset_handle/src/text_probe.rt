@@ -3,7 +3,6 @@
 ghost use Rattle.std.specs.Prelude.{◌≡◌};
 ghost use Rattle.std.specs.Cmp.Lexicographic.{slice_cmp};
 ghost use Rattle.std.specs.Ordering.{nat_cmp};
-ghost use Rattle.indexset_handle.specs.Text.{not_below};
 
 use bytes::Bytes;
 use indexset_core::pair::Pair;
@@ -47,47 +46,5 @@ impl<'a> Probe<Pair<Bytes, u64>> for ByBytes<'a> {
     fn place(&mut self, item: &Pair<Bytes, u64>) -> Ordering {
         self.steps.tick();
         item.key.as_slice().cmp(self.sought)
-    }
-}
-
-/// Compares as `ByBytes` does, but returns Equal where the key is above the bytes, so that a search
-/// finds the first key that is not below them.
-#[derive(Drop)]
-pub struct FromBytes<'a> {
-    sought: &'a [u8],
-    steps: Steps,
-}
-
-impl<'a> Model for FromBytes<'a> {
-    ghost use Rattle.std.specs.Prelude.{ℕ, List};
-
-    ghost Value = { List ℕ × ℕ };
-
-    ghost view = { λ b. (b.sought.now, b.steps) };
-}
-
-impl<'a> FromBytes<'a> {
-    /// Returns a comparator with the bytes, which has made no comparison yet.
-    pub fn new(sought: &'a [u8]) -> Self
-        ensures { result ≡ (sought.now, 0) }
-    {
-        FromBytes {
-            sought,
-            steps: Steps::new(),
-        }
-    }
-}
-
-impl<'a> Probe<Pair<Bytes, u64>> for FromBytes<'a> {
-    ghost answer = { λ p x. not_below (slice_cmp nat_cmp x.key p.0) };
-
-    ghost asked = { λ p. p.1 };
-
-    fn place(&mut self, item: &Pair<Bytes, u64>) -> Ordering {
-        self.steps.tick();
-        match item.key.as_slice().cmp(self.sought) {
-            Ordering::Less => Ordering::Less,
-            Ordering::Equal | Ordering::Greater => Ordering::Equal,
-        }
     }
 }

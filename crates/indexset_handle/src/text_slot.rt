@@ -11,6 +11,10 @@ use std::marker::Model;
 /// A map from byte strings to numbers.
 pub type TextMap = BTreeMap<Bytes, u64>;
 
+/// How many pairs a node of such a map holds at most: a quarter of the default, since an insertion
+/// and a removal move half a node's pairs, of 40 bytes each.
+pub const TEXT_NODE_SIZE: usize = 256;
+
 /// The pairs of a part of it.
 pub type TextRange<'a> = RangeMap<'a, Bytes, u64>;
 
