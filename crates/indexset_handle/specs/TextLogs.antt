@@ -1,5 +1,5 @@
 -- Logged maps from byte strings, the changes that they tell, and the records of these.
-use Rattle.std.specs.Prelude.{ℕ, List, [], length, Option, Some, None, slice_get}
+use Rattle.std.specs.Prelude.{ℕ, List, [], length, Option, Some, None}
 use Rattle.std.specs.Option.{option_map, option_map_or}
 use Rattle.indexset_core.specs.declared.pair.Pair.{Pair}
 use Rattle.indexset_core.specs.Nodes.{joined, node_lengths}
