@@ -627,8 +627,8 @@ static inline int indexset_bytes_compare(const void *one, size_t one_len, const 
     return order != 0 ? order : (one_len > other_len) - (one_len < other_len);
 }
 
-/* Makes an empty map. INDEXSET_YES, or INDEXSET_MEMORY, or INDEXSET_HELD where the handle leads to a
- * map; unless it is INDEXSET_YES, nothing changes. */
+/* Makes an empty map, whose nodes hold at most 256 pairs. INDEXSET_YES, or INDEXSET_MEMORY, or INDEXSET_HELD
+ * where the handle leads to a map; unless it is INDEXSET_YES, nothing changes. */
 uint32_t indexset_text_map_new(indexset_text_map *map);
 
 /* Makes a clone of a map under the handle `to`; the two share the bytes of the keys, and do not see each

@@ -1,21 +1,22 @@
 //! Calls that make, empty, clone and free a map from byte strings, and return its length.
 ghost use Rattle.std.specs.Prelude.{◌≡◌, ◌≢◌, ◌↔◌, [], Some, None, true, length, is_some, IfSome, option_map};
-ghost use Rattle.indexset_core.specs.declared.constants.TheConstants.{DEFAULT_INNER_SIZE};
 ghost use Rattle.indexset_map.specs.Contents.{no_pairs};
 ghost use Rattle.indexset_handle.specs.Text.{text_pairs};
 
 use indexset_handle::status::{HELD, MEMORY, NONE, YES};
 use indexset_handle::text_handle::TextHandle;
 use indexset_handle::text_owner::TextOwner;
+use indexset_handle::text_slot::TEXT_NODE_SIZE;
 use indexset_map::BTreeMap;
 use std::alloc::Global;
 use std::mem::swap;
 
-/// Makes an empty map. Fails where the handle leads to a map.
+/// Makes an empty map, whose nodes hold at most `TEXT_NODE_SIZE` pairs. Fails where the handle
+/// leads to a map.
 #[unsafe(no_mangle)]
 pub extern "C" fn indexset_text_map_new(alloc: Global, map: &mut TextHandle) -> u32
     ensures empty { result ≡ YES → text_pairs map.new.slot.value ≡ [] }
-    ensures made { result ≡ YES → map.new.slot.value ≡ Some (no_pairs DEFAULT_INNER_SIZE) }
+    ensures made { result ≡ YES → map.new.slot.value ≡ Some (no_pairs TEXT_NODE_SIZE) }
     ensures refused { result ≢ YES → map.new.slot.value ≡ map.old.slot.value }
     ensures held { result ≡ HELD ↔ (is_some map.old.slot.value ≡ true) }
     ensures status { result ≢ YES → result ≢ HELD → result ≡ MEMORY }
@@ -24,7 +25,7 @@ pub extern "C" fn indexset_text_map_new(alloc: Global, map: &mut TextHandle) -> 
         map.put(held);
         return HELD;
     }
-    let Ok(made) = BTreeMap::new(alloc) else {
+    let Ok(made) = BTreeMap::with_maximum_node_size(alloc, TEXT_NODE_SIZE) else {
         return MEMORY;
     };
     match Box::new(alloc, made) {
@@ -85,7 +86,7 @@ pub extern "C" fn indexset_text_map_free(alloc: Global, map: &mut TextHandle)
 #[unsafe(no_mangle)]
 pub extern "C" fn indexset_text_map_create(alloc: Global, map: &mut TextOwner) -> u32
     ensures made { result ≡ YES → option_map (λ h. h.slot.value) map.new.value
-        ≡ Some (Some (no_pairs DEFAULT_INNER_SIZE)) }
+        ≡ Some (Some (no_pairs TEXT_NODE_SIZE)) }
     ensures refused { result ≢ YES → map.new.value ≡ map.old.value }
     ensures status { result ≢ YES → result ≡ MEMORY }
 {
