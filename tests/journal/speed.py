@@ -2,12 +2,12 @@
 """Times a map that is kept in a file, beside SQLite with the same commits, and Redis with its append-only file.
 
 usage: speed.py [--seconds S] [--rounds R] [--one-file] [--folder FOLDER]. Commands go out one after each answer, in
-groups that are answered together, and from a pipe at full speed. SQLite, by Python's module, gets the same rows in the
+groups that are answered together, and from a file at full speed. SQLite, by Python's module, gets the same rows in the
 same transactions, with synchronous=FULL, in this process and behind a pipe as the program is (rows_by_pipe.py); Redis
-syncs its file at each group (appendfsync always), and is left out where it is not installed. Each size of groups begins with empty files, unless one file is asked for, and what goes out is
-made before the clock starts. A disk is now quick and now slow, so they take turns: a rate is the median of R turns of S
-seconds. The files stand in a folder of the disk that is measured. Recovery is the time from the start of the program to
-its first answer, the least of three.
+syncs its file at each group (appendfsync always), and is left out where it is not installed. Each size of groups begins
+with empty files, unless one file is asked for, and what goes out is made before the clock starts. A disk is now quick
+and now slow, so they take turns: a rate is the median of R turns of S seconds. The files stand in a folder of the disk
+that is measured. Recovery is the time from the start of the program to its first answer, the least of three.
 
 It needs the built `indexset_store`, proved where the figures are to be told.
 """
@@ -229,7 +229,7 @@ def answers(folder: pathlib.Path, seconds: float, rounds: int, has_one_file: boo
             with contextlib.nullcontext(one) if one else opened(fresh(folder, f"groups{group}")) as senders:
                 for sender, rate in zip(senders, rates(senders, group, seconds, rounds)):
                     rows.setdefault(sender.name, []).append(rate)
-    row("commands a second", ["one at a time", f"groups of {GROUPS[1]}", *(f"of {it:,}" for it in GROUPS[2:]), "from a pipe"])
+    row("commands a second", ["one at a time", f"groups of {GROUPS[1]}", *(f"of {it:,}" for it in GROUPS[2:]), "from a file"])
     row("---", ["---"] * 5)
     for name, cells in rows.items():
         row(name, [*cells, pace if name == piped.name else "–"])
