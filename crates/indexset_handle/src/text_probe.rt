@@ -1,4 +1,4 @@
-//! Comparators for a map from byte strings: its keys are compared with borrowed bytes, so that a
+//! A comparator for maps from byte strings: their keys are compared with borrowed bytes, so that a
 //! look-up allocates nothing.
 ghost use Rattle.std.specs.Prelude.{◌≡◌};
 ghost use Rattle.std.specs.Cmp.Lexicographic.{slice_cmp};
