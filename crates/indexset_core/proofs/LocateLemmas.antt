@@ -1,26 +1,15 @@
 -- The node that the answers name, and the spot in it.
-use Rattle.std.proofs.Common.{◌≡◌, ℕ, zero, suc, ◌+◌, ◌-◌, ◌<◌, ◌≤◌, Bool, true, false, not, cond, List, [], ◌∷◌, ◌++◌, length, map, get_or, take, slice_get, Some, None, Ordering, refl, sym, ap, ◌∙◌, arith, subst, length-append, inl, inr}
+use Rattle.std.proofs.Common.{◌≡◌, ℕ, zero, suc, ◌+◌, ◌-◌, ◌<◌, ◌≤◌, true, false, not, cond, List, [], ◌∷◌, ◌++◌, length, map, get_or, take, slice_get, Some, None, Ordering, refl, sym, ap, ◌∙◌, arith, subst, length-append, inl, inr}
 use Rattle.std.specs.List.{All, AllWithin, HoldsAt, position_or_len}
-use Rattle.std.specs.declared.cmp.Ordering.TheVariants.{Less, Equal, Greater}
-use Rattle.std.specs.Ordering.{is_lt, is_le, is_eq}
-use Rattle.std.proofs.lemmas.List.{get_or_append_left, get_or-append-add, get_or_default, get_or-map, length-map}
+use Rattle.std.specs.Ordering.{is_lt, is_eq}
+use Rattle.std.proofs.lemmas.List.{append-nil, get_or_append_left, get_or-append-add, get_or_default, get_or-map, length-map}
 use Rattle.std.proofs.lemmas.List.Sums.{sum_by-append, position_or_len_is, prefix_len_stops}
 use Rattle.std.proofs.lemmas.Option.{slice_get_read}
 use Rattle.std.proofs.lemmas.Bool.{false≢true, cases_lt}
 use Rattle.indexset_core.specs.Nodes.{joined, node_lengths, ends_less, equal_at, node_for, node_at}
-use Rattle.indexset_core.specs.Parted.{IsParted, less_count, not_greater_count}
+use Rattle.indexset_core.specs.Parted.{IsParted, less_count}
 use Rattle.indexset_core.proofs.NodeLemmas.{get_or_in_node, length-joined-mono, length-joined-more, offset-le, length-held, node_read}
-use Rattle.indexset_core.proofs.PartedLemmas.{IsFront, passes_below, fails_above, count_parted, count_parts, front-is_lt, front-is_le}
-
-greater_only : (o : Ordering) → is_lt o ≡ false → is_eq o ≡ false → is_le o ≡ false
-greater_only Less less equal = absurd (false≢true (sym less))
-greater_only Equal less equal = absurd (false≢true (sym equal))
-greater_only Greater less equal = refl
-
-less_passes : (o : Ordering) → is_lt o ≡ true → is_le o ≡ true
-less_passes Less less = refl
-less_passes Equal less = absurd (false≢true less)
-less_passes Greater less = absurd (false≢true less)
+use Rattle.indexset_core.proofs.PartedLemmas.{passes_below, fails_above, count_parted, count_parts, front-is_lt}
 
 module _ {X : Type 0} (answer : X → Ordering) where
   pub parted-left : (xs ys : List X) → IsParted answer (xs ++ ys) → IsParted answer xs
@@ -148,67 +137,6 @@ module _ {X : Type 0} (answer : X → Ordering) where
         | false ↦ λ e. rw (node_for-here n (m ∷ ms) e) (λ le. absurd (omega (arith, le, less_some n (all 0 0 (omega arith)) (parted-left n (joined (m ∷ ms)) h) e)))
       ] refl
 
-  not_greater_count-append : (xs ys : List X) → not_greater_count answer (xs ++ ys) ≡ not_greater_count answer xs + not_greater_count answer ys
-  not_greater_count-append xs ys = sum_by-append (λ x. cond (is_le (answer x)) 1 0) xs ys
-
-  -- what a node's item fails, the first item after the node fails too
-  after_node : (test : Ordering → Bool) → IsFront test → (n : List X) (y : X) (ys : List X) → IsParted answer (n ++ y ∷ ys) → (i : ℕ) → i < length n → ((d : X) → test (answer (get_or n i d)) ≡ false) → test (answer y) ≡ false
-  after_node test front n y ys h i lt fails =
-      let inside : i < length (n ++ y ∷ ys) = omega (arith, length-append n (y ∷ ys)) in
-      let failing = fails_above test front answer (n ++ y ∷ ys) h i inside (λ d. rw (get_or_append_left n (y ∷ ys) d i lt) (fails d)) in
-      ap (λ x. test (answer x)) (sym (get_or-append-add n (y ∷ ys) 0 y)) ∙ failing (length n + 0) y (omega arith) (omega (arith, length-append n (y ∷ ys)))
-
-  -- nothing after a node that does not end Less is found Less or Equal, if the first item there is not found Equal or the node has a Greater one
-  past_none : (n : List X) (y : X) (ys : List X) → 0 < length n → IsParted answer (n ++ y ∷ ys) → ends_less answer n ≡ false → (not_greater_count answer n ≡ length n → is_eq (answer y) ≡ false) → not_greater_count answer (y ∷ ys) ≡ 0
-  past_none n y ys some h ends stops =
-      let parts = count_parts is_le front-is_le answer n (parted-left n (y ∷ ys) h) in
-      let less : is_lt (answer y) ≡ false = after_node is_lt front-is_lt n y ys h (length n - 1) (omega arith) (λ d. sym (ends_last n d some) ∙ ends) in
-      let past : is_le (answer y) ≡ false = elim (cases_lt (not_greater_count answer n) (length n)) [
-        | inl lt ↦ after_node is_le front-is_le n y ys h (not_greater_count answer n) lt (λ d. parts.after (not_greater_count answer n) d (omega arith) lt)
-        | inr ge ↦ greater_only (answer y) less (stops (omega (arith, parts.inside)))
-      ] in
-      let fails = fails_above is_le front-is_le answer (y ∷ ys) (parted-right n (y ∷ ys) h) 0 (omega arith) (λ d. past) in
-      count_parted (λ x. is_le (answer x)) (y ∷ ys) 0 (omega arith) (λ k d low high. absurd (omega arith)) fails
-
-  past_next_none : (n m : List X) (ms : List (List X)) → 0 < length n → 0 < length m → IsParted answer (n ++ joined (m ∷ ms)) → ends_less answer n ≡ false → (not_greater_count answer n ≡ length n → equal_at answer m 0 ≡ false) → not_greater_count answer (joined (m ∷ ms)) ≡ 0
-  past_next_none n [] ms some none h ends stops = absurd (omega arith)
-  past_next_none n (y ∷ ys) ms some filled h ends stops = past_none n y (ys ++ joined ms) some h ends stops
-
-  -- a node that ends Less has no Greater item
-  past_all : (n : List X) → IsParted answer n → ends_less answer n ≡ true → not_greater_count answer n ≡ length n
-  past_all [] h e = absurd (false≢true e)
-  past_all (x ∷ xs) h e =
-      let n = x ∷ xs in
-      let lt : length n - 1 < length n = omega arith in
-      let all = passes_below is_le front-is_le answer n h (length n - 1) lt (λ d. less_passes _ (sym (ends_last n d (omega arith)) ∙ e)) in
-      count_parted (λ y. is_le (answer y)) n (length n) (omega arith) (λ k d low high. all k d low (omega arith)) (λ k d low high. absurd (omega arith))
-
-  abbrev Past : List (List X) → ℕ → Type 0
-  Past ns k = length (joined (take k ns)) + not_greater_count answer (node_at ns k) ≡ not_greater_count answer (joined ns)
-
-  -- where a node has no Greater item, the next does not begin with an Equal one
-  abbrev pub Stops : List (List X) → ℕ → Type 0
-  Stops ns k = not_greater_count answer (node_at ns k) ≡ length (node_at ns k) → equal_at answer (node_at ns (suc k)) 0 ≡ false
-
-  past_later : (n : List X) (ns : List (List X)) (k : ℕ) → not_greater_count answer n ≡ length n → Past ns k → Past (n ∷ ns) (suc k)
-  past_later n ns k all here = omega (arith, not_greater_count-append n (joined ns), length-append n (joined (take k ns)))
-
-  past_here : (n : List X) (ns : List (List X)) → not_greater_count answer (joined ns) ≡ 0 → Past (n ∷ ns) 0
-  past_here n ns none = omega (arith, not_greater_count-append n (joined ns))
-
-  -- all before the place past the items found Equal are found Less or Equal, and no others
-  pub past_for : (ns : List (List X)) → 1 ≤ length ns → Filled ns → IsParted answer (joined ns) → Stops ns (node_for answer ns) → Past ns (node_for answer ns)
-  past_for [] some filled h stops = absurd (omega arith)
-  past_for (n ∷ []) some filled h stops = rw (node_for-one n) (past_here n [] refl)
-  past_for (n ∷ m ∷ ms) some filled h stops =
-      let ns = n ∷ m ∷ ms in
-      let all = filled (omega arith) in
-      let more : All (λ n. 1 ≤ n) (node_lengths (m ∷ ms)) = λ k d lt. all (suc k) d (omega arith) in
-      elim (ends_less answer n) as (λ b. ends_less answer n ≡ b → Past ns (node_for answer ns)) [
-        | true ↦ λ e. let later = node_for-past n m ms e in subst (Past ns) (sym later) (past_later n (m ∷ ms) _ (past_all n (parted-left n (joined (m ∷ ms)) h) e) (past_for (m ∷ ms) (omega arith) (λ _. more) (parted-right n (joined (m ∷ ms)) h) (subst (Stops ns) later stops)))
-        | false ↦ λ e. let here = node_for-here n (m ∷ ms) e in subst (Past ns) (sym here) (past_here n (m ∷ ms) (past_next_none n m ms (filled_at ns all 0 (omega arith)) (filled_at ns all 1 (omega arith)) h e (subst (Stops ns) here stops)))
-      ] refl
-
   -- a node's answers are in order
   pub parted_node : (ns : List (List X)) (k : ℕ) → k < length ns → IsParted answer (joined ns) → IsParted answer (node_at ns k)
   parted_node [] k lt h = absurd (omega arith)
@@ -262,3 +190,9 @@ equal_read answer l i x e = rw e refl
 
 pub equal_none : {X : Type 0} (answer : X → Ordering) (l : List X) (i : ℕ) → slice_get l i ≡ None → equal_at answer l i ≡ false
 equal_none answer l i e = rw e refl
+
+-- the items of an only node are those of all
+pub only_node : {N X : Type 0} (held : N → List X) (vs : List N) (v : N) → length vs ≡ 1 → v ≡ get_or vs 0 v → (joined (map held vs) ≡ held v) × (node_at (map held vs) 0 ≡ held v)
+only_node held [] v one is = absurd (omega arith)
+only_node held (w ∷ []) v one is = (append-nil (held w) ∙ ap held (sym is), ap held (sym is))
+only_node held (w ∷ x ∷ vs) v one is = absurd (omega arith)

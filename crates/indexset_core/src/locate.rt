@@ -3,7 +3,7 @@ ghost use Rattle.std.specs.Prelude.{◌≡◌, ℕ, ◌+◌, ◌≤◌, length, 
 ghost use Rattle.std.specs.List.{All, count_by};
 ghost use Rattle.indexset_core.specs.Bounds.{IfBounded, is_before, is_up_to_end};
 ghost use Rattle.indexset_core.specs.Digits.{digits};
-ghost use Rattle.indexset_core.specs.Nodes.{equal_at, joined, node_at, node_for, node_lengths};
+ghost use Rattle.indexset_core.specs.Nodes.{joined, node_lengths, node_for};
 ghost use Rattle.indexset_core.specs.Parted.{IsParted, less_count, not_greater_count};
 ghost use Rattle.indexset_core.specs.Places.{IsPlace, items_before, located};
 
@@ -111,9 +111,8 @@ pub fn place_by<T, Node, R: ReadNode<T, Node>, P: Probe<T>>(
     (node, offset)
 }
 
-// Returns the place before the first item that is found Greater, as `place_by` finds one: by one
-// comparison more where that is the end of a node, and by a second search where the next node
-// begins with an item that is found Equal.
+// Returns the place before the first item that is found Greater, as `place_by` finds one: in an only
+// node by a search that needs no `Past`, whose answers are never Equal.
 fn place_past<T, Node, R: ReadNode<T, Node>, P: Probe<T> + Drop>(
     nodes: &[Node],
     mut probe: P,
@@ -125,31 +124,11 @@ fn place_past<T, Node, R: ReadNode<T, Node>, P: Probe<T> + Drop>(
     ensures before { items_before (map R.list nodes.now) result
         ≡ not_greater_count (P.answer probe) (joined (map R.list nodes.now)) }
 {
-    if nodes.is_empty() {
-        return (0, 0);
+    if nodes.len() == 1 {
+        let items = R::items_of(&nodes[0]);
+        return (0, search::not_greater_len(items, &mut probe, 1));
     }
-    let node = node_by::<T, Node, R, P>(nodes, &mut probe);
-    let items = R::items_of(&nodes[node]);
-    let offset = search::not_greater_len(items, &mut probe, nodes.len());
-    if offset == items.len() && begins_equal::<T, Node, R, P>(nodes, node + 1, &mut probe) {
-        return place_by::<T, Node, R, Past<P>>(nodes, &mut Past::new(probe));
-    }
-    (node, offset)
-}
-
-// Returns whether a node is there and begins with an item that is found Equal.
-fn begins_equal<T, Node, R: ReadNode<T, Node>, P: Probe<T>>(
-    nodes: &[Node],
-    node: usize,
-    probe: &mut P,
-) -> bool
-    ensures begins { result ≡ equal_at (P.answer probe.old) (node_at (map R.list nodes.now) node) 0 }
-    ensures fixed { P.answer probe.new ≡ P.answer probe.old }
-{
-    match nodes.get(node) {
-        Some(node) => search::is_equal_at(R::items_of(node), 0, probe),
-        None => false,
-    }
+    place_by::<T, Node, R, Past<P>>(nodes, &mut Past::new(probe))
 }
 
 /// Returns the place after the items before the start, by two binary searches, or by no comparison
