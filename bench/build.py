@@ -1,11 +1,17 @@
+#!/usr/bin/env python3
 """Builds what can be built here of the programs of the benchmark; each takes the same words.
 
 A program that lacks something is named and left out. The Rust crate is built where INDEXSET_RS leads to a
 folder with its sources and a Cargo.toml.
+
+    bench/build.py speed|rows
+
+proves and builds one of our own: that of bench/run, or the one that tests/journal/speed.py times beside SQLite.
 """
 
 from __future__ import annotations
 
+import argparse
 import os
 import pathlib
 import shutil
@@ -18,7 +24,11 @@ sys.dont_write_bytecode = True
 sys.path.insert(0, str(TOP / "tools"))
 import lay  # noqa: E402
 
-CRATES = ["core", "spine", "set", "map", "events", "log", "multi", "replica", "bench"]
+# Our programs: the folder of their sources, and the libraries that they use.
+OURS = {
+    "speed": ("ours", "indexset_core indexset_set indexset_map indexset_events indexset_log indexset_replica indexset_bench"),
+    "rows": ("rows", "anyhow sqlite sqlite_trees indexset_journal"),
+}
 
 
 def ran(*words: str, folder: pathlib.Path | None = None) -> bool:
@@ -29,26 +39,31 @@ def ran(*words: str, folder: pathlib.Path | None = None) -> bool:
     return done.returncode == 0
 
 
-def laid(to: pathlib.Path) -> pathlib.Path:
-    """The folder of our benchmark, laid into a folder beside the crates that it measures. It is no crate of the
+def laid(to: pathlib.Path, name: str) -> pathlib.Path:
+    """The folder of one of our programs, laid into a folder beside the crates that it uses. It is no crate of the
     gate, which reads every file named .rt: its sources are named .rt.in."""
-    lay.lay(to, [f"indexset_{name}" for name in CRATES])
-    crate = to / "crates/indexset_speed"
+    folder, below = OURS[name]
+    lay.lay(to, [it for it in below.split() if it.startswith("indexset_")])
+    crate = to / f"crates/indexset_{name}"
     shutil.rmtree(crate / "src", ignore_errors=True)
-    shutil.copytree(HERE / "ours/src", crate / "src")
+    shutil.copytree(HERE / folder / "src", crate / "src")
     for source in (crate / "src").glob("*.rt.in"):
         source.rename(source.with_suffix(""))
     with open(to / "crates.txt", "a", encoding="utf-8") as crates:
-        crates.write("indexset_speed: indexset_core indexset_set indexset_map indexset_events indexset_log indexset_replica indexset_bench\n")
+        crates.write(f"indexset_{name}: {below}\n")
     return crate
 
 
-def ours() -> pathlib.Path | str:
+def ours(name: str) -> pathlib.Path | str:
     """In out/, `rt` proves what changed since the last run, and builds it."""
     if not shutil.which("rt"):
         return "needs `rt`"
-    crate = laid(OUT)
-    return crate / "out/indexset_speed" if ran("rt", "run", folder=crate) else "did not build"
+    crate = laid(OUT, name)
+    return crate / f"out/indexset_{name}" if ran("rt", "run", folder=crate) else "did not build"
+
+
+def speed() -> pathlib.Path | str:
+    return ours("speed")
 
 
 def std() -> pathlib.Path | str:
@@ -122,10 +137,20 @@ def built() -> dict[str, pathlib.Path]:
     """The programs by name, ours first."""
     OUT.mkdir(exist_ok=True)
     found: dict[str, pathlib.Path] = {}
-    for name, build in (("ours", ours), ("Rust crate", crate), ("std", std), ("pb_ds", pb_ds), ("absl", absl)):
+    for name, build in (("ours", speed), ("Rust crate", crate), ("std", std), ("pb_ds", pb_ds), ("absl", absl)):
         made = build()
         if isinstance(made, str):
             print(f"{name} is left out: {made}")
         else:
             found[name] = made
     return found
+
+
+def main() -> None:
+    words = argparse.ArgumentParser(description="Proves and builds one of our programs.")
+    words.add_argument("name", choices=OURS)
+    print(ours(words.parse_args().name))
+
+
+if __name__ == "__main__":
+    main()

@@ -1,7 +1,7 @@
 #!/usr/bin/env python3
-"""Builds our benchmark without proofs, so that a change can be timed before it is proved.
+"""Builds a program of ours without proofs, so that a change can be timed before it is proved.
 
-    bench/unproved.py PROGRAM
+    bench/unproved.py PROGRAM [speed|rows]
 
 The crates of this checkout are compiled in a minute, without the checks that `rt try` puts in, and optimized as proved
 code is. `bench/versions.py` compares two such programs. Nothing is known of what one of them answers: it is for times.
@@ -24,9 +24,10 @@ import checked  # noqa: E402
 def main() -> None:
     words = argparse.ArgumentParser(description=__doc__, formatter_class=argparse.RawDescriptionHelpFormatter)
     words.add_argument("program", type=pathlib.Path, help="where it is built")
-    to = words.parse_args().program.resolve()
+    words.add_argument("name", nargs="?", default="speed", choices=build.OURS, help="which of build.py's (speed)")
+    given = words.parse_args()
     with tempfile.TemporaryDirectory() as room:
-        checked.program(build.laid(pathlib.Path(room)), to, is_bare=True)
+        checked.program(build.laid(pathlib.Path(room), given.name), given.program.resolve(), is_bare=True)
 
 
 if __name__ == "__main__":

@@ -2,14 +2,16 @@
 """Times a map that is kept in a file, beside SQLite with the same commits, and Redis with its append-only file.
 
 usage: speed.py [--seconds S] [--rounds R] [--one-file] [--folder FOLDER]. Commands go out one after each answer, in
-groups that are answered together, and from a file at full speed. SQLite, by Python's module, gets the same rows in the
-same transactions, with synchronous=FULL, in this process and behind a pipe as the program is (rows_by_pipe.py); Redis
-syncs its file at each group (appendfsync always), and is left out where it is not installed. Each size of groups begins
-with empty files, unless one file is asked for, and what goes out is made before the clock starts. A disk is now quick
-and now slow, so they take turns: a rate is the median of R turns of S seconds. The files stand in a folder of the disk
-that is measured. Recovery is the time from the start of the program to its first answer, the least of three.
+groups that are answered together, and from a file at full speed; the rows of such commands, a seal behind each group,
+are kept by the journal in its process too (bench/rows). SQLite, by Python's module, gets the same rows in the same
+transactions, with synchronous=FULL, in this process and behind a pipe as the program is (rows_by_pipe.py); Redis syncs
+its file at each group (appendfsync always), and is left out where it is not installed. Each size of groups begins with
+empty files, unless one file is asked for, and what goes out is made before the clock starts. A disk is now quick and
+now slow, so they take turns: a rate is the median of R turns of S seconds. The files stand in a folder of the disk that
+is measured. Recovery is the time from the start of the program to its first answer, the least of three.
 
-It needs the built `indexset_store`, proved where the figures are to be told.
+It needs the built `indexset_store`, and for the journal `indexset_rows`, which `bench/build.py rows` builds, both
+proved where the figures are to be told.
 """
 
 from __future__ import annotations
@@ -33,41 +35,49 @@ from typing import IO, Any, Protocol
 TOP = pathlib.Path(__file__).resolve().parent.parent.parent
 sys.dont_write_bytecode = True
 sys.path[:0] = [str(TOP / "tools"), str(TOP / "examples")]
-from programs import built  # noqa: E402
+from programs import FOLDER, built  # noqa: E402
 from resp import Redis, Word  # noqa: E402
 from rows_by_pipe import SEAL, keep, opened as opened_rows  # noqa: E402
 
+ROWS = pathlib.Path(os.environ.get(FOLDER, TOP / "bench/out/crates/indexset_rows/out"), "indexset_rows").resolve()
 GROUPS = (1, 10, 100, 1000)  # commands
 KEY_BITS = 40  # of keys that hardly come twice, so that a command tells one event, and now and then a split
 PIPED = 300_000  # commands at full speed
 KEPT = (10**4, 10**5, 10**6)  # lines
 
 
-class Sender(Protocol):
-    """What commands are sent to."""
+class Timed(Protocol):
+    """What keeps commands."""
 
     name: str
 
+    def seconds(self, group: int, count: int) -> float:
+        """How long it takes to keep so many groups of so many commands."""
+
+
+class Sender:
+    """What commands are sent to."""
+
     def made(self, group: int) -> Any:
         """A group of so many."""
+        raise NotImplementedError
 
     def send(self, group: Any) -> None:
         """Sends a group, and waits for its answers."""
+        raise NotImplementedError
+
+    def seconds(self, group: int, count: int) -> float:
+        groups = [self.made(group) for _ in range(count)]
+        began = time.perf_counter()
+        for it in groups:
+            self.send(it)
+        return time.perf_counter() - began
 
 
-def turn(sender: Sender, group: int, count: int) -> float:
-    """How many commands a second are answered, in so many groups."""
-    groups = [sender.made(group) for _ in range(count)]
-    began = time.perf_counter()
-    for it in groups:
-        sender.send(it)
-    return count * group / (time.perf_counter() - began)
-
-
-def rates(senders: list[Sender], group: int, seconds: float, rounds: int) -> list[str]:
+def rates(timed: list[Timed], group: int, seconds: float, rounds: int) -> list[str]:
     """The median rate of each, in groups."""
-    counts = [max(1, round(turn(it, group, 5) * seconds / group)) for it in senders]
-    found = [[turn(it, group, count) for it, count in zip(senders, counts)] for _ in range(rounds)]
+    counts = [max(1, round(5 * seconds / it.seconds(group, 5))) for it in timed]
+    found = [[group * count / it.seconds(group, count) for it, count in zip(timed, counts)] for _ in range(rounds)]
     return [f"{statistics.median(each):,.0f}" for each in zip(*found)]
 
 
@@ -75,7 +85,7 @@ def commands(count: int, chance: random.Random) -> list[str]:
     return [f"put {chance.getrandbits(KEY_BITS)} {chance.randrange(10**6)}" for _ in range(count)]
 
 
-class Store:
+class Store(Sender):
     """The program, which leads over a file."""
 
     name = "`indexset_store`"
@@ -143,11 +153,35 @@ class Served(Store):
         self.words = [sys.executable, str(TOP / "tests/journal/rows_by_pipe.py"), str(self.file)]
 
 
-class Rows:
+class Journal:
+    """The journal in a process of its own, which makes rows as the program keeps them, and commits each group."""
+
+    name = "rows alone: `indexset_journal`"
+
+    def __init__(self, folder: pathlib.Path) -> None:
+        self.words = [str(ROWS), str(folder / "rows.db")]
+        self.asked: Any = None
+        self.told: Any = None
+
+    @contextlib.contextmanager
+    def running(self) -> Iterator[Journal]:
+        with subprocess.Popen(self.words, stdin=subprocess.PIPE, stdout=subprocess.PIPE) as run:
+            assert run.stdin
+            self.asked, self.told = run.stdin, run.stdout
+            yield self
+            run.stdin.close()
+
+    def seconds(self, group: int, count: int) -> float:
+        self.asked.write(f"{group} {count}\n".encode())
+        self.asked.flush()
+        return int(self.told.readline()) / 1e6
+
+
+class Rows(Sender):
     """SQLite, which gets rows as the program keeps them, in the same transactions."""
 
     def __init__(self, mode: str, file: pathlib.Path) -> None:
-        self.name = f"SQLite, {mode}"
+        self.name = f"rows alone: SQLite, {mode}"
         self.kept = opened_rows(str(file), mode)
         self.number, self.chance = 0, random.Random(1)
 
@@ -164,7 +198,7 @@ class Rows:
         keep(self.kept, group)
 
 
-class Remote:
+class Remote(Sender):
     """Redis, which syncs before it answers."""
 
     name = "Redis"
@@ -207,14 +241,16 @@ def row(name: str, cells: list[str]) -> None:
 
 
 @contextlib.contextmanager
-def opened(folder: pathlib.Path) -> Iterator[list[Sender]]:
-    """What commands are sent to, each with empty files of its own."""
-    with contextlib.ExitStack() as senders:
-        found: list[Sender] = [senders.enter_context(Store(fresh(folder, "store")).running())]
-        found += [Rows(mode, fresh(folder, mode) / "rows.db") for mode in ("DELETE", "WAL")]
-        found.append(senders.enter_context(Served(fresh(folder, "served")).running()))
+def opened(folder: pathlib.Path) -> Iterator[list[Timed]]:
+    """What keeps commands, each with empty files of its own."""
+    with contextlib.ExitStack() as open_ones:
+        found: list[Timed] = [open_ones.enter_context(Store(fresh(folder, "store")).running())]
+        found.append(open_ones.enter_context(Served(fresh(folder, "served")).running()))
         if shutil.which("redis-server"):
-            found.append(senders.enter_context(redis(fresh(folder, "redis"))))
+            found.append(open_ones.enter_context(redis(fresh(folder, "redis"))))
+        if ROWS.exists():
+            found.append(open_ones.enter_context(Journal(fresh(folder, "journal")).running()))
+        found += [Rows(mode, fresh(folder, mode) / "rows.db") for mode in ("WAL", "DELETE")]
         yield found
 
 
@@ -223,18 +259,20 @@ def answers(folder: pathlib.Path, seconds: float, rounds: int, has_one_file: boo
     piped = Store(fresh(folder, "piped"))
     pace = f"{PIPED / piped.piped(commands(PIPED, piped.chance)):,.0f}"
     rows: dict[str, list[str]] = {}
-    with contextlib.ExitStack() as open_senders:
-        one = open_senders.enter_context(opened(fresh(folder, "all"))) if has_one_file else None
+    with contextlib.ExitStack() as all_open:
+        one = all_open.enter_context(opened(fresh(folder, "all"))) if has_one_file else None
         for group in GROUPS:
-            with contextlib.nullcontext(one) if one else opened(fresh(folder, f"groups{group}")) as senders:
-                for sender, rate in zip(senders, rates(senders, group, seconds, rounds)):
-                    rows.setdefault(sender.name, []).append(rate)
+            with contextlib.nullcontext(one) if one else opened(fresh(folder, f"groups{group}")) as timed:
+                for it, rate in zip(timed, rates(timed, group, seconds, rounds)):
+                    rows.setdefault(it.name, []).append(rate)
     row("commands a second", ["one at a time", f"groups of {GROUPS[1]}", *(f"of {it:,}" for it in GROUPS[2:]), "from a file"])
     row("---", ["---"] * 5)
     for name, cells in rows.items():
         row(name, [*cells, pace if name == piped.name else "–"])
     if not shutil.which("redis-server"):
         print("redis-server is not installed: left out")
+    if not ROWS.exists():
+        print("indexset_rows is not built: left out")
 
 
 def recoveries(folder: pathlib.Path) -> None:
