@@ -156,11 +156,14 @@ impl<'a, T, Node, R: ReadNode<T, Node>> Iterator for Walk<'a, T, Node, R> {
                 self.front = rest;
                 return Some(first);
             }
+            // Both are tested at once: after a test of the back alone the compiler enters a caller's loop
+            // from here behind that loop's own test, and copies registers for that at each item.
+            if self.middle.len().max(self.back.len()) == 0 {
+                return None;
+            }
             if let Some((node, rest)) = self.middle.split_first() {
                 self.front = R::items_of(node);
                 self.middle = rest;
-            } else if self.back.is_empty() {
-                return None;
             } else {
                 self.front = self.back;
                 self.back = &[];
