@@ -2,7 +2,7 @@
 //! sends the copy an event, in any order, twice or never, `? SECONDS` asks how many were faster.
 #![tactic(auto)]
 
-ghost use Rattle.std.specs.Prelude.{◌≡◌, [], OnOk, Some, length};
+ghost use Rattle.std.specs.Prelude.{◌≡◌, ◌==◌, ◌+◌, [], if◌then◌else◌, OnOk, Some, length, min};
 ghost use Rattle.std.specs.Ordering.{nat_cmp};
 ghost use Rattle.indexset.specs.Words.{by_number, replay, IsAdded, IsBeginning, IsNumberedFrom};
 
@@ -40,20 +40,16 @@ fn main(rt: HostRuntime) -> Result<()> {
 impl Race {
     fn run(&mut self, rt: &HostRuntime) -> Result<()> {
         for line in rt.lines(rt.alloc()) {
-            self.answer(rt, line?.as_str())?;
+            let line = line?;
+            match line.as_str().split_once(' ') {
+                Some(("?", time)) => println!(rt; "{}", self.copy.rank(&time.parse::<u64>()?))?,
+                Some(("get", number)) => self.send(number.parse()?)?,
+                Some((name, time)) => self.enter(rt, name, time.parse()?)?,
+                None => println!(rt; "not understood: {line}")?,
+            }
         }
         for MultiPair { key, value, .. } in self.copy.iter() {
             println!(rt; "{key} {value}")?;
-        }
-        Ok(())
-    }
-
-    fn answer(&mut self, rt: &HostRuntime, line: &str) -> Result<()> {
-        match line.split_once(' ') {
-            Some(("?", time)) => println!(rt; "{}", self.copy.rank(&time.parse::<u64>()?))?,
-            Some(("get", number)) => self.send(number.parse()?)?,
-            Some((name, time)) => self.enter(rt, name, time.parse()?)?,
-            None => println!(rt; "not understood: {line}")?,
         }
         Ok(())
     }
@@ -71,7 +67,11 @@ impl Race {
         Ok(())
     }
 
-    fn send(&mut self, number: usize) -> Result<()> {
+    /// The copy goes on by the event that it awaits, and passes over any other.
+    fn send(&mut self, number: usize) -> Result<()>
+        ensures { OnOk result (self.new.copy.next ≡ (if number == self.old.copy.next
+            then min (number + 1) (length self.old.events.items) else self.old.copy.next)) }
+    {
         if number < self.events.len() {
             self.copy.follow(self.events.as_slice(), &[number])?;
         }
