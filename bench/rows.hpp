@@ -67,33 +67,33 @@ static void row(const char *name, uint64_t operations, Work work) {
 }
 
 template <class Set>
-static uint64_t inserted(Set &set, const Keys &keys) {
+[[gnu::noinline]] static uint64_t inserted(Set &set, const Keys &keys) {
     for (auto key : keys) set.insert(key);
     return set.size();
 }
 
 template <class Map>
-static uint64_t inserted_pairs(Map &map, const Keys &keys) {
+[[gnu::noinline]] static uint64_t inserted_pairs(Map &map, const Keys &keys) {
     for (auto key : keys) map.insert({key, key});
     return map.size();
 }
 
 template <class Set>
-static uint64_t contained(const Set &set, const Keys &keys) {
+[[gnu::noinline]] static uint64_t contained(const Set &set, const Keys &keys) {
     uint64_t count = 0;
     for (auto key : keys) count += set.find(key) != set.end();
     return count;
 }
 
 template <class Set>
-static uint64_t by_position(const Set &set, const Keys &positions) {
+[[gnu::noinline]] static uint64_t by_position(const Set &set, const Keys &positions) {
     uint64_t sum = 0;
     for (auto at : positions) sum += *set.find_by_order(at);
     return sum;
 }
 
 template <class Set>
-static uint64_t ranks(const Set &set, const Keys &keys) {
+[[gnu::noinline]] static uint64_t ranks(const Set &set, const Keys &keys) {
     uint64_t sum = 0;
     for (auto key : keys) sum += set.order_of_key(key);
     return sum;
@@ -107,13 +107,13 @@ static Texts texts_of(const Keys &keys) {
 }
 
 template <class Map>
-static uint64_t inserted_texts(Map &map, Texts texts) {
+[[gnu::noinline]] static uint64_t inserted_texts(Map &map, Texts texts) {
     for (auto &text : texts) map.insert({std::move(text), 1});
     return map.size();
 }
 
 template <class Map, class List>
-static uint64_t looked_up(const Map &map, const List &keys) {
+[[gnu::noinline]] static uint64_t looked_up(const Map &map, const List &keys) {
     uint64_t sum = 0;
     for (auto &key : keys) sum += map.find(key)->second;
     return sum;
@@ -121,13 +121,13 @@ static uint64_t looked_up(const Map &map, const List &keys) {
 
 // One more in each value, key by key.
 template <class Map>
-static uint64_t written(Map &map, const Keys &keys) {
+[[gnu::noinline]] static uint64_t written(Map &map, const Keys &keys) {
     for (auto key : keys) map.find(key)->second += 1;
     return map.size();
 }
 
 template <class Set>
-static uint64_t walked(const Set &set) {
+[[gnu::noinline]] static uint64_t walked(const Set &set) {
     uint64_t sum = 0;
     for (auto key : set) sum += key;
     return sum;
@@ -135,7 +135,7 @@ static uint64_t walked(const Set &set) {
 
 // A walk that takes from both ends in turn.
 template <class Set>
-static uint64_t walked_from_both_ends(const Set &set) {
+[[gnu::noinline]] static uint64_t walked_from_both_ends(const Set &set) {
     uint64_t sum = 0;
     auto first = set.begin(), last = set.end();
     while (first != last) {
@@ -147,7 +147,7 @@ static uint64_t walked_from_both_ends(const Set &set) {
 
 // Ranges of about a hundred elements, each from a key on.
 template <class Set>
-static uint64_t ranges(const Set &set, uint64_t keys, uint64_t times) {
+[[gnu::noinline]] static uint64_t ranges(const Set &set, uint64_t keys, uint64_t times) {
     uint64_t width = UINT64_MAX / keys * std::min<uint64_t>(keys, 100), sum = 0;
     for (uint64_t i = 0; i < times; i++) {
         uint64_t start = key(i), end = start + width < start ? UINT64_MAX : start + width;
@@ -166,27 +166,27 @@ struct Adding {
 };
 
 template <class Set>
-static uint64_t united(const Set &set, const Set &other) {
+[[gnu::noinline]] static uint64_t united(const Set &set, const Set &other) {
     uint64_t sum = 0;
     std::set_union(set.begin(), set.end(), other.begin(), other.end(), Adding{&sum});
     return sum;
 }
 
 template <class Set, class List>
-static uint64_t removed(Set &set, const List &keys) {
+[[gnu::noinline]] static uint64_t removed(Set &set, const List &keys) {
     uint64_t count = 0;
     for (auto &key : keys) count += set.erase(key);
     return count;
 }
 
 template <class Set>
-static uint64_t popped_from_the_back(Set &set) {
+[[gnu::noinline]] static uint64_t popped_from_the_back(Set &set) {
     while (!set.empty()) set.erase(--set.end());
     return set.size();
 }
 
 template <class Set>
-static uint64_t popped_from_the_front(Set &set) {
+[[gnu::noinline]] static uint64_t popped_from_the_front(Set &set) {
     while (!set.empty()) set.erase(set.begin());
     return set.size();
 }
@@ -253,7 +253,7 @@ static void measure_ends(const Keys &ascending) {
 
 // The first elements, so many times.
 template <class Set>
-static uint64_t firsts(const std::vector<Set> &sets, uint64_t count) {
+[[gnu::noinline]] static uint64_t firsts(const std::vector<Set> &sets, uint64_t count) {
     uint64_t sum = 0;
     for (uint64_t i = 0; i < count; i++)
         for (auto &set : sets) sum += *set.begin();
@@ -291,7 +291,7 @@ static void measure_from(const char *name, const Keys &values) {
 }
 
 template <class Map>
-static uint64_t walked_pairs(const Map &map) {
+[[gnu::noinline]] static uint64_t walked_pairs(const Map &map) {
     uint64_t sum = 0;
     for (auto &pair : map) sum += pair.first + pair.second;
     return sum;

@@ -31,6 +31,7 @@ fn every_second(first: u64, keys: u64) -> BTreeSet<u64> {
     (0..keys / 2).map(|i| 2 * i + first).collect()
 }
 
+#[inline(never)]
 fn insert_all(set: &mut BTreeSet<u64>, keys: impl Iterator<Item = u64>) -> usize {
     for key in keys {
         set.insert(key);
@@ -38,31 +39,37 @@ fn insert_all(set: &mut BTreeSet<u64>, keys: impl Iterator<Item = u64>) -> usize
     set.len()
 }
 
+#[inline(never)]
 fn insert_pairs(map: &mut BTreeMap<u64, u64>, keys: impl Iterator<Item = u64>) {
     for key in keys {
         map.insert(key, key);
     }
 }
 
+#[inline(never)]
 fn contained(set: &BTreeSet<u64>, keys: &[u64]) -> usize {
     keys.iter().filter(|key| set.contains(key)).count()
 }
 
 #[cfg(feature = "of_the_crate")]
+#[inline(never)]
 fn by_position(set: &BTreeSet<u64>, positions: &[u64]) -> u64 {
     positions.iter().filter_map(|at| set.get_index(*at as usize)).fold(0u64, |sum, key| sum.wrapping_add(*key))
 }
 
 #[cfg(feature = "of_the_crate")]
+#[inline(never)]
 fn ranks(set: &BTreeSet<u64>, keys: &[u64]) -> usize {
     keys.iter().fold(0usize, |sum, key| sum.wrapping_add(set.rank(key)))
 }
 
+#[inline(never)]
 fn looked_up(map: &BTreeMap<u64, u64>, keys: &[u64]) -> u64 {
     keys.iter().filter_map(|key| map.get(key)).fold(0u64, |sum, value| sum.wrapping_add(*value))
 }
 
 /// One more in each value, key by key.
+#[inline(never)]
 fn written(map: &mut BTreeMap<u64, u64>, keys: &[u64]) {
     for key in keys {
         if let Some(value) = map.get_mut(key) {
@@ -95,10 +102,12 @@ fn measure_positions(set: &BTreeSet<u64>, sought: &[u64], positions: &[u64], key
 #[cfg(not(feature = "of_the_crate"))]
 fn measure_positions(_set: &BTreeSet<u64>, _sought: &[u64], _positions: &[u64], _keys: u64) {}
 
+#[inline(never)]
 fn walked(set: &BTreeSet<u64>) -> u64 {
     set.iter().fold(0u64, |sum, key| sum.wrapping_add(*key))
 }
 
+#[inline(never)]
 fn both_ends(set: &BTreeSet<u64>) -> u64 {
     let mut sum = 0u64;
     let mut walk = set.iter();
@@ -109,6 +118,7 @@ fn both_ends(set: &BTreeSet<u64>) -> u64 {
     sum
 }
 
+#[inline(never)]
 fn ranges(set: &BTreeSet<u64>, keys: u64, times: u64) -> u64 {
     let width = u64::MAX / keys.max(1) * 100.min(keys.max(1));
     let mut sum = 0u64;
@@ -197,6 +207,7 @@ fn measure_whole(mixed: &[u64], keys: u64) {
 }
 
 /// The first elements, so many times.
+#[inline(never)]
 fn firsts(sets: &[BTreeSet<u64>], count: u64) -> u64 {
     let mut sum = 0u64;
     for _ in 0..count {
@@ -243,20 +254,24 @@ fn texts_of(keys: impl Iterator<Item = u64>) -> Vec<String> {
     keys.map(|key| key.to_string()).collect()
 }
 
+#[inline(never)]
 fn walked_pairs(map: &BTreeMap<u64, u64>) -> u64 {
     map.iter().fold(0u64, |sum, (key, value)| sum.wrapping_add(*key).wrapping_add(*value))
 }
 
+#[inline(never)]
 fn insert_texts(map: &mut BTreeMap<String, u64>, texts: Vec<String>) {
     for text in texts {
         map.insert(text, 1);
     }
 }
 
+#[inline(never)]
 fn looked_up_texts(map: &BTreeMap<String, u64>, texts: &[String]) -> u64 {
     texts.iter().filter_map(|text| map.get(text)).sum()
 }
 
+#[inline(never)]
 fn remove_texts(map: &mut BTreeMap<String, u64>, texts: &[String]) -> usize {
     texts.iter().filter(|text| map.remove(*text).is_some()).count()
 }
