@@ -1,12 +1,13 @@
 #!/usr/bin/env python3
-"""Counts the jumps of a call that lie badly: they cross a boundary of 32 bytes, or end at one.
+"""Counts what of a call lies badly: its code goes on into another block of 32 bytes, or a jump crosses the boundary.
 
     bench/jumps.py ROW KEYS PROGRAM..
 
-Intel's processors of 2015 to 2019 keep no decoded code of a block of 32 bytes with such a jump, so that a short loop
-takes up to twice the time, and where it lies is decided by what is linked before it. For each program of bench/build.py
-it prints, for one operation of the row, the instructions, the jumps and those that lie badly, by callgrind and objdump.
-A comparison just before a jump counts with it where the processor joins the two.
+Intel's processors take decoded code of one block a cycle, and those of 2015 to 2019 keep none of a block with a jump
+that crosses its boundary or ends there. So a short loop takes up to twice the time by where it lies, which is decided by
+what is linked before it. For each program of bench/build.py it prints, for one operation of the row, the instructions,
+the jumps, those that lie badly, and how often the code went on into another block, by callgrind and objdump. A
+comparison just before a jump counts with it where the processor joins the two.
 """
 
 from __future__ import annotations
@@ -30,17 +31,21 @@ JOINED = re.compile(r"cmp|test|add|sub|and|inc|dec")  # with a conditional jump 
 
 @dataclass
 class Code:
-    """The addresses of a program's jumps, and of those that lie badly."""
+    """The addresses of a program's jumps, of those that lie badly, and of instructions that others lead to across a
+    boundary."""
 
     jumps: set[int]
     bad: set[int]
+    crossed: set[int]
 
 
 def code_of(program: pathlib.Path) -> Code:
     listed = subprocess.run(["objdump", "-d", "--no-show-raw-insn", program], check=True, capture_output=True, text=True).stdout
     lines = [(int(found[1], 16), found[2]) for line in listed.splitlines() if (found := INSTRUCTION.match(line))]
-    code = Code(set(), set())
+    code = Code(set(), set(), set())
     for (before, word), (at, jump), (end, _) in zip(lines, lines[1:], lines[2:]):
+        if before // BLOCK != at // BLOCK:
+            code.crossed.add(at)
         if JUMP.match(jump):
             start = before if CONDITIONAL.match(jump) and JOINED.match(word) else at
             code.jumps.add(at)
@@ -75,7 +80,7 @@ def cell(row: str, keys: int, program: pathlib.Path) -> str:
     some, none = (executed(program, counters.words(program, row, keys, it)) for it in (count, 0))
     some.subtract(none)
     code = code_of(program)
-    each = [sum(some.values()), *(sum(some[it] for it in addresses) for addresses in (code.jumps, code.bad))]
+    each = [sum(some.values()), *(sum(some[it] for it in addresses) for addresses in (code.jumps, code.bad, code.crossed))]
     return "/".join(counters.shown(it / operations) for it in each)
 
 
@@ -85,7 +90,7 @@ def main() -> None:
     words.add_argument("keys", type=int)
     words.add_argument("program", type=pathlib.Path, nargs="+")
     given = words.parse_args()
-    print(f"{given.row}, {given.keys:,} keys: instructions/jumps/jumps that lie badly")
+    print(f"{given.row}, {given.keys:,} keys: instructions/jumps/jumps that lie badly/boundaries crossed")
     for program in given.program:
         print(f"{program}: {cell(given.row, given.keys, program.resolve())}")
 
