@@ -21,6 +21,7 @@ from collections import Counter
 from dataclasses import dataclass
 
 import counters
+from tables import shown
 
 BLOCK = 32  # bytes
 INSTRUCTION = re.compile(r" *([0-9a-f]+):\t(?:bnd |notrack )?(\S+)")
@@ -81,7 +82,7 @@ def cell(row: str, keys: int, program: pathlib.Path) -> str:
     some.subtract(none)
     code = code_of(program)
     each = [sum(some.values()), *(sum(some[it] for it in addresses) for addresses in (code.jumps, code.bad, code.crossed))]
-    return "/".join(counters.shown(it / operations) for it in each)
+    return "/".join(shown(it / operations) for it in each)
 
 
 def main() -> None:
