@@ -156,8 +156,8 @@ impl<'a, T, Node, R: ReadNode<T, Node>> Iterator for Walk<'a, T, Node, R> {
                 self.front = rest;
                 return Some(first);
             }
-            // Both are tested at once: after a test of the back alone the compiler enters a caller's loop
-            // from here behind that loop's own test, and copies registers for that at each item.
+            // Both at once: after a test of the back alone the compiler enters a loop over the walk
+            // from here, behind its test, and copies registers for that at each item.
             if self.middle.len().max(self.back.len()) == 0 {
                 return None;
             }
