@@ -6,7 +6,8 @@ folder with its sources and a Cargo.toml.
 
     bench/build.py speed|rows
 
-proves and builds one of our own: that of bench/run, or the one that tests/journal/speed.py times beside SQLite.
+proves and builds one of our own: that of bench/run, or the one that tests/journal/speed.py times beside SQLite, which
+takes a file and lines of its own.
 """
 
 from __future__ import annotations
