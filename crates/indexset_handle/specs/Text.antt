@@ -3,17 +3,15 @@ use base.Fml.{Fml}
 use denote.RawPtr.{Ptr}
 use denote.RattleType.{RattleType}
 use denote.Builtin.{u64}
-use mir.Syntax.{impl, tnil, dnil}
 use Rattle.std.specs.Prelude.{ℕ, List, [], ◌++◌, Option, drop, length, map, slice_get, take}
 use Rattle.std.specs.Option.{option_map, option_map_or}
 use Rattle.std.specs.Global.{Global}
-use Rattle.std.specs.contracts.alloc.Global as Heap
-use Rattle.std.specs.contracts.impls.GlobalAllocator.TheImpl.{ghosts as frees, dict}
-use Rattle.bytes.specs.contracts.shared.Bytes as bytes
-use Rattle.bytes.specs.contracts.shared.impls.BytesOrd.TheImpl.{ghosts as ord}
-use Rattle.bytes.specs.contracts.shared.impls.BytesEq.TheImpl.{ghosts as eq}
-use Rattle.bytes.specs.contracts.shared.impls.BytesPartialEq.TheImpl.{ghosts as equal}
-use Rattle.bytes.specs.contracts.shared.impls.BytesPartialOrd.TheImpl.{ghosts as partial}
+use Rattle.std.specs.contracts.impls.GlobalAllocator.TheImpl.{ghosts as frees}
+use Rattle.indexset_handle.specs.contracts.text_key.TextKey as key
+use Rattle.indexset_handle.specs.contracts.text_key.TextKeyOrd.TheImpl.{ghosts as ord}
+use Rattle.indexset_handle.specs.contracts.text_key.TextKeyEq.TheImpl.{ghosts as eq}
+use Rattle.indexset_handle.specs.contracts.text_key.TextKeyPartialEq.TheImpl.{ghosts as equal}
+use Rattle.indexset_handle.specs.contracts.text_key.TextKeyPartialOrd.TheImpl.{ghosts as partial}
 use Rattle.indexset_core.specs.declared.pair.Pair.{Pair}
 use Rattle.indexset_core.specs.Pairs.{pair_keys}
 use Rattle.indexset_handle.specs.Holds.{holds}
@@ -44,11 +42,8 @@ key_lengths ps = map length (pair_keys ps)
 abbrev pub written_over : List ℕ → List ℕ → List ℕ
 written_over bytes before = take (length before) bytes ++ drop (length bytes) before
 
-abbrev pub bytes_row : RattleType
-bytes_row = bytes.the_row Heap.the_row frees
-
 abbrev pub text_row : RattleType
-text_row = Map.the_row bytes_row u64 (ord Heap.the_row frees dict (impl [] tnil dnil)) (eq Heap.the_row frees dict (impl [] tnil dnil)) (equal Heap.the_row frees dict (impl [] tnil dnil)) (partial Heap.the_row frees dict (impl [] tnil dnil))
+text_row = Map.the_row key.the_row u64 ord eq equal partial
 
 abbrev pub holds_text : Global → Ptr → Option text_row.Denot → Fml
 holds_text alloc = holds (frees.dealloc_token alloc) text_row

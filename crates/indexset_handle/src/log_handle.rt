@@ -39,7 +39,7 @@ impl LogHandle {
         }
     }
 
-    /// Takes the logged map out of the handle, if any.
+    /// Removes the logged map from the handle and returns it, if any.
     pub fn take(&mut self, alloc: Global) -> Option<Box<LoggedMap, Global>>
         ensures taken { option_map (λ b. b.value) result ≡ self.old.slot.value }
         ensures left { self.new.slot.value ≡ None }

@@ -40,7 +40,7 @@ impl MapHandle {
         }
     }
 
-    /// Takes the map out of the handle, if any.
+    /// Removes the map from the handle and returns it, if any.
     pub fn take(&mut self, alloc: Global) -> Option<Box<BTreeMap<u64, u64>, Global>>
         ensures taken { option_map (λ b. b.value) result ≡ self.old.slot.value }
         ensures left { self.new.slot.value ≡ None }

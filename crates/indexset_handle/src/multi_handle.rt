@@ -39,7 +39,7 @@ impl MultiHandle {
         }
     }
 
-    /// Takes the multimap out of the handle, if any.
+    /// Removes the multimap from the handle and returns it, if any.
     pub fn take(&mut self, alloc: Global) -> Option<Box<MultiMap, Global>>
         ensures taken { option_map (λ b. b.value) result ≡ self.old.slot.value }
         ensures left { self.new.slot.value ≡ None }

@@ -39,7 +39,7 @@ impl ReplicaHandle {
         }
     }
 
-    /// Takes the replica out of the handle, if any.
+    /// Removes the replica from the handle and returns it, if any.
     pub fn take(&mut self, alloc: Global) -> Option<Box<MapReplica, Global>>
         ensures taken { option_map (λ b. b.value) result ≡ self.old.slot.value }
         ensures left { self.new.slot.value ≡ None }

@@ -46,7 +46,7 @@ impl ReplicaOwner {
         }
     }
 
-    /// Takes the handle out.
+    /// Removes the handle and returns it.
     pub fn take(&mut self, alloc: Global) -> Box<ReplicaHandle, Global>
         requires { is_some self.old.value ≡ true }
         ensures taken { self.old.value ≡ Some result.value }

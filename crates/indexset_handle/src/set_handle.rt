@@ -40,7 +40,7 @@ impl SetHandle {
         }
     }
 
-    /// Takes the set out of the handle, if any.
+    /// Removes the set from the handle and returns it, if any.
     pub fn take(&mut self, alloc: Global) -> Option<Box<BTreeSet<u64>, Global>>
         ensures taken { option_map (λ b. b.value) result ≡ self.old.slot.value }
         ensures left { self.new.slot.value ≡ None }

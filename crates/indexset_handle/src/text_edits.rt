@@ -1,27 +1,13 @@
 //! What changes a map from byte strings.
-ghost use Rattle.std.specs.Prelude.{◌≡◌, ◌<◌, true, None, Some, IfOk, IsOk, IsSome, OnErr, OnOk, OnSome, length};
+ghost use Rattle.std.specs.Prelude.{◌≡◌, true, None, IfOk, IsOk, OnErr, OnOk, OnSome};
 ghost use Rattle.std.specs.Cmp.Lexicographic.{slice_cmp};
 ghost use Rattle.std.specs.Ordering.{nat_cmp};
-ghost use Rattle.indexset_core.specs.Pairs.{has_key, put_value, set_value_at, value_of, without_key};
-ghost use Rattle.indexset_handle.specs.Text.{value_at};
+ghost use Rattle.indexset_core.specs.Pairs.{has_key, put_value, value_of, without_key};
 
-use crate::text_find::position_of;
+use crate::text_key::TextKey;
 use crate::text_slot::TextMap;
-use bytes::Bytes;
 use std::alloc::{AllocError, Global};
 use std::mem::replace;
-
-// Replaces the value at a position, and returns the one before.
-fn replace_at(map: &mut TextMap, position: usize, value: u64) -> u64
-    requires { position < length map.old.pairs }
-    ensures before { value_at map.old.pairs position ≡ Some result }
-    ensures after { map.new.pairs ≡ set_value_at map.old.pairs position value }
-{
-    match map.get_mut_index(position) {
-        Some(place) => replace(place, value),
-        None => value,
-    }
-}
 
 // Replaces the value of a key, and returns the one before, or `None` where the key is not there.
 fn replace_value(map: &mut TextMap, key: &[u8], value: u64) -> Option<u64>
@@ -29,10 +15,11 @@ fn replace_value(map: &mut TextMap, key: &[u8], value: u64) -> Option<u64>
     ensures ok { OnSome result (map.new.pairs
         ≡ put_value (slice_cmp nat_cmp) map.old.pairs key.now value) }
     ensures same { result ≡ None → map.new ≡ map.old }
-    ensures there { has_key (slice_cmp nat_cmp) map.old.pairs key.now ≡ true → IsSome result }
 {
-    let i = position_of(map, key)?;
-    Some(replace_at(map, i, value))
+    match map.get_mut(key) {
+        Some(place) => Some(replace(place, value)),
+        None => None,
+    }
 }
 
 /// Makes a value that of a key, and returns the value before. The bytes of the key are copied first,
@@ -50,7 +37,7 @@ pub fn put(
     ensures unchanged { OnErr result (map.new ≡ map.old) }
     ensures no_memory { has_key (slice_cmp nat_cmp) map.old.pairs key.now ≡ true → IsOk result }
 {
-    let Ok(copied) = Bytes::copy_from_slice(alloc, key) else {
+    let Ok(copied) = TextKey::copied(alloc, key) else {
         return match replace_value(map, key, value) {
             Some(before) => Ok(Some(before)),
             None => Err(AllocError),

@@ -1,28 +1,14 @@
 //! Where a map from byte strings has a key, or would have it.
 ghost use Rattle.std.specs.Prelude.{◌≡◌, length, min};
-ghost use Rattle.std.specs.List.{position};
 ghost use Rattle.std.specs.Cmp.Lexicographic.{slice_cmp};
-ghost use Rattle.std.specs.Ordering.{is_eq, nat_cmp};
-ghost use Rattle.indexset_core.specs.Order.{IsAscending};
-ghost use Rattle.indexset_core.specs.Pairs.{by_key, key_rank, value_of};
+ghost use Rattle.std.specs.Ordering.{nat_cmp};
+ghost use Rattle.indexset_core.specs.Pairs.{key_rank, value_of};
 ghost use Rattle.indexset_handle.specs.Cursors.{cursor_position};
 ghost use Rattle.indexset_handle.specs.Elements.{key_count_up_to};
 
 use crate::cursor::{self, Cursor};
 use crate::text_probe::ByBytes;
 use crate::text_slot::TextMap;
-
-/// Returns the position of a key, or `None` where it is not there.
-pub fn position_of(map: &TextMap, key: &[u8]) -> Option<usize>
-    ensures position { result ≡ position (λ p. is_eq (slice_cmp nat_cmp p.key key.now))
-        map.now.pairs }
-    ensures ascending { IsAscending (by_key (slice_cmp nat_cmp)) map.now.pairs }
-{
-    // Tells that the keys ascend.
-    let _len = map.len();
-    let (stored, _) = map.get_key_value_by(&mut ByBytes::new(key))?;
-    Some(map.rank(stored))
-}
 
 /// Returns how many keys are below a key.
 pub fn rank_of(map: &TextMap, key: &[u8]) -> usize
@@ -35,12 +21,7 @@ pub fn rank_of(map: &TextMap, key: &[u8]) -> usize
 pub fn count_to(map: &TextMap, key: &[u8]) -> usize
     ensures { result ≡ key_count_up_to (slice_cmp nat_cmp) map.now.pairs key.now }
 {
-    // Tells how long the map is at most.
-    let _len = map.len();
-    match position_of(map, key) {
-        Some(i) => i + 1,
-        None => rank_of(map, key),
-    }
+    map.range(..=key).len()
 }
 
 /// Returns the value of a key, or `None` where it is not there.

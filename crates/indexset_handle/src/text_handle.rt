@@ -39,7 +39,7 @@ impl TextHandle {
         }
     }
 
-    /// Takes the map out of the handle, if any.
+    /// Removes the map from the handle and returns it, if any.
     pub fn take(&mut self, alloc: Global) -> Option<Box<TextMap, Global>>
         ensures taken { option_map (λ b. b.value) result ≡ self.old.slot.value }
         ensures left { self.new.slot.value ≡ None }

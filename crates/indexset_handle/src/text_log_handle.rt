@@ -40,7 +40,7 @@ impl TextLogHandle {
         }
     }
 
-    /// Takes the map out of the handle, if any.
+    /// Removes the map from the handle and returns it, if any.
     pub fn take(&mut self, alloc: Global) -> Option<Box<TextLog, Global>>
         ensures taken { option_map (λ b. b.value) result ≡ self.old.slot.value }
         ensures left { self.new.slot.value ≡ None }

@@ -4,8 +4,7 @@ ghost use Rattle.std.specs.Prelude.{◌≡◌};
 ghost use Rattle.std.specs.Cmp.Lexicographic.{slice_cmp};
 ghost use Rattle.std.specs.Ordering.{nat_cmp};
 
-use bytes::Bytes;
-use indexset_core::pair::Pair;
+use crate::text_entry::TextEntry;
 use indexset_core::probe::Probe;
 use indexset_core::steps::Steps;
 use std::cmp::Ordering;
@@ -38,13 +37,13 @@ impl<'a> ByBytes<'a> {
     }
 }
 
-impl<'a> Probe<Pair<Bytes, u64>> for ByBytes<'a> {
-    ghost answer = { λ p x. slice_cmp nat_cmp x.key p.0 };
+impl<'a, P: TextEntry> Probe<P> for ByBytes<'a> {
+    ghost answer = { λ b x. slice_cmp nat_cmp (P.key_of x) b.0 };
 
-    ghost asked = { λ p. p.1 };
+    ghost asked = { λ b. b.1 };
 
-    fn place(&mut self, item: &Pair<Bytes, u64>) -> Ordering {
+    fn place(&mut self, item: &P) -> Ordering {
         self.steps.tick();
-        item.key.as_slice().cmp(self.sought)
+        item.key().cmp(self.sought)
     }
 }
