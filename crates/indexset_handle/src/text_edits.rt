@@ -22,9 +22,9 @@ fn replace_value(map: &mut TextMap, key: &[u8], value: u64) -> Option<u64>
     }
 }
 
-/// Makes a value that of a key, and returns the value before. The bytes of the key are copied first,
-/// so that one search serves a new key and one that is there, whose value needs no copy where there
-/// is no memory for it.
+/// Makes a value that of a key, and returns the value before. The bytes of the key are copied
+/// first, so that one search serves a new key and one that is there, whose value needs no copy
+/// where there is no memory for it.
 pub fn put(
     alloc: Global,
     map: &mut TextMap,

@@ -1,7 +1,8 @@
 //! The keys of a map from byte strings.
-ghost use Rattle.std.specs.Prelude.{◌≡◌, nat_eq, refl, Some, IfOk};
+ghost use Rattle.std.specs.Prelude.{◌≡◌, ◌≤◌, length, nat_eq, refl, take, Some, IfOk};
 ghost use Rattle.std.specs.Cmp.{partial_equiv_from_equiv};
 ghost use Rattle.std.specs.Cmp.Lexicographic.{nat_list_cmp_total, nat_list_eq_equiv, pointwise, slice_cmp, texts_po, texts_ties};
+ghost use Rattle.std.specs.Int.{from_be_bytes, w64};
 ghost use Rattle.std.specs.Ordering.{nat_cmp};
 ghost use Rattle.indexset_core.specs.Sought.{acts_by, one_by};
 
@@ -77,7 +78,7 @@ impl Ord for TextKey {
     ghost matches_eq = { texts_ties };
 
     fn cmp(&self, other: &Self) -> Ordering {
-        self.as_slice().cmp(other.as_slice())
+        compare(self.as_slice(), other.as_slice())
     }
 }
 
@@ -95,9 +96,30 @@ impl Names<TextKey> for &[u8] {
     ghost names_one = { one_by (slice_cmp nat_cmp) nat_list_cmp_total (λ k. k) (λ q. q.now) };
 }
 
-// Returns how two byte strings compare. Both have one lifetime, as the borrow checker asks.
-fn compare<'x>(first: &'x [u8], second: &'x [u8]) -> Ordering
+/// Returns how two byte strings compare, eight bytes at a time. Both have one lifetime, as the
+/// borrow checker asks.
+pub fn compare<'x>(first: &'x [u8], second: &'x [u8]) -> Ordering
     ensures { result ≡ slice_cmp nat_cmp first.now second.now }
 {
-    first.cmp(second)
+    let (mut left, mut right) = (first, second);
+    while left.len() >= 8 && right.len() >= 8 {
+        let found = word(left).cmp(&word(right));
+        if found.is_ne() {
+            return found;
+        }
+        left = &left[8..];
+        right = &right[8..];
+    }
+    left.cmp(right)
+}
+
+// Returns the number that the first eight bytes spell, the greatest first.
+fn word(bytes: &[u8]) -> u64
+    requires { 8 ≤ length bytes.now }
+    ensures { result ≡ from_be_bytes w64 (take 8 bytes.now) }
+{
+    match bytes.first_chunk::<8>() {
+        Some(front) => u64::from_be_bytes(*front),
+        None => 0,
+    }
 }

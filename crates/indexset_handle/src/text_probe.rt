@@ -5,12 +5,13 @@ ghost use Rattle.std.specs.Cmp.Lexicographic.{slice_cmp};
 ghost use Rattle.std.specs.Ordering.{nat_cmp};
 
 use crate::text_entry::TextEntry;
+use crate::text_key::compare;
 use indexset_core::probe::Probe;
 use indexset_core::steps::Steps;
 use std::cmp::Ordering;
 use std::marker::Model;
 
-/// Compares the key of a pair with bytes, byte by byte.
+/// Compares the key of a pair with bytes, as `compare` does.
 #[derive(Drop)]
 pub struct ByBytes<'a> {
     sought: &'a [u8],
@@ -44,6 +45,6 @@ impl<'a, P: TextEntry> Probe<P> for ByBytes<'a> {
 
     fn place(&mut self, item: &P) -> Ordering {
         self.steps.tick();
-        item.key().cmp(self.sought)
+        compare(item.key(), self.sought)
     }
 }
