@@ -41,7 +41,7 @@ pub extern "C" fn indexset_text_map_at(
     let found = match held.get_index(position) {
         Some((stored, number)) => {
             write_bytes(stored.as_slice(), key);
-            *len = stored.len();
+            *len = stored.as_slice().len();
             *value = *number;
             true
         }
@@ -80,7 +80,7 @@ pub extern "C" fn indexset_text_map_remove_at(
     let found = match take_index(&mut held, position) {
         Some((taken, number)) => {
             write_bytes(taken.as_slice(), key);
-            *len = taken.len();
+            *len = taken.as_slice().len();
             *value = number;
             true
         }

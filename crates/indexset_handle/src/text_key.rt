@@ -44,6 +44,15 @@ impl TextKey {
     }
 }
 
+impl Clone for TextKey {
+    ghost is_clone = { λ k copy. copy ≡ k };
+
+    fn clone(&self) -> Result<TextKey, AllocError> {
+        let bytes = self.bytes.clone()?;
+        Ok(TextKey { bytes })
+    }
+}
+
 impl PartialEq for TextKey {
     ghost eq = { pointwise nat_eq };
 
