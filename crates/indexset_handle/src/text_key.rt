@@ -107,7 +107,24 @@ impl Names<TextKey> for &[u8] {
 
 /// Returns how two byte strings compare, eight bytes at a time. Both have one lifetime, as the
 /// borrow checker asks.
+#[inline(always)]
 pub fn compare<'x>(first: &'x [u8], second: &'x [u8]) -> Ordering
+    ensures { result ≡ slice_cmp nat_cmp first.now second.now }
+{
+    // With no loop here a search is an innermost loop, of which the compiler makes branches where
+    // its items are not in the cache.
+    if first.len() >= 8 && second.len() >= 8 {
+        let found = word(first).cmp(&word(second));
+        if found.is_ne() {
+            return found;
+        }
+    }
+    compare_words(first, second)
+}
+
+// Returns the same, whatever the first bytes are.
+#[inline(never)]
+fn compare_words<'x>(first: &'x [u8], second: &'x [u8]) -> Ordering
     ensures { result ≡ slice_cmp nat_cmp first.now second.now }
 {
     let (mut left, mut right) = (first, second);

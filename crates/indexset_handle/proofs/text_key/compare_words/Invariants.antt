@@ -2,7 +2,7 @@ use Rattle.std.proofs.Common.{◌≡◌, length}
 use Rattle.std.specs.Cmp.Lexicographic.{slice_cmp}
 use Rattle.std.specs.Ordering.{nat_cmp}
 use Rattle.indexset_handle.proofs.WordLemmas.{AreBytes}
-use Rattle.indexset_handle.proofs.text_key.compare.Given as goal
+use Rattle.indexset_handle.proofs.text_key.compare_words.Given as goal
 
 -- what is left decides
 abbrev pub invariant-loop-left : goal.invariant-loop-left
