@@ -48,8 +48,9 @@ fn asks_to_compact(line: &[u8]) -> bool {
 
 /// Answers each line of the reader, and keeps what changed the map before it writes the answers.
 /// Where no whole line is at hand, what all lines that have come changed is kept with one commit,
-/// before the reader is asked for more. So each answer is out before the next read, and no commit is
-/// for more lines than the reader's buffer holds.
+/// before the reader is asked for more; and so it is where 4,096 lines wait to be kept. So each
+/// answer is out before the next read, and a commit keeps no more lines than these and the further
+/// ones of the last line carried out.
 ///
 /// A fault ends the run at once, and nothing is written of the lines since the last commit. A last
 /// line that lacks its end changes nothing; where it is a read it is answered.
@@ -133,7 +134,7 @@ fn answer_whole<T: Key, S: Store, R: BufRead + HasLine, W: Write>(
             Part::Whole { is_used_up: _ } => {
                 batch.answer(map, line.as_slice())?;
                 let is_asked = asks_to_compact(without_return(line.as_slice()));
-                if is_asked || !reader.has_line() {
+                if is_asked || batch.is_full() || !reader.has_line() {
                     batch.put(kept, map, is_asked, writer)?;
                 }
             }

@@ -1,6 +1,6 @@
 //! Lines that were carried out, and of which nothing is kept yet.
 
-ghost use Rattle.std.specs.Prelude.{◌≡◌, ◌≢◌, ◌++◌, ◌<◌, ◌^◌, [], Err, IfErr, None, OnErr, OnOk};
+ghost use Rattle.std.specs.Prelude.{◌≡◌, ◌≢◌, ◌↔◌, ◌++◌, ◌<◌, ◌≤◌, ◌^◌, [], length, Err, IfErr, IsTrue, None, OnErr, OnOk};
 ghost use Rattle.std.specs.Io.KnownBytes.{Appends, Keeps};
 ghost use Rattle.indexset_follow.specs.Follow.{State, state_after};
 ghost use Rattle.indexset_follow.specs.Query.{query_of};
@@ -27,6 +27,9 @@ use sqlite_trees::store::Store;
 use std::alloc::Global;
 use std::io::Write;
 
+/// How many lines a commit keeps at most, but for the further ones of the last line carried out.
+const MOST: usize = 4_096;
+
 /// The answers to lines, which are not written yet, and what is to be kept of these lines.
 #[derive(Drop)]
 pub struct Batch {
@@ -46,6 +49,13 @@ impl Batch {
             answers: Vec::new(alloc),
             told: Vec::new(alloc),
         }
+    }
+
+    /// Returns whether as many lines wait to be kept as a commit keeps.
+    pub fn is_full(&self) -> bool
+        ensures { IsTrue result ↔ 4096 ≤ length self.now.told.items }
+    {
+        self.told.len() >= MOST
     }
 
     /// Carries out a line. Its answer waits, and what is to be kept of it.

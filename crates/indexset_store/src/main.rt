@@ -29,7 +29,7 @@ use std::process::ExitCode;
 /// The exit status where an argument is unknown or doubled or lacks its value.
 const BAD_ARGUMENTS: u8 = 5;
 
-/// The bytes that a read or a write takes at most: some thousand lines, which one commit keeps.
+/// The bytes that a read or a write takes at most: some thousand lines.
 const BUFFERED: usize = 65_536;
 
 /// The table of a file: its rows are the lines that are kept.

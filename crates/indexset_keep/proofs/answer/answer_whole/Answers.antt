@@ -4,7 +4,7 @@ use Rattle.indexset_lines.proofs.Faults.{failed as refused}
 use Rattle.indexset_keep.specs.Keep.{state_held}
 use Rattle.indexset_keep.proofs.Reading.{read_on}
 use Rattle.indexset_keep.proofs.Runs.{begun, ended, failed, on_err, put, stopped}
-use Rattle.indexset_keep.proofs.answer.answer_whole.Goals.{then-is_asked+in_ok-put-in-Whole, else-is_asked+else-not-has_line}
+use Rattle.indexset_keep.proofs.answer.answer_whole.Goals.{then-is_asked+in_ok-put-in-Whole, else-is_asked+else-is_full+else-not-has_line}
 use Rattle.indexset_keep.proofs.answer.answer_whole.Goals as goal
 
 pub loop-init : goal.loop-init
@@ -69,7 +69,7 @@ loop-preserved g c =
       | then-is_asked+in_ok-put-in-Whole w ↦
           let done = w.in_ok-put-in-Whole.ensures in
           rw (w.kept-is, w.writer-is, w.batch-is) (put g.T.Ord.cmp g.T.Key.texts _ _ _ _ _ _ _ _ _ _ _ _ _ _ _ far _ _ (done.leads (state_held far.between) far.waits far.sound.role) done.written _ _ done.emptied done.none_told, alike, cut)
-      | else-is_asked+else-not-has_line w ↦ rw (w.kept-is, w.writer-is, w.batch-is) (far, alike, cut)
+      | else-is_asked+else-is_full+else-not-has_line w ↦ rw (w.kept-is, w.writer-is, w.batch-is) (far, alike, cut)
     ]
 
 pub returns-clause-some : goal.returns-clause-some

@@ -1,0 +1,81 @@
+#!/usr/bin/env python3
+"""Gives the program more lines at once than one commit keeps.
+
+They come from a file, so that a read brings thousands. What is kept has to be all that was told, and a commit keeps at
+most 4,096 lines and the further ones of its last command. The last line is 'N passed, M failed'. It needs the built
+`indexset_store`.
+"""
+
+from __future__ import annotations
+
+import argparse
+import pathlib
+import subprocess
+import sys
+import tempfile
+
+TOP = pathlib.Path(__file__).resolve().parent.parent.parent
+sys.dont_write_bytecode = True
+sys.path.insert(0, str(TOP / "tools"))
+from kept import Wrong, is_event, rows_of, unsealed  # noqa: E402
+from programs import built  # noqa: E402
+
+MOST = 4_096  # lines that a commit keeps
+FURTHER = 3  # lines of a command behind its first: three events, and which commands were done
+COMMANDS = 12_000
+
+
+def lines_of(commands: list[str]) -> str:
+    return "".join(f"{it}\n" for it in commands)
+
+
+def told_by(file: pathlib.Path, lines: str, *role: str) -> str:
+    """What the program tells of lines from a file."""
+    with tempfile.TemporaryFile("w+", dir=file.parent) as text:
+        text.write(lines)
+        text.seek(0)
+        words = [str(built("indexset_store")), "--keep", str(file), "--node-size", "64", *role]
+        return subprocess.run(words, stdin=text, stdout=subprocess.PIPE, text=True, check=True).stdout
+
+
+def commits(rows: list[str]) -> list[int]:
+    """How many lines each commit keeps."""
+    ends = [at for at, row in enumerate(rows) if row.startswith("seal ")]
+    return [end - start - 1 for start, end in zip([-1, *ends], ends)]
+
+
+def fault(file: pathlib.Path, told: list[str], least: int, most: int) -> str:
+    """What is wrong with what is kept, where this was told, and the largest commit is to be within these."""
+    rows = [row for _, row in rows_of(file)]
+    largest = max(commits(rows))
+    if unsealed(rows) != told:
+        return "not all that was told is kept"
+    return "" if least <= largest <= most else f"the largest commit keeps {largest:,} lines"
+
+
+def main() -> int:
+    argparse.ArgumentParser(description="Gives the program more lines at once than one commit keeps.").parse_args()
+    faults = dict[str, str]()
+    with tempfile.TemporaryDirectory() as name:
+        room = pathlib.Path(name)
+        for what, number in (("commands", ""), ("numbered commands", "#{} ")):
+            puts = [f"{number.format(it)}put {it * 7919 % COMMANDS} 1" for it in range(1, COMMANDS + 1)]
+            file = room / f"{what}.db"
+            told = told_by(file, lines_of(puts), "--lead").splitlines()
+            kept = [line for line in told if is_event(line) or line.startswith("done ")]
+            faults[what] = fault(file, kept, MOST, MOST + FURTHER)
+        events = list(filter(is_event, told))
+        told_by(room / "events.db", lines_of(events))
+        faults["events"] = fault(room / "events.db", events, 1, MOST)
+    for what, why in faults.items():
+        print(f"{what}: {why or 'kept'}")
+    failed = sum(map(bool, faults.values()))
+    print(f"{len(faults) - failed} passed, {failed} failed")
+    return int(failed > 0)
+
+
+if __name__ == "__main__":
+    try:
+        sys.exit(main())
+    except Wrong as why:
+        sys.exit(f"{why}\n0 passed, 1 failed")
