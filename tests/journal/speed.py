@@ -4,8 +4,9 @@
 usage: speed.py [--seconds S] [--rounds R] [--one-file] [--folder FOLDER]. Commands go out one after each answer, in
 groups that are answered together, and from a file at full speed; the rows of such commands, a seal behind each group,
 are kept by the journal in its process too (bench/rows). SQLite, by Python's module, gets the same rows in the same
-transactions, with synchronous=FULL, in this process and behind a pipe as the program is (rows_by_pipe.py); Redis syncs
-its file at each group (appendfsync always), and is left out where it is not installed. Each size of groups begins with
+transactions, with synchronous=FULL, in this process and behind a pipe as the program is (rows_by_pipe.py); so does its own
+shell, by one statement a group; Redis syncs its file at each group (appendfsync always). The last two are left out where
+they are not installed. Each size of groups begins with
 empty files, unless one file is asked for, and what goes out is made before the clock starts. A disk is now quick and
 now slow, so they take turns: a rate is the median of R turns of S seconds. The files stand in a folder of the disk that
 is measured. Recovery is the time from the start of the program to its first answer, the least of three.
@@ -37,12 +38,13 @@ sys.dont_write_bytecode = True
 sys.path[:0] = [str(TOP / "tools"), str(TOP / "examples")]
 from programs import FOLDER, built  # noqa: E402
 from resp import Redis, Word  # noqa: E402
-from rows_by_pipe import SEAL, keep, opened as opened_rows  # noqa: E402
+from rows_by_pipe import SEAL, TABLE, keep, opened as opened_rows  # noqa: E402
 
 ROWS = pathlib.Path(os.environ.get(FOLDER, TOP / "bench/out/crates/indexset_rows/out"), "indexset_rows").resolve()
 GROUPS = (1, 10, 100, 1000)  # commands
 KEY_BITS = 40  # of keys that hardly come twice, so that a command tells one event, and now and then a split
 PIPED = 300_000  # commands at full speed
+SHELL, KEPT_ALL = "sqlite3", "SELECT 'kept';\n"
 KEPT = (10**4, 10**5, 10**6)  # lines
 
 
@@ -178,24 +180,62 @@ class Journal:
 
 
 class Rows(Sender):
-    """SQLite, which gets rows as the program keeps them, in the same transactions."""
+    """What gets rows as the program keeps them, a seal behind each group."""
 
-    def __init__(self, mode: str, file: pathlib.Path) -> None:
-        self.name = f"rows alone: SQLite, {mode}"
-        self.kept = opened_rows(str(file), mode)
-        self.number, self.chance = 0, random.Random(1)
+    def __init__(self, name: str) -> None:
+        self.name, self.number, self.chance = f"rows alone: {name}", 0, random.Random(1)
 
     def pair(self) -> str:
         return f"{self.chance.getrandbits(KEY_BITS)}:{self.chance.randrange(10**6)}"
 
-    def made(self, group: int) -> list[tuple[int, str]]:
+    def rows(self, group: int) -> list[tuple[int, str]]:
         rows = [(self.number + it, f"{self.number + it} insert {self.pair()} {self.pair()} 117") for it in range(group)]
         rows.append((self.number + group, SEAL))
         self.number += group + 1
         return rows
 
+
+class Embedded(Rows):
+    """SQLite in this process, which gets each group by one transaction."""
+
+    def __init__(self, mode: str, file: pathlib.Path) -> None:
+        super().__init__(f"SQLite, {mode}")
+        self.kept = opened_rows(str(file), mode)
+
+    def made(self, group: int) -> list[tuple[int, str]]:
+        return self.rows(group)
+
     def send(self, group: list[tuple[int, str]]) -> None:
         keep(self.kept, group)
+
+
+class Shell(Rows):
+    """SQLite's own shell behind a pipe, which gets each group by one statement."""
+
+    def __init__(self, file: pathlib.Path) -> None:
+        super().__init__("SQLite's shell, WAL, behind a pipe")
+        self.words = [SHELL, str(file)]
+        self.asked: Any = None
+        self.told: Any = None
+
+    @contextlib.contextmanager
+    def running(self) -> Iterator[Shell]:
+        with subprocess.Popen(self.words, stdin=subprocess.PIPE, stdout=subprocess.PIPE) as run:
+            assert run.stdin and run.stdout
+            self.asked, self.told = run.stdin, run.stdout
+            self.send(f"PRAGMA journal_mode=WAL;\nPRAGMA synchronous=FULL;\n{TABLE};\n{KEPT_ALL}".encode())
+            yield self
+            run.stdin.close()
+
+    def made(self, group: int) -> bytes:
+        values = ",".join(f"({number},'{line}')" for number, line in self.rows(group))
+        return f"INSERT INTO kept VALUES {values};\n{KEPT_ALL}".encode()
+
+    def send(self, group: bytes) -> None:
+        self.asked.write(group)
+        self.asked.flush()
+        while self.told.readline() != b"kept\n":
+            pass
 
 
 class Remote(Sender):
@@ -250,7 +290,9 @@ def opened(folder: pathlib.Path) -> Iterator[list[Timed]]:
             found.append(open_ones.enter_context(redis(fresh(folder, "redis"))))
         if ROWS.exists():
             found.append(open_ones.enter_context(Journal(fresh(folder, "journal")).running()))
-        found += [Rows(mode, fresh(folder, mode) / "rows.db") for mode in ("WAL", "DELETE")]
+        if shutil.which(SHELL):
+            found.append(open_ones.enter_context(Shell(fresh(folder, "shell") / "rows.db").running()))
+        found += [Embedded(mode, fresh(folder, mode) / "rows.db") for mode in ("WAL", "DELETE")]
         yield found
 
 
@@ -271,6 +313,8 @@ def answers(folder: pathlib.Path, seconds: float, rounds: int, has_one_file: boo
         row(name, [*cells, pace if name == piped.name else "–"])
     if not shutil.which("redis-server"):
         print("redis-server is not installed: left out")
+    if not shutil.which(SHELL):
+        print(f"{SHELL} is not installed: left out")
     if not ROWS.exists():
         print("indexset_rows is not built: left out")
 
