@@ -3,7 +3,6 @@
 from __future__ import annotations
 
 import pathlib
-import statistics
 import subprocess
 from collections.abc import Mapping, Sequence
 
@@ -32,14 +31,19 @@ def timed(program: pathlib.Path, what: str, keys: int) -> Rows:
     return read(subprocess.run(words, check=True, capture_output=True, text=True).stdout)
 
 
-def medians(programs: Programs, what: str, keys: int, times: int) -> dict[str, Rows]:
-    """Of each program its rows, the median of so many runs, in turn with the others'; of few keys, which
-    take little time, of ten times as many, and of 10,000,000, which take minutes, of one."""
+def turns(keys: int, times: int) -> int:
+    """How many runs a table takes: of few keys, which take little time, more, and of 10,000,000, which take minutes, one."""
+    return 10 * times if keys <= 100_000 else times if keys < 10_000_000 else 1
+
+
+def leasts(programs: Programs, what: str, keys: int, times: int) -> dict[str, Rows]:
+    """Of each program its rows, the least of some runs, in turn with the others': a processor that others use too is now
+    quick and now slow."""
     runs: dict[str, list[Rows]] = {name: [] for name in programs}
-    for _ in range(times * 10 if keys <= 10_000 else times if keys < 10_000_000 else 1):
+    for _ in range(turns(keys, times)):
         for name, program in programs.items():
             runs[name].append(timed(program, what, keys))
-    return {name: {row: statistics.median(run[row] for run in found) for row in found[0]} for name, found in runs.items()}
+    return {name: {row: min(run[row] for run in found) for row in found[0]} for name, found in runs.items()}
 
 
 def held(program: pathlib.Path, keys: int, copies: int, order: str) -> int:
@@ -96,7 +100,7 @@ def of_logged_call(call: str, figure: float | None) -> str:
 
 def of_logged(program: pathlib.Path, keys: list[int], times: int) -> str:
     """A table for each number of keys, a column for each type and size of nodes."""
-    found = {k: medians({"ours": program}, "logged", k, times)["ours"] for k in keys}
+    found = {k: leasts({"ours": program}, "logged", k, times)["ours"] for k in keys}
     nodes = list(dict.fromkeys(row.partition(": ")[0] for row in found[keys[0]]))
     calls = list(dict.fromkeys(row.partition(": ")[2] for row in found[keys[0]]))
     return logged_tables(nodes, calls, found)
@@ -114,7 +118,7 @@ def of_sizes(program: pathlib.Path, keys: list[int], times: int) -> str:
     """A table for each number of keys, a column for each size of nodes."""
     parts = ["A set, maps, and a logged set and its replica, by the size of their nodes, nanoseconds an operation.\n"]
     for k in keys:
-        rows = medians({"ours": program}, "sizes", k, times)["ours"]
+        rows = leasts({"ours": program}, "sizes", k, times)["ours"]
         sizes, calls = (list(dict.fromkeys(row.partition(": ")[at] for row in rows)) for at in (0, 2))
         lines = [[call, *(shown(rows[f"{size}: {call}"]) for size in sizes)] for call in calls]
         parts.append(f"### Node sizes, {k:,} items\n\n" + table(["call", *sizes], lines))
