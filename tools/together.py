@@ -6,12 +6,14 @@ What they use is compiled once, and not for each.
 from __future__ import annotations
 
 import pathlib
+import re
 import shutil
 
 import lay
 
 ROOT, FILE = "#![tactic(auto)]\n", pathlib.Path("src/main.rt")  # the first line and the file of a program
 BEGIN, WITHIN = "\nfn main(rt: HostRuntime)", "\npub fn main(rt: HostRuntime)"
+LIBRARY = re.compile(r"(?m)^use (\w+)")
 MAIN = """\
 //! Runs the program that the first argument names.
 #![tactic(auto)]
@@ -48,12 +50,16 @@ def laid(to: pathlib.Path, name: str, names: list[str]) -> pathlib.Path:
     """The folder of a program of this name, laid into a folder beside the libraries that those programs use."""
     lay.lay(to, names)
     text = (to / "crates.txt").read_text(encoding="utf-8")
-    used = {it for line in names for it in lay.listed(text)[line].split(":")[1].split()}
+    listed = {it: lay.listed(text)[it].split(":")[1].split() for it in names}
+    used = {it for libraries in listed.values() for it in libraries}
     source = to / "crates" / name / FILE.parent
     shutil.rmtree(source, ignore_errors=True)
     source.mkdir(parents=True)
     for it in names:
-        (source / f"{it}.rt").write_text(within((lay.TOP / "crates" / it / FILE).read_text(encoding="utf-8")), encoding="utf-8")
+        program = (lay.TOP / "crates" / it / FILE).read_text(encoding="utf-8")
+        if lacking := {*LIBRARY.findall(program)} - {"std", *listed[it]}:
+            raise ValueError(f"{it} uses {', '.join(lacking)}, which its line of crates.txt lacks")
+        (source / f"{it}.rt").write_text(within(program), encoding="utf-8")
     modules = "".join(f"mod {it};\n" for it in names)
     arms = "".join(f'        "{it}" => {it}::main(rt),\n' for it in names)
     (to / "crates" / name / FILE).write_text(MAIN.format(modules=modules, arms=arms), encoding="utf-8")

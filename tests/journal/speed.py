@@ -4,12 +4,11 @@
 usage: speed.py [--seconds S] [--rounds R] [--one-file] [--folder FOLDER]. Commands go out one after each answer, in
 groups that are answered together, and from a file at full speed; the rows of such commands, a seal behind each group,
 are kept by the journal in its process too (bench/rows). SQLite, by Python's module, gets the same rows in the same
-transactions, with synchronous=FULL, in this process and behind a pipe as the program is (rows_by_pipe.py); so does its own
-shell, by one statement a group; Redis syncs its file at each group (appendfsync always). The last two are left out where
-they are not installed. Each size of groups begins with
-empty files, unless one file is asked for, and what goes out is made before the clock starts. A disk is now quick and
-now slow, so they take turns: a rate is the median of R turns of S seconds. The files stand in a folder of the disk that
-is measured. Recovery is the time from the start of the program to its first answer, the least of three.
+transactions, with synchronous=FULL, in this process and behind a pipe as the program is (rows_by_pipe.py); so does its
+own shell, by one statement a group; Redis syncs its file at each group (appendfsync always). The last two are left out
+where they are not installed. Each size of groups begins with empty files, unless one file is asked for, and what goes
+out is made before the clock starts. A disk is now quick and now slow, so they take turns: a rate is the median of R
+turns of S seconds. The files stand in a folder of the disk that is measured. Recovery is the time from the start of the program to its first answer, the least of three.
 
 It needs the built `indexset_store`, and for the journal `indexset_rows`, which `bench/build.py rows` builds, both
 proved where the figures are to be told.
@@ -44,7 +43,7 @@ ROWS = pathlib.Path(os.environ.get(FOLDER, TOP / "bench/out/crates/indexset_rows
 GROUPS = (1, 10, 100, 1000)  # commands
 KEY_BITS = 40  # of keys that hardly come twice, so that a command tells one event, and now and then a split
 PIPED = 300_000  # commands at full speed
-SHELL, KEPT_ALL = "sqlite3", "SELECT 'kept';\n"
+SHELL, SAY_KEPT = "sqlite3", "SELECT 'kept';\n"
 KEPT = (10**4, 10**5, 10**6)  # lines
 
 
@@ -223,13 +222,13 @@ class Shell(Rows):
         with subprocess.Popen(self.words, stdin=subprocess.PIPE, stdout=subprocess.PIPE) as run:
             assert run.stdin and run.stdout
             self.asked, self.told = run.stdin, run.stdout
-            self.send(f"PRAGMA journal_mode=WAL;\nPRAGMA synchronous=FULL;\n{TABLE};\n{KEPT_ALL}".encode())
+            self.send(f"PRAGMA journal_mode=WAL;\nPRAGMA synchronous=FULL;\n{TABLE};\n{SAY_KEPT}".encode())
             yield self
             run.stdin.close()
 
     def made(self, group: int) -> bytes:
         values = ",".join(f"({number},'{line}')" for number, line in self.rows(group))
-        return f"INSERT INTO kept VALUES {values};\n{KEPT_ALL}".encode()
+        return f"INSERT INTO kept VALUES {values};\n{SAY_KEPT}".encode()
 
     def send(self, group: bytes) -> None:
         self.asked.write(group)
