@@ -32,12 +32,12 @@ rest_behind Whole line = []
 rest_behind Cut line = line
 
 module _ {T : Type 0} where
-  -- the lines are more than 4,096 and than ten for each pair; or, beside one for each node, more than 1,000,000 and than one for ten pairs
+  -- the lines are more than 4,096 and than ten for each pair; or, beside one for each node, more than 500,000 and than one for twenty pairs
   abbrev pub is_long : ℕ → List (List (Pair T T)) → Bool
   is_long lines nodes =
       let pairs = length (joined nodes) in
       let events = lines - length nodes in
-      (nat_lt 4096 lines && nat_lt pairs (lines / 10)) || (nat_lt 1000000 events && nat_lt (pairs / 10) events)
+      (nat_lt 4096 lines && nat_lt pairs (lines / 10)) || (nat_lt 500000 events && nat_lt (pairs / 20) events)
 
   -- the same nodes, next number and greatest number of a command
   pub record IsSame (s t : State T) : Type 0 where

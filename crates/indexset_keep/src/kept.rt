@@ -26,10 +26,10 @@ const FEW: usize = 4_096;
 const LINES_A_PAIR: usize = 10;
 
 /// How many lines a start reads in some seconds.
-const MANY: usize = 1_000_000;
+const MANY: usize = 500_000;
 
 /// For how many pairs a line more is kept.
-const PAIRS_A_LINE: usize = 10;
+const PAIRS_A_LINE: usize = 20;
 
 /// The lines that lead a follower to what a map holds, in a journal.
 #[derive(Drop)]
@@ -67,7 +67,7 @@ impl<S: Store + Drop> Kept<S> {
 
 impl<S: Store> Kept<S> {
     /// Returns whether more lines are kept than 4,096 and than ten for each pair; or, beside a line
-    /// for each node, as a snapshot has, more than 1,000,000 and than one for ten pairs.
+    /// for each node, as a snapshot has, more than 500,000 and than one for twenty pairs.
     pub fn is_long<T: Key>(&self, role: &Role<T>) -> bool
         ensures { result ≡ is_long self.now.lines (copy_held role.now).nodes }
     {
