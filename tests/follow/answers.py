@@ -63,7 +63,7 @@ class Spelling:
 NUMBERS = Spelling(rb"(?:0|[1-9][0-9]*)", number)
 TEXTS = Spelling(rb"(?:[A-Za-z0-9._~-]|%[0-9A-F]{2})*", unescaped)
 START = re.compile(rb"start " + NUMBER + rb"(?: ([1-9][0-9]*))?")
-END = re.compile(rb"end " + NUMBER + rb" " + NUMBER)
+END = re.compile(rb"end " + NUMBER + rb"(?: " + NUMBER + rb")?")
 DONE = re.compile(rb"done " + NUMBER + rb" " + NUMBER)
 
 
@@ -220,13 +220,13 @@ class Model:
         self.coming, self.coming_next, self.coming_done = [], at, done
         return b"held"
 
-    def end(self, count: int, told: int) -> bytes:
+    def end(self, count: int, told: int | None) -> bytes:
         if self.coming is None:
             return self.unfit("start")
         came, self.coming = self.coming, None
         if len(came) != count:
             return self.unfit("count")
-        if told_sum(snapshot(came, self.coming_next, self.coming_done)[:-1]) != told:
+        if told is not None and told_sum(snapshot(came, self.coming_next, self.coming_done)[:-1]) != told:
             return self.unfit("sum")
         self.nodes, self.next, self.done, self.early = came, self.coming_next, self.coming_done, {}
         return b"next %d" % self.next
@@ -319,7 +319,7 @@ class Model:
             if start := START.fullmatch(line):
                 return self.start(number(start[1]), number(start[2] or b"0"))
             if end := END.fullmatch(line):
-                return self.end(number(end[1]), number(end[2]))
+                return self.end(number(end[1]), number(end[2]) if end[2] else None)
             if done := DONE.fullmatch(line):
                 return self.told_done(number(done[1]), number(done[2]))
         except OverflowError:

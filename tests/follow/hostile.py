@@ -129,8 +129,9 @@ class Hostile:
         return b"node " + shown([(self.key(number), self.key(self.random.randrange(5))) for number in keys])
 
     def end(self) -> bytes:
-        """The end of a snapshot, most often the right one."""
+        """The end of a snapshot, most often the right one, sometimes with no sum."""
         came = snapshot(self.model.coming or [], self.model.coming_next, self.model.coming_done)[-1]
+        came = came if self.random.random() < 0.8 else came.rpartition(b" ")[0]
         return came if self.random.random() < 0.7 else self.altered(came)
 
     def done(self) -> bytes:

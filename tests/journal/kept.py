@@ -50,7 +50,6 @@ class Model:
     def __init__(self, lines: Iterable[str] = ()) -> None:
         self.nodes: list[list[Pair]] = []
         self.next = self.done = 0
-        self.coming: list[str] = []
         for line in lines:
             self.take(line)
 
@@ -69,14 +68,11 @@ class Model:
         match line.split(" "):
             case ["start", number, *done]:
                 self.nodes, self.next, self.done = [], int(number), int(done[0]) if done else 0
-                self.coming = [line]
             case ["node", *pairs]:
                 self.nodes.append([pair(it) for it in pairs])
-                self.coming.append(line)
-            case ["end", count, found]:
-                if (len(self.nodes), sum_of(self.coming)) != (int(count), int(found)):
+            case ["end", count]:  # (with no sum)
+                if len(self.nodes) != int(count):
                     raise Wrong(f"the snapshot at {self.next} is not what its end says")
-                self.coming = []
             case ["done", done, end]:
                 if int(end) > self.next:
                     raise Wrong(f"{line} is kept before event {self.next}")

@@ -93,7 +93,7 @@ module _ {T : Type 0} (cmp : T → T → Ordering) (texts : Texts T) where
         taken d n told true missing = known
         taken d n told false near = greater s d n told (ltb-false s.held.next n near) known
 
-        at : (e : Option (Event T)) (n : Option (List (Pair T T))) (m : Option Mark) → ((count sum : ℕ) → m ≢ Some (End count sum)) → ((d n : ℕ) → m ≡ Some (Done d n) → (k : ℕ) × IsDoneBy cmp texts size lines k d n)
+        at : (e : Option (Event T)) (n : Option (List (Pair T T))) (m : Option Mark) → ((count : ℕ) (sum : Option ℕ) → m ≢ Some (End count sum)) → ((d n : ℕ) → m ≡ Some (Done d n) → (k : ℕ) × IsDoneBy cmp texts size lines k d n)
             → Knows (option_map_or {U = State T} (after_event cmp s) e (option_map_or (after_node cmp s) n (option_map_or (after_mark texts s) m s)))
         at (Some e) n m no_end told = further s (after_event cmp s e) refl (awaits_on cmp s e) known
         at None (Some n) m no_end told = further s (after_node cmp s n) refl (omega arith) known

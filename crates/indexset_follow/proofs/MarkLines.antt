@@ -1,5 +1,5 @@
 -- A line gives the mark of which it is the text, and no other.
-use Rattle.std.proofs.Common.{Option, None, Some, ◌≡◌, ℕ, ◌<◌, ◌^◌, ◌==◌, Bool, true, false, cond, List, [], ◌∷◌, ◌++◌, refl, ap, sym, subst, ◌∙◌, arith, append-nil}
+use Rattle.std.proofs.Common.{Option, None, Some, IfSome, ◌≡◌, ℕ, ◌<◌, ◌^◌, ◌==◌, Bool, true, false, cond, List, [], ◌∷◌, ◌++◌, refl, ap, sym, subst, ◌∙◌, arith, append-nil}
 use lib.Chars.{codes}
 use Rattle.std.proofs.lemmas.Bool.{eqb-true}
 use Rattle.std.specs.Fmt.{decimal}
@@ -7,7 +7,7 @@ use Rattle.std.specs.Option.{option_and_then, option_map, option_map_or}
 use Rattle.std.specs.Str.{bytes_eq}
 use Rattle.indexset_events.specs.Spelling.{cut_at, number_of}
 use Rattle.indexset_events.specs.Spelling.Laws.{cut_sound, cut_told, lacks_tested, map_some, none_some, number_lacks, number_sound, number_told, some_inj, then_some}
-use Rattle.indexset_follow.specs.Mark.{MarkFits, mark_line, mark_of, start_of, word_mark}
+use Rattle.indexset_follow.specs.Mark.{MarkFits, end_of, mark_line, mark_of, start_of, sum_text, word_mark}
 use Rattle.indexset_follow.specs.Numbers.{tail_text, two_numbers}
 use Rattle.indexset_follow.specs.declared.mark.Mark.{Mark}
 use Rattle.indexset_follow.specs.declared.mark.Mark.TheVariants.{Start, End, Done}
@@ -37,15 +37,19 @@ start_read n d small less = at (d == 0) refl
 pub start_cut : (n d : ℕ) → cut_at 32 (mark_line (Start n d)) ≡ Some (codes "start", decimal n ++ tail_text d)
 start_cut n d = cut_told 32 (codes "start") (decimal n ++ tail_text d) (lacks_tested 32 (codes "start") refl)
 
-pub end_cut : (count sum : ℕ) → cut_at 32 (mark_line (End count sum)) ≡ Some (codes "end", decimal count ++ 32 ∷ decimal sum)
-end_cut count sum = cut_told 32 (codes "end") (decimal count ++ 32 ∷ decimal sum) (lacks_tested 32 (codes "end") refl)
+end_read : (count : ℕ) (sum : Option ℕ) → count < 2 ^ 64 → IfSome sum (λ s. s < 2 ^ 64) → end_of (decimal count ++ sum_text sum) ≡ Some (End count sum)
+end_read count None few small = rw (append-nil (decimal count), number_told count few) refl
+end_read count (Some sum) few small = rw (two_apart count sum few, two_told count sum few small) refl
+
+pub end_cut : (count : ℕ) (sum : Option ℕ) → cut_at 32 (mark_line (End count sum)) ≡ Some (codes "end", decimal count ++ sum_text sum)
+end_cut count sum = cut_told 32 (codes "end") (decimal count ++ sum_text sum) (lacks_tested 32 (codes "end") refl)
 
 pub done_cut : (d n : ℕ) → cut_at 32 (mark_line (Done d n)) ≡ Some (codes "done", decimal d ++ 32 ∷ decimal n)
 done_cut d n = cut_told 32 (codes "done") (decimal d ++ 32 ∷ decimal n) (lacks_tested 32 (codes "done") refl)
 
 pub mark_told : (m : Mark) → MarkFits m → mark_of (mark_line m) ≡ Some m
 mark_told (Start n d) fit = rw (start_cut n d) (start_read n d fit.0 fit.1)
-mark_told (End count sum) fit = rw (end_cut count sum) (ap (option_map (λ p. End p.0 p.1)) (two_told count sum fit.0 fit.1))
+mark_told (End count sum) fit = rw (end_cut count sum) (end_read count sum fit.0 fit.1)
 mark_told (Done d n) fit = rw (done_cut d n) (ap (option_map (λ p. Done p.0 p.1)) (two_told d n fit.0 fit.1))
 
 -- the text is that of the mark
@@ -70,6 +74,19 @@ start_sound text m h = at (number_of text) refl (two_numbers text) refl h
     at None _ None _ h = none_some m h
     at None _ (Some p) is h = two p is (p.1 == 0) refl h
 
+end_sound : (text : List ℕ) (m : Mark) → end_of text ≡ Some m → Spells (codes "end " ++ text) m
+end_sound text m h = at (number_of text) refl (two_numbers text) refl h
+  where
+    at : (o : Option ℕ) → number_of text ≡ o → (t : Option (ℕ × ℕ)) → two_numbers text ≡ t
+        → option_map_or {U = Option Mark} (λ n. Some (End n None)) o (option_map (λ p. End p.0 (Some p.1)) t) ≡ Some m → Spells (codes "end " ++ text) m
+    at (Some n) is t _ h =
+        let read = number_sound text n is in
+        subst (Spells (codes "end " ++ text)) (some_inj (End n None) m h) (ap (λ t. codes "end " ++ t) (read.0 ∙ sym (append-nil (decimal n))), (read.1, tt))
+    at None _ None _ h = none_some m h
+    at None _ (Some p) is h =
+        let read = two_sound text p is in
+        subst (Spells (codes "end " ++ text)) (some_inj (End p.0 (Some p.1)) m h) (ap (λ t. codes "end " ++ t) read.0, (read.1, read.2))
+
 word_sound : (word rest : List ℕ) (m : Mark) → word_mark word rest ≡ Some m → Spells (word ++ 32 ∷ rest) m
 word_sound word rest m h = at (bytes_eq word (codes "start")) (bytes_eq word (codes "end")) (bytes_eq word (codes "done")) refl refl refl h
   where
@@ -80,11 +97,13 @@ word_sound word rest m h = at (bytes_eq word (codes "start")) (bytes_eq word (co
         subst (Spells (word ++ 32 ∷ rest)) made.2 ((λ i. same word text is i ++ 32 ∷ read.0 i) ∙ sym (line made.0), fits made.0 read.1 read.2)
 
     at : (a b c : Bool) → bytes_eq word (codes "start") ≡ a → bytes_eq word (codes "end") ≡ b → bytes_eq word (codes "done") ≡ c
-        → cond a (start_of rest) (cond b (option_map (λ p. End p.0 p.1) (two_numbers rest)) (cond c (option_map (λ p. Done p.0 p.1) (two_numbers rest)) None)) ≡ Some m → Spells (word ++ 32 ∷ rest) m
+        → cond a (start_of rest) (cond b (end_of rest) (cond c (option_map (λ p. Done p.0 p.1) (two_numbers rest)) None)) ≡ Some m → Spells (word ++ 32 ∷ rest) m
     at true b c is _ _ h =
         let read = start_sound rest m h in
         (ap (λ w. w ++ 32 ∷ rest) (same word (codes "start") is) ∙ read.0, read.1)
-    at false true c _ is _ h = two (codes "end") (λ p. End p.0 p.1) (λ p. refl) (λ p first second. (first, second)) is h
+    at false true c _ is _ h =
+        let read = end_sound rest m h in
+        (ap (λ w. w ++ 32 ∷ rest) (same word (codes "end") is) ∙ read.0, read.1)
     at false false true _ _ is h = two (codes "done") (λ p. Done p.0 p.1) (λ p. refl) (λ p first second. (first, second)) is h
     at false false false _ _ _ h = none_some m h
 

@@ -122,11 +122,11 @@ module _ {T : Type 0} (cmp : T → T → Ordering) (texts : Texts T) where
   line_near : (s : State T) (line : List ℕ) → HoldsNear s → HoldsNear (after_line cmp texts s line)
   line_near s line h = at (event_of texts line) (node_of texts line) (mark_of line)
     where
-      whole : (count sum : ℕ) (c : Copy T) (b : Bool) → HoldsNear (if b then holding s.window c s.coming_done else with_coming s None 0)
+      whole : (count : ℕ) (sum : Option ℕ) (c : Copy T) (b : Bool) → HoldsNear (if b then holding s.window c s.coming_done else with_coming s None 0)
       whole count sum c true = tt
       whole count sum c false = h
 
-      ended : (count sum : ℕ) (o : Option (Copy T)) → HoldsNear (option_map_or (put_in_place texts count sum s) o s)
+      ended : (count : ℕ) (sum : Option ℕ) (o : Option (Copy T)) → HoldsNear (option_map_or (put_in_place texts count sum s) o s)
       ended count sum None = h
       ended count sum (Some c) = whole count sum c (is_none (end_reason texts count sum c s.coming_done))
 

@@ -20,7 +20,7 @@ use Rattle.indexset_bench.specs.declared.pair_command.PairCommand.TheVariants.{P
 use Rattle.indexset_bench.specs.declared.reply.Reply.{Reply}
 use Rattle.indexset_bench.specs.declared.reply.Reply.TheVariants.{New, Old, Gone, Yes, No, Nothing, Empty}
 use Rattle.indexset_bench.proofs.CallerLemmas.{sound}
-use Rattle.indexset_core.specs.Order.{above, below, has_equal, keep, put, without, unequal}
+use Rattle.indexset_core.specs.Order.{above, below, has_equal, keep, put, unequal}
 use Rattle.indexset_core.specs.declared.pair.Pair.{Pair}
 use Rattle.indexset_events.specs.Nodes.{is_filled}
 use Rattle.indexset_events.proofs.CallerLemmas.{Each, each-append, each_all}

@@ -1,7 +1,7 @@
 -- A snapshot makes another follower the same.
 use Rattle.std.specs.Option.{option_map_or}
 use Rattle.std.specs.Prelude.{nat_lt}
-use Rattle.std.proofs.Common.{◌≡◌, ◌≢◌, ◌⊎◌, ◌==◌, inl, inr, Option, Bool, false, None, Some, ℕ, ◌<◌, ◌^◌, true, if◌then◌else◌, List, [], ◌∷◌, ◌++◌, length, map, insert, Ordering, refl, sym, ap, subst, ◌∙◌, arith, append_assoc, append-nil}
+use Rattle.std.proofs.Common.{◌≡◌, ◌≢◌, ◌⊎◌, ◌==◌, inl, inr, Option, Bool, false, None, Some, IfSome, IsSomeAnd, ℕ, ◌<◌, ◌^◌, true, if◌then◌else◌, List, [], ◌∷◌, ◌++◌, length, map, insert, Ordering, refl, sym, ap, subst, ◌∙◌, arith, append_assoc, append-nil}
 use lib.Chars.{codes}
 use Rattle.std.specs.declared.cmp.Ordering.TheVariants.{Less}
 use Rattle.std.proofs.lemmas.List.Edits.{insert_end}
@@ -23,13 +23,13 @@ use Rattle.indexset_events.proofs.CallerLemmas.{Each, Ruled, Up, each-left, each
 use Rattle.indexset_events.specs.Attach.{attach_index, attach_refusal, attached, lies_apart, lies_below}
 use Rattle.indexset_events.specs.Nodes.{is_filled}
 use Rattle.indexset_follow.specs.EventLine.{Event, event_of}
-use Rattle.indexset_follow.specs.Copy.{Copy, copy, end_line, snapshot_text, sum_of}
-use Rattle.indexset_follow.specs.Follow.{State, after_event, after_line, after_mark, after_node, holding, put_in_place, state_after, with_coming, with_done}
+use Rattle.indexset_follow.specs.Copy.{Copy, body_text, copy, end_line, snapshot_text, sum_of, unsummed_text}
+use Rattle.indexset_follow.specs.Follow.{State, after_event, after_line, after_mark, after_node, has_sum, holding, put_in_place, state_after, with_coming, with_done}
 use Rattle.indexset_follow.specs.NodeLine.{NodeFits, node_line, node_of}
 use Rattle.indexset_events.specs.Spelling.{cut_at}
 use Rattle.indexset_follow.specs.Numbers.{tail_text}
 use Rattle.indexset_bench.specs.Texts.{AreWords, PairFits, Texts}
-use Rattle.indexset_follow.specs.Mark.{LacksEnd, MarkFits, mark_line, mark_of}
+use Rattle.indexset_follow.specs.Mark.{LacksEnd, MarkFits, mark_line, mark_of, sum_text}
 use Rattle.indexset_follow.specs.declared.mark.Mark.TheVariants.{Start, End, Done}
 use Rattle.indexset_follow.specs.declared.mark.Mark.{Mark}
 use Rattle.indexset_follow.proofs.MarkLines.{end_cut, mark_told, start_cut}
@@ -100,15 +100,15 @@ module _ {T : Type 0} (cmp : T → T → Ordering) (texts : Texts T) where
       let word = no_number 115 (codes "tart") (omega arith) in
       mark_line_told s (Start n d) (small, less) (rw (start_cut n d, word) refl) (rw (start_cut n d) refl)
 
-  end_told : (s : State T) (count sum : ℕ) → count < 2 ^ 64 → sum < 2 ^ 64 → after_line cmp texts s (mark_line (End count sum)) ≡ after_mark texts s (End count sum)
+  end_told : (s : State T) (count : ℕ) (sum : Option ℕ) → count < 2 ^ 64 → IfSome sum (λ x. x < 2 ^ 64) → after_line cmp texts s (mark_line (End count sum)) ≡ after_mark texts s (End count sum)
   end_told s count sum few small =
       let word = no_number 101 (codes "nd") (omega arith) in
       mark_line_told s (End count sum) (few, small) (rw (end_cut count sum, word) refl) (rw (end_cut count sum) refl)
 
 module _ {T : Type 0} (texts : Texts T) where
   -- what came whole takes the place of what is held
-  whole_put : (s : State T) (came : Copy T) (d : ℕ) → after_mark texts (coming s came d) (End (length came.nodes) (sum_of texts came d)) ≡ holding s.window came d
-  whole_put s came d = rw (eq-eqb (length came.nodes) (length came.nodes) refl, eq-eqb (sum_of texts came d) (sum_of texts came d) refl) refl
+  whole_put : (s : State T) (came : Copy T) (d : ℕ) (sum : Option ℕ) → has_sum texts sum came d ≡ true → after_mark texts (coming s came d) (End (length came.nodes) sum) ≡ holding s.window came d
+  whole_put s came d sum has = rw (eq-eqb (length came.nodes) (length came.nodes) refl, has) refl
 
 module _ {T : Type 0} (cmp : T → T → Ordering) (texts : Texts T) (spelled : AreWords texts) where
   node_line_told : (s : State T) (n : List (Pair T T)) → NodeFits texts n → after_line cmp texts s (node_line texts n) ≡ after_node cmp s n
@@ -158,14 +158,17 @@ tail_lacks : (d : ℕ) → d < 2 ^ 64 → (b : Bool) → HasNoEnd (if b then [] 
 tail_lacks d less true = All-nil (λ x. x ≢ 10)
 tail_lacks d less false = All-cons (λ x. x ≢ 10) 32 (decimal d) (omega arith) (number_lacks 10 (omega arith) d less)
 
+sum_lacks : (sum : Option ℕ) → IfSome sum (λ s. s < 2 ^ 64) → HasNoEnd (sum_text sum)
+sum_lacks None fit = All-nil (λ x. x ≢ 10)
+sum_lacks (Some sum) fit = All-cons (λ x. x ≢ 10) 32 (decimal sum) (omega arith) (number_lacks 10 (omega arith) sum fit)
+
 mark_lacks : (m : Mark) → MarkFits m → HasNoEnd (mark_line m)
 mark_lacks (Start n d) fit =
     All-append (λ x. x ≢ 10) (codes "start ") (decimal n ++ tail_text d) (lacks_tested 10 (codes "start ") refl)
     (All-append (λ x. x ≢ 10) (decimal n) (tail_text d) (number_lacks 10 (omega arith) n fit.0) (tail_lacks d fit.1 (d == 0)))
 mark_lacks (End count sum) fit =
-    All-append (λ x. x ≢ 10) (codes "end ") (decimal count ++ 32 ∷ decimal sum) (lacks_tested 10 (codes "end ") refl)
-    (All-append (λ x. x ≢ 10) (decimal count) (32 ∷ decimal sum) (number_lacks 10 (omega arith) count fit.0)
-    (All-cons (λ x. x ≢ 10) 32 (decimal sum) (omega arith) (number_lacks 10 (omega arith) sum fit.1)))
+    All-append (λ x. x ≢ 10) (codes "end ") (decimal count ++ sum_text sum) (lacks_tested 10 (codes "end ") refl)
+    (All-append (λ x. x ≢ 10) (decimal count) (sum_text sum) (number_lacks 10 (omega arith) count fit.0) (sum_lacks sum fit.1))
 mark_lacks (Done d n) fit =
     All-append (λ x. x ≢ 10) (codes "done ") (decimal d ++ 32 ∷ decimal n) (lacks_tested 10 (codes "done ") refl)
     (All-append (λ x. x ≢ 10) (decimal d) (32 ∷ decimal n) (number_lacks 10 (omega arith) d fit.0)
@@ -173,23 +176,30 @@ mark_lacks (Done d n) fit =
 
 module _ {T : Type 0} (cmp : T → T → Ordering) (texts : Texts T) (spelled : AreWords texts) where
   module _ (c : Copy T) (d : ℕ) (small : c.next < 2 ^ 64) (less : d < 2 ^ 64) (few : length c.nodes < 2 ^ 64) (fit : All (NodeFits texts) c.nodes) where
-    snapshot_lines : lines_of (snapshot_text texts c d) ≡ mark_line (Start c.next d) ∷ (map (node_line texts) c.nodes ++ end_line texts c d ∷ [])
-    unfolding lines_of
-    snapshot_lines =
-        ap lines_of (append_assoc (ended (mark_line (Start c.next d))) (lines_for (node_line texts) c.nodes) (ended (end_line texts c d)))
-        ∙ first_line (mark_line (Start c.next d)) (lines_for (node_line texts) c.nodes ++ ended (end_line texts c d)) (mark_lacks (Start c.next d) (small, less))
-        ∙ ap (λ ls. mark_line (Start c.next d) ∷ ls)
-        (node_lines texts spelled c.nodes (ended (end_line texts c d)) fit ∙ ap (λ ls. map (node_line texts) c.nodes ++ ls) (lines_of-line (end_line texts c d) [] (mark_lacks (End (length c.nodes) (sum_of texts c d)) (few, sum_small texts c d))))
+    module _ (sum : Option ℕ) (fits : IfSome sum (λ s. s < 2 ^ 64)) where
+      its_lines : lines_of (body_text texts c d ++ ended (end_line c sum)) ≡ mark_line (Start c.next d) ∷ (map (node_line texts) c.nodes ++ end_line c sum ∷ [])
+      unfolding lines_of
+      its_lines =
+          ap lines_of (append_assoc (ended (mark_line (Start c.next d))) (lines_for (node_line texts) c.nodes) (ended (end_line c sum)))
+          ∙ first_line (mark_line (Start c.next d)) (lines_for (node_line texts) c.nodes ++ ended (end_line c sum)) (mark_lacks (Start c.next d) (small, less))
+          ∙ ap (λ ls. mark_line (Start c.next d) ∷ ls)
+          (node_lines texts spelled c.nodes (ended (end_line c sum)) fit ∙ ap (λ ls. map (node_line texts) c.nodes ++ ls) (lines_of-line (end_line c sum) [] (mark_lacks (End (length c.nodes) sum) (few, fits))))
+
+      it_is_taken : has_sum texts sum c d ≡ true → (t : State T) → IsNodeList (by_key cmp) c.nodes → state_after cmp texts t (lines_of (body_text texts c d ++ ended (end_line c sum))) ≡ holding t.window c d
+      unfolding left_by
+      it_is_taken has t lawful =
+          ap (state_after cmp texts t) its_lines
+          ∙ ap (λ r. state_after cmp texts r (map (node_line texts) c.nodes ++ end_line c sum ∷ [])) (start_told cmp texts t c.next d small less)
+          ∙ left_by-append (after_line cmp texts) (coming t (copy [] c.next) d) (map (node_line texts) c.nodes) (end_line c sum ∷ [])
+          ∙ ap (λ r. after_line cmp texts r (end_line c sum)) (filled_up cmp texts spelled t c.next d [] c.nodes (nodes_ruled (by_key cmp) c.nodes lawful) fit)
+          ∙ end_told cmp texts (coming t c d) (length c.nodes) sum few fits
+          ∙ whole_put texts t c d sum has
 
     pub snapshot_taken : (t : State T) → IsNodeList (by_key cmp) c.nodes → state_after cmp texts t (lines_of (snapshot_text texts c d)) ≡ holding t.window c d
-    unfolding left_by
-    snapshot_taken t lawful =
-        ap (state_after cmp texts t) snapshot_lines
-        ∙ ap (λ r. state_after cmp texts r (map (node_line texts) c.nodes ++ end_line texts c d ∷ [])) (start_told cmp texts t c.next d small less)
-        ∙ left_by-append (after_line cmp texts) (coming t (copy [] c.next) d) (map (node_line texts) c.nodes) (end_line texts c d ∷ [])
-        ∙ ap (λ r. after_line cmp texts r (end_line texts c d)) (filled_up cmp texts spelled t c.next d [] c.nodes (nodes_ruled (by_key cmp) c.nodes lawful) fit)
-        ∙ end_told cmp texts (coming t c d) (length c.nodes) (sum_of texts c d) few (sum_small texts c d)
-        ∙ whole_put texts t c d
+    snapshot_taken = it_is_taken (Some (sum_of texts c d)) (sum_small texts c d) (eq-eqb (sum_of texts c d) (sum_of texts c d) refl)
+
+    pub unsummed_taken : (t : State T) → IsNodeList (by_key cmp) c.nodes → state_after cmp texts t (lines_of (unsummed_text texts c d)) ≡ holding t.window c d
+    unsummed_taken = it_is_taken None tt refl
 
 module _ {T : Type 0} (cmp : T → T → Ordering) (texts : Texts T) where
   -- ---- until the end
@@ -201,7 +211,7 @@ module _ {T : Type 0} (cmp : T → T → Ordering) (texts : Texts T) where
       told d true = refl
       told d false = refl
 
-      at : (e : Option (Event T)) → e ≡ None → (n : Option (List (Pair T T))) (m : Option Mark) → ((count sum : ℕ) → m ≢ Some (End count sum))
+      at : (e : Option (Event T)) → e ≡ None → (n : Option (List (Pair T T))) (m : Option Mark) → ((count : ℕ) (sum : Option ℕ) → m ≢ Some (End count sum))
           → (option_map_or {U = State T} (after_event cmp s) e (option_map_or (after_node cmp s) n (option_map_or (after_mark texts s) m s))).held ≡ s.held
       at (Some e) none n m no_end = absurd (cc)
       at None none (Some n) m no_end = refl
@@ -216,14 +226,18 @@ module _ {T : Type 0} (cmp : T → T → Ordering) (texts : Texts T) where
   held_before s (line ∷ lines) lack = held_before (after_line cmp texts s line) lines (All-tail (LacksEnd texts) line lines lack) ∙ held_still s line (All-head (LacksEnd texts) line lines lack)
 
 module _ {T : Type 0} (texts : Texts T) where
-  pub wrong_end : (s : State T) (came : Copy T) (count sum : ℕ) → s.coming ≡ Some came → (length came.nodes ≢ count) ⊎ (sum_of texts came s.coming_done ≢ sum) → after_mark texts s (End count sum) ≡ with_coming s None 0
-  wrong_end s came count sum is other = rw is (at (length came.nodes == count) refl (sum_of texts came s.coming_done == sum) refl)
+  not_its_sum : (sum : Option ℕ) (came : Copy T) (d : ℕ) → IsSomeAnd sum (λ told. sum_of texts came d ≢ told) → has_sum texts sum came d ≡ true → ⊥
+  not_its_sum None came d apart same = apart
+  not_its_sum (Some told) came d apart same = apart (eqb-true (sum_of texts came d) told same)
+
+  pub wrong_end : (s : State T) (came : Copy T) (count : ℕ) (sum : Option ℕ) → s.coming ≡ Some came → (length came.nodes ≢ count) ⊎ IsSomeAnd sum (λ told. sum_of texts came s.coming_done ≢ told) → after_mark texts s (End count sum) ≡ with_coming s None 0
+  wrong_end s came count sum is other = rw is (at (length came.nodes == count) refl (has_sum texts sum came s.coming_done) refl)
     where
-      at : (a : Bool) → (length came.nodes == count) ≡ a → (b : Bool) → (sum_of texts came s.coming_done == sum) ≡ b → put_in_place texts count sum s came ≡ with_coming s None 0
+      at : (a : Bool) → (length came.nodes == count) ≡ a → (b : Bool) → has_sum texts sum came s.coming_done ≡ b → put_in_place texts count sum s came ≡ with_coming s None 0
       at false few b same = rw few refl
       at true few false same = rw (few, same) refl
       at true few true same =
           elim other [
             | inl many ↦ absurd (many (eqb-true (length came.nodes) count few))
-            | inr apart ↦ absurd (apart (eqb-true (sum_of texts came s.coming_done) sum same))
+            | inr apart ↦ absurd (not_its_sum sum came s.coming_done apart same)
           ]

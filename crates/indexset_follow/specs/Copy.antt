@@ -1,5 +1,5 @@
 -- A copy of a map, the snapshot of it, and the sum by which two copies are compared.
-use Rattle.std.specs.Prelude.{ℕ, List, ◌++◌, length, take}
+use Rattle.std.specs.Prelude.{ℕ, List, ◌++◌, Option, None, Some, length, take}
 use Rattle.std.specs.Int.{w64, from_be_bytes}
 use Rattle.sha2.specs.Sha256.{sha256}
 use Rattle.indexset_bench.specs.PairText.{ended, lines_for}
@@ -17,6 +17,10 @@ Copy T = ReplicaState (Pair T T)
 abbrev pub copy : {T : Type 0} → List (List (Pair T T)) → ℕ → Copy T
 copy ns n = record { nodes = ns; next = n }
 
+-- the line that ends a snapshot: how many nodes it has, and its sum, which may be left out
+abbrev pub end_line : {T : Type 0} → Copy T → Option ℕ → List ℕ
+end_line c sum = mark_line (End (length c.nodes) sum)
+
 module _ {T : Type 0} (texts : Texts T) where
   -- the lines of a snapshot before its last, where d is the greatest number of a command
   abbrev pub body_text : Copy T → ℕ → List ℕ
@@ -26,10 +30,10 @@ module _ {T : Type 0} (texts : Texts T) where
   unfoldable pub sum_of : Copy T → ℕ → ℕ
   sum_of c d = from_be_bytes w64 (take 8 (sha256 (body_text c d)))
 
-  -- the line that ends a snapshot: how many nodes it has, and its sum
-  abbrev pub end_line : Copy T → ℕ → List ℕ
-  end_line c d = mark_line (End (length c.nodes) (sum_of c d))
-
   -- the lines that make another follower the same
   abbrev pub snapshot_text : Copy T → ℕ → List ℕ
-  snapshot_text c d = body_text c d ++ ended (end_line c d)
+  snapshot_text c d = body_text c d ++ ended (end_line c (Some (sum_of c d)))
+
+  -- the same with no sum
+  abbrev pub unsummed_text : Copy T → ℕ → List ℕ
+  unsummed_text c d = body_text c d ++ ended (end_line c None)

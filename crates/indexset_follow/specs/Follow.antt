@@ -1,5 +1,5 @@
 -- What a line does to a follower, and the text that answers it.
-use Rattle.std.specs.Prelude.{ℕ, ◌+◌, ◌≤◌, ◌==◌, is_none, not, if◌then◌else◌, nat_le, nat_lt, List, [], ◌∷◌, length, max, Option, Some, None}
+use Rattle.std.specs.Prelude.{ℕ, Bool, true, ◌+◌, ◌≤◌, ◌==◌, is_none, not, if◌then◌else◌, nat_le, nat_lt, List, [], ◌∷◌, length, max, Option, Some, None}
 use Rattle.std.specs.Option.{option_map, option_map_or}
 use Rattle.indexset_lines.specs.Run.{left_by}
 use Rattle.indexset_core.specs.Pairs.{by_key, pair}
@@ -90,15 +90,19 @@ module _ {T : Type 0} (cmp : T → T → Ordering) where
 module _ {T : Type 0} (texts : Texts T) where
   -- ---- the beginning and the end of a snapshot, and commands that are done
 
+  -- the sum, where one is told, is that of what came
+  abbrev pub has_sum : Option ℕ → Copy T → ℕ → Bool
+  has_sum sum c d = option_map_or (λ told. sum_of texts c d == told) sum true
+
   -- why the numbers at the end of a snapshot are not those of what came
-  abbrev pub end_reason : ℕ → ℕ → Copy T → ℕ → Option Reason
+  abbrev pub end_reason : ℕ → Option ℕ → Copy T → ℕ → Option Reason
   end_reason count sum c d =
       if not (length c.nodes == count) then Some Count
-      else if not (sum_of texts c d == sum) then Some Sum
+      else if not (has_sum sum c d) then Some Sum
       else None
 
   -- the snapshot takes the place of all that is held, where it is whole
-  abbrev pub put_in_place : ℕ → ℕ → State T → Copy T → State T
+  abbrev pub put_in_place : ℕ → Option ℕ → State T → Copy T → State T
   put_in_place count sum s c = if is_none (end_reason count sum c s.coming_done) then holding s.window c s.coming_done else with_coming s None 0
 
   abbrev pub after_mark : State T → Mark → State T

@@ -1,5 +1,5 @@
 -- What a follower knows of the commands that a leader has done.
-use Rattle.std.specs.Prelude.{◌≡◌, ◌≢◌, ℕ, ◌≤◌, Some, List, take}
+use Rattle.std.specs.Prelude.{◌≡◌, ◌≢◌, ℕ, ◌≤◌, Option, Some, List, take}
 use Rattle.indexset_log.specs.Tree.{fresh}
 use Rattle.indexset_follow.specs.Follow.{State}
 use Rattle.indexset_follow.specs.Leading.{done_of, tree_of}
@@ -16,7 +16,7 @@ module _ {T : Type 0} (cmp : T → T → Ordering) (texts : Texts T) where
 
   -- the line does not end a snapshot, and tells only such numbers as done
   pub record TellsDone (size : ℕ) (lines : List (List ℕ)) (line : List ℕ) : Type 0 where
-    pub no_end : (count sum : ℕ) → mark_of line ≢ Some (End count sum)
+    pub no_end : (count : ℕ) (sum : Option ℕ) → mark_of line ≢ Some (End count sum)
     pub told : (d n : ℕ) → mark_of line ≡ Some (Done d n) → (k : ℕ) × IsDoneBy size lines k d n
 
   -- the greatest number that is held is such a number, and the events before n were taken

@@ -1,6 +1,6 @@
 //! Laws of the definitions of lines and replies, whatever the code.
 
-ghost use Rattle.std.specs.Prelude.{◌≡◌, ◌≢◌, ◌⊎◌, ◌↔◌, ◌<◌, ◌≤◌, ◌^◌, ◌++◌, ℕ, List, [], codes, length, map, drop, slice_get, take, None, Some};
+ghost use Rattle.std.specs.Prelude.{◌≡◌, ◌≢◌, ◌⊎◌, ◌↔◌, ◌<◌, ◌≤◌, ◌^◌, ◌++◌, ℕ, List, [], codes, length, map, drop, slice_get, take, None, Option, Some, IsSomeAnd};
 ghost use Rattle.std.specs.Fmt.{decimal};
 ghost use Rattle.std.specs.List.{All};
 ghost use Rattle.std.specs.Ordering.{nat_cmp};
@@ -18,7 +18,7 @@ ghost use Rattle.indexset_core.specs.declared.pair.Pair.{Pair};
 ghost use Rattle.indexset_follow.specs.Drawn.{AreWithin, HoldsAhead, HoldsFirst, IsDrawn, IsFeedOfPairs, IsFirstMissing};
 ghost use Rattle.indexset_follow.specs.Early.{copy_after};
 ghost use Rattle.indexset_follow.specs.EventLine.{Event, EventFits, event_of};
-ghost use Rattle.indexset_follow.specs.Copy.{Copy, copy, snapshot_text, sum_of};
+ghost use Rattle.indexset_follow.specs.Copy.{Copy, copy, snapshot_text, sum_of, unsummed_text};
 ghost use Rattle.indexset_follow.specs.Follow.{HoldsNear, State, after_event, after_mark, event_reply, holding, start_state, state_after, with_coming};
 ghost use Rattle.indexset_follow.specs.Mark.{LacksEnd, MarkFits, mark_line, mark_of};
 ghost use Rattle.indexset_follow.specs.NodeLine.{NodeFits, node_line, node_of};
@@ -133,10 +133,16 @@ pub fn without_a_window_only_the_awaited_event_is_taken<T: Key>()
 /// expected number, and the greatest number of a command. Where the source holds what the first k
 /// events lead to, the other does.
 pub fn snapshot_gives_the_follower<T: Key>()
-    ensures { (giver : Copy T) (d : ℕ) (taker : State T) → IsNodeList (by_key T.cmp) giver.nodes
+    ensures summed { (giver : Copy T) (d : ℕ) (taker : State T)
+        → IsNodeList (by_key T.cmp) giver.nodes
         → giver.next < 2 ^ 64 → d < 2 ^ 64 → length giver.nodes < 2 ^ 64
         → All (NodeFits T.texts) giver.nodes → state_after T.cmp T.texts taker (lines_of
         (snapshot_text T.texts giver d)) ≡ holding taker.window giver d }
+    ensures unsummed { (giver : Copy T) (d : ℕ) (taker : State T)
+        → IsNodeList (by_key T.cmp) giver.nodes
+        → giver.next < 2 ^ 64 → d < 2 ^ 64 → length giver.nodes < 2 ^ 64
+        → All (NodeFits T.texts) giver.nodes → state_after T.cmp T.texts taker (lines_of
+        (unsummed_text T.texts giver d)) ≡ holding taker.window giver d }
 {}
 
 /// Nothing of a snapshot is held before its end: lines that are neither events nor such an end
@@ -145,8 +151,9 @@ pub fn snapshot_gives_the_follower<T: Key>()
 pub fn snapshots_are_held_whole<T: Key>()
     ensures before { (s : State T) (lines : List (List ℕ)) → All (LacksEnd T.texts) lines
         → (state_after T.cmp T.texts s lines).held ≡ s.held }
-    ensures wrong { (s : State T) (came : Copy T) (count sum : ℕ) → s.coming ≡ Some came
-        → ((length came.nodes ≢ count) ⊎ (sum_of T.texts came s.coming_done ≢ sum))
+    ensures wrong { (s : State T) (came : Copy T) (count : ℕ) (sum : Option ℕ)
+        → s.coming ≡ Some came → (length came.nodes ≢ count)
+        ⊎ IsSomeAnd sum (λ told. sum_of T.texts came s.coming_done ≢ told)
         → after_mark T.texts s (Mark.End count sum) ≡ with_coming s None 0 }
 {}
 

@@ -1,7 +1,7 @@
 //! The lines that begin and end a snapshot, and the line that tells which commands were done.
 
 ghost use Rattle.std.specs.Prelude.{◌≡◌, Some};
-ghost use Rattle.indexset_follow.specs.Mark.{mark_line, mark_of, start_of, word_mark};
+ghost use Rattle.indexset_follow.specs.Mark.{end_of, mark_line, mark_of, start_of, word_mark};
 
 use crate::numbers::{Tail, read_two};
 use indexset_events::parts::{cut, read_number};
@@ -13,8 +13,8 @@ pub enum Mark {
     /// A snapshot begins, before the event of the first number. The second is the greatest number
     /// of a command, 0 where there is none.
     Start(u64, u64),
-    /// It ends: how many nodes it has, and its sum.
-    End(u64, u64),
+    /// It ends: how many nodes it has, and its sum, which may be left out.
+    End(u64, Option<u64>),
     /// The greatest number of a command, and the number of the event after those of the commands.
     Done(u64, u64),
 }
@@ -28,7 +28,8 @@ impl fmt::Display for Mark {
                 let tail = Tail(*done);
                 write!(f, "start {next}{tail}")
             }
-            Mark::End(count, sum) => write!(f, "end {count} {sum}"),
+            Mark::End(count, None) => write!(f, "end {count}"),
+            Mark::End(count, Some(sum)) => write!(f, "end {count} {sum}"),
             Mark::Done(done, next) => write!(f, "done {done} {next}"),
         }
     }
@@ -49,7 +50,7 @@ fn read_word_mark(word: &[u8], rest: &[u8]) -> Option<Mark>
     if word == b"start".as_slice() {
         read_start(rest)
     } else if word == b"end".as_slice() {
-        read_two(rest).map(|end| Mark::End(end.0, end.1))
+        read_end(rest)
     } else if word == b"done".as_slice() {
         read_two(rest).map(|told| Mark::Done(told.0, told.1))
     } else {
@@ -70,4 +71,15 @@ fn read_start(text: &[u8]) -> Option<Mark>
     } else {
         Some(Mark::Start(next, done))
     }
+}
+
+/// Returns the end of a snapshot, by how many nodes it has, or by that and its sum.
+fn read_end(text: &[u8]) -> Option<Mark>
+    ensures { result ≡ end_of text.now }
+{
+    if let Some(count) = read_number(text) {
+        return Some(Mark::End(count, None));
+    }
+    let (count, sum) = read_two(text)?;
+    Some(Mark::End(count, Some(sum)))
 }

@@ -11,7 +11,7 @@ ghost use Rattle.std.specs.Option.{option_map};
 ghost use Rattle.std.specs.Ordering.{is_le};
 ghost use Rattle.indexset_core.specs.Nodes.{joined};
 ghost use Rattle.indexset_core.specs.Pairs.{entry_of, key_rank, pair_of};
-ghost use Rattle.indexset_follow.specs.Copy.{body_text, copy, snapshot_text, sum_of};
+ghost use Rattle.indexset_follow.specs.Copy.{body_text, copy, snapshot_text, sum_of, unsummed_text};
 ghost use Rattle.indexset_follow.specs.Reads.{PairNodes, entry_text, head_reply, keys_from, nodes_text, page, query_text, read_reply, row_text};
 ghost use Rattle.indexset_follow.specs.Reply.{others_text, reply_ended};
 
@@ -270,5 +270,19 @@ fn write_snapshot<T: Key, R: Reads<T>, W: Write>(
 {
     let sum = map.sum_of_nodes(alloc, done)?;
     map.write_snapshot_body(writer, done)?;
-    write_mark(writer, Mark::End(map.node_total() as u64, sum))
+    write_mark(writer, Mark::End(map.node_total() as u64, Some(sum)))
+}
+
+/// Writes the lines that make another map the same, of which the last tells no sum.
+pub fn write_unsummed<T: Key, R: Reads<T>, W: Write>(
+    writer: &mut W,
+    map: &R,
+    done: u64,
+) -> Result<(), RunFault>
+    ensures told { OnOk result (Appends (W.contents writer.old) (W.contents writer.new)
+        (unsummed_text T.texts (copy (R.nodes map.now) (R.next map.now)) done)) }
+    ensures fault { IfErr result (λ fault. fault ≡ RunFault.Write) }
+{
+    map.write_snapshot_body(writer, done)?;
+    write_mark(writer, Mark::End(map.node_total() as u64, None))
 }

@@ -75,7 +75,7 @@ fn take_end<T: Key>(
     alloc: Global,
     follower: &mut Follower<T>,
     count: u64,
-    sum: u64,
+    sum: Option<u64>,
 ) -> Result<Reply, RunFault>
     ensures held { OnOk result (follower.new ≡ after_mark T.texts follower.old (Mark.End count sum)) }
     ensures reply { IfOk result (λ reply. reply
@@ -107,7 +107,7 @@ pub fn wrong_end<T: Key>(
     coming: &Nodes<T>,
     done: u64,
     nodes: u64,
-    sum_told: u64,
+    sum_told: Option<u64>,
 ) -> Result<Option<Reason>, RunFault>
     ensures reason { IfOk result (λ reason. reason
         ≡ end_reason T.texts nodes sum_told coming.now done) }
@@ -116,8 +116,11 @@ pub fn wrong_end<T: Key>(
     if coming.node_total() as u64 != nodes {
         return Ok(Some(Reason::Count));
     }
-    let sum_came = coming.sum_of_nodes(alloc, done)?;
-    if sum_came != sum_told {
+    let Some(told) = sum_told else {
+        return Ok(None);
+    };
+    let came = coming.sum_of_nodes(alloc, done)?;
+    if came != told {
         return Ok(Some(Reason::Sum));
     }
     Ok(None)

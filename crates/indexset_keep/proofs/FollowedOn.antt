@@ -21,10 +21,10 @@ use Rattle.indexset_events.proofs.CallerLemmas.{Ruled, nodes_ruled, tested_ruled
 use Rattle.indexset_replica.specs.Delivery.{delivered}
 use Rattle.indexset_replica.specs.Replica.{apply_refusal}
 use Rattle.indexset_replica.proofs.ReplicaSteps.{refusal_law}
-use Rattle.indexset_follow.specs.Copy.{Copy, copy, snapshot_text, sum_of}
+use Rattle.indexset_follow.specs.Copy.{Copy, copy, unsummed_text}
 use Rattle.indexset_follow.specs.Early.{EarlyEvents, caught_up, consecutive, copy_after, first_number, taken, with_early}
 use Rattle.indexset_follow.specs.EventLine.{Event, EventFits, event_of}
-use Rattle.indexset_follow.specs.Follow.{State, after_event, after_line, after_mark, after_node, event_taken, holding, put_in_place, state_after, with_coming, with_done}
+use Rattle.indexset_follow.specs.Follow.{State, after_event, after_line, after_mark, after_node, has_sum, event_taken, holding, put_in_place, state_after, with_coming, with_done}
 use Rattle.indexset_follow.specs.Mark.{mark_line, mark_of}
 use Rattle.indexset_follow.specs.NodeLine.{node_of}
 use Rattle.indexset_follow.specs.declared.mark.Mark.{Mark}
@@ -170,14 +170,14 @@ module _ {T : Type 0} (cmp : T → T → Ordering) (texts : Texts T) (total : Is
     abbrev GoesTo : List (List ℕ) → State T → Type 0
     GoesTo kept t = state_after cmp texts (holding 0 s.held s.done) kept ≡ holding 0 t.held t.done
 
-    end_on : (count sum : ℕ) → count < 2 ^ 64 → (o : Option (Copy T)) → IfSome o (IsSoundCopy cmp texts)
+    end_on : (count : ℕ) (sum : Option ℕ) → count < 2 ^ 64 → (o : Option (Copy T)) → IfSome o (IsSoundCopy cmp texts)
         → GoesTo (option_map_or (end_kept texts count sum s.coming_done) o []) (option_map_or (put_in_place texts count sum s) o s)
     unfolding left_by
     end_on count sum few None none = refl
-    end_on count sum few (Some c) good = at (length c.nodes == count) refl (sum_of texts c s.coming_done == sum)
+    end_on count sum few (Some c) good = at (length c.nodes == count) refl (has_sum texts sum c s.coming_done)
       where
         at : (a : Bool) → (length c.nodes == count) ≡ a → (b : Bool)
-            → GoesTo (if is_none (reason_by a b) then whole_lines (snapshot_text texts c s.coming_done) else []) (if is_none (reason_by a b) then holding s.window c s.coming_done else with_coming s None 0)
+            → GoesTo (if is_none (reason_by a b) then whole_lines (unsummed_text texts c s.coming_done) else []) (if is_none (reason_by a b) then holding s.window c s.coming_done else with_coming s None 0)
         at false other b = refl
         at true is false = refl
         at true is true = snapshot_leads cmp texts spelled (holding 0 s.held s.done) c s.coming_done good sound.coming_done (omega (arith, few, eqb-true (length c.nodes) count is))

@@ -7,7 +7,7 @@ use Rattle.std.specs.Prelude.{◌&&◌, if◌then◌else◌, not}
 use Rattle.std.specs.Str.{bytes_eq}
 use Rattle.indexset_lines.specs.Lines.{whole_lines}
 use Rattle.indexset_events.specs.Nodes.{is_filled}
-use Rattle.indexset_follow.specs.Copy.{copy, snapshot_text}
+use Rattle.indexset_follow.specs.Copy.{copy, unsummed_text}
 use Rattle.indexset_follow.specs.EventLine.{event_of}
 use Rattle.indexset_follow.specs.Follow.{State, after_line, holding, reply_line, state_after}
 use Rattle.indexset_follow.specs.Leading.{leader_of}
@@ -141,7 +141,7 @@ module _ {T : Type 0} (texts : Texts T) where
   tells_alike Nothing line next q r same = refl
   tells_alike Line line next q r same = refl
   tells_alike (Steps lines) line next q r same = ap (λ s. take (s.held.next - next) (lines_texts lines.items)) same
-  tells_alike Snapshot line next q r same = ap (λ s. whole_lines (snapshot_text texts s.held s.done)) same
+  tells_alike Snapshot line next q r same = ap (λ s. whole_lines (unsummed_text texts s.held s.done)) same
 
 module _ {T : Type 0} (cmp : T → T → Ordering) (texts : Texts T) where
   -- what is kept of a line, by the role in which it found the map

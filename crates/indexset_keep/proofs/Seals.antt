@@ -4,6 +4,8 @@ use Rattle.std.proofs.lemmas.Bool.{eq-eqb, ne_eqb}
 use Rattle.std.proofs.lemmas.List.{drop-append-le, drop-map, drop-take, drop_all, drop_more, length-map, length-take-le, map_more}
 use lib.Chars.{codes}
 use Rattle.std.specs.Fmt.{decimal}
+use Rattle.std.specs.Hash.DefaultHasher as sip
+use Rattle.std.proofs.lemmas.List.Sums.{fold-append}
 use Rattle.indexset_lines.specs.Run.{left_by}
 use Rattle.indexset_events.specs.Spelling.{cut_at}
 use Rattle.indexset_events.specs.Spelling.Laws.{cut_told, lacks_tested}
@@ -13,6 +15,7 @@ use Rattle.indexset_keep.specs.Roles.{LeadsTo}
 use Rattle.indexset_journal.specs.Kept.{texts as lines_texts}
 use Rattle.indexset_keep.specs.Seal.{seal_after, seal_line, seal_of, seal_read}
 use Rattle.indexset_keep.proofs.States.{more_lines}
+use Rattle.std.specs.declared.hash.DefaultHasher.{DefaultHasher}
 use Rattle.std.specs.declared.cmp.Ordering.{Ordering}
 use Rattle.indexset_bench.specs.Texts.{Texts}
 
@@ -38,6 +41,17 @@ module _ {T : Type 0} (cmp : T → T → Ordering) (texts : Texts T) where
   -- lines and their seal in place of others
   pub replaced : (after told put : List (List ℕ)) (n : ℕ) (to : State T) → after ≡ put → put ≡ told ++ seal_line n ∷ [] → LeadsTo cmp texts told to → LeadsTo cmp texts after to
   replaced after told put n to is all leads = ap (state_after cmp texts (start_state 0)) (is ∙ all) ∙ sealed_alike (start_state 0) told n ∙ leads
+
+-- ---- the hash of lines
+
+-- a text in two parts
+pub hashed : (h : DefaultHasher) (a b : List ℕ) → sip.write h (a ++ b) ≡ sip.write (sip.write h a) b
+unfolding sip.write
+hashed h a b = fold-append sip.write_byte h a b
+
+pub hashed_none : (h : DefaultHasher) → sip.write h [] ≡ h
+unfolding sip.write
+hashed_none h = refl
 
 -- ---- the last seal
 

@@ -21,7 +21,7 @@ use Rattle.indexset_events.specs.Replay.{event_number, step}
 use Rattle.indexset_events.proofs.CallerLemmas.{Each, all_each, each_all, follow_lawful, nodes_each, none_lawful}
 use Rattle.indexset_replica.specs.Delivery.{delivered}
 use Rattle.indexset_replica.specs.Replica.{apply_refusal}
-use Rattle.indexset_follow.specs.Copy.{Copy, body_text, copy, end_line, snapshot_text}
+use Rattle.indexset_follow.specs.Copy.{Copy, body_text, copy, end_line, unsummed_text}
 use Rattle.indexset_follow.specs.Early.{EarlyEvents, Taken, caught_up, copy_after, first_number, taken, with_early}
 use Rattle.indexset_follow.specs.EventLine.{Event, EventFits, event_of}
 use Rattle.indexset_follow.specs.Follow.{State, after_event, after_line, after_mark, after_node, end_reason, event_taken, holding, node_refusal, put_in_place, start_state, state_after, with_coming, with_done, with_node}
@@ -42,7 +42,7 @@ use Rattle.indexset_follow.proofs.Fits.{each_apart}
 use Rattle.indexset_follow.proofs.MarkLines.{mark_sound}
 use Rattle.indexset_follow.proofs.NodeLines.{node_sound}
 use Rattle.indexset_follow.proofs.Onwards.{order}
-use Rattle.indexset_follow.proofs.Snapshots.{snapshot_taken}
+use Rattle.indexset_follow.proofs.Snapshots.{unsummed_taken}
 use Rattle.indexset_keep.specs.Leads.{IsSound}
 use Rattle.indexset_keep.specs.Sound.{IsSoundCopy, IsSoundFollower}
 use Rattle.indexset_keep.proofs.Edited.{Nodes, SoundNodes, attached_sound, each_together, step_sound, ordered}
@@ -244,17 +244,17 @@ module _ {T : Type 0} (texts : Texts T) where
   filled_fit [] fit filled = tt
   filled_fit (n ∷ ns) fit filled = ((omega (arith, filled.0), each_all (PairFits texts) n fit.0), filled_fit ns fit.1 filled.1)
 
-  snapshot_whole : (c : Copy T) (d : ℕ) → whole_lines (snapshot_text texts c d) ≡ lines_of (snapshot_text texts c d)
+  snapshot_whole : (c : Copy T) (d : ℕ) → whole_lines (unsummed_text texts c d) ≡ lines_of (unsummed_text texts c d)
   snapshot_whole c d =
-      let text = snapshot_text texts c d in
+      let text = unsummed_text texts c d in
       let front = body_text texts c d in
-      let last = end_line texts c d in
+      let last = end_line c None in
       let end : (front ++ last) ++ 10 ∷ [] ≡ text = append_assoc front last (10 ∷ []) in
       sym (ap whole_lines (append-nil text)) ∙ whole_lines-append [] (All-nil (λ x. x ≢ 10)) text (subst IsWhole end (IsWhole-end (front ++ last)))
 
 module _ {T : Type 0} (cmp : T → T → Ordering) (texts : Texts T) (spelled : AreWords texts) where
-  pub snapshot_leads : (taker : State T) (c : Copy T) (d : ℕ) → IsSoundCopy cmp texts c → d < 2 ^ 64 → length c.nodes < 2 ^ 64 → state_after cmp texts taker (whole_lines (snapshot_text texts c d)) ≡ holding taker.window c d
+  pub snapshot_leads : (taker : State T) (c : Copy T) (d : ℕ) → IsSoundCopy cmp texts c → d < 2 ^ 64 → length c.nodes < 2 ^ 64 → state_after cmp texts taker (whole_lines (unsummed_text texts c d)) ≡ holding taker.window c d
   snapshot_leads taker c d s less few =
       let filled = nodes_each (λ n. 1 ≤ n) c.nodes s.nodes.filled in
       ap (state_after cmp texts taker) (snapshot_whole texts c d)
-      ∙ snapshot_taken cmp texts spelled c d s.next less few (each_all (NodeFits texts) c.nodes (filled_fit texts c.nodes (copy_nodes cmp texts c s).fit filled)) taker s.nodes
+      ∙ unsummed_taken cmp texts spelled c d s.next less few (each_all (NodeFits texts) c.nodes (filled_fit texts c.nodes (copy_nodes cmp texts c s).fit filled)) taker s.nodes

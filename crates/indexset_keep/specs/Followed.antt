@@ -1,10 +1,10 @@
 -- The lines that a follower keeps of a line that it reads: those that lead one without a window where it went.
-use Rattle.std.specs.Prelude.{ℕ, ◌+◌, ◌-◌, ◌==◌, is_none, if◌then◌else◌, nat_lt, List, [], ◌∷◌, map, take}
+use Rattle.std.specs.Prelude.{ℕ, Option, ◌+◌, ◌-◌, ◌==◌, is_none, if◌then◌else◌, nat_lt, List, [], ◌∷◌, map, take}
 use Rattle.std.specs.Option.{option_map_or}
 use Rattle.indexset_lines.specs.Lines.{whole_lines}
 use Rattle.indexset_bench.specs.PairText.{event_text}
 use Rattle.indexset_events.specs.Replay.{event_number}
-use Rattle.indexset_follow.specs.Copy.{Copy, snapshot_text}
+use Rattle.indexset_follow.specs.Copy.{Copy, unsummed_text}
 use Rattle.indexset_follow.specs.Early.{consecutive}
 use Rattle.indexset_follow.specs.EventLine.{Event, event_of}
 use Rattle.indexset_follow.specs.Follow.{State, after_event, end_reason}
@@ -25,9 +25,9 @@ module _ {T : Type 0} (cmp : T → T → Ordering) (texts : Texts T) where
   event_kept s e = if event_number e == s.held.next then map (event_text texts) (take (step_count cmp s e) (e ∷ consecutive (s.held.next + 1) s.early)) else []
 
 module _ {T : Type 0} (texts : Texts T) where
-  -- a snapshot that is whole, as its giver would write it
-  abbrev pub end_kept : ℕ → ℕ → ℕ → Copy T → List (List ℕ)
-  end_kept count sum d c = if is_none (end_reason texts count sum c d) then whole_lines (snapshot_text texts c d) else []
+  -- a snapshot that is whole, with no sum
+  abbrev pub end_kept : ℕ → Option ℕ → ℕ → Copy T → List (List ℕ)
+  end_kept count sum d c = if is_none (end_reason texts count sum c d) then whole_lines (unsummed_text texts c d) else []
 
   abbrev pub mark_kept : State T → List ℕ → Mark → List (List ℕ)
   mark_kept s line (Start n d) = []

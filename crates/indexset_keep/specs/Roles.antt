@@ -1,7 +1,7 @@
 -- What a map holds, whatever its role, and what lines lead to.
 use Rattle.std.specs.Prelude.{◌≡◌, ℕ, ◌<◌, ◌≤◌, ◌^◌, Bool, if◌then◌else◌, List}
 use Rattle.indexset_lines.specs.Lines.{whole_lines}
-use Rattle.indexset_follow.specs.Copy.{Copy, copy, snapshot_text}
+use Rattle.indexset_follow.specs.Copy.{Copy, copy, unsummed_text}
 use Rattle.indexset_follow.specs.Follow.{State, holding, start_state, state_after}
 use Rattle.indexset_follow.specs.Leading.{leader_of}
 use Rattle.indexset_follow.specs.Store.{Held, promoted}
@@ -33,9 +33,9 @@ module _ {T : Type 0} (cmp : T → T → Ordering) (texts : Texts T) where
   LeadsTo lines s = state_after cmp texts (start_state 0) lines ≡ s
 
 module _ {T : Type 0} (texts : Texts T) where
-  -- the lines that make a follower of nothing the same
+  -- the lines that make a follower of nothing the same, with no sum
   abbrev pub snapshot_of : Role T → List (List ℕ)
-  snapshot_of r = whole_lines (snapshot_text texts (copy_held r) (done_held r))
+  snapshot_of r = whole_lines (unsummed_text texts (copy_held r) (done_held r))
 
 module _ {T : Type 0} where
   -- the role in which a map begins of what a follower holds

@@ -85,7 +85,7 @@ fn snapshot<T: Key>(
     alloc: Global,
     follower: &Follower<T>,
     count: u64,
-    sum: u64,
+    sum: Option<u64>,
 ) -> Result<Tells, RunFault>
     ensures tells { (line : List ℕ) → IfOk result (λ tells. lines_told T.texts tells line
         follower.now.held.next (role.Following (after_mark T.texts follower.now (Mark.End count

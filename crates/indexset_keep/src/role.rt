@@ -2,14 +2,13 @@
 
 ghost use Rattle.std.specs.Prelude.{◌≡◌, ◌++◌, IfErr, OnOk, length};
 ghost use Rattle.indexset_core.specs.Nodes.{joined};
-ghost use Rattle.indexset_follow.specs.Copy.{snapshot_text};
+ghost use Rattle.indexset_follow.specs.Copy.{unsummed_text};
 ghost use Rattle.indexset_journal.specs.Kept.{texts};
 ghost use Rattle.indexset_keep.specs.Roles.{copy_held, done_held, snapshot_of};
 
 use crate::text::push_text_lines;
 use indexset_bench::key::Key;
-use indexset_follow::reads::query::Query;
-use indexset_follow::reads::{Reads, answer_query};
+use indexset_follow::reads::{Reads, write_unsummed};
 use indexset_follow::role::Role;
 use indexset_lines::RunFault;
 use std::alloc::Global;
@@ -44,7 +43,7 @@ pub fn node_count<T: Key>(role: &Role<T>) -> usize
     }
 }
 
-/// Appends the lines of a snapshot.
+/// Appends the lines of a snapshot, which has no sum: seals test kept lines.
 pub fn push_snapshot<T: Key>(
     alloc: Global,
     lines: &mut Vec<Vec<u8>>,
@@ -55,22 +54,19 @@ pub fn push_snapshot<T: Key>(
     ensures fault { IfErr result (λ fault. fault ≡ RunFault.Memory) }
 {
     let mut text = Vec::new(alloc);
-    write_snapshot(alloc, &mut text, role)?;
+    write_snapshot(&mut text, role)?;
     push_text_lines(alloc, lines, text.as_slice())
 }
 
 /// Writes the lines of a snapshot.
-fn write_snapshot<T: Key>(alloc: Global, text: &mut Vec<u8>, role: &Role<T>) -> Result<(), RunFault>
+fn write_snapshot<T: Key>(text: &mut Vec<u8>, role: &Role<T>) -> Result<(), RunFault>
     ensures text { OnOk result (text.new.items ≡ text.old.items
-        ++ snapshot_text T.texts (copy_held role.now) (done_held role.now)) }
+        ++ unsummed_text T.texts (copy_held role.now) (done_held role.now)) }
     ensures fault { IfErr result (λ fault. fault ≡ RunFault.Memory) }
 {
-    let asked = Query::Snapshot;
     let written = match role {
-        Role::Following(follower) => {
-            answer_query(alloc, text, &follower.held, follower.done, &asked)
-        }
-        Role::Leading(leader) => answer_query(alloc, text, &leader.pairs, leader.done, &asked),
+        Role::Following(follower) => write_unsummed(text, &follower.held, follower.done),
+        Role::Leading(leader) => write_unsummed(text, &leader.pairs, leader.done),
     };
     written.map_err(|_| RunFault::Memory)
 }

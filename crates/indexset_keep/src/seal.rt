@@ -2,7 +2,7 @@
 
 ghost use Rattle.std.specs.Prelude.{◌≡◌, ◌⊎◌, Err, IfErr, IfOk, None, Some};
 ghost use Rattle.indexset_journal.specs.Kept.{texts};
-ghost use Rattle.indexset_keep.specs.Seal.{last_seal, seal_line, seal_of, seal_read, sum_of_text};
+ghost use Rattle.indexset_keep.specs.Seal.{last_seal, seal_line, seal_of, seal_read};
 
 use indexset_events::parts::{cut, read_number};
 use indexset_journal::JournalError;
@@ -11,29 +11,29 @@ use std::alloc::Global;
 use std::hash::{DefaultHasher, Hasher};
 use std::io::Write;
 
+/// How many bytes of lines are hashed together, at least.
+const TOGETHER: usize = 65_536;
+
 /// Returns the seal of lines that are kept behind the seal of others: the SipHash-1-3 of that seal
 /// and these lines, with both keys 0.
 pub fn seal_of(alloc: Global, seal: u64, lines: &[Vec<u8>]) -> Result<u64, RunFault>
     ensures seal { IfOk result (λ sealed. sealed ≡ seal_of seal (texts lines.now)) }
     ensures fault { IfErr result (λ fault. fault ≡ RunFault.Memory) }
 {
+    let mut hasher = DefaultHasher::new();
     let mut text = seal_line(alloc, seal)?;
     text.push(b'\n').map_err(|_| RunFault::Memory)?;
     for line in lines {
         text.extend_from_slice(line.as_slice())
             .map_err(|_| RunFault::Memory)?;
         text.push(b'\n').map_err(|_| RunFault::Memory)?;
+        if text.len() >= TOGETHER {
+            hasher.write(text.as_slice());
+            text.clear();
+        }
     }
-    Ok(sum_of_text(text.as_slice()))
-}
-
-/// Returns the SipHash-1-3 of a text, with both keys 0.
-fn sum_of_text(text: &[u8]) -> u64
-    ensures { result ≡ sum_of_text text.now }
-{
-    let mut hasher = DefaultHasher::new();
-    hasher.write(text);
-    hasher.finish()
+    hasher.write(text.as_slice());
+    Ok(hasher.finish())
 }
 
 /// Returns the line of a seal.

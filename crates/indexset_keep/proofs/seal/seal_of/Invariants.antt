@@ -1,9 +1,10 @@
--- The text has the seal and the lines so far.
+-- What is hashed and what waits to be are the seal and the lines so far.
 use Rattle.std.proofs.Common.{◌≡◌, ◌++◌, take}
+use Rattle.std.specs.Hash.DefaultHasher as sip
 use Rattle.indexset_bench.specs.PairText.{ended, lines_for}
 use Rattle.indexset_journal.specs.Kept.{texts}
 use Rattle.indexset_keep.specs.Seal.{seal_line}
 use Rattle.indexset_keep.proofs.seal.seal_of.Given as goal
 
 abbrev pub invariant-loop-line : goal.invariant-loop-line
-invariant-loop-line l = l.text.items ≡ ended (seal_line l.fn.seal) ++ lines_for (λ line. line) (texts (take l.line-index l.fn.lines))
+invariant-loop-line l = sip.write l.hasher l.text.items ≡ sip.write sip.initial (ended (seal_line l.fn.seal) ++ lines_for (λ line. line) (texts (take l.line-index l.fn.lines)))
