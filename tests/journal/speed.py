@@ -1,14 +1,15 @@
 #!/usr/bin/env python3
 """Times a map that is kept in a file, beside SQLite with the same commits, and Redis with its append-only file.
 
-usage: speed.py [--seconds S] [--rounds R] [--one-file] [--folder FOLDER]. Commands go out one after each answer, in
+usage: speed.py [--seconds S] [--rounds R] [--one-file] [--large] [--folder FOLDER]. Commands go out one after each answer, in
 groups that are answered together, and from a file at full speed; the rows of such commands, a seal behind each group,
 are kept by the journal in its process too (bench/rows). SQLite, by Python's module, gets the same rows in the same
 transactions, with synchronous=FULL, in this process and behind a pipe as the program is (rows_by_pipe.py); so does its
 own shell, by one statement a group; Redis syncs its file at each group (appendfsync always). The last two are left out
 where they are not installed. Each size of groups begins with empty files, unless one file is asked for, and what goes
 out is made before the clock starts. A disk is now quick and now slow, so they take turns: a rate is the median of R
-turns of S seconds. The files stand in a folder of the disk that is measured. Recovery is the time from the start of the program to its first answer, the least of three.
+turns of S seconds. The files stand in a folder of the disk that is measured. Recovery is the time from the start of the
+program to its first answer, the least of three; `--large` times starts of large maps alone, in some minutes.
 
 It needs the built `indexset_store`, and for the journal `indexset_rows`, which `bench/build.py rows` builds, both
 proved where the figures are to be told.
@@ -29,7 +30,7 @@ import subprocess
 import sys
 import tempfile
 import time
-from collections.abc import Iterator
+from collections.abc import Iterable, Iterator
 from typing import IO, Any, Protocol
 
 TOP = pathlib.Path(__file__).resolve().parent.parent.parent
@@ -44,7 +45,8 @@ GROUPS = (1, 10, 100, 1000)  # commands
 KEY_BITS = 40  # of keys that hardly come twice, so that a command tells one event, and now and then a split
 PIPED = 300_000  # commands at full speed
 SHELL, SAY_KEPT = "sqlite3", "SELECT 'kept';\n"
-KEPT = (10**4, 10**5, 10**6)  # lines
+KEPT = (10**4, 10**5, 490_000)  # lines, fewer than those whose place a snapshot takes
+LARGE = (5 * 10**6, 10**7)  # pairs
 
 
 class Timed(Protocol):
@@ -82,8 +84,12 @@ def rates(timed: list[Timed], group: int, seconds: float, rounds: int) -> list[s
     return [f"{statistics.median(each):,.0f}" for each in zip(*found)]
 
 
+def drawn(count: int, chance: random.Random) -> Iterator[str]:
+    return (f"put {chance.getrandbits(KEY_BITS)} {chance.randrange(10**6)}" for _ in range(count))
+
+
 def commands(count: int, chance: random.Random) -> list[str]:
-    return [f"put {chance.getrandbits(KEY_BITS)} {chance.randrange(10**6)}" for _ in range(count)]
+    return list(drawn(count, chance))
 
 
 class Store(Sender):
@@ -118,10 +124,10 @@ class Store(Sender):
             came = came[-5:] + self.told.read1(1 << 20)
             left -= came.count(b"\nnext ")
 
-    def piped(self, lines: list[str]) -> float:
+    def piped(self, lines: Iterable[str]) -> float:
         """The seconds of a run over lines from a file, with what it tells thrown away."""
         with tempfile.TemporaryFile(dir=self.file.parent) as text:
-            text.write("".join(f"{it}\n" for it in lines).encode())
+            text.writelines(f"{it}\n".encode() for it in lines)
             text.seek(0)
             began = time.perf_counter()
             subprocess.run(self.words, stdin=text, stdout=subprocess.DEVNULL, check=True)
@@ -336,6 +342,32 @@ def recoveries(folder: pathlib.Path) -> None:
         shutil.rmtree(store.file.parent)
 
 
+def large_starts(folder: pathlib.Path) -> None:
+    """Seconds to the first answer of large maps: behind a snapshot alone, and with nearly as many events as are kept."""
+    print()
+    row("Pairs", ["compacted in", "seconds to the first answer", "events behind the snapshot", "seconds, three starts"])
+    row("---:", ["---:"] * 4)
+    for count in LARGE:
+        store = Store(fresh(folder, f"large{count}"))
+        store.piped(drawn(count, store.chance))
+        start = store.recovery()
+        compacted = store.piped(["compact"]) - start
+        start = store.recovery()
+        store.piped(drawn(KEPT[-1], store.chance))
+        events = lines_of(store.file) - lines_of_snapshot(store.file)
+        starts = sorted(store.piped(["next"]) for _ in range(3))
+        row(f"{count:,}", [f"{compacted:.1f}", f"{start:.1f}", f"{events:,}", ", ".join(f"{it:.1f}" for it in starts)])
+        shutil.rmtree(store.file.parent)
+
+
+def lines_of_snapshot(file: pathlib.Path) -> int:
+    """How many lines of a file are those of a snapshot, by its last number of nodes."""
+    with sqlite3.connect(file.with_name("count") / "map.db") as found:
+        (end,) = found.execute("SELECT line FROM kept WHERE line LIKE 'end %' ORDER BY number DESC LIMIT 1").fetchone()
+    found.close()
+    return int(end.split(" ")[1]) + 2
+
+
 def lines_of(file: pathlib.Path) -> int:
     """How many lines a copy of a file has."""
     copy = file.with_name("count")
@@ -360,11 +392,15 @@ def main() -> int:
     ask.add_argument("--rounds", type=int, default=11, help="turns of each")
     ask.add_argument("--one-file", action="store_true", help="for all sizes of groups, so that the later ones meet a larger map")
     ask.add_argument("--folder", type=pathlib.Path, default=pathlib.Path(tempfile.gettempdir()), help="on the disk that is measured")
+    ask.add_argument("--large", action="store_true", help="the starts of maps of 5,000,000 and 10,000,000 pairs alone")
     given = ask.parse_args()
     with tempfile.TemporaryDirectory(dir=given.folder) as folder:
         print(f"SQLite {sqlite3.sqlite_version}, {os.cpu_count()} processors\n")
-        answers(pathlib.Path(folder), given.seconds, given.rounds, given.one_file)
-        recoveries(pathlib.Path(folder))
+        if given.large:
+            large_starts(pathlib.Path(folder))
+        else:
+            answers(pathlib.Path(folder), given.seconds, given.rounds, given.one_file)
+            recoveries(pathlib.Path(folder))
     return 0
 
 
