@@ -352,10 +352,12 @@ def large_starts(folder: pathlib.Path) -> None:
         store.piped(drawn(count, store.chance))
         start = store.recovery()
         compacted = store.piped(["compact"]) - start
+        os.sync()
         start = store.recovery()
         store.piped(drawn(KEPT[-1], store.chance))
-        events = lines_of(store.file) - lines_of_snapshot(store.file)
+        os.sync()
         starts = sorted(store.piped(["next"]) for _ in range(3))
+        events = lines_of(store.file) - lines_of_snapshot(store.file)
         row(f"{count:,}", [f"{compacted:.1f}", f"{start:.1f}", f"{events:,}", ", ".join(f"{it:.1f}" for it in starts)])
         shutil.rmtree(store.file.parent)
 
