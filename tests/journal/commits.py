@@ -3,8 +3,8 @@
 
 They come from a file, so that a read brings thousands. What is kept has to be all that was told, and a commit keeps at
 most 4,096 lines and the further ones of its last command. With `--rule`, which takes minutes by a program that is not
-optimised: a snapshot takes the place of the lines of 60,000 pairs once they are more than 500,000 beside one for each
-node, and not before. The last line is 'N passed, M failed'. It needs the built `indexset_store`.
+optimised: a snapshot takes the place of the lines of 200,000 pairs once they are more than 1,480,000 beside one for
+each node, and not before. The last line is 'N passed, M failed'. It needs the built `indexset_store`.
 """
 
 from __future__ import annotations
@@ -24,8 +24,8 @@ from programs import built  # noqa: E402
 MOST = 4_096  # lines that a commit keeps
 FURTHER = 3  # lines of a command behind its first: three events, and which commands were done
 COMMANDS = 12_000
-PAIRS = 60_000  # so many that ten lines for each are more than MANY
-MANY = 500_000  # lines beside one for each node, above which a snapshot takes their place
+PAIRS = 200_000  # so many that ten lines for each are more than MANY
+MANY = 1_500_000 - PAIRS // 10  # lines beside one for each node, above which a snapshot takes their place
 
 
 def lines_of(commands: list[str]) -> str:

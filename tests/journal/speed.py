@@ -45,8 +45,9 @@ GROUPS = (1, 10, 100, 1000)  # commands
 KEY_BITS = 40  # of keys that hardly come twice, so that a command tells one event, and now and then a split
 PIPED = 300_000  # commands at full speed
 SHELL, SAY_KEPT = "sqlite3", "SELECT 'kept';\n"
-KEPT = (10**4, 10**5, 490_000)  # lines, fewer than those whose place a snapshot takes
-LARGE = (5 * 10**6, 10**7)  # pairs
+KEPT = (10**4, 10**5, 10**6)  # lines
+LARGE = (10**6, 5 * 10**6, 10**7)  # pairs
+MANY = 1_480_000  # events that are kept of a map, less one for ten pairs; a few less than the rule allows
 
 
 class Timed(Protocol):
@@ -354,7 +355,7 @@ def large_starts(folder: pathlib.Path) -> None:
         compacted = store.piped(["compact"]) - start
         os.sync()
         start = store.recovery()
-        store.piped(drawn(KEPT[-1], store.chance))
+        store.piped(drawn(MANY - count // 10, store.chance))
         os.sync()
         starts = sorted(store.piped(["next"]) for _ in range(3))
         events = lines_of(store.file) - lines_of_snapshot(store.file)
@@ -394,7 +395,7 @@ def main() -> int:
     ask.add_argument("--rounds", type=int, default=11, help="turns of each")
     ask.add_argument("--one-file", action="store_true", help="for all sizes of groups, so that the later ones meet a larger map")
     ask.add_argument("--folder", type=pathlib.Path, default=pathlib.Path(tempfile.gettempdir()), help="on the disk that is measured")
-    ask.add_argument("--large", action="store_true", help="the starts of maps of 5,000,000 and 10,000,000 pairs alone")
+    ask.add_argument("--large", action="store_true", help="the starts of maps of 1,000,000 to 10,000,000 pairs alone")
     given = ask.parse_args()
     with tempfile.TemporaryDirectory(dir=given.folder) as folder:
         print(f"SQLite {sqlite3.sqlite_version}, {os.cpu_count()} processors\n")

@@ -25,10 +25,13 @@ const FEW: usize = 4_096;
 /// How many lines are kept for a pair.
 const LINES_A_PAIR: usize = 10;
 
-/// How many lines a start reads in some seconds.
-const MANY: usize = 500_000;
+/// How many events a start reads in some seconds.
+const MANY: usize = 1_500_000;
 
-/// For how many pairs a line more is kept.
+/// How many pairs of a snapshot a start reads while it reads an event.
+const PAIRS_AN_EVENT: usize = 10;
+
+/// For how many pairs an event is kept in any case.
 const PAIRS_A_LINE: usize = 20;
 
 /// The lines that lead a follower to what a map holds, in a journal.
@@ -67,14 +70,15 @@ impl<S: Store + Drop> Kept<S> {
 
 impl<S: Store> Kept<S> {
     /// Returns whether more lines are kept than 4,096 and than ten for each pair; or, beside a line
-    /// for each node, as a snapshot has, more than 500,000 and than one for twenty pairs.
+    /// for each node, as a snapshot has, more than one for twenty pairs, and more than 1,500,000
+    /// less one for ten pairs.
     pub fn is_long<T: Key>(&self, role: &Role<T>) -> bool
         ensures { result ≡ is_long self.now.lines (copy_held role.now).nodes }
     {
         let pairs = pair_count(role);
         let events = self.lines.saturating_sub(node_count(role));
         self.lines > FEW && self.lines / LINES_A_PAIR > pairs
-            || events > MANY && events > pairs / PAIRS_A_LINE
+            || events > pairs / PAIRS_A_LINE && events.saturating_add(pairs / PAIRS_AN_EVENT) > MANY
     }
 
     /// Keeps more lines and their seal, with one commit, where there is a line. Where that fails, a
