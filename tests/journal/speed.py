@@ -47,7 +47,7 @@ PIPED = 300_000  # commands at full speed
 SHELL, SAY_KEPT = "sqlite3", "SELECT 'kept';\n"
 KEPT = (10**4, 10**5, 10**6)  # lines
 LARGE = (10**6, 5 * 10**6, 10**7)  # pairs
-MANY = 1_480_000  # events that are kept of a map, less one for ten pairs; a few less than the rule allows
+MANY = 1_500_000  # events that are kept of a map, less one for ten pairs, or one for twenty pairs
 
 
 class Timed(Protocol):
@@ -343,6 +343,11 @@ def recoveries(folder: pathlib.Path) -> None:
         shutil.rmtree(store.file.parent)
 
 
+def behind(pairs: int) -> int:
+    """Nearly as many puts of new keys as are kept behind a snapshot of so many pairs."""
+    return int(0.98 * max((MANY - pairs / 10) / 1.1, pairs / 19))
+
+
 def large_starts(folder: pathlib.Path) -> None:
     """Seconds to the first answer of large maps: behind a snapshot alone, and with nearly as many events as are kept."""
     print()
@@ -355,7 +360,7 @@ def large_starts(folder: pathlib.Path) -> None:
         compacted = store.piped(["compact"]) - start
         os.sync()
         start = store.recovery()
-        store.piped(drawn(MANY - count // 10, store.chance))
+        store.piped(drawn(behind(count), store.chance))
         os.sync()
         starts = sorted(store.piped(["next"]) for _ in range(3))
         events = lines_of(store.file) - lines_of_snapshot(store.file)
