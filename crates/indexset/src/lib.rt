@@ -11,9 +11,10 @@
 
 /// What the collections are made of.
 pub mod base {
+    pub use indexset_core::text::Text;
     pub use indexset_core::{
-        array_node, bounds, constants, laws, multipair, node, pair, probe, refusal, search, sought,
-        steps,
+        array_node, bounds, by_bytes, constants, laws, multipair, node, pair, positions, probe,
+        refusal, search, sought, steps,
     };
 }
 
@@ -50,7 +51,7 @@ pub mod cdc {
 
 /// Comparators by which sets and maps look a `&str` up among text keys.
 pub mod text {
-    pub use indexset_core::text::{ByStr, OnKey};
+    pub use indexset_core::text_probe::{ByStr, OnKey};
 }
 
 /// A replica, which follows a tree by its events.
@@ -58,11 +59,13 @@ pub mod replica {
     pub use indexset_replica::{Replica, iter, laws, lookup};
 }
 
+pub use indexset_core::bounds::Bounds;
+pub use indexset_core::positions::Positions;
 pub use indexset_map::{
     BTreeMap, CursorMap, Entry, ExtractIfMap, IntoIterMap, IntoKeys, IntoValues, IterMap, IterMut,
     Keys, OccupiedEntry, RangeMap, RangeMut, VacantEntry, Values, ValuesMut,
 };
 pub use indexset_set::{
-    BTreeSet, Bounds, Cursor, Difference, ExtractIf, Intersection, IntoIter, Iter, Positions,
-    Range, SymmetricDifference, Union, laws,
+    BTreeSet, Cursor, Difference, ExtractIf, Intersection, IntoIter, Iter, Range,
+    SymmetricDifference, Union, laws,
 };

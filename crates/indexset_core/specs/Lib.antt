@@ -1,4 +1,5 @@
 pub mod Bounds
+pub mod ByteOrder
 pub mod Digits
 pub mod MultiPairs
 pub mod Nodes

@@ -1,9 +1,224 @@
-//! Bounds of a range.
+//! Bounds of a range: two bounds, or one of Rust's ranges, of whatever a look-up takes.
 ghost use Rattle.std.specs.Prelude.{◌≡◌};
+ghost use Rattle.std.specs.Range.{range_inclusive_end, range_inclusive_start};
 ghost use Rattle.std.specs.Range.Bound.{bound_map};
+ghost use Rattle.std.specs.declared.ops.Bound.{Bound};
+ghost use Rattle.std.specs.declared.ops.Bound.TheVariants.{Excluded, Included, Unbounded};
 ghost use Rattle.indexset_core.specs.Bounds.{are_ordered};
 
-use std::ops::Bound;
+use crate::by_bytes::ByBytes;
+use crate::multipair::MultiPair;
+use crate::pair::Pair;
+use crate::sought::Sought;
+use std::alloc::Allocator;
+use std::ops::{Bound, Range, RangeFrom, RangeFull, RangeInclusive, RangeTo, RangeToInclusive};
+
+/// A start and an end, as `range` of a set or a map takes them: `a..b`, `a..=b`, `a..`, `..b`,
+/// `..=b` and `..` of whatever a look-up takes ([`Sought`]), or a pair of `Bound`s of references:
+/// `Bound<&T>`, of pairs `Bound<&K>`, of texts `Bound<&str>`, and `Bound<&[U]>` of `Vec<U>`.
+/// It stands for `RangeBounds`, and has one impl alone for pairs of numbers, so that
+/// `(Unbounded, Unbounded)` needs no type annotation. An `a..=b` that was iterated to its end still
+/// includes both.
+///
+/// ```
+/// let board = BTreeSet::from_iter(alloc, [10, 20, 30])?;
+/// assert!(rt; board.range(15..).copied().eq([20, 30]) && board.range(..=10).len() == 1);
+/// assert!(rt; board.range((Bound::Excluded(&10), Bound::Unbounded)).copied().eq([20, 30]));
+/// ```
+pub trait Bounds<T: Ord> {
+    /// What the bounds name.
+    type Key: Sought<T>;
+
+    /// The bound at the start.
+    ghost start: { Self → Bound Self.Key };
+
+    /// The bound at the end.
+    ghost end: { Self → Bound Self.Key };
+
+    /// Returns the bound at the start.
+    fn start_bound(&self) -> Bound<&Self::Key>
+        ensures { bound_map (λ x. x.now) result ≡ start self.now };
+
+    /// Returns the bound at the end.
+    fn end_bound(&self) -> Bound<&Self::Key>
+        ensures { bound_map (λ x. x.now) result ≡ end self.now };
+}
+
+impl<'a, T: Ord> Bounds<T> for (Bound<&'a T>, Bound<&'a T>) {
+    type Key = &'a T;
+
+    ghost start = { λ s. s.0 };
+
+    ghost end = { λ s. s.1 };
+
+    fn start_bound(&self) -> Bound<&&'a T> {
+        self.0.as_ref()
+    }
+
+    fn end_bound(&self) -> Bound<&&'a T> {
+        self.1.as_ref()
+    }
+}
+
+impl<'a, T: ByBytes> Bounds<T> for (Bound<&'a str>, Bound<&'a str>) {
+    type Key = &'a str;
+
+    ghost start = { λ s. s.0 };
+
+    ghost end = { λ s. s.1 };
+
+    fn start_bound(&self) -> Bound<&&'a str> {
+        self.0.as_ref()
+    }
+
+    fn end_bound(&self) -> Bound<&&'a str> {
+        self.1.as_ref()
+    }
+}
+
+impl<'a, U: Ord, A: Allocator> Bounds<Vec<U, A>> for (Bound<&'a [U]>, Bound<&'a [U]>) {
+    type Key = &'a [U];
+
+    ghost start = { λ s. s.0 };
+
+    ghost end = { λ s. s.1 };
+
+    fn start_bound(&self) -> Bound<&&'a [U]> {
+        self.0.as_ref()
+    }
+
+    fn end_bound(&self) -> Bound<&&'a [U]> {
+        self.1.as_ref()
+    }
+}
+
+impl<'a, K: Ord, V> Bounds<Pair<K, V>> for (Bound<&'a K>, Bound<&'a K>) {
+    type Key = &'a K;
+
+    ghost start = { λ s. s.0 };
+
+    ghost end = { λ s. s.1 };
+
+    fn start_bound(&self) -> Bound<&&'a K> {
+        self.0.as_ref()
+    }
+
+    fn end_bound(&self) -> Bound<&&'a K> {
+        self.1.as_ref()
+    }
+}
+
+impl<'a, K: Ord, V> Bounds<MultiPair<K, V>> for (Bound<&'a K>, Bound<&'a K>) {
+    type Key = &'a K;
+
+    ghost start = { λ s. s.0 };
+
+    ghost end = { λ s. s.1 };
+
+    fn start_bound(&self) -> Bound<&&'a K> {
+        self.0.as_ref()
+    }
+
+    fn end_bound(&self) -> Bound<&&'a K> {
+        self.1.as_ref()
+    }
+}
+
+impl<T: Ord> Bounds<T> for RangeFull {
+    type Key = T;
+
+    ghost start = { λ _. Unbounded };
+
+    ghost end = { λ _. Unbounded };
+
+    fn start_bound(&self) -> Bound<&T> {
+        Bound::Unbounded
+    }
+
+    fn end_bound(&self) -> Bound<&T> {
+        Bound::Unbounded
+    }
+}
+
+impl<T: Ord, Q: Sought<T>> Bounds<T> for Range<Q> {
+    type Key = Q;
+
+    ghost start = { λ s. Included s.start };
+
+    ghost end = { λ s. Excluded s.end };
+
+    fn start_bound(&self) -> Bound<&Q> {
+        Bound::Included(&self.start)
+    }
+
+    fn end_bound(&self) -> Bound<&Q> {
+        Bound::Excluded(&self.end)
+    }
+}
+
+impl<T: Ord, Q: Sought<T>> Bounds<T> for RangeInclusive<Q> {
+    type Key = Q;
+
+    ghost start = { λ s. Included (range_inclusive_start s) };
+
+    ghost end = { λ s. Included (range_inclusive_end s) };
+
+    fn start_bound(&self) -> Bound<&Q> {
+        Bound::Included(self.start())
+    }
+
+    fn end_bound(&self) -> Bound<&Q> {
+        Bound::Included(self.end())
+    }
+}
+
+impl<T: Ord, Q: Sought<T>> Bounds<T> for RangeFrom<Q> {
+    type Key = Q;
+
+    ghost start = { λ s. Included s.start };
+
+    ghost end = { λ _. Unbounded };
+
+    fn start_bound(&self) -> Bound<&Q> {
+        Bound::Included(&self.start)
+    }
+
+    fn end_bound(&self) -> Bound<&Q> {
+        Bound::Unbounded
+    }
+}
+
+impl<T: Ord, Q: Sought<T>> Bounds<T> for RangeTo<Q> {
+    type Key = Q;
+
+    ghost start = { λ _. Unbounded };
+
+    ghost end = { λ s. Excluded s.end };
+
+    fn start_bound(&self) -> Bound<&Q> {
+        Bound::Unbounded
+    }
+
+    fn end_bound(&self) -> Bound<&Q> {
+        Bound::Excluded(&self.end)
+    }
+}
+
+impl<T: Ord, Q: Sought<T>> Bounds<T> for RangeToInclusive<Q> {
+    type Key = Q;
+
+    ghost start = { λ _. Unbounded };
+
+    ghost end = { λ s. Included s.end };
+
+    fn start_bound(&self) -> Bound<&Q> {
+        Bound::Unbounded
+    }
+
+    fn end_bound(&self) -> Bound<&Q> {
+        Bound::Included(&self.end)
+    }
+}
 
 /// Returns whether the start is not above the end, nor equal to it where both are excluded.
 ///

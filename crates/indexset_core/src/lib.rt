@@ -12,6 +12,7 @@
 
 pub mod array_node;
 pub mod bounds;
+pub mod by_bytes;
 pub mod constants;
 pub mod halve;
 pub mod laws;
@@ -28,6 +29,7 @@ pub mod search;
 pub mod sought;
 pub mod steps;
 pub mod text;
+pub mod text_probe;
 pub mod walk;
 
 const _: () = prove!(size_of::<steps::Steps>() == 0);

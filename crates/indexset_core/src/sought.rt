@@ -4,21 +4,21 @@
 ghost use Rattle.std.specs.Prelude.{◌≡◌};
 ghost use Rattle.std.specs.Cmp.Lexicographic.{lists_total, nat_list_cmp_total, slice_cmp};
 ghost use Rattle.std.specs.Ordering.{nat_cmp};
-ghost use Rattle.std.specs.String.{string_bytes};
 ghost use Rattle.std.specs.declared.cmp.Ordering.{Ordering};
+ghost use Rattle.indexset_core.specs.ByteOrder.{acts_by_view, one_by_view};
 ghost use Rattle.indexset_core.specs.Sought.{ActsAsKey, ActsAsOne, acts_as_itself, acts_by, one_as_itself, one_by};
 
 mod pairs;
 mod parts;
 
-use bytes::{ByteStr, Bytes};
+use crate::by_bytes::{ByBytes, compare_bytes};
 use std::alloc::Allocator;
 use std::cmp::Ordering;
 
-/// What a look-up takes: an item or a reference to one, a `&str` where the items are `String` or
-/// `ByteStr`, a `&[U]` where they are `Vec<U>`, a `&[u8]` where they are `Bytes`, the key of a
-/// `Pair`, or a reference to it, and where the items are tuples of two, `(&a, &b)`, a `&str` in the
-/// place of a text. It stands for `Borrow`. A look-up makes no item of it, and so allocates nothing.
+/// What a look-up takes: an item or a reference to one; a `&str` or a `&[u8]` for items in the order
+/// of their bytes ([`ByBytes`]), such as `String` and `Text`; a `&[U]` for items `Vec<U>`; for a
+/// `Pair` its key, or what finds that key; for tuples of two, references to both parts, or a `&str`
+/// for a part in the order of its bytes. It stands for `Borrow`. No look-up allocates.
 ///
 /// ```
 /// let mut names = BTreeSet::new(alloc)?;
@@ -80,32 +80,32 @@ impl<T: Ord> Names<T> for &T {
     ghost names_one = { one_by T.cmp T.total (λ x. x) (λ q. q.now) };
 }
 
-impl<A: Allocator> Sought<String<A>> for &str {
-    ghost order = { λ x q. slice_cmp nat_cmp (string_bytes x) q.now };
+impl<T: ByBytes> Sought<T> for &str {
+    ghost order = { λ x q. slice_cmp nat_cmp (T.bytes x) q.now };
 
-    ghost acts_as_key = { acts_by (slice_cmp nat_cmp) nat_list_cmp_total string_bytes (λ q. q.now) };
+    ghost acts_as_key = { acts_by_view nat_list_cmp_total T.bytes (λ q. q.now) T.ordered_by_bytes };
 
-    fn place_item(&self, item: &String<A>) -> Ordering {
-        compare_texts(item.as_str(), *self)
+    fn place_item(&self, item: &T) -> Ordering {
+        compare_bytes(item.bytes(), (*self).as_bytes())
     }
 }
 
-impl<A: Allocator> Names<String<A>> for &str {
-    ghost names_one = { one_by (slice_cmp nat_cmp) nat_list_cmp_total string_bytes (λ q. q.now) };
+impl<T: ByBytes> Names<T> for &str {
+    ghost names_one = { one_by_view nat_list_cmp_total T.bytes (λ q. q.now) T.ordered_by_bytes };
 }
 
-impl<A: Allocator> Sought<ByteStr<A>> for &str {
-    ghost order = { λ x q. slice_cmp nat_cmp x q.now };
+impl<T: ByBytes> Sought<T> for &[u8] {
+    ghost order = { λ x q. slice_cmp nat_cmp (T.bytes x) q.now };
 
-    ghost acts_as_key = { acts_by (slice_cmp nat_cmp) nat_list_cmp_total (λ x. x) (λ q. q.now) };
+    ghost acts_as_key = { acts_by_view nat_list_cmp_total T.bytes (λ q. q.now) T.ordered_by_bytes };
 
-    fn place_item(&self, item: &ByteStr<A>) -> Ordering {
-        compare_texts(item.as_str(), *self)
+    fn place_item(&self, item: &T) -> Ordering {
+        compare_bytes(item.bytes(), *self)
     }
 }
 
-impl<A: Allocator> Names<ByteStr<A>> for &str {
-    ghost names_one = { one_by (slice_cmp nat_cmp) nat_list_cmp_total (λ x. x) (λ q. q.now) };
+impl<T: ByBytes> Names<T> for &[u8] {
+    ghost names_one = { one_by_view nat_list_cmp_total T.bytes (λ q. q.now) T.ordered_by_bytes };
 }
 
 impl<U: Ord, A: Allocator> Sought<Vec<U, A>> for &[U] {
@@ -122,28 +122,7 @@ impl<U: Ord, A: Allocator> Names<Vec<U, A>> for &[U] {
     ghost names_one = { one_by (slice_cmp U.cmp) (lists_total U.total) (λ x. x.items) (λ q. q.now) };
 }
 
-impl<A: Allocator> Sought<Bytes<A>> for &[u8] {
-    ghost order = { λ x q. slice_cmp nat_cmp x q.now };
-
-    ghost acts_as_key = { acts_by (slice_cmp nat_cmp) nat_list_cmp_total (λ x. x) (λ q. q.now) };
-
-    fn place_item(&self, item: &Bytes<A>) -> Ordering {
-        compare_slices(item.as_slice(), *self)
-    }
-}
-
-impl<A: Allocator> Names<Bytes<A>> for &[u8] {
-    ghost names_one = { one_by (slice_cmp nat_cmp) nat_list_cmp_total (λ x. x) (λ q. q.now) };
-}
-
-// Returns how two texts compare. Both have one lifetime, as the borrow checker asks.
-pub(crate) fn compare_texts<'x>(first: &'x str, second: &'x str) -> Ordering
-    ensures { result ≡ slice_cmp nat_cmp first.now second.now }
-{
-    first.cmp(second)
-}
-
-// Returns how two slices compare, as `compare_texts` does.
+// Returns how two slices compare. Both have one lifetime, as the borrow checker asks.
 fn compare_slices<'x, T: Ord>(first: &'x [T], second: &'x [T]) -> Ordering
     ensures { result ≡ slice_cmp T.cmp first.now second.now }
 {

@@ -1,121 +1,269 @@
-//! Comparators for text: keys are compared with a borrowed text.
-//!
-//! [`ByStr`] serves the calls that take a `Probe`, as `get_by` of sets and maps: they then look a
-//! `&str` up among items of any type that is `AsStr`, such as `String` and `bytes::ByteStr`,
-//! without an allocation. [`OnKey`] compares the keys of pairs by a comparator. The order of the
-//! keys must be that of the bytes of their texts, as it is for those types.
-//!
-//! ```
-//! // The price of a name, in a map from `ByteStr`.
-//! let price = prices.get_by(&mut OnKey::new(ByStr::new("pears")));
-//! ```
-ghost use Rattle.std.specs.Prelude.{◌≡◌};
-ghost use Rattle.std.specs.Cmp.Lexicographic.{slice_cmp};
+//! A text of any bytes, as a key of maps and an element of sets.
+ghost use Rattle.std.specs.Prelude.{◌≡◌, ◌↔◌, [], IfOk, IsTrue, IfSome, IsSome, IsUtf8, Some, length, nat_eq, refl, string_bytes};
+ghost use Rattle.std.specs.Cmp.{partial_equiv_from_equiv};
+ghost use Rattle.std.specs.Cmp.Lexicographic.{nat_list_cmp_total, nat_list_eq_equiv, pointwise, slice_cmp, texts_po, texts_ties};
+ghost use Rattle.std.specs.Cmp.Rules.{hashing};
+ghost use Rattle.std.specs.Hash as fed;
 ghost use Rattle.std.specs.Ordering.{nat_cmp};
+ghost use Rattle.std.proofs.Common.{rules};
 
-use crate::multipair::MultiPair;
-use crate::pair::Pair;
-use crate::probe::Probe;
-use crate::steps::Steps;
+use crate::by_bytes::{ByBytes, compare_bytes};
+use std::alloc::{AllocError, Global};
 use std::cmp::Ordering;
-use std::convert::AsStr;
+use std::convert::AsSlice;
+use std::hash::{Hash, Hasher};
 use std::marker::Model;
+use std::{fmt, str};
 
-/// Compares the text of an item with a borrowed text, byte by byte. It allocates nothing.
+/// A text of any bytes, in 24 bytes and one allocation. It compares by its bytes, eight at a time,
+/// and its clones are identical to it. Sets of texts and maps from texts are searched by a `&str`
+/// or a `&[u8]`.
 ///
 /// ```
-/// // An element of text, found by a &str without an allocation.
-/// let mut names = BTreeSet::new(alloc)?;
-/// names.insert(String::from_str(alloc, "pear")?)?;
-/// assert!(rt; names.get_by(&mut ByStr::new("pear")).is_some());
+/// let mut prices = BTreeMap::new(alloc)?;
+/// prices.insert(Text::copied(alloc, "pear")?, 120)?;
+/// assert_eq!(rt; prices.get("pear"), Some(&120));
 /// ```
 #[derive(Drop)]
-pub struct ByStr<'a> {
-    sought: &'a str,
-    steps: Steps,
+pub struct Text {
+    bytes: Vec<u8>,
 }
 
-impl<'a> Model for ByStr<'a> {
+impl Model for Text {
     ghost use Rattle.std.specs.Prelude.{ℕ, List};
 
-    ghost Value = { List ℕ × ℕ };
+    ghost Value = { List ℕ };
 
-    ghost view = { λ b. (b.sought.now, b.steps) };
+    ghost view = { λ t. t.bytes.items };
 }
 
-impl<'a> ByStr<'a> {
-    /// Returns a comparator with the text, which has made no comparison yet.
+impl Text {
+    /// Returns an empty text. It allocates nothing.
     ///
     /// ```
-    /// let mut names = BTreeSet::new(alloc)?;
-    /// names.insert(String::from_str(alloc, "pear")?)?;
-    /// assert_eq!(rt; names.locate_by(&mut ByStr::new("pear")), Ok(0));
-    /// assert_eq!(rt; names.locate_by(&mut ByStr::new("plum")), Err(1));
+    /// assert!(rt; Text::new(alloc).is_empty());
     /// ```
-    pub fn new(sought: &'a str) -> Self
-        ensures { result ≡ (sought.now, 0) }
+    pub fn new(alloc: Global) -> Text
+        ensures { result ≡ [] }
     {
-        ByStr {
-            sought,
-            steps: Steps::new(),
+        Text {
+            bytes: Vec::new(alloc),
         }
     }
-}
 
-impl<'a, T: AsStr> Probe<T> for ByStr<'a> {
-    ghost answer = { λ p x. slice_cmp nat_cmp (T.text x) p.0 };
-
-    ghost asked = { λ p. p.1 };
-
-    fn place(&mut self, item: &T) -> Ordering {
-        self.steps.tick();
-        item.as_str().cmp(self.sought)
-    }
-}
-
-/// Compares the key of a pair, numbered or not, by its comparator.
-#[derive(Drop)]
-pub struct OnKey<P> {
-    probe: P,
-}
-
-impl<P> Model for OnKey<P> {
-    ghost Value = { P };
-
-    ghost view = { λ p. p.probe };
-}
-
-impl<P> OnKey<P> {
-    /// Returns the comparator of pairs whose keys this one compares.
+    /// Returns the text of these bytes, which it takes over: it allocates nothing.
     ///
     /// ```
-    /// let mut prices = BTreeMap::new(alloc)?;
-    /// prices.insert(String::from_str(alloc, "pear")?, 120)?;
-    /// assert_eq!(rt; prices.get_by(&mut OnKey::new(ByStr::new("pear"))), Some(&120));
+    /// let text = Text::from_vec(b"pear".to_vec(alloc)?);
+    /// assert_eq!(rt; text.as_bytes(), b"pear");
     /// ```
-    pub fn new(probe: P) -> Self
-        ensures { result ≡ probe }
+    pub fn from_vec(bytes: Vec<u8>) -> Text
+        ensures { result ≡ bytes.items }
     {
-        OnKey { probe }
+        Text { bytes }
+    }
+
+    /// Returns the text of this string, whose bytes it takes over: it allocates nothing.
+    ///
+    /// ```
+    /// let text = Text::from_string(String::from_str(alloc, "pear")?);
+    /// assert_eq!(rt; text.as_bytes(), b"pear");
+    /// ```
+    pub fn from_string(text: String) -> Text
+        ensures { result ≡ string_bytes text }
+    {
+        Text {
+            bytes: text.into_bytes(),
+        }
+    }
+
+    /// Returns a copy of a `&str`.
+    ///
+    /// # Errors
+    ///
+    /// `AllocError` without memory.
+    ///
+    /// ```
+    /// assert_eq!(rt; Text::copied(alloc, "pear")?.len(), 4);
+    /// ```
+    pub fn copied(alloc: Global, text: &str) -> Result<Text, AllocError>
+        ensures { IfOk result (λ t. t ≡ text.now) }
+    {
+        Text::copied_bytes(alloc, text.as_bytes())
+    }
+
+    /// Returns a copy of a `&[u8]`.
+    ///
+    /// # Errors
+    ///
+    /// `AllocError` without memory.
+    ///
+    /// ```
+    /// assert_eq!(rt; Text::copied_bytes(alloc, b"\xFF")?.to_str(), None);
+    /// ```
+    pub fn copied_bytes(alloc: Global, bytes: &[u8]) -> Result<Text, AllocError>
+        ensures { IfOk result (λ t. t ≡ bytes.now) }
+    {
+        let bytes = bytes.to_vec(alloc)?;
+        Ok(Text { bytes })
+    }
+
+    /// Returns the bytes.
+    ///
+    /// ```
+    /// assert_eq!(rt; Text::copied(alloc, "pear")?.as_bytes(), b"pear");
+    /// ```
+    #[inline]
+    pub fn as_bytes(&self) -> &[u8]
+        ensures { result.now ≡ self.now }
+    {
+        self.bytes.as_slice()
+    }
+
+    /// Returns the number of bytes.
+    ///
+    /// ```
+    /// assert_eq!(rt; Text::copied(alloc, "pear")?.len(), 4);
+    /// ```
+    pub fn len(&self) -> usize
+        ensures { result ≡ length self.now }
+    {
+        self.bytes.len()
+    }
+
+    /// Returns whether the text has no bytes.
+    ///
+    /// ```
+    /// assert!(rt; !Text::copied(alloc, "pear")?.is_empty());
+    /// ```
+    pub fn is_empty(&self) -> bool
+        ensures { IsTrue result ↔ (self.now ≡ []) }
+    {
+        self.bytes.is_empty()
+    }
+
+    /// Returns the bytes as a `&str` if they are UTF-8.
+    ///
+    /// ```
+    /// assert_eq!(rt; Text::copied(alloc, "pear")?.to_str(), Some("pear"));
+    /// ```
+    pub fn to_str(&self) -> Option<&str>
+        ensures valid { IsSome result ↔ IsUtf8 self.now }
+        ensures value { IfSome result (λ s. s.now ≡ self.now) }
+    {
+        str::from_utf8(self.as_bytes()).ok()
+    }
+
+    /// Returns the bytes as a `Vec`, without a copy.
+    ///
+    /// ```
+    /// assert_eq!(rt; Text::copied(alloc, "pear")?.into_vec().len(), 4);
+    /// ```
+    pub fn into_vec(self) -> Vec<u8>
+        ensures { result.items ≡ self }
+    {
+        let Text { bytes } = self;
+        bytes
     }
 }
 
-impl<K, V, P: Probe<K>> Probe<Pair<K, V>> for OnKey<P> {
-    ghost answer = { λ p x. P.answer p x.key };
+impl Clone for Text {
+    ghost is_clone = { λ t copy. copy ≡ t };
 
-    ghost asked = { P.asked };
-
-    fn place(&mut self, item: &Pair<K, V>) -> Ordering {
-        self.probe.place(&item.key)
+    fn clone(&self) -> Result<Text, AllocError> {
+        let bytes = self.bytes.clone()?;
+        Ok(Text { bytes })
     }
 }
 
-impl<K, V, P: Probe<K>> Probe<MultiPair<K, V>> for OnKey<P> {
-    ghost answer = { λ p x. P.answer p x.key };
+impl PartialEq for Text {
+    ghost eq = { pointwise nat_eq };
 
-    ghost asked = { P.asked };
+    ghost laws = { partial_equiv_from_equiv nat_list_eq_equiv };
 
-    fn place(&mut self, item: &MultiPair<K, V>) -> Ordering {
-        self.probe.place(&item.key)
+    fn eq(&self, other: &Self) -> bool {
+        self.as_bytes() == other.as_bytes()
+    }
+}
+
+impl Eq for Text {
+    ghost laws = { nat_list_eq_equiv };
+}
+
+impl PartialOrd for Text {
+    ghost partial_cmp = { λ t other. Some (slice_cmp nat_cmp t other) };
+
+    ghost laws = { texts_po };
+
+    fn partial_cmp(&self, other: &Self) -> Option<Ordering> {
+        Some(self.cmp(other))
+    }
+}
+
+impl Ord for Text {
+    ghost cmp = { slice_cmp nat_cmp };
+
+    ghost total = { nat_list_cmp_total };
+
+    ghost matches_partial_cmp = { λ t other. refl };
+
+    ghost matches_eq = { texts_ties };
+
+    fn cmp(&self, other: &Self) -> Ordering {
+        compare_bytes(self.as_bytes(), other.as_bytes())
+    }
+}
+
+impl Hash for Text {
+    ghost hash_input = { fed.slice fed.u8 };
+
+    ghost respects_eq = { Prim.search (hashing, rules) };
+
+    fn hash<H: Hasher>(&self, state: &mut H) {
+        self.as_bytes().hash(state);
+    }
+}
+
+impl AsSlice<u8> for Text {
+    ghost items = { λ t. t };
+
+    fn as_slice(&self) -> &[u8] {
+        self.bytes.as_slice()
+    }
+}
+
+impl ByBytes for Text {
+    ghost bytes = { λ t. t };
+
+    ghost ordered_by_bytes = { λ x y. refl };
+
+    #[inline]
+    fn bytes(&self) -> &[u8] {
+        self.as_bytes()
+    }
+}
+
+/// The text, with U+FFFD in the place of bytes that are not UTF-8.
+impl fmt::Display for Text {
+    ghost use Rattle.std.specs.Prelude.{Some};
+    ghost use Rattle.std.specs.Str.Lossy.{utf8_lossy};
+
+    ghost output = { λ t. Some (utf8_lossy t) };
+
+    fn fmt<W: fmt::Write>(&self, f: &mut fmt::Formatter<W>) -> fmt::Result {
+        for chunk in self.as_bytes().utf8_chunks() {
+            f.write_str(chunk.valid())?;
+            if !chunk.invalid().is_empty() {
+                f.write_str("\u{FFFD}")?;
+            }
+        }
+        Ok(())
+    }
+}
+
+/// The text in quotes, as `Display` writes it.
+impl fmt::Debug for Text {
+    fn fmt<W: fmt::Write>(&self, f: &mut fmt::Formatter<W>) -> fmt::Result {
+        write!(f, "\"{self}\"")
     }
 }

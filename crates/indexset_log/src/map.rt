@@ -45,7 +45,11 @@ use std::marker::Model;
 /// assert!(rt; tree.contains_key(&5) && copy.contains(&5));
 /// ```
 #[derive(Drop)]
-pub struct BTreeMap<K: Ord + Clone + Drop, V: Clone + Drop, Node: NodeLike<Pair<K, V>>> {
+pub struct BTreeMap<
+    K: Ord + Clone + Drop,
+    V: Clone + Drop,
+    Node: NodeLike<Pair<K, V>> = Vec<Pair<K, V>>,
+> {
     set: BTreeSet<Pair<K, V>, Node>,
 }
 

@@ -9,7 +9,7 @@ use indexset_core::sought::Sought;
 use indexset_play::script::{self, Stop, read, tell, tell_option};
 use indexset_replica::Replica;
 use indexset_replica::iter::Iter;
-use indexset_set::Bounds;
+use indexset_core::bounds::Bounds;
 use std::ops::Bound;
 use std::str::SplitWhitespace;
 

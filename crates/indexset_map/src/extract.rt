@@ -11,9 +11,9 @@ ghost use Rattle.indexset_spine.specs.Extract.{Extracts, IsStretch, in_three};
 ghost use Rattle.indexset_spine.specs.Lengths.{lengths_without};
 
 use super::BTreeMap;
+use indexset_core::bounds::Bounds;
 use indexset_core::pair::Pair;
 use indexset_core::sought::Sought;
-use indexset_set::Bounds;
 use indexset_spine::stretch::Stretch;
 use std::iter::FusedIterator;
 use std::ops::Bound;

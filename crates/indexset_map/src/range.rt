@@ -10,9 +10,11 @@ ghost use Rattle.indexset_spine.specs.Lengths.{place_of};
 
 use super::BTreeMap;
 use super::iter::IterMap;
+use indexset_core::bounds::Bounds;
+use indexset_core::positions::Positions;
 use indexset_core::probe::ByKey;
 use indexset_core::sought::Sought;
-use indexset_set::{Bounds, Positions, inner};
+use indexset_set::inner;
 use indexset_spine::spot::Spot;
 use std::ops::Bound;
 

@@ -6,9 +6,9 @@ ghost use Rattle.indexset_core.specs.Pairs.{pairs_within};
 
 use super::BTreeMap;
 use super::iter_mut::IterMut;
-use indexset_core::positions::{end_position, first_position};
+use indexset_core::bounds::Bounds;
+use indexset_core::positions::{Positions, end_position, first_position};
 use indexset_core::sought::Sought;
-use indexset_set::{Bounds, Positions};
 use std::ops::Bound;
 
 /// The remaining pairs of a part of a map, with mutable references to the values, from both ends.

@@ -44,7 +44,7 @@ use std::marker::Model;
 pub struct BTreeMultiMap<
     K: Ord + Clone + Drop,
     V: Eq + Clone + Drop,
-    Node: NodeLike<MultiPair<K, V>>,
+    Node: NodeLike<MultiPair<K, V>> = Vec<MultiPair<K, V>>,
 > {
     set: BTreeSet<MultiPair<K, V>, Node>,
     // The number of the next new pair.

@@ -13,11 +13,10 @@ ghost use Rattle.indexset_replica.specs.Keyed.{count_equal};
 use super::Replica;
 use super::iter::Iter;
 use indexset_core::locate::{locate_by, place_from, place_to};
-use indexset_core::positions::{end_position, first_position};
+use indexset_core::positions::{Positions, end_position, first_position};
 use indexset_core::probe::{ByItem, Probe};
 use indexset_core::sought::Sought;
 use indexset_core::walk::ReadVec;
-use indexset_set::Positions;
 use std::ops::Bound;
 
 impl<T: Ord + Clone + Drop> Replica<T> {

@@ -7,11 +7,11 @@ ghost use Rattle.indexset_core.specs.Nodes.{joined};
 
 use super::Replica;
 use super::iter::Iter;
+use indexset_core::bounds::Bounds;
 use indexset_core::locate::{place_from, place_to};
 use indexset_core::probe::ByItem;
 use indexset_core::sought::Sought;
 use indexset_core::walk::ReadVec;
-use indexset_set::Bounds;
 use std::ops::Bound;
 
 impl<T: Ord + Clone + Drop> Replica<T> {

@@ -11,7 +11,7 @@ ghost use Rattle.indexset_spine.specs.Extract.{Extracts, IsStretch, in_three};
 ghost use Rattle.indexset_spine.specs.Lengths.{lengths_without};
 
 use super::BTreeSet;
-use super::bounds::Bounds;
+use indexset_core::bounds::Bounds;
 use indexset_core::probe::ByItem;
 use indexset_core::sought::Sought;
 use indexset_spine::stretch::Stretch;

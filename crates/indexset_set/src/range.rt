@@ -9,9 +9,9 @@ ghost use Rattle.indexset_spine.specs.Cut.{items};
 ghost use Rattle.indexset_set.specs.SetProbes.{FindsInOrder};
 
 use super::BTreeSet;
-use super::bounds::{Bounds, Positions};
 use super::iter::Iter;
-use indexset_core::positions::{end_position, first_position};
+use indexset_core::bounds::Bounds;
+use indexset_core::positions::{Positions, end_position, first_position};
 use indexset_core::probe::{ByItem, Probe};
 use indexset_core::sought::Sought;
 use std::ops::Bound;

@@ -2,7 +2,7 @@
 use bytes::ByteStr;
 use indexset_core::pair::Pair;
 use indexset_core::probe::Counting;
-use indexset_core::text::{ByStr, OnKey};
+use indexset_core::text_probe::{ByStr, OnKey};
 use indexset_log::map::BTreeMap;
 use indexset_replica::Replica;
 use std::test::Fail;

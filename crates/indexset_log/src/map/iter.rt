@@ -15,7 +15,12 @@ use std::marker::Model;
 
 /// The remaining pairs of a map, from both ends.
 #[derive(Drop)]
-pub struct Iter<'a, K: Ord + Clone + Drop, V: Clone + Drop, Node: NodeLike<Pair<K, V>>> {
+pub struct Iter<
+    'a,
+    K: Ord + Clone + Drop,
+    V: Clone + Drop,
+    Node: NodeLike<Pair<K, V>> = Vec<Pair<K, V>>,
+> {
     pub(super) rest: iter::Iter<'a, Pair<K, V>, Node>,
 }
 

@@ -18,9 +18,9 @@ use super::range::Range;
 use crate::set::range;
 use indexset_core::node::NodeLike;
 use indexset_core::pair::Pair;
+use indexset_core::positions::Positions;
 use indexset_core::probe::Probe;
 use indexset_core::sought::Sought;
-use indexset_set::Positions;
 use std::ops::Bound;
 
 impl<K: Ord + Clone + Drop, V: Clone + Drop, Node: NodeLike<Pair<K, V>>> BTreeMap<K, V, Node> {

@@ -9,15 +9,15 @@ ghost use Rattle.indexset_core.specs.Pairs.{pair_shown, pairs_within};
 use super::BTreeMap;
 use super::iter::Iter;
 use crate::set::range;
+use indexset_core::bounds::Bounds;
 use indexset_core::node::NodeLike;
 use indexset_core::pair::Pair;
 use indexset_core::probe::ByKey;
 use indexset_core::sought::Sought;
-use indexset_set::Bounds;
 use std::ops::Bound;
 
 /// The remaining pairs of a part of a map, from both ends.
-pub type Range<'a, K, V, Node> = Iter<'a, K, V, Node>;
+pub type Range<'a, K, V, Node = Vec<Pair<K, V>>> = Iter<'a, K, V, Node>;
 
 impl<K: Ord + Clone + Drop, V: Clone + Drop, Node: NodeLike<Pair<K, V>>> BTreeMap<K, V, Node> {
     /// Returns a double-ended iterator over the pairs whose keys are within the range, in order.

@@ -15,11 +15,10 @@ ghost use Rattle.indexset_core.specs.Places.{IsPlace, items_before};
 use super::BTreeSet;
 use super::range::Range;
 use indexset_core::node::NodeLike;
-use indexset_core::positions::{end_position, first_position};
+use indexset_core::positions::{Positions, end_position, first_position};
 use indexset_core::probe::Probe;
 use indexset_core::sought::Sought;
 use indexset_core::walk::ReadAny;
-use indexset_set::Positions;
 use std::ops::Bound;
 
 impl<T: Ord + Clone + Drop, Node: NodeLike<T>> BTreeSet<T, Node> {

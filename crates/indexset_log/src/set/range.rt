@@ -14,20 +14,20 @@ ghost use Rattle.indexset_core.specs.Places.{IsPlace, items_before};
 use super::BTreeSet;
 use super::iter::Iter;
 use crate::locate::{last_started, run_end};
+use indexset_core::bounds::Bounds;
 use indexset_core::locate::{node_by, place_from, place_to};
 use indexset_core::node::NodeLike;
 use indexset_core::probe::{ByItem, Probe};
 use indexset_core::search::first_not_less_near;
 use indexset_core::sought::Sought;
 use indexset_core::walk::ReadAny;
-use indexset_set::Bounds;
 use std::iter::FusedIterator;
 use std::marker::Model;
 use std::ops::Bound;
 
 /// The remaining items of a part of a set, from both ends.
 #[derive(Drop)]
-pub struct Range<'a, T: Ord + Clone + Drop, Node: NodeLike<T>> {
+pub struct Range<'a, T: Ord + Clone + Drop, Node: NodeLike<T> = Vec<T>> {
     pub(crate) rest: Iter<'a, T, Node>,
 }
 

@@ -6,9 +6,9 @@ ghost use Rattle.indexset_core.specs.Nodes.{joined};
 ghost use Rattle.indexset_log.specs.Made.{outside, without_range};
 
 use super::BTreeSet;
+use indexset_core::bounds::Bounds;
 use indexset_core::sought::Sought;
 use indexset_core::walk::ReadVec;
-use indexset_set::Bounds;
 use std::ops::Bound;
 
 impl<T: Ord + Clone + Drop> BTreeSet<T, Vec<T>> {

@@ -16,7 +16,12 @@ use std::marker::Model;
 
 /// The remaining pairs of a multimap, from both ends.
 #[derive(Drop)]
-pub struct Iter<'a, K: Ord + Clone + Drop, V: Eq + Clone + Drop, Node: NodeLike<MultiPair<K, V>>> {
+pub struct Iter<
+    'a,
+    K: Ord + Clone + Drop,
+    V: Eq + Clone + Drop,
+    Node: NodeLike<MultiPair<K, V>> = Vec<MultiPair<K, V>>,
+> {
     rest: iter::Iter<'a, MultiPair<K, V>, Node>,
 }
 

@@ -14,10 +14,10 @@ use super::BTreeMultiMap;
 use super::range::Range;
 use indexset_core::multipair::MultiPair;
 use indexset_core::node::NodeLike;
+use indexset_core::positions::Positions;
 use indexset_core::refusal::Refusal;
 use indexset_core::sought::Sought;
 use indexset_events::change::ChangeEvent;
-use indexset_set::Positions;
 
 impl<K: Ord + Clone + Drop, V: Eq + Clone + Drop, Node: NodeLike<MultiPair<K, V>>> BTreeMultiMap<
     K,

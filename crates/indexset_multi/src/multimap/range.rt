@@ -13,19 +13,24 @@ ghost use Rattle.indexset_core.specs.Places.{IsPlace, items_before};
 ghost use Rattle.indexset_multi.specs.Keys.{entries, number_shown, pairs_between, pairs_of};
 
 use super::BTreeMultiMap;
+use indexset_core::bounds::Bounds;
 use indexset_core::multipair::MultiPair;
 use indexset_core::node::NodeLike;
 use indexset_core::probe::ByKey;
 use indexset_core::sought::Sought;
 use indexset_log::set::range;
-use indexset_set::Bounds;
 use std::iter::FusedIterator;
 use std::marker::Model;
 use std::ops::Bound;
 
 /// The remaining pairs of a part of a multimap, from both ends.
 #[derive(Drop)]
-pub struct Range<'a, K: Ord + Clone + Drop, V: Eq + Clone + Drop, Node: NodeLike<MultiPair<K, V>>> {
+pub struct Range<
+    'a,
+    K: Ord + Clone + Drop,
+    V: Eq + Clone + Drop,
+    Node: NodeLike<MultiPair<K, V>> = Vec<MultiPair<K, V>>,
+> {
     pub(super) rest: range::Range<'a, MultiPair<K, V>, Node>,
 }
 
@@ -96,7 +101,7 @@ pub struct RawRange<
     'a,
     K: Ord + Clone + Drop,
     V: Eq + Clone + Drop,
-    Node: NodeLike<MultiPair<K, V>>,
+    Node: NodeLike<MultiPair<K, V>> = Vec<MultiPair<K, V>>,
 > {
     rest: range::Range<'a, MultiPair<K, V>, Node>,
 }

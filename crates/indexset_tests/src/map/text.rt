@@ -2,7 +2,7 @@
 use super::put;
 use bytes::ByteStr;
 use indexset_core::probe::Counting;
-use indexset_core::text::{ByStr, OnKey};
+use indexset_core::text_probe::{ByStr, OnKey};
 use indexset_map::BTreeMap;
 use std::test::Fail;
 

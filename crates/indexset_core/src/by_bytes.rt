@@ -1,0 +1,90 @@
+//! Items in the order of their bytes, such as `String` and [`Text`](crate::text::Text).
+ghost use Rattle.std.specs.Prelude.{◌≡◌, ◌≤◌, ℕ, List, length, refl, take};
+ghost use Rattle.std.specs.Cmp.Lexicographic.{slice_cmp};
+ghost use Rattle.std.specs.Int.{from_be_bytes, w64};
+ghost use Rattle.std.specs.Ordering.{nat_cmp};
+ghost use Rattle.std.specs.String.{string_bytes};
+ghost use Rattle.indexset_core.specs.ByteOrder.{IsOrderedByBytes};
+
+use std::alloc::Allocator;
+use std::cmp::Ordering;
+
+/// An item in the order of its bytes. Collections of such items are searched by a `&str` or a
+/// `&[u8]`, and so are maps with such keys. A text key of your own needs this impl alone.
+///
+/// ```
+/// # use indexset::base::ByBytes;
+/// let name = String::from_str(alloc, "pear")?;
+/// assert!(rt; name.bytes() == b"pear" && Text::copied(alloc, "pear")?.bytes() == b"pear");
+/// ```
+pub trait ByBytes: Ord {
+    /// The bytes.
+    ghost bytes: { Self → List ℕ };
+
+    /// Returns the bytes.
+    fn bytes(&self) -> &[u8]
+        ensures { result.now ≡ bytes self.now };
+
+    ghost ordered_by_bytes: { IsOrderedByBytes Self.cmp bytes };
+}
+
+impl<A: Allocator> ByBytes for String<A> {
+    ghost bytes = { string_bytes };
+
+    ghost ordered_by_bytes = { λ x y. refl };
+
+    #[inline]
+    fn bytes(&self) -> &[u8] {
+        self.as_str().as_bytes()
+    }
+}
+
+/// Returns how two byte strings compare. It compares eight bytes at a time.
+///
+/// ```
+/// # use indexset::base::by_bytes::compare_bytes;
+/// assert!(rt; compare_bytes(b"pear", b"plum").is_lt() && compare_bytes(b"fig", b"fig").is_eq());
+/// ```
+#[inline(always)]
+pub fn compare_bytes<'a>(first: &'a [u8], second: &'a [u8]) -> Ordering
+    ensures { result ≡ slice_cmp nat_cmp first.now second.now }
+{
+    // The first eight bytes are compared outside the loop. The loop is a function of its own, so
+    // that the loop of a search stays an innermost one, of which the compiler makes branches: with
+    // conditional moves it waits for items that are not in the cache.
+    if first.len() >= 8 && second.len() >= 8 {
+        let found = first_word(first).cmp(&first_word(second));
+        if found.is_ne() {
+            return found;
+        }
+    }
+    compare_words(first, second)
+}
+
+// Returns the same as `compare_bytes`, by a loop over words of eight bytes.
+#[inline(never)]
+fn compare_words<'a>(first: &'a [u8], second: &'a [u8]) -> Ordering
+    ensures { result ≡ slice_cmp nat_cmp first.now second.now }
+{
+    let (mut left, mut right) = (first, second);
+    while left.len() >= 8 && right.len() >= 8 {
+        let found = first_word(left).cmp(&first_word(right));
+        if found.is_ne() {
+            return found;
+        }
+        left = &left[8..];
+        right = &right[8..];
+    }
+    left.cmp(right)
+}
+
+// Returns the first eight bytes as a big-endian number, which compares as they do.
+fn first_word(bytes: &[u8]) -> u64
+    requires { 8 ≤ length bytes.now }
+    ensures { result ≡ from_be_bytes w64 (take 8 bytes.now) }
+{
+    match bytes.first_chunk::<8>() {
+        Some(front) => u64::from_be_bytes(*front),
+        None => 0,
+    }
+}
