@@ -46,7 +46,7 @@ use std::marker::{Model, PhantomData};
 /// assert!(rt; tree.contains(&5) && copy.contains(&5));
 /// ```
 #[derive(Drop)]
-pub struct BTreeSet<T: Ord + Clone + Drop, Node: NodeLike<T>> {
+pub struct BTreeSet<T: Ord + Clone + Drop, Node: NodeLike<T> = Vec<T>> {
     nodes: Vec<Node>,
     // How many items a node holds at most.
     size: usize,

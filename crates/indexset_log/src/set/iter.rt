@@ -17,7 +17,7 @@ use std::marker::Model;
 
 /// The remaining items of a set, from both ends.
 #[derive(Drop)]
-pub struct Iter<'a, T: Ord + Clone + Drop, Node: NodeLike<T>> {
+pub struct Iter<'a, T: Ord + Clone + Drop, Node: NodeLike<T> = Vec<T>> {
     rest: CountedWalk<'a, T, Node, ReadAny>,
 }
 
