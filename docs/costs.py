@@ -11,8 +11,10 @@ ABOUT = (
     "*Cost*, at most: n is the length, n' that of the other collection, m the number of nodes, B the node size (1024 unless"
     " given), L = digits(m) + digits(B) + 1 the comparisons of a look-up, digits being the bit length, and p the number of"
     " pairs of a key, or of items that a comparator finds Equal. *Moves* are elements; a node that comes or goes also moves"
-    " the headers of the nodes after it, and a position reads the index digits(m) times. A call without a cost compares,"
-    " moves and allocates nothing. The bound of `locate_by` and the reads are proved; the other numbers describe the code."
+    " the headers of the nodes after it. A position reads digits(m) cells of the index in a plain collection, and in a"
+    " logged one digits(m / 32 + 1) cells and up to 32 node lengths. A call without a cost compares, moves and allocates"
+    " nothing. Proved are the comparisons of `locate_by`, `get_by` and `places_by`, and the reads of `find_in` and"
+    " `prefix_in`; the other numbers describe the code."
 )
 
 
