@@ -39,8 +39,8 @@ pub enum Turn {
 
 impl<T: Ord + Clone + Drop> Replica<T> {
     /// Returns the item equal to the value, if any, by two binary searches: one among the nodes and
-    /// one in a node. A pair is sought by its key, and of numbered pairs the first of the key is
-    /// returned.
+    /// one in a node. A key finds the pair of that key, of numbered pairs the first; a numbered pair
+    /// finds the pair with its key and its number.
     ///
     /// ```
     /// let mut copy: Replica<Pair<u64, u64>> = Replica::new(alloc, 0);
@@ -57,7 +57,7 @@ impl<T: Ord + Clone + Drop> Replica<T> {
     }
 
     /// Returns whether an item equal to the value is present, by the same two binary searches. A
-    /// pair is sought by its key.
+    /// key is compared with the keys of pairs.
     ///
     /// ```
     /// let nodes = vec![in alloc; vec![in alloc; 10, 20]?, vec![in alloc; 30]?]?;

@@ -34,12 +34,17 @@ impl<T: Ord + Clone + Drop> Replica<T> {
     }
 
     /// Returns how many items are below the value, by two binary searches and a sum over the index.
-    /// Pairs are ranked by their keys: it is how many pairs have a key below the value.
+    /// Of a key, it is how many pairs have a key below it; of a numbered pair, also how many pairs
+    /// of its key have a number below its own.
     ///
     /// ```
     /// let nodes = vec![in alloc; vec![in alloc; 10, 20]?, vec![in alloc; 30]?]?;
     /// let board = Replica::from_nodes(nodes, 3)?;
     /// assert!(rt; board.rank(&30) == 2 && board.rank(&25) == 2);
+    ///
+    /// let nodes = vec![in alloc; vec![in alloc; MultiPair::new(1, 100, 0), MultiPair::new(1, 101, 1)]?]?;
+    /// let replica: Replica<MultiPair<u64, u64>> = Replica::from_nodes(nodes, 2)?;
+    /// assert!(rt; replica.rank(&1) == 0 && replica.rank(&MultiPair::new(1, 101, 1)) == 1);
     /// ```
     pub fn rank<Q: Sought<T> + Drop>(&self, value: Q) -> usize
         ensures value { result ≡ rank Q.order (joined self.now.nodes) value }
@@ -57,7 +62,7 @@ impl<T: Ord + Clone + Drop> Replica<T> {
     }
 
     /// Returns the position of the item equal to the value, or `None`, by the searches of `get` and
-    /// `rank`. A pair is sought by its key: it is the position of the first pair of the key.
+    /// `rank`. Of a key, it is the position of the first pair of that key.
     ///
     /// ```
     /// let nodes = vec![in alloc; vec![in alloc; 10, 20]?, vec![in alloc; 30]?]?;
@@ -82,7 +87,7 @@ impl<T: Ord + Clone + Drop> Replica<T> {
     }
 
     /// Returns how many items equal the value, by four binary searches and two sums over the index.
-    /// Of pairs, it is how many have the key.
+    /// Of a key, it is how many pairs have it.
     ///
     /// ```
     /// let nodes = vec![in alloc; vec![in alloc; MultiPair::new(1, 100, 0), MultiPair::new(1, 101, 1)]?]?;

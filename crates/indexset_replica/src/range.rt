@@ -15,10 +15,10 @@ use indexset_core::walk::ReadVec;
 use std::ops::Bound;
 
 impl<T: Ord + Clone + Drop> Replica<T> {
-    /// Returns a double-ended iterator over the items within the range, in order: of pairs a range
-    /// of keys. The start must not be past the end, nor at it where both are excluded (see
-    /// `base::bounds::bounds_are_ordered`). For each bound that names an item it makes two binary
-    /// searches: one among the nodes and one in a node. It allocates nothing.
+    /// Returns a double-ended iterator over the items within the range, in order. A range of keys
+    /// has the pairs of these keys. The start must not be past the end, nor at it where both are
+    /// excluded (see `base::bounds::bounds_are_ordered`). For each bound that names an item it makes
+    /// two binary searches: one among the nodes and one in a node. It allocates nothing.
     ///
     /// ```
     /// // The items from 10 on that are below 20.
