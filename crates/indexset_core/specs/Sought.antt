@@ -65,6 +65,13 @@ then_both first second x y = ordering_then (first x.0 y.0) (second x.1 y.1)
 pub both_total : {A B : Type 0} {first : A → A → Ordering} {second : B → B → Ordering} → IsTotalOrder first → IsTotalOrder second → IsTotalOrder (then_both first second)
 both_total o p = then_total (on_total (λ t. t.0) o) (on_total (λ t. t.1) p)
 
+-- three parts compare by the first two, and where those are equal by the third
+abbrev pub then_three : {A B C : Type 0} → (A → A → Ordering) → (B → B → Ordering) → (C → C → Ordering) → A × B × C → A × B × C → Ordering
+then_three first second third x y = ordering_then (ordering_then (first x.0 y.0) (second x.1 y.1)) (third x.2 y.2)
+
+pub three_total : {A B C : Type 0} {first : A → A → Ordering} {second : B → B → Ordering} {third : C → C → Ordering} → IsTotalOrder first → IsTotalOrder second → IsTotalOrder third → IsTotalOrder (then_three first second third)
+three_total o p r = then_total (then_total (on_total (λ t. t.0) o) (on_total (λ t. t.1) p)) (on_total (λ t. t.2) r)
+
 -- a key acts for the items that have it, as it acts for their keys
 module _ {X T Q : Type 0} {cmp : T → T → Ordering} {order : T → Q → Ordering} (f : X → T) where
   pub acts_on : {among : Q → Q → Ordering} → ActsAsKey cmp order among → ActsAsKey (λ x y. cmp (f x) (f y)) (λ x q. order (f x) q) among

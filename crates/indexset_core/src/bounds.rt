@@ -6,24 +6,19 @@ ghost use Rattle.std.specs.declared.ops.Bound.{Bound};
 ghost use Rattle.std.specs.declared.ops.Bound.TheVariants.{Excluded, Included, Unbounded};
 ghost use Rattle.indexset_core.specs.Bounds.{are_ordered};
 
-use crate::by_bytes::ByBytes;
-use crate::multipair::MultiPair;
-use crate::pair::Pair;
 use crate::sought::Sought;
-use std::alloc::Allocator;
 use std::ops::{Bound, Range, RangeFrom, RangeFull, RangeInclusive, RangeTo, RangeToInclusive};
 
-/// A start and an end, as `range` of a set or a map takes them: `a..b`, `a..=b`, `a..`, `..b`,
-/// `..=b` and `..` of whatever a look-up takes ([`Sought`]), or a pair of `Bound`s of references:
-/// `Bound<&T>`, of pairs `Bound<&K>`, of texts `Bound<&str>`, and `Bound<&[U]>` of `Vec<U>`.
-/// It stands for `RangeBounds`, and has one impl alone for pairs of numbers, so that
-/// `(Unbounded, Unbounded)` needs no type annotation. An `a..=b` that was iterated to its end still
-/// includes both.
+/// The bounds of a range of keys: `a..b`, `a..=b`, `a..`, `..b`, `..=b`, `..`, or a pair of
+/// `Bound`s, of whatever a look-up takes ([`Sought`]). It stands for std's `RangeBounds`. As there,
+/// `(Unbounded, Unbounded)` needs a type, and `..` does not. An `a..=b` that was iterated to its
+/// end still includes both.
 ///
 /// ```
 /// let board = BTreeSet::from_iter(alloc, [10, 20, 30])?;
 /// assert!(rt; board.range(15..).copied().eq([20, 30]) && board.range(..=10).len() == 1);
-/// assert!(rt; board.range((Bound::Excluded(&10), Bound::Unbounded)).copied().eq([20, 30]));
+/// assert!(rt; board.range((Bound::Excluded(10), Bound::Unbounded)).copied().eq([20, 30]));
+/// assert!(rt; board.range((Bound::Excluded(&10), Bound::Unbounded)).len() == 2);
 /// ```
 pub trait Bounds<T: Ord> {
     /// What the bounds name.
@@ -44,82 +39,18 @@ pub trait Bounds<T: Ord> {
         ensures { bound_map (λ x. x.now) result ≡ end self.now };
 }
 
-impl<'a, T: Ord> Bounds<T> for (Bound<&'a T>, Bound<&'a T>) {
-    type Key = &'a T;
+impl<T: Ord, Q: Sought<T>> Bounds<T> for (Bound<Q>, Bound<Q>) {
+    type Key = Q;
 
     ghost start = { λ s. s.0 };
 
     ghost end = { λ s. s.1 };
 
-    fn start_bound(&self) -> Bound<&&'a T> {
+    fn start_bound(&self) -> Bound<&Q> {
         self.0.as_ref()
     }
 
-    fn end_bound(&self) -> Bound<&&'a T> {
-        self.1.as_ref()
-    }
-}
-
-impl<'a, T: ByBytes> Bounds<T> for (Bound<&'a str>, Bound<&'a str>) {
-    type Key = &'a str;
-
-    ghost start = { λ s. s.0 };
-
-    ghost end = { λ s. s.1 };
-
-    fn start_bound(&self) -> Bound<&&'a str> {
-        self.0.as_ref()
-    }
-
-    fn end_bound(&self) -> Bound<&&'a str> {
-        self.1.as_ref()
-    }
-}
-
-impl<'a, U: Ord, A: Allocator> Bounds<Vec<U, A>> for (Bound<&'a [U]>, Bound<&'a [U]>) {
-    type Key = &'a [U];
-
-    ghost start = { λ s. s.0 };
-
-    ghost end = { λ s. s.1 };
-
-    fn start_bound(&self) -> Bound<&&'a [U]> {
-        self.0.as_ref()
-    }
-
-    fn end_bound(&self) -> Bound<&&'a [U]> {
-        self.1.as_ref()
-    }
-}
-
-impl<'a, K: Ord, V> Bounds<Pair<K, V>> for (Bound<&'a K>, Bound<&'a K>) {
-    type Key = &'a K;
-
-    ghost start = { λ s. s.0 };
-
-    ghost end = { λ s. s.1 };
-
-    fn start_bound(&self) -> Bound<&&'a K> {
-        self.0.as_ref()
-    }
-
-    fn end_bound(&self) -> Bound<&&'a K> {
-        self.1.as_ref()
-    }
-}
-
-impl<'a, K: Ord, V> Bounds<MultiPair<K, V>> for (Bound<&'a K>, Bound<&'a K>) {
-    type Key = &'a K;
-
-    ghost start = { λ s. s.0 };
-
-    ghost end = { λ s. s.1 };
-
-    fn start_bound(&self) -> Bound<&&'a K> {
-        self.0.as_ref()
-    }
-
-    fn end_bound(&self) -> Bound<&&'a K> {
+    fn end_bound(&self) -> Bound<&Q> {
         self.1.as_ref()
     }
 }

@@ -1,12 +1,15 @@
-//! Items in the order of their bytes, such as `String` and [`Text`](crate::text::Text).
+//! Items in the order of their bytes, such as `String`, `BoxedStr` and
+//! [`Text`](crate::text::Text).
 ghost use Rattle.std.specs.Prelude.{◌≡◌, ◌≤◌, ℕ, List, length, refl, take};
 ghost use Rattle.std.specs.Cmp.Lexicographic.{slice_cmp};
 ghost use Rattle.std.specs.Int.{from_be_bytes, w64};
 ghost use Rattle.std.specs.Ordering.{nat_cmp};
+ghost use Rattle.std.specs.Box.{boxed_str_bytes};
 ghost use Rattle.std.specs.String.{string_bytes};
 ghost use Rattle.indexset_core.specs.ByteOrder.{IsOrderedByBytes};
 
 use std::alloc::Allocator;
+use std::boxed::BoxedStr;
 use std::cmp::Ordering;
 
 /// An item in the order of its bytes. Collections of such items are searched by a `&str` or a
@@ -30,6 +33,17 @@ pub trait ByBytes: Ord {
 
 impl<A: Allocator> ByBytes for String<A> {
     ghost bytes = { string_bytes };
+
+    ghost ordered_by_bytes = { λ x y. refl };
+
+    #[inline]
+    fn bytes(&self) -> &[u8] {
+        self.as_str().as_bytes()
+    }
+}
+
+impl<A: Allocator> ByBytes for BoxedStr<A> {
+    ghost bytes = { boxed_str_bytes };
 
     ghost ordered_by_bytes = { λ x y. refl };
 

@@ -1,11 +1,11 @@
-//! A pair is sought by its parts: by references to both, or by a `&str` for a part in the order of
-//! its bytes.
+//! A tuple is sought by its parts: by references to all of them, or, of two, by a `&str` for a part
+//! in the order of its bytes.
 ghost use Rattle.std.specs.Cmp.{on_total, then_total};
 ghost use Rattle.std.specs.Prelude.{refl};
 ghost use Rattle.std.specs.Cmp.Lexicographic.{nat_list_cmp_total, slice_cmp};
 ghost use Rattle.std.specs.Ordering.{nat_cmp, ordering_then};
 ghost use Rattle.indexset_core.specs.ByteOrder.{acts_by_view, both_ordered, one_by_view};
-ghost use Rattle.indexset_core.specs.Sought.{acts_by, both_total, one_by, then_both};
+ghost use Rattle.indexset_core.specs.Sought.{acts_by, both_total, one_by, then_both, then_three, three_total};
 
 use super::{Names, Sought};
 use crate::by_bytes::{ByBytes, compare_bytes};
@@ -23,6 +23,23 @@ impl<A: Ord, B: Ord> Sought<(A, B)> for (&A, &B) {
 
 impl<A: Ord, B: Ord> Names<(A, B)> for (&A, &B) {
     ghost names_one = { one_by (then_both A.cmp B.cmp) (both_total A.total B.total) (λ x. x) (λ q. (q.0.now, q.1.now)) };
+}
+
+impl<A: Ord, B: Ord, C: Ord> Sought<(A, B, C)> for (&A, &B, &C) {
+    ghost order = { λ x q. ordering_then (ordering_then (A.cmp x.0 q.0.now) (B.cmp x.1 q.1.now)) (C.cmp x.2 q.2.now) };
+
+    ghost acts_as_key = { acts_by (then_three A.cmp B.cmp C.cmp) (three_total A.total B.total C.total) (λ x. x) (λ q. (q.0.now, q.1.now, q.2.now)) };
+
+    fn place_item(&self, item: &(A, B, C)) -> Ordering {
+        item.0
+            .cmp(self.0)
+            .then(item.1.cmp(self.1))
+            .then(item.2.cmp(self.2))
+    }
+}
+
+impl<A: Ord, B: Ord, C: Ord> Names<(A, B, C)> for (&A, &B, &C) {
+    ghost names_one = { one_by (then_three A.cmp B.cmp C.cmp) (three_total A.total B.total C.total) (λ x. x) (λ q. (q.0.now, q.1.now, q.2.now)) };
 }
 
 impl<A: ByBytes, B: Ord> Sought<(A, B)> for (&str, &B) {

@@ -1,7 +1,7 @@
 //! Ranges as Rust writes them.
 use indexset_play::sized::set_of;
 use indexset_set::{BTreeSet, Range};
-use std::ops::Bound::Unbounded;
+use std::ops::Bound::{Excluded, Unbounded};
 use std::test::Fail;
 
 // Whether the range gives these elements.
@@ -16,8 +16,9 @@ fn gives_open_ranges(set: &BTreeSet<u64>) -> bool {
     let to = gives(set.range(..5), &[1, 3]);
     let up_to = gives(set.range(..=5), &[1, 3, 5]);
     let all = set.range(..).len() == 4;
-    let open = set.range((Unbounded, Unbounded)).len() == 4;
-    from && from_lent && to && up_to && all && open
+    let open = set.range((Unbounded::<u64>, Unbounded)).len() == 4;
+    let past = gives(set.range((Excluded(3), Unbounded)), &[5, 7]);
+    from && from_lent && to && up_to && all && open && past
 }
 
 // Whether ranges that are bounded at both sides give their elements.
