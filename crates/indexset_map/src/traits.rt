@@ -1,12 +1,13 @@
 //! Traits of the standard library that a map has beside its functions: so `derive`, `collect` and
 //! `extend` know it.
-ghost use Rattle.std.specs.Prelude.{◌≡◌};
+ghost use Rattle.std.specs.Prelude.{◌≡◌, map};
 ghost use Rattle.indexset_core.specs.declared.constants.TheConstants.{DEFAULT_INNER_SIZE};
 ghost use Rattle.indexset_map.specs.Contents.{no_pairs, with_all};
 ghost use Rattle.indexset_map.specs.Copy.{IsMapClone};
 
 use super::BTreeMap;
 use std::alloc::{AllocError, Global};
+use std::default::Emptied;
 use std::fmt;
 
 impl<K: Ord + fmt::Debug, V: fmt::Debug> fmt::Debug for BTreeMap<K, V> {
@@ -35,6 +36,31 @@ impl<K: Ord + Drop, V: Drop> Extend<(K, V)> for BTreeMap<K, V> {
             self.insert(key, value).map_err(|_| AllocError)?;
         }
         Ok(())
+    }
+}
+
+impl<'a, K: Ord + Copy + Drop + 'a, V: Copy + Drop + 'a> Extend<(&'a K, &'a V)> for BTreeMap<K, V> {
+    ghost extend_gives = { λ m entries new. new
+        ≡ with_all K.cmp m (map (λ e. (e.0.now, e.1.now)) entries) };
+
+    fn extend<I: IntoIterator<Item = (&'a K, &'a V)>>(
+        &mut self,
+        iter: I,
+    ) -> Result<(), AllocError> {
+        for (key, value) in iter {
+            self.insert(*key, *value).map_err(|_| AllocError)?;
+        }
+        Ok(())
+    }
+}
+
+/// `mem::try_take` leaves an empty map of the same node size.
+impl<K: Ord + Drop, V: Drop> Emptied for BTreeMap<K, V> {
+    ghost is_emptied = { λ m. m ≡ no_pairs m.size };
+
+    fn emptied(like: &BTreeMap<K, V>) -> Result<BTreeMap<K, V>, AllocError> {
+        let set = Emptied::emptied(&like.set)?;
+        Ok(BTreeMap { set })
     }
 }
 

@@ -10,7 +10,7 @@ mod values;
 
 pub use runs::{join_run, take_run};
 pub use spots::{
-    element, first_spot, insert_at, last_spot, position, remove_at, spot_by, spot_from_end_by,
-    spot_near, start_of,
+    allocator, element, first_spot, insert_at, last_spot, position, remove_at, spot_by,
+    spot_from_end_by, spot_near, start_of,
 };
 pub use values::{pair_in_mut, value_in};

@@ -1,6 +1,6 @@
 //! Traits of the standard library that a set has beside its functions: so `derive`, `collect` and
 //! `extend` know it.
-ghost use Rattle.std.specs.Prelude.{◌≡◌, List, [], fold};
+ghost use Rattle.std.specs.Prelude.{◌≡◌, List, [], ◌∷◌, fold, map};
 ghost use Rattle.indexset_core.specs.Order.{keep};
 ghost use Rattle.indexset_core.specs.declared.constants.TheConstants.{DEFAULT_INNER_SIZE};
 ghost use Rattle.indexset_set.specs.SetCopy.{IsSetClone};
@@ -8,6 +8,7 @@ ghost use Rattle.indexset_spine.specs.Cut.{items};
 
 use super::BTreeSet;
 use std::alloc::{AllocError, Global};
+use std::default::Emptied;
 use std::fmt;
 
 impl<T: Ord + fmt::Debug> fmt::Debug for BTreeSet<T> {
@@ -37,6 +38,29 @@ impl<T: Ord + Drop> Extend<T> for BTreeSet<T> {
             self.insert(value).map_err(|_| AllocError)?;
         }
         Ok(())
+    }
+}
+
+impl<'a, T: Ord + Copy + Drop + 'a> Extend<&'a T> for BTreeSet<T> {
+    ghost extend_gives = { λ s xs new. (items new ≡ fold (keep T.cmp) (items s) (map (λ x. x.now) xs))
+        × (new.size ≡ s.size) };
+
+    fn extend<I: IntoIterator<Item = &'a T>>(&mut self, iter: I) -> Result<(), AllocError> {
+        for value in iter {
+            self.insert(*value).map_err(|_| AllocError)?;
+        }
+        Ok(())
+    }
+}
+
+/// `mem::try_take` leaves an empty set of the same node size.
+impl<T: Ord + Drop> Emptied for BTreeSet<T> {
+    ghost is_emptied = { λ s. s.nodes ≡ [] ∷ [] };
+
+    fn emptied(like: &BTreeSet<T>) -> Result<BTreeSet<T>, AllocError> {
+        let alloc = *like.spine.allocator();
+        let size = like.maximum_node_size();
+        BTreeSet::with_maximum_node_size(alloc, size).map_err(|_| AllocError)
     }
 }
 

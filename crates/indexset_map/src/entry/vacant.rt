@@ -4,6 +4,8 @@ ghost use Rattle.std.specs.Borrow.{sem};
 
 use super::VacantEntry;
 use indexset_core::refusal::{Refusal, Refused};
+use indexset_set::inner;
+use std::alloc::Global;
 
 impl<'a, K: Ord, V> VacantEntry<'a, K, V> {
     ghost use Rattle.indexset_map.specs.Entry.{Vacant, entry_map_ref, missing_key};
@@ -68,5 +70,10 @@ impl<'a, K: Ord + Drop, V: Drop> VacantEntry<'a, K, V> {
             Err(refused) => return Err(refused),
         };
         Ok(map.value_in(to))
+    }
+
+    // Returns the allocator of the map.
+    pub(super) fn allocator(&self) -> Global {
+        *inner::allocator(&self.map.set)
     }
 }

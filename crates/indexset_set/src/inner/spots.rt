@@ -13,6 +13,7 @@ use crate::BTreeSet;
 use indexset_core::probe::Probe;
 use indexset_core::refusal::{Refusal, Refused};
 use indexset_spine::spot::Spot;
+use std::alloc::Global;
 use std::ops::Bound;
 
 /// Returns the spot of the first element that the probe finds Equal, or where one would go. It
@@ -45,6 +46,11 @@ pub fn spot_from_end_by<T: Ord, P: Probe<T>>(set: &BTreeSet<T>, probe: &mut P) -
     // As in `spot_by`.
     let _count = set.spine.node_count();
     set.spine.locate_from_end_by(probe)
+}
+
+/// Returns the allocator of the nodes.
+pub fn allocator<T: Ord>(set: &BTreeSet<T>) -> &Global {
+    set.spine.allocator()
 }
 
 /// Returns the spot of the least element, if any.
