@@ -92,7 +92,7 @@ pub extern "C" fn indexset_text_log_remove(
     let Some(mut held) = log.take(alloc) else {
         return NO;
     };
-    let status = match held.remove(alloc, key) {
+    let status = match held.remove(key) {
         Ok(Some(value)) => {
             *told = held.told();
             *out = value;

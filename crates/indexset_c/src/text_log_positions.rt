@@ -38,7 +38,7 @@ pub extern "C" fn indexset_text_log_at(
     };
     let found = match held.get_index(position) {
         Some((stored, number)) => {
-            write_bytes(stored.as_slice(), key);
+            write_bytes(stored.as_bytes(), key);
             *len = stored.len();
             *value = *number;
             true

@@ -40,8 +40,8 @@ pub extern "C" fn indexset_text_map_at(
     };
     let found = match held.get_index(position) {
         Some((stored, number)) => {
-            write_bytes(stored.as_slice(), key);
-            *len = stored.as_slice().len();
+            write_bytes(stored.as_bytes(), key);
+            *len = stored.len();
             *value = *number;
             true
         }
@@ -79,8 +79,8 @@ pub extern "C" fn indexset_text_map_remove_at(
     };
     let found = match take_index(&mut held, position) {
         Some((taken, number)) => {
-            write_bytes(taken.as_slice(), key);
-            *len = taken.as_slice().len();
+            write_bytes(taken.as_bytes(), key);
+            *len = taken.len();
             *value = number;
             true
         }

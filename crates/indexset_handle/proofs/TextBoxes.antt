@@ -12,13 +12,13 @@ use Rattle.std.specs.contracts.alloc.Global as Heap
 use Rattle.std.proofs.alloc.Global.TheLaws as heap
 use Rattle.std.specs.contracts.impls.GlobalAllocator.TheImpl.{ghosts as frees, dict}
 use Rattle.indexset_map.proofs.BTreeMap.TheLaws as map
-use Rattle.indexset_handle.specs.contracts.text_key.TextKey as key
-use Rattle.indexset_handle.specs.contracts.text_key.TextKeyOrd.TheImpl.{ghosts as ord}
-use Rattle.indexset_handle.specs.contracts.text_key.TextKeyEq.TheImpl.{ghosts as eq}
-use Rattle.indexset_handle.specs.contracts.text_key.TextKeyPartialEq.TheImpl.{ghosts as equal}
-use Rattle.indexset_handle.specs.contracts.text_key.TextKeyPartialOrd.TheImpl.{ghosts as partial}
+use Rattle.indexset_core.specs.contracts.text.Text as key
+use Rattle.indexset_core.specs.contracts.text.TextOrd.TheImpl.{ghosts as ord}
+use Rattle.indexset_core.specs.contracts.text.TextEq.TheImpl.{ghosts as eq}
+use Rattle.indexset_core.specs.contracts.text.TextPartialEq.TheImpl.{ghosts as equal}
+use Rattle.indexset_core.specs.contracts.text.TextPartialOrd.TheImpl.{ghosts as partial}
 use Rattle.indexset_handle.specs.Text.{text_row}
-use Rattle.indexset_handle.proofs.text_key.TextKey.TheLaws as key-laws
+use Rattle.indexset_core.proofs.text.Text.TheLaws as key-laws
 use Rattle.indexset_handle.proofs.Steps.{Bx, boxed_at}
 
 number_laws : Laws u64

@@ -7,11 +7,11 @@ use Rattle.std.specs.Prelude.{ℕ, List, [], ◌++◌, Option, drop, length, map
 use Rattle.std.specs.Option.{option_map, option_map_or}
 use Rattle.std.specs.Global.{Global}
 use Rattle.std.specs.contracts.impls.GlobalAllocator.TheImpl.{ghosts as frees}
-use Rattle.indexset_handle.specs.contracts.text_key.TextKey as key
-use Rattle.indexset_handle.specs.contracts.text_key.TextKeyOrd.TheImpl.{ghosts as ord}
-use Rattle.indexset_handle.specs.contracts.text_key.TextKeyEq.TheImpl.{ghosts as eq}
-use Rattle.indexset_handle.specs.contracts.text_key.TextKeyPartialEq.TheImpl.{ghosts as equal}
-use Rattle.indexset_handle.specs.contracts.text_key.TextKeyPartialOrd.TheImpl.{ghosts as partial}
+use Rattle.indexset_core.specs.contracts.text.Text as key
+use Rattle.indexset_core.specs.contracts.text.TextOrd.TheImpl.{ghosts as ord}
+use Rattle.indexset_core.specs.contracts.text.TextEq.TheImpl.{ghosts as eq}
+use Rattle.indexset_core.specs.contracts.text.TextPartialEq.TheImpl.{ghosts as equal}
+use Rattle.indexset_core.specs.contracts.text.TextPartialOrd.TheImpl.{ghosts as partial}
 use Rattle.indexset_core.specs.declared.pair.Pair.{Pair}
 use Rattle.indexset_core.specs.Pairs.{pair_keys}
 use Rattle.indexset_handle.specs.Holds.{holds}

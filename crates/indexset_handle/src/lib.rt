@@ -37,18 +37,15 @@ pub mod set_slot;
 pub mod status;
 pub mod text_calls;
 pub mod text_edits;
-pub mod text_entry;
 pub mod text_event;
 pub mod text_find;
 pub mod text_handle;
-pub mod text_key;
 pub mod text_log;
 pub mod text_log_calls;
 pub mod text_log_handle;
 pub mod text_log_owner;
 pub mod text_log_slot;
 pub mod text_owner;
-pub mod text_probe;
 pub mod text_slot;
 pub mod write;
 

@@ -1,15 +1,16 @@
 //! What stands behind a cursor, written where C points.
 ghost use Rattle.std.specs.Prelude.{◌≡◌, ◌+◌, ℕ, length, map, min, take};
 ghost use Rattle.indexset_core.specs.Nodes.{joined, node_lengths, vec_items};
+ghost use Rattle.indexset_core.specs.Pairs.{pair_keys, pair_values};
 ghost use Rattle.indexset_handle.specs.Cursors.{cursor_position, items_from};
 ghost use Rattle.indexset_handle.specs.Elements.{written};
-ghost use Rattle.indexset_handle.specs.Text.{written_over};
+ghost use Rattle.indexset_handle.specs.Text.{key_lengths, written_over};
 
 use crate::cursor::{Cursor, moved, rest};
 use crate::text_calls::write_behind;
-use crate::text_entry::TextEntry;
 use indexset_core::multipair::MultiPair;
 use indexset_core::pair::Pair;
+use indexset_core::text::Text;
 use indexset_core::walk::{ReadVec, Walk};
 
 /// A pair of numbers, whatever else it holds.
@@ -98,8 +99,8 @@ pub fn next_pairs<P: Numbers>(
 /// Writes the lengths of the keys and the values of the pairs from a cursor on, in order and as far
 /// as there is room in both slices, and the bytes of these keys, one key behind another and as far
 /// as there is room. Moves the cursor past the pairs, and returns how many they are.
-pub fn next_texts<P: TextEntry>(
-    nodes: &[Vec<P>],
+pub fn next_texts(
+    nodes: &[Vec<Pair<Text, u64>>],
     cursor: &mut Cursor,
     bytes: &mut [u8],
     lengths: &mut [usize],
@@ -107,13 +108,13 @@ pub fn next_texts<P: TextEntry>(
 ) -> usize
     ensures count { result ≡ min (length (items_from (node_lengths (vec_items nodes.now)) cursor.old
         (joined (vec_items nodes.now)))) (min (length lengths.old) (length values.old)) }
-    ensures bytes { bytes.new ≡ written_over (joined (take result (map P.key_of (items_from
+    ensures bytes { bytes.new ≡ written_over (joined (take result (pair_keys (items_from
         (node_lengths (vec_items nodes.now)) cursor.old (joined (vec_items nodes.now))))))
         bytes.old }
-    ensures lengths { lengths.new ≡ written result (map length (map P.key_of (items_from
-        (node_lengths (vec_items nodes.now)) cursor.old (joined (vec_items nodes.now)))))
+    ensures lengths { lengths.new ≡ written result (key_lengths (items_from
+        (node_lengths (vec_items nodes.now)) cursor.old (joined (vec_items nodes.now))))
         lengths.old }
-    ensures values { values.new ≡ written result (map P.value_of (items_from
+    ensures values { values.new ≡ written result (pair_values (items_from
         (node_lengths (vec_items nodes.now)) cursor.old (joined (vec_items nodes.now))))
         values.old }
     ensures moved { cursor_position (node_lengths (vec_items nodes.now)) cursor.new
@@ -191,19 +192,18 @@ fn write_numbers_of<P: Numbers>(run: &[P], keys: &mut [u64], values: &mut [u64])
 
 // Writes the lengths of the keys and the values of a walk, as far as there is room in both slices,
 // and the bytes of these keys, as far as there is room. Returns how many pairs that are.
-fn write_texts<P: TextEntry>(
-    mut walk: Walk<'_, P, Vec<P>, ReadVec>,
+fn write_texts(
+    mut walk: Walk<'_, Pair<Text, u64>, Vec<Pair<Text, u64>>, ReadVec>,
     bytes: &mut [u8],
     lengths: &mut [usize],
     values: &mut [u64],
 ) -> usize
     ensures count { result ≡ min (length walk.entry)
         (min (length lengths.old) (length values.old)) }
-    ensures bytes { bytes.new ≡ written_over (joined (take result (map P.key_of walk.entry)))
+    ensures bytes { bytes.new ≡ written_over (joined (take result (pair_keys walk.entry)))
         bytes.old }
-    ensures lengths { lengths.new ≡ written result (map length (map P.key_of walk.entry))
-        lengths.old }
-    ensures values { values.new ≡ written result (map P.value_of walk.entry) values.old }
+    ensures lengths { lengths.new ≡ written result (key_lengths walk.entry) lengths.old }
+    ensures values { values.new ≡ written result (pair_values walk.entry) values.old }
 {
     let room = lengths.len().min(values.len());
     let mut used = 0;
@@ -212,10 +212,10 @@ fn write_texts<P: TextEntry>(
         let Some(pair) = walk.next() else {
             break;
         };
-        let stored = pair.key();
+        let stored = pair.key.as_bytes();
         used = write_behind(stored, bytes, used);
         lengths[count] = stored.len();
-        values[count] = pair.value();
+        values[count] = pair.value;
         count += 1;
     }
     count

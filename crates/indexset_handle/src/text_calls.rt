@@ -53,7 +53,7 @@ pub fn write_keys(mut walk: TextRange<'_>, bytes: &mut [u8], lengths: &mut [usiz
         let Some((key, _value)) = walk.next() else {
             break;
         };
-        let stored = key.as_slice();
+        let stored = key.as_bytes();
         used = write_behind(stored, bytes, used);
         lengths[count] = stored.len();
         count += 1;

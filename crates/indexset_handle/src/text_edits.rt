@@ -4,8 +4,8 @@ ghost use Rattle.std.specs.Cmp.Lexicographic.{slice_cmp};
 ghost use Rattle.std.specs.Ordering.{nat_cmp};
 ghost use Rattle.indexset_core.specs.Pairs.{has_key, put_value, value_of, without_key};
 
-use crate::text_key::TextKey;
 use crate::text_slot::TextMap;
+use indexset_core::text::Text;
 use std::alloc::{AllocError, Global};
 use std::mem::replace;
 
@@ -37,7 +37,7 @@ pub fn put(
     ensures unchanged { OnErr result (map.new ≡ map.old) }
     ensures no_memory { has_key (slice_cmp nat_cmp) map.old.pairs key.now ≡ true → IsOk result }
 {
-    let Ok(copied) = TextKey::copied(alloc, key) else {
+    let Ok(copied) = Text::copied_bytes(alloc, key) else {
         return match replace_value(map, key, value) {
             Some(before) => Ok(Some(before)),
             None => Err(AllocError),

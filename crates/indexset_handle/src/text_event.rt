@@ -7,8 +7,8 @@ ghost use Rattle.indexset_handle.specs.TextLogs.{index_of, kind_of, node_key, no
 use crate::event::{CREATE, DROP, INSERT, MERGE, REMOVE, SPLIT};
 use crate::text_log::TextChange;
 use crate::write::write_bytes;
-use bytes::Bytes;
 use indexset_core::pair::Pair;
+use indexset_core::text::Text;
 use indexset_events::change::ChangeEvent;
 
 /// A change. A node is named by its last pair before the change, or where it is created by its only
@@ -47,7 +47,7 @@ fn kind_of(change: &TextChange) -> u32
 }
 
 // Returns the pair by which a change names its node.
-fn node_of(change: &TextChange) -> &Pair<Bytes, u64>
+fn node_of(change: &TextChange) -> &Pair<Text, u64>
     ensures { result.now ≡ node_of change.now }
 {
     match change {
@@ -61,7 +61,7 @@ fn node_of(change: &TextChange) -> &Pair<Bytes, u64>
 }
 
 // Returns the pair that a change puts or removes, or that names its second node.
-fn pair_of(change: &TextChange) -> Option<&Pair<Bytes, u64>>
+fn pair_of(change: &TextChange) -> Option<&Pair<Text, u64>>
     ensures { option_copied result ≡ pair_of change.now }
 {
     match change {
@@ -96,12 +96,12 @@ pub fn write_change(change: &TextChange, event: &mut TextEvent, node: &mut [u8],
     let named = node_of(change);
     let (key_len, value) = match pair_of(change) {
         Some(pair) => {
-            write_bytes(pair.key.as_slice(), key);
+            write_bytes(pair.key.as_bytes(), key);
             (pair.key.len(), pair.value)
         }
         None => (0, 0),
     };
-    write_bytes(named.key.as_slice(), node);
+    write_bytes(named.key.as_bytes(), node);
     *event = TextEvent {
         number,
         node_len: named.key.len(),

@@ -7,8 +7,8 @@ ghost use Rattle.indexset_handle.specs.Cursors.{cursor_position};
 ghost use Rattle.indexset_handle.specs.Elements.{key_count_up_to};
 
 use crate::cursor::{self, Cursor};
-use crate::text_probe::ByBytes;
 use crate::text_slot::TextMap;
+use indexset_core::probe::ByKey;
 
 /// Returns how many keys are below a key.
 pub fn rank_of(map: &TextMap, key: &[u8]) -> usize
@@ -38,7 +38,7 @@ pub fn cursor_from(map: &TextMap, from: &[u8]) -> Cursor
 {
     // Says that the keys ascend, and that no node of several is empty.
     let _count = map.node_count();
-    cursor::find(map.nodes(), ByBytes::new(from))
+    cursor::find(map.nodes(), ByKey::new(&from))
 }
 
 /// Returns a cursor at a position, or at the end.
@@ -47,7 +47,7 @@ pub fn cursor_at(map: &TextMap, position: usize) -> Cursor
 {
     match map.get_index(position) {
         Some((key, _)) => {
-            let near = cursor_from(map, key.as_slice());
+            let near = cursor_from(map, key.as_bytes());
             cursor::near_to(map.nodes(), near, map.rank(key), position)
         }
         None => cursor::end(map.nodes()),

@@ -8,17 +8,16 @@ ghost use Rattle.std.specs.Option.{option_copied, option_map};
 ghost use Rattle.std.specs.Ordering.{nat_cmp};
 ghost use Rattle.indexset_core.specs.Nodes.{joined, node_lengths, vec_items};
 ghost use Rattle.indexset_core.specs.Pairs.{by_key, entry_of, key_rank, pair, value_of};
-ghost use Rattle.indexset_core.specs.Parted.{IsParted};
 ghost use Rattle.indexset_log.specs.Changed.{Changed, key_removal, put_change, refusal_of};
 ghost use Rattle.indexset_handle.specs.Cursors.{cursor_position};
 ghost use Rattle.indexset_handle.specs.Elements.{key_count_up_to};
 ghost use Rattle.indexset_handle.specs.TextLogs.{after, untold};
 
 use crate::cursor::{self, Cursor};
-use crate::text_probe::ByBytes;
-use bytes::Bytes;
 use indexset_core::pair::Pair;
+use indexset_core::probe::ByKey;
 use indexset_core::refusal::Refusal;
+use indexset_core::text::Text;
 use indexset_events::change::ChangeEvent;
 use indexset_log::map::BTreeMap;
 use indexset_log::map::range::Range;
@@ -27,15 +26,15 @@ use std::marker::Model;
 use std::ops::Bound;
 
 /// A change of such a map.
-pub type TextChange = ChangeEvent<Pair<Bytes, u64>>;
+pub type TextChange = ChangeEvent<Pair<Text, u64>>;
 
 /// The pairs of a part of it.
-pub type TextLogRange<'a> = Range<'a, Bytes, u64, Vec<Pair<Bytes, u64>>>;
+pub type TextLogRange<'a> = Range<'a, Text, u64>;
 
 /// A logged map from byte strings to numbers, and what its last change was.
 #[derive(Drop)]
 pub struct TextLog {
-    tree: BTreeMap<Bytes, u64, Vec<Pair<Bytes, u64>>>,
+    tree: BTreeMap<Text, u64>,
     told: Vec<TextChange>,
 }
 
@@ -85,14 +84,14 @@ impl TextLog {
     pub fn get(&self, key: &[u8]) -> Option<u64>
         ensures { result ≡ value_of (slice_cmp nat_cmp) (joined self.now.tree.nodes) key.now }
     {
-        Some(self.tree.get_by(&mut self.by_bytes(key))?.value)
+        Some(self.tree.get(key)?.value)
     }
 
     /// Returns how many keys are below a key.
     pub fn rank(&self, key: &[u8]) -> usize
         ensures { result ≡ key_rank (slice_cmp nat_cmp) (joined self.now.tree.nodes) key.now }
     {
-        self.tree.count_before(Bound::Included(self.by_bytes(key)))
+        self.tree.rank(key)
     }
 
     /// Returns how many keys are not above a key.
@@ -100,11 +99,11 @@ impl TextLog {
         ensures { result
             ≡ key_count_up_to (slice_cmp nat_cmp) (joined self.now.tree.nodes) key.now }
     {
-        self.tree.count_up_to(Bound::Included(self.by_bytes(key)))
+        self.tree.range(..=key).len()
     }
 
     /// Returns the pair at a position, counted from 0, or `None` past the end.
-    pub fn get_index(&self, i: usize) -> Option<(&Bytes, &u64)>
+    pub fn get_index(&self, i: usize) -> Option<(&Text, &u64)>
         ensures { option_map (λ p. (p.0.now, p.1.now)) result
             ≡ option_map entry_of (slice_get (joined self.now.tree.nodes) i) }
     {
@@ -120,7 +119,7 @@ impl TextLog {
     }
 
     /// Returns the nodes, in order.
-    pub fn nodes(&self) -> &[Vec<Pair<Bytes, u64>>]
+    pub fn nodes(&self) -> &[Vec<Pair<Text, u64>>]
         ensures { vec_items result.now ≡ self.now.tree.nodes }
     {
         self.tree.iter_nodes().as_slice()
@@ -131,9 +130,9 @@ impl TextLog {
         ensures { cursor_position (node_lengths self.now.tree.nodes) result
             ≡ key_rank (slice_cmp nat_cmp) (joined self.now.tree.nodes) from.now }
     {
-        // Says that no node is empty.
+        // Says that the keys ascend, and that no node is empty.
         let _count = self.tree.node_count();
-        cursor::find(self.nodes(), self.by_bytes(from))
+        cursor::find(self.nodes(), ByKey::new(&from))
     }
 
     /// Returns a cursor at a position, or at the end.
@@ -143,8 +142,8 @@ impl TextLog {
     {
         match self.get_index(position) {
             Some((key, _)) => {
-                let near = self.cursor_from(key.as_slice());
-                cursor::near_to(self.nodes(), near, self.rank(key.as_slice()), position)
+                let near = self.cursor_from(key.as_bytes());
+                cursor::near_to(self.nodes(), near, self.rank(key.as_bytes()), position)
             }
             None => cursor::end(self.nodes()),
         }
@@ -164,7 +163,7 @@ impl TextLog {
             (put_change (by_key (slice_cmp nat_cmp)) self.old.tree (pair key.now value))) }
         ensures unchanged { OnErr result (self.new ≡ self.old) }
     {
-        let Ok(copied) = Bytes::copy_from_slice(alloc, key) else {
+        let Ok(copied) = Text::copied_bytes(alloc, key) else {
             return Err(Refusal::Memory);
         };
         match self.tree.insert_cdc(copied, value) {
@@ -178,7 +177,7 @@ impl TextLog {
 
     /// Removes a key and returns its value, or `None` where it is not there; then nothing changes,
     /// the changes told before included, nor does it where the call fails.
-    pub fn remove(&mut self, alloc: Global, key: &[u8]) -> Result<Option<u64>, Refusal>
+    pub fn remove(&mut self, key: &[u8]) -> Result<Option<u64>, Refusal>
         ensures found { IfOk result (λ r. r
             ≡ value_of (slice_cmp nat_cmp) (joined self.old.tree.nodes) key.now) }
         ensures absent { IfOk result (λ r. r ≡ None → self.new ≡ self.old) }
@@ -187,24 +186,18 @@ impl TextLog {
         ensures changed { IfOk result (λ r. r ≢ None → Changed (by_key (slice_cmp nat_cmp))
             self.old.tree self.new.tree
             (key_removal (slice_cmp nat_cmp) self.old.tree key.now)) }
-        ensures refusal { IfErr result (λ e. e ≢ Refusal.Memory → e ≡ refusal_of self.old.tree
+        ensures refusal { IfErr result (λ e. e ≡ refusal_of self.old.tree
             (key_removal (slice_cmp nat_cmp) self.old.tree key.now)) }
         ensures no_event { value_of (slice_cmp nat_cmp) (joined self.old.tree.nodes) key.now ≡ None
             → IsOk result }
         ensures unchanged { OnErr result (self.new ≡ self.old) }
     {
-        if self.get(key).is_none() {
+        let (found, told) = self.tree.remove_cdc(key)?;
+        let Some((_, value)) = found else {
             return Ok(None);
-        }
-        let Ok(copied) = Bytes::copy_from_slice(alloc, key) else {
-            return Err(Refusal::Memory);
         };
-        let (found, told) = self.tree.remove_cdc(&copied)?;
         self.told = told;
-        match found {
-            Some((_, value)) => Ok(Some(value)),
-            None => Ok(None),
-        }
+        Ok(Some(value))
     }
 
     /// Returns how many changes the last call told that told any.
@@ -219,16 +212,5 @@ impl TextLog {
         ensures { option_copied result ≡ slice_get self.now.told i }
     {
         self.told.get(i)
-    }
-
-    // Returns a comparator for bytes, which finds the pairs in order.
-    fn by_bytes<'a>(&self, key: &'a [u8]) -> ByBytes<'a>
-        ensures probe { result ≡ (key.now, 0) }
-        ensures parted { IsParted (λ p. slice_cmp nat_cmp p.key key.now)
-            (joined self.now.tree.nodes) }
-    {
-        // The contract of `node_count` says that the pairs ascend.
-        let _nodes = self.tree.node_count();
-        ByBytes::new(key)
     }
 }

@@ -41,7 +41,7 @@ pub fn write_keys(mut walk: TextLogRange<'_>, bytes: &mut [u8], lengths: &mut [u
         let Some((key, _value)) = walk.next() else {
             break;
         };
-        let stored = key.as_slice();
+        let stored = key.as_bytes();
         used = write_behind(stored, bytes, used);
         lengths[count] = stored.len();
         count += 1;

@@ -3,20 +3,20 @@ ghost use Rattle.std.specs.Prelude.{◌≡◌, Option};
 ghost use Rattle.indexset_handle.specs.Text.{text_row};
 
 use crate::Parts;
-use crate::text_key::TextKey;
+use indexset_core::text::Text;
 use indexset_map::{BTreeMap, RangeMap};
 use std::alloc::Global;
 use std::marker::Model;
 
 /// A map from byte strings to numbers.
-pub type TextMap = BTreeMap<TextKey, u64>;
+pub type TextMap = BTreeMap<Text, u64>;
 
 /// How many pairs a node of such a map holds at most: a quarter of the default, since an insertion
 /// and a removal move half a node's pairs, of 32 bytes each.
 pub const TEXT_NODE_SIZE: usize = 256;
 
 /// The pairs of a part of it.
-pub type TextRange<'a> = RangeMap<'a, TextKey, u64>;
+pub type TextRange<'a> = RangeMap<'a, Text, u64>;
 
 /// A map from byte strings on the heap, or none.
 #[repr(C)]

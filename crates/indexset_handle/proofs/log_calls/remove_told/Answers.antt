@@ -1,15 +1,15 @@
-use Rattle.std.proofs.Common.{◌≡◌, [], length, map, Some, None, ap, sym, ◌∙◌, arith}
+use Rattle.std.proofs.Common.{◌≡◌, length, map, None, ap, sym, ◌∙◌}
 use Rattle.std.proofs.lemmas.Bool.{false≢true}
-use Rattle.std.proofs.lemmas.Option.{none-some, same_Some}
+use Rattle.std.proofs.lemmas.Option.{none-some}
 use Rattle.std.specs.Ordering.{nat_cmp}
 use Rattle.indexset_core.specs.Nodes.{joined}
-use Rattle.indexset_core.specs.Pairs.{by_key, entry_of, pair_of}
+use Rattle.indexset_core.specs.Pairs.{entry_of, pair_of}
 use Rattle.indexset_events.proofs.CallerLemmas.{length-numbered}
 use Rattle.indexset_events.specs.Keys.{key_removal_events}
-use Rattle.indexset_events.specs.Replay.{numbered_from, replay}
+use Rattle.indexset_events.specs.Replay.{numbered_from}
 use Rattle.indexset_handle.specs.Elements.{written}
 use Rattle.indexset_handle.specs.Events.{record_of}
-use Rattle.indexset_handle.proofs.LogLemmas.{mapped_none, none_told, same_tree}
+use Rattle.indexset_handle.proofs.LogLemmas.{kept_tree, mapped_none, none_told}
 use Rattle.indexset_handle.proofs.log_calls.remove_told.Goals.{in-Some, in-None}
 use Rattle.indexset_handle.proofs.log_calls.remove_told.Goals as goal
 
@@ -36,13 +36,11 @@ returns-clause-absent c none =
       | in-Some w ↦ absurd (none-some _ (sym none ∙ w.value-is))
       | in-None w ↦ mapped_none entry_of (pair_of nat_cmp (joined log.nodes) k) (sym e.answer ∙ w.in-None.is)
     ] in
-    let empty : es ≡ [] = none_told log.size log.nodes k gone in let zero : length es ≡ 0 = ap (λ l. length l) empty in
-    let count = returns-clause-told c in let next = e.changed.next in
-    let nodes : Some log.nodes ≡ Some new.nodes = sym (ap (λ l. replay (by_key nat_cmp) log.nodes (numbered_from log.next l)) empty) ∙ e.changed.table in
-    (count ∙ zero, same_tree new log (sym (same_Some log.nodes new.nodes nodes)) e.changed.size (omega (arith, next, zero)))
+    let zero : length es ≡ 0 = ap (λ l. length l) (none_told nat_cmp log.size log.nodes k gone) in
+    (returns-clause-told c ∙ zero, kept_tree nat_cmp nat_cmp log new k gone e.changed)
 
 -- where the key is not there, there is no event, and such a removal does not fail
 pub returns-in_err-found-clause-no_event : goal.returns-in_err-found-clause-no_event
 returns-in_err-found-clause-no_event c none =
     let log = c.args.log.now in let k = c.args.key in
-    absurd (false≢true (c.in_err-found.ensures.no_event (none_told log.size log.nodes k (mapped_none (λ p. p.value) (pair_of nat_cmp (joined log.nodes) k) none))))
+    absurd (false≢true (c.in_err-found.ensures.no_event (none_told nat_cmp log.size log.nodes k (mapped_none (λ p. p.value) (pair_of nat_cmp (joined log.nodes) k) none))))

@@ -1,0 +1,8 @@
+use Rattle.std.specs.Cmp.Lexicographic.{nat_list_cmp_total, slice_cmp}
+use Rattle.std.specs.Ordering.{nat_cmp}
+use Rattle.indexset_core.specs.Nodes.{joined}
+use Rattle.indexset_core.proofs.CallerLemmas.{parted_by_key}
+use Rattle.indexset_handle.proofs.text_log.TextLog.cursor_from.Goals as goal
+
+pub find-requires-clause-parted : goal.find-requires-clause-parted
+find-requires-clause-parted c = rw c.nodes.ensures (parted_by_key (slice_cmp nat_cmp) nat_list_cmp_total (joined c.args.self.now.tree.nodes) c.node_count-count.ensures.lawful.nodes.ascending c.new.result.0)
