@@ -1,18 +1,14 @@
 //! A text that is a key or a value.
 
 ghost use Rattle.std.specs.Prelude.{◌≡◌, ℕ, List, Some, true, refl};
-ghost use Rattle.std.specs.Cmp.Lexicographic.{nat_list_cmp_total, nat_list_eq_equiv, pointwise, slice_cmp, texts_po, texts_ties};
-ghost use Rattle.std.specs.Cmp.{partial_equiv_from_equiv};
-ghost use Rattle.std.specs.Bool.{nat_eq};
-ghost use Rattle.std.specs.Ordering.{nat_cmp};
 ghost use Rattle.indexset_text.specs.Names.{name_text, name_texts};
 ghost use Rattle.indexset_text.specs.Names.Laws.{EscapesOthers, name_words};
 
 use indexset_bench::key::Key;
+use indexset_core::text::Text;
 use indexset_lines::RunFault;
 use percent_encoding::{AsciiSet, NON_ALPHANUMERIC, percent_decode, percent_encode};
 use std::alloc::{AllocError, Global};
-use std::cmp::Ordering;
 use std::fmt;
 use std::io::Write;
 use std::marker::Model;
@@ -27,80 +23,18 @@ fn escaped() -> AsciiSet
     line.remove(b'~')
 }
 
-/// A text of any bytes. Its order is that of the bytes.
-#[derive(Drop)]
+/// A text that is percent-encoded in lines.
+#[derive(Clone, PartialEq, Eq, PartialOrd, Ord, Drop)]
 pub struct Name {
-    bytes: Vec<u8>,
+    text: Text,
 }
 
 impl Model for Name {
     ghost Value = { List ℕ };
 
-    ghost view = { λ name. name.bytes.items };
-}
+    ghost view = { λ name. name.text };
 
-impl Name {
-    /// Returns the text of these bytes.
-    pub fn new(bytes: Vec<u8>) -> Name
-        ensures { result ≡ bytes.items }
-    {
-        Name { bytes }
-    }
-
-    /// Returns the bytes.
-    pub fn as_bytes(&self) -> &[u8]
-        ensures { result.now ≡ self.now }
-    {
-        self.bytes.as_slice()
-    }
-}
-
-impl PartialEq for Name {
-    ghost eq = { pointwise nat_eq };
-
-    ghost laws = { partial_equiv_from_equiv nat_list_eq_equiv };
-
-    fn eq(&self, other: &Name) -> bool {
-        self.bytes.as_slice() == other.bytes.as_slice()
-    }
-}
-
-impl Eq for Name {
-    ghost laws = { nat_list_eq_equiv };
-}
-
-impl PartialOrd for Name {
-    ghost partial_cmp = { λ x y. Some (slice_cmp nat_cmp x y) };
-
-    ghost laws = { texts_po };
-
-    fn partial_cmp(&self, other: &Name) -> Option<Ordering> {
-        Some(self.cmp(other))
-    }
-}
-
-impl Ord for Name {
-    ghost cmp = { slice_cmp nat_cmp };
-
-    ghost total = { nat_list_cmp_total };
-
-    ghost matches_partial_cmp = { λ x y. refl };
-
-    ghost matches_eq = { texts_ties };
-
-    fn cmp(&self, other: &Name) -> Ordering {
-        self.bytes.as_slice().cmp(other.bytes.as_slice())
-    }
-}
-
-impl Clone for Name {
-    ghost is_clone = { λ x y. y ≡ x };
-
-    fn clone(&self) -> Result<Name, AllocError> {
-        Ok(Name {
-            bytes: self.bytes.clone()?,
-        })
-    }
+    ghost inverse = { λ text. record { text = text } };
 }
 
 /// The bytes, those that may not stand in a line escaped.
@@ -108,7 +42,7 @@ impl fmt::Display for Name {
     ghost output = { λ name. Some (name_text name) };
 
     fn fmt<W: fmt::Write>(&self, f: &mut fmt::Formatter<W>) -> fmt::Result {
-        let shown = percent_encode(self.bytes.as_slice(), escaped());
+        let shown = percent_encode(self.text.as_bytes(), escaped());
         write!(f, "{shown}")
     }
 }
@@ -130,7 +64,8 @@ impl Key for Name {
         let mut spelled = String::new(alloc);
         percent_encode(bytes.as_slice(), escaped()).append_to(&mut spelled)?;
         if text == spelled.as_bytes() {
-            Ok(Some(Name { bytes }))
+            let text = Text::from_vec(bytes);
+            Ok(Some(Name { text }))
         } else {
             Ok(None)
         }
