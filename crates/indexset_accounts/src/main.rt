@@ -9,11 +9,11 @@ ghost use Rattle.std.specs.Ordering.{nat_cmp};
 ghost use Rattle.indexset.specs.Words.{pair_values, set_value};
 
 use anyhow::{Context, Result, bail};
-use bytes::ByteStr;
 use indexset::BTreeMap;
+use indexset::base::Text;
 
 /// The balance of each account.
-type Accounts = BTreeMap<ByteStr, u64>;
+type Accounts = BTreeMap<Text, u64>;
 
 fn main(rt: HostRuntime) -> Result<()> {
     let mut accounts = BTreeMap::new(rt.alloc())?;
@@ -47,7 +47,7 @@ fn pay_in(rt: &HostRuntime, accounts: &mut Accounts, name: &str, amount: u64) ->
         *balance = balance.checked_add(amount).context("too much")?;
         return Ok(());
     }
-    accounts.insert(ByteStr::copy_from_str(rt.alloc(), name)?, amount)?;
+    accounts.insert(Text::copied(rt.alloc(), name)?, amount)?;
     Ok(())
 }
 

@@ -9,7 +9,7 @@ ghost use Rattle.std.specs.Ordering.{nat_cmp};
 ghost use Rattle.indexset.specs.Words.{by_key, replay};
 
 use anyhow::{Result, bail};
-use bytes::ByteStr;
+use indexset::base::Text;
 use indexset::base::pair::Pair;
 use indexset::cdc::change::ChangeEvent;
 use indexset::cdc::laws::replay_in_parts;
@@ -17,10 +17,10 @@ use indexset::concurrent::map::BTreeMap;
 use indexset::replica::Replica;
 
 /// A name and its value.
-type Named = Pair<ByteStr, u64>;
+type Named = Pair<Text, u64>;
 
 /// The value of each name, in nodes of at most four names.
-type Names = BTreeMap<ByteStr, u64, Vec<Named>>;
+type Names = BTreeMap<Text, u64>;
 
 fn main(rt: HostRuntime) -> Result<()> {
     let mut names = Names::with_maximum_node_size(rt.alloc(), 4);
@@ -58,7 +58,7 @@ fn change(rt: &HostRuntime, names: &mut Names, line: &str) -> Result<Vec<ChangeE
     match (words.next(), words.next()) {
         (Some(name), None) => Ok(names.remove_cdc(name)?.1),
         (Some(name), Some(value)) => {
-            let name = ByteStr::copy_from_str(rt.alloc(), name)?;
+            let name = Text::copied(rt.alloc(), name)?;
             Ok(names.insert_cdc(name, value.parse()?)?.1)
         }
         _ => bail!("an empty line"),

@@ -8,11 +8,11 @@ ghost use Rattle.std.specs.List.{sum};
 ghost use Rattle.indexset.specs.Words.{pair_values};
 
 use anyhow::{Context, Result, bail};
-use bytes::ByteStr;
 use indexset::BTreeMap;
+use indexset::base::Text;
 
 /// The amounts by good and price.
-type Offers = BTreeMap<(ByteStr, u64), u64>;
+type Offers = BTreeMap<(Text, u64), u64>;
 
 fn main(rt: HostRuntime) -> Result<()> {
     let mut offers = BTreeMap::new(rt.alloc())?;
@@ -49,7 +49,7 @@ fn sell(rt: &HostRuntime, offers: &mut Offers, good: &str, price: u64, amount: u
         *offered = offered.checked_add(amount).context("too much")?;
         return Ok(());
     }
-    offers.insert((ByteStr::copy_from_str(rt.alloc(), good)?, price), amount)?;
+    offers.insert((Text::copied(rt.alloc(), good)?, price), amount)?;
     Ok(())
 }
 

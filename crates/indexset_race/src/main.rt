@@ -7,7 +7,7 @@ ghost use Rattle.std.specs.Ordering.{nat_cmp};
 ghost use Rattle.indexset.specs.Words.{by_number, replay, IsAdded, IsBeginning, IsNumberedFrom};
 
 use anyhow::Result;
-use bytes::ByteStr;
+use indexset::base::Text;
 use indexset::base::multipair::MultiPair;
 use indexset::cdc::change::ChangeEvent;
 use indexset::cdc::laws;
@@ -15,12 +15,12 @@ use indexset::concurrent::multimap::BTreeMultiMap;
 use indexset::replica::Replica;
 
 /// A time, and who took it.
-type Entry = MultiPair<u64, ByteStr>;
+type Entry = MultiPair<u64, Text>;
 
 /// The results, all their events, and a copy, which holds what the first of the events lead to.
 #[derive(Drop)]
 struct Race {
-    results: BTreeMultiMap<u64, ByteStr, Vec<Entry>>,
+    results: BTreeMultiMap<u64, Text>,
     events: Vec<ChangeEvent<Entry>>,
     copy: Replica<Entry>,
     ghost numbered: { IsNumberedFrom 0 events.items × (results.next ≡ length events.items) },
@@ -58,7 +58,7 @@ impl Race {
         ensures { OnOk result (IsAdded nat_cmp self.old.results self.new.results time name.now) }
     {
         self.events.reserve(3)?; // With room for its events, none is lost.
-        let name = ByteStr::copy_from_str(rt.alloc(), name)?;
+        let name = Text::copied(rt.alloc(), name)?;
         let mut told = self.results.push_cdc(time, name)?;
         laws::replay_in_parts::<Entry>();
         laws::numbered_by_place::<Entry>();

@@ -6,15 +6,15 @@ ghost use Rattle.std.specs.Prelude.{◌≡◌, ◌+◌, nat_lt, count_by};
 ghost use Rattle.indexset.specs.Words.{items};
 
 use anyhow::Result;
-use bytes::ByteStr;
+use indexset::base::Text;
 use indexset::{BTreeMap, BTreeSet};
 use std::cmp::Reverse;
 
 /// The score of each name.
-type Scores = BTreeMap<ByteStr, u64>;
+type Scores = BTreeMap<Text, u64>;
 
 /// The scores with their names, the best first.
-type Board = BTreeSet<(Reverse<u64>, ByteStr)>;
+type Board = BTreeSet<(Reverse<u64>, Text)>;
 
 fn main(rt: HostRuntime) -> Result<()> {
     let mut scores = BTreeMap::new(rt.alloc())?;
@@ -55,7 +55,7 @@ fn enter(
     name: &str,
     score: u64,
 ) -> Result<()> {
-    let key = ByteStr::copy_from_str(rt.alloc(), name)?;
+    let key = Text::copied(rt.alloc(), name)?;
     board.insert((Reverse(score), key.clone()?))?;
     if let Some(old) = scores.insert(key, score)? {
         if old != score {

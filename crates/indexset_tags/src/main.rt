@@ -9,12 +9,11 @@ ghost use Rattle.std.specs.Ordering.{nat_cmp};
 ghost use Rattle.indexset.specs.Words.{joined, pairs_of, without_first};
 
 use anyhow::{Result, bail};
-use bytes::ByteStr;
-use indexset::base::multipair::MultiPair;
+use indexset::base::Text;
 use indexset::concurrent::multimap::BTreeMultiMap;
 
 /// The documents by tag.
-type Index = BTreeMultiMap<ByteStr, u64, Vec<MultiPair<ByteStr, u64>>>;
+type Index = BTreeMultiMap<Text, u64>;
 
 fn main(rt: HostRuntime) -> Result<()> {
     let mut index = Index::new(rt.alloc());
@@ -43,7 +42,7 @@ fn answer(rt: &HostRuntime, index: &mut Index, line: &str) -> Result<()> {
 
 fn add(rt: &HostRuntime, index: &mut Index, tag: &str, document: u64) -> Result<()> {
     if index
-        .insert(ByteStr::copy_from_str(rt.alloc(), tag)?, document)?
+        .insert(Text::copied(rt.alloc(), tag)?, document)?
         .is_some()
     {
         bail!("it was listed");

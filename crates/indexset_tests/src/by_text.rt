@@ -1,13 +1,14 @@
 //! Worked examples of look-ups by borrowed text, in a logged map and in a replica of its pairs.
-use bytes::ByteStr;
 use indexset_core::pair::Pair;
 use indexset_core::probe::Counting;
+use indexset_core::text::Text;
 use indexset_core::text_probe::{ByStr, OnKey};
 use indexset_log::map::BTreeMap;
 use indexset_replica::Replica;
+use std::alloc::{AllocError, Global};
 use std::test::Fail;
 
-type Named = Pair<ByteStr, u64>;
+type Named = Pair<Text, u64>;
 
 // Names that are sought, and their values.
 const ROWS: [(&str, Option<u64>); 7] = [
@@ -20,15 +21,13 @@ const ROWS: [(&str, Option<u64>); 7] = [
     ("quinces", None),
 ];
 
-fn named(name: &'static str, value: u64) -> Named {
-    Pair {
-        key: ByteStr::from_static(name),
-        value,
-    }
+fn named(alloc: Global, name: &str, value: u64) -> Result<Named, AllocError> {
+    let key = Text::copied(alloc, name)?;
+    Ok(Pair { key, value })
 }
 
 // The value of a name in a map, and how many comparisons its look-up makes.
-fn value_in(map: &BTreeMap<ByteStr, u64, Vec<Named>>, name: &str) -> (Option<u64>, u64) {
+fn value_in(map: &BTreeMap<Text, u64>, name: &str) -> (Option<u64>, u64) {
     // Tells that the names ascend.
     let _nodes = map.node_count();
     let mut probe = Counting::new(OnKey::new(ByStr::new(name)));
@@ -49,7 +48,7 @@ fn value_of(replica: &Replica<Named>, name: &str) -> (Option<u64>, u64) {
 fn names_in_a_logged_map(rt: HostRuntime) -> Result<(), Fail> {
     let mut map = BTreeMap::with_maximum_node_size(rt.alloc(), 2);
     for (name, value) in [("plums", 7), ("apples", 5), ("pears", 3)] {
-        map.insert(ByteStr::from_static(name), value)?;
+        map.insert(Text::copied(rt.alloc(), name)?, value)?;
     }
     assert_eq!(rt; map.node_count(), 2);
     for (name, value) in ROWS {
@@ -62,9 +61,10 @@ fn names_in_a_logged_map(rt: HostRuntime) -> Result<(), Fail> {
 
 #[test]
 fn names_in_a_replica(rt: HostRuntime) -> Result<(), Fail> {
-    let mut replica = Replica::new(rt.alloc(), 0);
-    replica.attach(vec![in rt.alloc(); named("plums", 7)]?)?;
-    replica.attach(vec![in rt.alloc(); named("apples", 5), named("pears", 3)]?)?;
+    let alloc = rt.alloc();
+    let mut replica = Replica::new(alloc, 0);
+    replica.attach(vec![in alloc; named(alloc, "plums", 7)?]?)?;
+    replica.attach(vec![in alloc; named(alloc, "apples", 5)?, named(alloc, "pears", 3)?]?)?;
     for (name, value) in ROWS {
         let (found, asked) = value_of(&replica, name);
         // Two nodes, nodes of two, and the name that is found: 2 + 2 + 1.

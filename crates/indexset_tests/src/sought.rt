@@ -1,9 +1,9 @@
 //! What a look-up takes in the place of an item or a key, at each kind of item.
 
-use bytes::ByteStr;
 use indexset_core::multipair::MultiPair;
 use indexset_core::pair::Pair;
 use indexset_core::sought::Sought;
+use indexset_core::text::Text;
 use indexset_log::{map, set};
 use indexset_map::BTreeMap;
 use indexset_multi::multimap::BTreeMultiMap;
@@ -56,11 +56,12 @@ fn a_map_of_texts_takes_a_borrowed_one(rt: HostRuntime) -> Result<(), Fail> {
 }
 
 #[test]
-fn a_shared_text_is_found_by_a_borrowed_one(rt: HostRuntime) -> Result<(), Fail> {
-    let fig: ByteStr = ByteStr::from_static("fig");
+fn a_text_is_found_by_a_borrowed_one(rt: HostRuntime) -> Result<(), Fail> {
+    let fig = Text::copied(rt.alloc(), "fig")?;
     let mut prices = BTreeMap::new(rt.alloc())?;
-    prices.insert(ByteStr::from_static("fig"), 45)?;
+    prices.insert(fig.clone()?, 45)?;
     assert!(rt; prices.get("fig") == Some(&45) && prices.get(&fig) == Some(&45));
+    assert!(rt; prices.get(b"fig".as_slice()) == Some(&45) && prices.get("fi").is_none());
     Ok(())
 }
 
@@ -77,7 +78,7 @@ fn a_pair_of_texts_is_found_by_two_borrowed_ones(rt: HostRuntime) -> Result<(), 
     let mut towns = BTreeSet::new(rt.alloc())?;
     for (land, town) in [("fr", "lyon"), ("de", "ulm"), ("fr", "nice")] {
         let land = String::from_str(rt.alloc(), land)?;
-        towns.insert((land, ByteStr::copy_from_str(rt.alloc(), town)?))?;
+        towns.insert((land, Text::copied(rt.alloc(), town)?))?;
     }
     assert!(rt; towns.contains(("fr", "nice")) && !towns.contains(("de", "nice")));
     assert!(rt; towns.rank(("fr", "lyon")) == 1 && towns.index_of(("fr", "nice")) == Some(2));
@@ -104,9 +105,9 @@ fn a_pair_is_found_by_borrowed_parts(rt: HostRuntime) -> Result<(), Fail> {
     board.insert((Reverse(470), String::from_str(alloc, "zoe")?))?;
     assert!(rt; board.rank((&Reverse(250), "ben")) == 1 && !board.contains((&Reverse(250), "al")));
     assert!(rt; board.remove((&Reverse(470), "zoe")) && board.len() == 1);
-    let ben: ByteStr = ByteStr::from_static("ben");
+    let ben = Text::copied(alloc, "ben")?;
     let mut scores = BTreeSet::new(alloc)?;
-    scores.insert((ByteStr::from_static("ben"), 250_u64))?;
+    scores.insert((ben.clone()?, 250_u64))?;
     assert!(rt; scores.contains(("ben", &250)) && scores.contains((&ben, &250)));
     Ok(())
 }

@@ -22,7 +22,7 @@ mod takeover;
 mod wire;
 
 use anyhow::Result;
-use bytes::ByteStr;
+use indexset::base::Text;
 use indexset::base::pair::Pair;
 use indexset::replica::Replica;
 use indexset::{BTreeMap, BTreeSet};
@@ -186,10 +186,10 @@ fn show_stock(rt: &HostRuntime) -> Result<()> {
     let mut stock = stock::Stock::with_maximum_node_size(rt.alloc(), 4);
     let mut copy = Replica::new(rt.alloc(), 0);
     for (name, count) in [("pears", 3), ("apples", 5), ("plums", 7), ("apples", 6)] {
-        let name = ByteStr::copy_from_str(rt.alloc(), name)?;
+        let name = Text::copied(rt.alloc(), name)?;
         stock::set_count(&mut stock, &mut copy, name, count)?;
     }
-    stock::forget(&mut stock, &mut copy, &ByteStr::from_static("plums"))?;
+    stock::forget(&mut stock, &mut copy, "plums")?;
     for Pair { key, value } in copy.iter() {
         println!(rt; "{key}: {value}")?;
     }

@@ -6,17 +6,17 @@ ghost use Rattle.std.specs.Cmp.Lexicographic.{slice_cmp};
 ghost use Rattle.indexset.specs.Words.{by_key, has_key, joined, key_removal_events, pair, put, put_events, refusal_for, value_of, without_key};
 
 use crate::copies::apply_all;
-use bytes::ByteStr;
+use indexset::base::Text;
 use indexset::base::pair::Pair;
 use indexset::base::refusal::Refusal;
 use indexset::concurrent::map::BTreeMap;
 use indexset::replica::Replica;
 
 /// The text of a name.
-pub type Named = Pair<ByteStr, ByteStr>;
+pub type Named = Pair<Text, Text>;
 
-/// Texts by name. The map, its events and its copies share the bytes of names and texts.
-pub type Names = BTreeMap<ByteStr, ByteStr, Vec<Named>>;
+/// Texts by name.
+pub type Names = BTreeMap<Text, Text>;
 
 /// Sets the text of a name, in a map and in a copy with the same nodes: both then have the same
 /// nodes again, and the copy holds the text. Where it fails, nothing changed, or the map has the
@@ -24,8 +24,8 @@ pub type Names = BTreeMap<ByteStr, ByteStr, Vec<Named>>;
 pub fn set_text(
     names: &mut Names,
     copy: &mut Replica<Named>,
-    name: ByteStr,
-    text: ByteStr,
+    name: Text,
+    text: Text,
 ) -> Result<(), Refusal>
     requires { copy.old.nodes ≡ names.old.nodes }
     ensures same { OnOk result (copy.new.nodes ≡ names.new.nodes) }
@@ -46,7 +46,7 @@ pub fn set_text(
 /// Removes a name from a map and from a copy with the same nodes: both then have the same nodes
 /// again, and the copy does not hold the name. Where it fails, nothing changed, or the name is
 /// absent from the map and the copy is behind.
-pub fn forget(names: &mut Names, copy: &mut Replica<Named>, name: &ByteStr) -> Result<(), Refusal>
+pub fn forget(names: &mut Names, copy: &mut Replica<Named>, name: &str) -> Result<(), Refusal>
     requires { copy.old.nodes ≡ names.old.nodes }
     ensures same { OnOk result (copy.new.nodes ≡ names.new.nodes) }
     ensures gone { OnOk result (has_key (slice_cmp nat_cmp) (joined copy.new.nodes) name.now
@@ -64,7 +64,7 @@ pub fn forget(names: &mut Names, copy: &mut Replica<Named>, name: &ByteStr) -> R
 }
 
 /// Returns the text of a name, looked up as it is: no key is made of it.
-pub fn text_of<'a>(names: &'a Names, name: &str) -> Option<&'a ByteStr>
+pub fn text_of<'a>(names: &'a Names, name: &str) -> Option<&'a Text>
     ensures { option_copied result ≡ value_of (slice_cmp nat_cmp) (joined names.now.nodes)
         name.now }
 {
@@ -72,7 +72,7 @@ pub fn text_of<'a>(names: &'a Names, name: &str) -> Option<&'a ByteStr>
 }
 
 /// Returns the text that a copy has of a name, in the same way.
-pub fn copied_text_of<'a>(copy: &'a Replica<Named>, name: &str) -> Option<&'a ByteStr>
+pub fn copied_text_of<'a>(copy: &'a Replica<Named>, name: &str) -> Option<&'a Text>
     ensures { option_copied result ≡ value_of (slice_cmp nat_cmp) (joined copy.now.nodes) name.now }
 {
     Some(&copy.get(name)?.value)

@@ -10,7 +10,7 @@ ghost use Rattle.indexset_bench.specs.LoggedMap.{logged_map_after, logged_map_re
 
 use crate::stock::Stock;
 use crate::strings::Counts;
-use bytes::ByteStr;
+use indexset::base::Text;
 use indexset::replica::laws::clones;
 use indexset_bench::logged::map::LoggedMapCommand;
 use indexset_bench::logged_run::{LogRun, run_logged};
@@ -21,7 +21,7 @@ use std::alloc::Global;
 pub fn run_stock(
     alloc: Global,
     stock: &mut Stock,
-    commands: Vec<LoggedMapCommand<ByteStr, u64>>,
+    commands: Vec<LoggedMapCommand<Text, u64>>,
 ) -> LogRun<Stock>
     ensures replay { replay (by_key (slice_cmp nat_cmp)) stock.old.nodes result.events.items
         ≡ Some stock.new.nodes }

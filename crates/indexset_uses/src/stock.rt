@@ -5,18 +5,17 @@ ghost use Rattle.std.specs.Cmp.Lexicographic.{slice_cmp};
 ghost use Rattle.indexset.specs.Words.{by_key, joined, key_removal_events, pair, put, put_events, refusal_for, value_of, without_key};
 
 use crate::copies::apply_all;
-use bytes::ByteStr;
+use indexset::base::Text;
 use indexset::base::pair::Pair;
 use indexset::base::refusal::Refusal;
 use indexset::concurrent::map::BTreeMap;
 use indexset::replica::Replica;
 
 /// How many there are of each name.
-pub type Count = Pair<ByteStr, u64>;
+pub type Count = Pair<Text, u64>;
 
-/// A stock by name. A clone of a `ByteStr` is the same text and copies no byte, so that the map,
-/// its events and its copies share their texts.
-pub type Stock = BTreeMap<ByteStr, u64, Vec<Count>>;
+/// A stock by name. A clone of a `Text` is identical to it, so that a copy has the same nodes.
+pub type Stock = BTreeMap<Text, u64>;
 
 /// Sets how many there are of a name, in a stock and in a copy with the same nodes: both then have
 /// the same nodes again, and the copy holds the number. Where it fails, nothing changed, or the
@@ -24,7 +23,7 @@ pub type Stock = BTreeMap<ByteStr, u64, Vec<Count>>;
 pub fn set_count(
     stock: &mut Stock,
     copy: &mut Replica<Count>,
-    name: ByteStr,
+    name: Text,
     count: u64,
 ) -> Result<(), Refusal>
     requires { copy.old.nodes ≡ stock.old.nodes }
@@ -46,7 +45,7 @@ pub fn set_count(
 /// Removes a name from a stock and from a copy with the same nodes: both then have the same nodes
 /// again. Where it fails, nothing changed, or the name is absent from the stock and the copy is
 /// behind.
-pub fn forget(stock: &mut Stock, copy: &mut Replica<Count>, name: &ByteStr) -> Result<(), Refusal>
+pub fn forget(stock: &mut Stock, copy: &mut Replica<Count>, name: &str) -> Result<(), Refusal>
     requires { copy.old.nodes ≡ stock.old.nodes }
     ensures same { OnOk result (copy.new.nodes ≡ stock.new.nodes) }
     ensures contents { OnOk result (joined stock.new.nodes

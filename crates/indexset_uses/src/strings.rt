@@ -7,7 +7,7 @@ ghost use Rattle.std.specs.String.{string_cmp};
 ghost use Rattle.indexset.specs.Words.{by_key, has_key, joined, key_removal_events, apply_refusal, numbered_from, pair, put, put_events, refusal_for, unassigned, value_of, without_key, AreCopies, IsClonedStep, IsEventClone, IsNumberedFrom};
 
 use crate::copies::apply_all;
-use bytes::ByteStr;
+use indexset::base::Text;
 use indexset::base::pair::Pair;
 use indexset::base::refusal::{Refusal, Refused};
 use indexset::cdc::change::ChangeEvent;
@@ -20,7 +20,7 @@ use indexset::replica::laws::{clones, copies_keep};
 pub type Count = Pair<String, u64>;
 
 /// Counts by name.
-pub type Counts = BTreeMap<String, u64, Vec<Count>>;
+pub type Counts = BTreeMap<String, u64>;
 
 /// Sets the count of a name, and returns the events, at most three. They are numbered without a
 /// gap, and are those of the change with clones of its names.
@@ -77,7 +77,7 @@ pub fn set_in_both(
 {
     clones::texts();
     clones::pairs::<String, u64>();
-    copies_keep::<Count, (ByteStr, u64)>();
+    copies_keep::<Count, (Text, u64)>();
     let (_, events) = counts.insert_cdc(name, count)?;
     apply_all(copy, events.as_slice())
 }

@@ -4,7 +4,7 @@ ghost use Rattle.std.specs.Ordering.{is_eq, nat_cmp};
 ghost use Rattle.std.specs.Cmp.Lexicographic.{pointwise, slice_cmp};
 ghost use Rattle.indexset.specs.Words.{by_number, entries, equal_pair, inserted_pair, insertion_refusal, joined, pair_removal_events, pairs_of, put, refusal_for, replay, without_first, IsNumberedFrom};
 
-use bytes::ByteStr;
+use indexset::base::Text;
 use indexset::base::multipair::MultiPair;
 use indexset::base::refusal::{Refusal, Refused};
 use indexset::cdc::change::ChangeEvent;
@@ -12,18 +12,18 @@ use indexset::cdc::laws;
 use indexset::concurrent::multimap::{BTreeMultiMap, Range};
 
 /// A document under a tag.
-pub type Tagged = MultiPair<ByteStr, ByteStr>;
+pub type Tagged = MultiPair<Text, Text>;
 
 /// Names of documents by tag.
-pub type Tags = BTreeMultiMap<ByteStr, ByteStr, Vec<Tagged>>;
+pub type Tags = BTreeMultiMap<Text, Text>;
 
 /// Inserts a document under a tag, where it is absent, and returns the events. The tag then has it,
 /// and other tags have what they had.
 pub fn add(
     tags: &mut Tags,
-    tag: ByteStr,
-    document: ByteStr,
-) -> Result<Vec<ChangeEvent<Tagged>>, Refused<(ByteStr, ByteStr)>>
+    tag: Text,
+    document: Text,
+) -> Result<Vec<ChangeEvent<Tagged>>, Refused<(Text, Text)>>
     ensures there { OnOk result (is_some (equal_pair (slice_cmp nat_cmp) (pointwise nat_eq)
         (joined tags.new.nodes) tag document) ≡ true) }
     ensures contents { OnOk result (joined tags.new.nodes
@@ -50,8 +50,8 @@ pub fn add(
 /// has its other documents, and other tags have what they had.
 pub fn remove(
     tags: &mut Tags,
-    tag: &ByteStr,
-    document: &ByteStr,
+    tag: &str,
+    document: &Text,
 ) -> Result<Vec<ChangeEvent<Tagged>>, Refusal>
     ensures gone { OnOk result (pairs_of (slice_cmp nat_cmp) (joined tags.new.nodes) tag.now
         ≡ without_first (λ pair. pointwise nat_eq pair.value document.now)
@@ -75,7 +75,7 @@ pub fn remove(
 }
 
 /// Returns the documents of a tag, in the order of their numbers.
-pub fn documents<'a>(tags: &'a Tags, tag: &ByteStr) -> Range<'a, ByteStr, ByteStr, Vec<Tagged>>
+pub fn documents<'a>(tags: &'a Tags, tag: &str) -> Range<'a, Text, Text>
     ensures { result ≡ entries (pairs_of (slice_cmp nat_cmp) (joined tags.now.nodes) tag.now) }
 {
     tags.get(tag)

@@ -7,11 +7,11 @@ ghost use Rattle.std.specs.Prelude.{◌≡◌, nat_lt, filter, not, OnOk};
 ghost use Rattle.indexset.specs.Words.{items};
 
 use anyhow::{Context, Result, ensure};
-use bytes::ByteStr;
 use indexset::BTreeSet;
+use indexset::base::Text;
 
 /// When each name was seen, the oldest first.
-type Window = BTreeSet<(u64, ByteStr)>;
+type Window = BTreeSet<(u64, Text)>;
 
 fn main(rt: HostRuntime) -> Result<()> {
     let mut window = BTreeSet::new(rt.alloc())?;
@@ -41,7 +41,7 @@ fn obey(rt: &HostRuntime, window: &mut Window, line: &str) -> Result<()> {
 }
 
 fn see(rt: &HostRuntime, window: &mut Window, second: u64, name: &str) -> Result<()> {
-    window.insert((second, ByteStr::copy_from_str(rt.alloc(), name)?))?;
+    window.insert((second, Text::copied(rt.alloc(), name)?))?;
     expire(window, second.saturating_sub(59))?;
     println!(rt; "{name} at {second}: {} in a minute", window.len())?;
     Ok(())

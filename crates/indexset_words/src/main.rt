@@ -8,15 +8,15 @@ ghost use Rattle.std.specs.Ordering.{nat_cmp};
 ghost use Rattle.indexset.specs.Words.{put_value, value_of};
 
 use anyhow::Result;
-use bytes::ByteStr;
+use indexset::base::Text;
 use indexset::{BTreeMap, BTreeSet};
 use std::cmp::Reverse;
 
 /// How often each word came.
-type Counts = BTreeMap<ByteStr, u64>;
+type Counts = BTreeMap<Text, u64>;
 
 /// The words, the most frequent first.
-type Frequent = BTreeSet<(Reverse<u64>, ByteStr)>;
+type Frequent = BTreeSet<(Reverse<u64>, Text)>;
 
 fn main(rt: HostRuntime) -> Result<()> {
     let mut counts = BTreeMap::new(rt.alloc())?;
@@ -45,7 +45,7 @@ fn count(rt: &HostRuntime, counts: &mut Counts, word: &str) -> Result<()>
         *times = times.saturating_add(1);
         return Ok(());
     }
-    counts.insert(ByteStr::copy_from_str(rt.alloc(), word)?, 1)?;
+    counts.insert(Text::copied(rt.alloc(), word)?, 1)?;
     Ok(())
 }
 

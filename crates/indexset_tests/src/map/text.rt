@@ -1,13 +1,13 @@
 //! Look-ups by borrowed text.
 use super::put;
-use bytes::ByteStr;
 use indexset_core::probe::Counting;
+use indexset_core::text::Text;
 use indexset_core::text_probe::{ByStr, OnKey};
 use indexset_map::BTreeMap;
 use std::test::Fail;
 
 // The value of a name, and how many comparisons its look-up makes.
-fn value_of(map: &BTreeMap<ByteStr, u64>, name: &str) -> (Option<u64>, u64) {
+fn value_of(map: &BTreeMap<Text, u64>, name: &str) -> (Option<u64>, u64) {
     // Tells that the names ascend.
     let _len = map.len();
     let mut probe = Counting::new(OnKey::new(ByStr::new(name)));
@@ -16,11 +16,11 @@ fn value_of(map: &BTreeMap<ByteStr, u64>, name: &str) -> (Option<u64>, u64) {
 }
 
 // Whether the stored name and the value of a name are these.
-fn has_pair(map: &BTreeMap<ByteStr, u64>, name: &str, value: Option<u64>) -> bool {
+fn has_pair(map: &BTreeMap<Text, u64>, name: &str, value: Option<u64>) -> bool {
     // Tells that the names ascend.
     let _len = map.len();
     match map.get_key_value_by(&mut OnKey::new(ByStr::new(name))) {
-        Some((key, held)) => key.as_str() == name && Some(*held) == value,
+        Some((key, held)) => key.as_bytes() == name.as_bytes() && Some(*held) == value,
         None => value.is_none(),
     }
 }
@@ -29,7 +29,7 @@ fn has_pair(map: &BTreeMap<ByteStr, u64>, name: &str, value: Option<u64>) -> boo
 fn by_borrowed_text(rt: HostRuntime) -> Result<(), Fail> {
     let mut map = BTreeMap::with_maximum_node_size(rt.alloc(), 4)?;
     for (name, value) in [("plums", 7), ("apples", 5), ("pears", 3)] {
-        put(&mut map, ByteStr::from_static(name), value)?;
+        put(&mut map, Text::copied(rt.alloc(), name)?, value)?;
     }
     for (name, value) in [
         ("", None),

@@ -7,7 +7,7 @@ ghost use Rattle.std.specs.Ordering.{nat_cmp};
 ghost use Rattle.std.specs.declared.ops.Bound.TheVariants.{Included, Excluded, Unbounded};
 ghost use Rattle.indexset.specs.Words.{has_key, pair_keys, pair_values, pairs_within, put_value, set_value, value_of, without_key};
 
-use bytes::ByteStr;
+use indexset::base::Text;
 use indexset::base::refusal::{Refusal, Refused};
 use indexset::{BTreeMap, Entry};
 use std::alloc::{AllocError, Global};
@@ -86,14 +86,14 @@ pub fn known(map: &BTreeMap<u64, u64>, key: u64) -> u64
 }
 
 /// `map.get("pears")` where a key is an owned text.
-pub fn price(prices: &BTreeMap<ByteStr, u64>, name: &str) -> Option<u64>
+pub fn price(prices: &BTreeMap<Text, u64>, name: &str) -> Option<u64>
     ensures { result ≡ value_of (slice_cmp nat_cmp) prices.now.pairs name.now }
 {
     prices.get(name).copied()
 }
 
 /// `map.remove("pears")`.
-pub fn drop_price(prices: &mut BTreeMap<ByteStr, u64>, name: &str) -> Option<u64>
+pub fn drop_price(prices: &mut BTreeMap<Text, u64>, name: &str) -> Option<u64>
     ensures value { result ≡ value_of (slice_cmp nat_cmp) prices.old.pairs name.now }
     ensures rest { prices.new.pairs ≡ without_key (slice_cmp nat_cmp) prices.old.pairs name.now }
 {
@@ -101,7 +101,7 @@ pub fn drop_price(prices: &mut BTreeMap<ByteStr, u64>, name: &str) -> Option<u64
 }
 
 /// `map.range("e".."g")`.
-pub fn from_e_to_g(prices: &BTreeMap<ByteStr, u64>) -> usize
+pub fn from_e_to_g(prices: &BTreeMap<Text, u64>) -> usize
     ensures { result ≡ length (pairs_within (slice_cmp nat_cmp) prices.now.pairs
         (Included (101 ∷ [])) (Excluded (103 ∷ []))) }
 {
