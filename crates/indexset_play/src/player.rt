@@ -10,9 +10,11 @@
 //! In a sweep one request for memory is refused, and the player expects it. Where a call of the library is
 //! refused, the script is played anew up to that call, and both subjects must hold the same: what the call
 //! found. A call that leaves a prefix done is made up to there on the new one, part by part. Then the call is
-//! made again, and the script goes on, with the same answers.
+//! made again, and the script goes on, with the same answers. Where statements `leaves STATE` before the call
+//! name what it may leave, it must leave one of these states.
 
-use crate::script::{Stop, Subject, range, spell};
+use crate::script::{Stop, Subject, range};
+use crate::texts::Texts;
 use indexset_core::refusal::Refusal;
 use std::alloc::{AllocError, Global};
 use std::fmt::Display;
@@ -62,14 +64,6 @@ pub struct Script {
     statements: String,
 }
 
-/// The words of a statement, and what it answered.
-#[derive(Drop)]
-struct Texts {
-    call: String,
-    expected: String,
-    answer: String,
-}
-
 // Writes the statements of a line, each behind the line's number, with a number in place of each `@`.
 fn fill<D: Display>(
     statements: &mut String,
@@ -114,69 +108,6 @@ fn expand(statements: &mut String, number: usize, line: &str) -> Result<(), Stop
         fill(statements, number, rest, &each)?;
     }
     Ok(())
-}
-
-// The words, with the numbers of a range in its place.
-fn spell_all(text: &mut String, words: &str) -> Result<(), AllocError> {
-    text.clear();
-    if !words.contains('.') {
-        return text.push_str(words);
-    }
-    for word in words.split_whitespace() {
-        spell(text, word)?;
-    }
-    Ok(())
-}
-
-impl Texts {
-    fn new(alloc: Global) -> Texts {
-        Texts {
-            call: String::new(alloc),
-            expected: String::new(alloc),
-            answer: String::new(alloc),
-        }
-    }
-
-    // Takes the words of a statement over.
-    fn read(&mut self, statement: &str) -> Result<(), AllocError> {
-        let (call, expected) = statement.split_once("->").unwrap_or((statement, ""));
-        spell_all(&mut self.call, call)?;
-        spell_all(&mut self.expected, expected)
-    }
-
-    // Makes the call, and keeps its answer; whether memory was refused to it.
-    fn perform<S: Subject>(&mut self, subject: &mut S) -> Result<bool, Stop> {
-        self.answer.clear();
-        let mut words = self.call.split_whitespace();
-        let mut name = words.next().unwrap_or("");
-        if name == "bare" {
-            name = words.next().unwrap_or("");
-        }
-        match subject.call(name, &mut words, &mut self.answer) {
-            Ok(()) if words.next().is_none() => Ok(false),
-            Ok(()) => Err(Stop::Word),
-            Err(Stop::Refused(cause)) => {
-                write!(self.answer, " refused {cause:?}")?;
-                Ok(cause == Refusal::Memory)
-            }
-            Err(stop) => Err(stop),
-        }
-    }
-
-    fn is_expected(&self) -> bool {
-        if self.answer.as_str() == self.expected.as_str() {
-            return true;
-        }
-        let answer = self.answer.split_whitespace();
-        answer.eq(self.expected.split_whitespace())
-    }
-
-    // Has the subject do the part of the call of this number.
-    fn part<S: Swept>(&self, subject: &mut S, number: usize) -> Result<bool, Stop> {
-        let mut words = self.call.split_whitespace();
-        let name = words.next().unwrap_or("");
-        subject.part(name, &mut words, number)
-    }
 }
 
 // What a subject holds.
@@ -310,15 +241,18 @@ impl Script {
     ) -> Result<bool, Stop> {
         let (_, statement) = line.split_once(' ').unwrap_or(("", line));
         texts.read(statement)?;
-        let is_refused = texts.perform(subject)?;
-        if !is_refused || !self.may_refuse(texts) {
+        if texts.take_state()? {
             return Ok(false);
         }
-        if !self.is_left(subject, texts, size, count)? {
-            return Err(Stop::Otherwise);
+        let is_refused = texts.perform(subject)? && self.may_refuse(texts);
+        if is_refused {
+            if !self.is_left(subject, texts, size, count)? {
+                return Err(Stop::Otherwise);
+            }
+            texts.perform(subject)?;
         }
-        texts.perform(subject)?;
-        Ok(true)
+        texts.forget_states();
+        Ok(is_refused)
     }
 
     // Whether the call of a statement may be refused memory.
@@ -326,7 +260,8 @@ impl Script {
         self.is_swept && !texts.call.trim().starts_with("bare ") && !texts.is_expected()
     }
 
-    // Whether a refused call left what it found, or did a part of what it does.
+    // Whether a refused call left a state that is named; where none is, whether it left what it found, or did a
+    // part of what it does.
     fn is_left<S: Swept>(
         &self,
         subject: &S,
@@ -335,6 +270,9 @@ impl Script {
         count: usize,
     ) -> Result<bool, Stop> {
         let left = shown(self.alloc, subject)?;
+        if texts.has_states() {
+            return Ok(texts.is_named(left.as_str()));
+        }
         let mut fresh: S = self.replay(size, count)?;
         for number in 0..usize::MAX {
             let is_same = shown(self.alloc, &fresh)?.as_str() == left.as_str();
@@ -356,7 +294,9 @@ impl Script {
         for line in self.statements.lines().take(count) {
             let (_, statement) = line.split_once(' ').unwrap_or(("", line));
             texts.read(statement)?;
-            texts.perform(&mut subject)?;
+            if !texts.take_state()? {
+                texts.perform(&mut subject)?;
+            }
         }
         Ok(subject)
     }
