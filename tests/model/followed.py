@@ -23,11 +23,22 @@ class Followed(Subject):
         self.tree, self.replica = Tree(size), Replica()
         self.events: Events = []
         self.followed = 0
+        self.clones: int | None = None
+
+    def perform(self, name: str, words: Words) -> str | None:
+        """What a call returns. The events of one that returns them hold clones of items."""
+        if name != "run" and "_cdc" not in name:
+            return super().perform(name, words)
+        self.tree.clones = self.clones
+        try:
+            return super().perform(name, words)
+        finally:
+            self.clones, self.tree.clones = self.tree.clones, None
 
     def common(self) -> Sequence[Group]:
         """The groups of calls that all logged subjects have."""
         return (self.make, self.tell, self.tell_nodes, self.tell_all, self.range, self.at_positions,
-                self.change_copy, self.tell_copy, self.read_copy, self.run, self.briefly)  # fmt: skip
+                self.change_copy, self.tell_copy, self.read_copy, self.run, self.briefly, self.metered)  # fmt: skip
 
     def text(self, item: Item | None) -> str:
         """The text of an item, or `none`."""
@@ -250,3 +261,15 @@ class Followed(Subject):
         if name == "numbers":
             return " ".join([answer, *(event.split()[0] for event in events)])
         return f"{answer} {len(events)}" if name == "count" else answer
+
+    def metered(self, name: str, words: Words) -> str | None:
+        """Says how many clones can be made, or makes a call of which the comparisons are counted."""
+        match name:
+            case "clones":
+                self.clones = read_natural(one(words))
+                return ""
+            case "within":
+                read_natural(words[0])
+                return self.perform(words[1], words[2:])
+            case _:
+                return None

@@ -19,11 +19,15 @@ from nodes import target_of, with_put, with_removal
 
 @dataclass
 class Tree:
-    """A tree of nodes of at most `size` items, whose next event has the number `next`."""
+    """A tree of nodes of at most `size` items, whose next event has the number `next`.
+
+    `clones` is how many clones of items its events may still take, or none where they may take any number.
+    """
 
     size: int
     next: int = 0
     nodes: Nodes = field(default_factory=list)
+    clones: int | None = None
 
     @property
     def items(self) -> list[Item]:
@@ -36,9 +40,19 @@ class Tree:
         assert is_node_list(nodes) and max(map(len, nodes), default=0) <= self.size
         if self.next + len(events) > LARGEST:
             raise Refused("Numbers")
+        self.take_clones(sum(event.item_count() for event in events))
         numbered = list(enumerate(events, self.next))
         self.nodes, self.next = nodes, self.next + len(events)
         return numbered
+
+    def take_clones(self, count: int) -> None:
+        """Takes clones of items, one after another, up to the first that fails."""
+        if self.clones is None:
+            return
+        is_refused = self.clones < count
+        self.clones = max(self.clones - count, 0)
+        if is_refused:
+            raise Refused("Memory")
 
     def put(self, item: Item) -> tuple[Item | None, Events]:
         """Puts an item; the equal one that it replaces, and the events."""

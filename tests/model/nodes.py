@@ -28,6 +28,10 @@ class Event:
     item: Item | None = None
     index: int = 0
 
+    def item_count(self) -> int:
+        """How many items it holds."""
+        return 1 if self.item is None else 2
+
     def write(self, number: int, spelling: Spelling) -> str:
         """The text of the event with its number."""
         words = [str(number), self.kind, spelling.write(self.last)]

@@ -16,7 +16,7 @@ from sets import Sets
 
 def subject_of(name: str, size: int) -> Subject | None:
     """The subject of a name, over nodes of any kind, if the model has one."""
-    match name.partition("+")[0].removeprefix("owned_"):
+    match name.partition("+")[0].removeprefix("owned_").removeprefix("metered_"):
         case "set" | "tagged_set" as kind:
             return Sets(size, NUMBERS if kind == "set" else PAIRS)
         case "map" | "letter_map" | "tagged_map" as kind:

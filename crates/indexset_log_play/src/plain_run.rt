@@ -1,6 +1,8 @@
 //! Scripts of lists of commands to the plain set and the plain map.
 
+use crate::brief::Metering;
 use crate::item::{Item, Source};
+use crate::meter::Meter;
 use crate::partial::Partial;
 use crate::run::{read_command, read_commands, skip_words, tell_replies, words_left};
 use indexset_bench::map_run::{MapCommand, run_map};
@@ -90,6 +92,12 @@ impl<T: Item> Swept for SetRuns<T> {
     }
 }
 
+impl<T: Item> Metering for SetRuns<T> {
+    fn meter(&self) -> &Meter {
+        &self.source.meter
+    }
+}
+
 /// A map that takes lists of commands.
 #[derive(Drop)]
 pub struct MapRuns<K: Item> {
@@ -164,5 +172,11 @@ impl<K: Item> Swept for MapRuns<K> {
             None => Ok(is_one),
             Some(cause) => Err(Stop::Refused(cause)),
         }
+    }
+}
+
+impl<K: Item> Metering for MapRuns<K> {
+    fn meter(&self) -> &Meter {
+        &self.source.meter
     }
 }
