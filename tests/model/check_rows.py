@@ -39,8 +39,6 @@ def compare(count: Count, place: str, name: str, size: int, statements: list[Sta
     for done, statement in enumerate(statements):
         try:
             words = [statement.name, *statement.words]
-            if words[0] == "leaves":  # (a state after a failure, of which the model has none)
-                continue
             words = words[1:] if words[0] == "bare" else words
             answer = "" if subject is None else subject.answer(words[0], words[1:])
         except Unfixed:

@@ -9,7 +9,7 @@ from definitions import read_bound
 from items import DEFAULT_SIZE, PAIRS, Item, read_natural
 from language import Group, NoCall, Refused, Subject, Words, one, shown
 from lending import Form, insert, write
-from plain import Plain
+from plain import Plain, is_partly_appended
 from walks import NONE, follow, walk
 
 
@@ -102,6 +102,8 @@ class Maps(Subject):
                 self.other = self.map.split_off(self.form.read_key(one(words)))
             case "append":
                 self.map.append(self.other)
+            case "leaves":
+                return "" if is_partly_appended(self.map, self.other, words, PAIRS) else "nothing appends so"
             case "extend":
                 for word in words:
                     insert(self.map, self.form, PAIRS.read(word))

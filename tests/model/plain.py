@@ -9,12 +9,12 @@ any cut. An emptied node goes. What `split_off` returns and what `from_sorted` m
 from __future__ import annotations
 
 from bisect import bisect_left
-from collections.abc import Callable, Iterable, Sequence
+from collections.abc import Callable, Iterable, Iterator, Sequence
 from dataclasses import dataclass, field
 
 from definitions import digits, equal_to, is_ascending, joined, keep, put, rank, without
-from items import Item, order
-from language import Unfixed
+from items import Item, Spelling, order
+from language import Unfixed, Words
 from nodes import Node, Nodes, end_of
 
 
@@ -121,6 +121,18 @@ class Plain:
             self.replace(item)
         other.clear()
 
+    def partly_appended(self, other: Plain) -> Iterator[tuple[Plain, Plain]]:
+        """The two collections as an `append` that fails may leave them: some of the first items moved."""
+        here, there = self.copy(), other.copy()
+        for item in other.items:
+            yield here.copy(), there.copy()
+            here.replace(item)
+            there.remove(item)
+
+    def text(self, spelling: Spelling) -> str:
+        """The node size, and the items with a bar between two nodes."""
+        return f"of {self.size}: " + " | ".join(map(spelling.write_all, self.fixed_nodes()))
+
     def clear(self) -> None:
         """Removes all items, and keeps one node."""
         self.items, self.nodes = [], [[]]
@@ -152,3 +164,9 @@ def inserted(size: int, items: Iterable[Item]) -> Plain:
     for item in items:
         made.insert(item)
     return made
+
+
+def is_partly_appended(here: Plain, there: Plain, words: Words, spelling: Spelling) -> bool:
+    """Whether the words are what an `append` that fails may leave of two collections."""
+    states = (left.text(spelling) + " " + right.text(spelling) for left, right in here.partly_appended(there))
+    return words in map(str.split, states)

@@ -9,7 +9,7 @@ from definitions import bounds_are_ordered, equal_to, in_positions, in_range, is
 from definitions import read_bound
 from items import DEFAULT_SIZE, NUMBERS, Item, Spelling, order, read_natural
 from language import Group, NoCall, Refused, Subject, Words, one, shown
-from plain import Plain, inserted
+from plain import Plain, inserted, is_partly_appended
 from walks import NONE, follow, walk
 
 
@@ -91,6 +91,8 @@ class Sets(Subject):
                 self.other = self.set.split_off_index(place)
             case "append":
                 self.set.append(self.other)
+            case "leaves":
+                return "" if is_partly_appended(self.set, self.other, words, self.spelling) else "nothing appends so"
             case "extend":
                 for item in self.items_of(words):
                     self.set.insert(item)
