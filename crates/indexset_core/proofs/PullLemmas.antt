@@ -1,8 +1,8 @@
--- Pulls of a walk from both ends.
-use Rattle.std.proofs.Common.{◌≡◌, ◌-◌, Bool, true, false, List, [], ◌∷◌, ◌++◌, length, Option, None, Some, ap, sym, ◌∙◌, arith, append_assoc, length-append}
+-- Calls of `next` and `next_back` of an iterator.
+use Rattle.std.proofs.Common.{◌≡◌, ◌-◌, Bool, true, false, List, [], ◌∷◌, ◌++◌, length, Option, None, Some, ap, sym, refl, ◌∙◌, arith, append_assoc, length-append}
 use Rattle.std.proofs.lemmas.List.{append-nil}
 use Rattle.std.specs.Map.Iter.{TakesFirst, TakesLast}
-use Rattle.indexset_set.specs.SetWalks.{Pulls, given_in_front, given_at_back}
+use Rattle.indexset_core.specs.Pulls.{IsWalk, Pulls, given_in_front, given_at_back}
 
 module _ {A X : Type 0} (shows : A → X) where
   abbrev Parts : List Bool → List (Option A) → List X → List X → Type 0
@@ -42,3 +42,20 @@ module _ {A X : Type 0} (shows : A → X) where
   ends_at_last (end ∷ ends) s t [] h = absurd h
   ends_at_last (true ∷ ends) s t (r ∷ rs) h = omega (arith, ends_at_last ends h.0 t rs h.2, one_less r s h.0 h.1)
   ends_at_last (false ∷ ends) s t (r ∷ rs) h = omega (arith, ends_at_last ends h.0 t rs h.2, one_less_back r s h.0 h.1)
+
+  none_left : (r : Option A) (t : List X) → TakesFirst shows [] r t → (r ≡ None) × (t ≡ [])
+  none_left None t h = (refl, h.1)
+  none_left (Some x) t h = absurd (cc h)
+
+  none_left_behind : (r : Option A) (t : List X) → TakesLast shows [] r t → (r ≡ None) × (t ≡ [])
+  none_left_behind None t h = (refl, h.1)
+  none_left_behind (Some x) t h = absurd (omega (arith, long h, length-append t (shows x ∷ [])))
+
+  -- an iterator that yields its items in order, from both ends, is a walk
+  pub is_walk : IsWalk shows (TakesFirst shows) (TakesLast shows)
+  is_walk = record {
+    each_once = λ ends s t rs turns. each_once ends s t rs turns;
+    ends = λ ends s t rs turns. ends_at_last ends s t rs turns;
+    fused = λ r t h. none_left r t h;
+    fused_back = λ r t h. none_left_behind r t h;
+  }

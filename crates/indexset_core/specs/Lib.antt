@@ -7,6 +7,7 @@ pub mod Order
 pub mod Pairs
 pub mod Parted
 pub mod Places
+pub mod Pulls
 pub mod Refusal
 pub mod Sought
 pub mod Tally

@@ -19,4 +19,3 @@ pub mod SetRunLemmas
 pub mod SetSortLemmas
 pub mod SetUpperLemmas
 pub mod SetValueLemmas
-pub mod SetWalkLemmas

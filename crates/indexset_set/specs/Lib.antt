@@ -8,4 +8,3 @@ pub mod SetNodes
 pub mod SetPairs
 pub mod SetProbes
 pub mod SetRanges
-pub mod SetWalks

@@ -37,6 +37,24 @@ impl<'a, T> Iter<'a, T> {
     }
 }
 
+impl<'a, T: Ord> Iter<'a, T> {
+    /// Returns a double-ended iterator over the elements of a set, in ascending order.
+    ///
+    /// ```
+    /// # use indexset::Iter;
+    /// let set = BTreeSet::from_iter(alloc, [30, 10, 20])?;
+    /// assert!(rt; Iter::new(&set).copied().eq([10, 20, 30]));
+    /// ```
+    pub fn new(set: &'a BTreeSet<T>) -> Self
+        ensures rest { result ≡ items set.now }
+        ensures ascending { IsAscending T.cmp result }
+        ensures runs { ShowsInOrder (deref {X = T}) }
+        ensures runs_back { ShowsInReverse (deref {X = T}) }
+    {
+        Iter::of(set.spine.iter())
+    }
+}
+
 impl<'a, T> Iterator for Iter<'a, T> {
     type Item = &'a T;
 
@@ -86,7 +104,7 @@ impl<T: Ord> BTreeSet<T> {
         ensures runs { ShowsInOrder (deref {X = T}) }
         ensures runs_back { ShowsInReverse (deref {X = T}) }
     {
-        Iter::of(self.spine.iter())
+        Iter::new(self)
     }
 }
 

@@ -12,25 +12,44 @@ ghost use Rattle.indexset_core.specs.Bounds.{in_positions, is_at_position};
 ghost use Rattle.indexset_core.specs.Order.{IsAscending, below, has_equal};
 ghost use Rattle.indexset_set.specs.SetAlgebra.{difference, intersection, symmetric_difference, union};
 ghost use Rattle.indexset_set.specs.SetRanges.{not_below};
-ghost use Rattle.indexset_set.specs.SetWalks.{Pulls, given_at_back, given_in_front};
+ghost use Rattle.indexset_core.specs.Pulls.{IsWalk, Pulls, given_at_back, given_in_front};
+
+use crate::iter::{IntoIter, Iter};
 
 /// Whatever calls of `next` and `next_back`, what an iterator yielded in front, what remains and
-/// what it yielded at the back are its list: it yields each item once.
-pub fn a_walk_gives_each_item_once<T>()
-    ensures { (ends : List Bool) (s t : List T) (rs : List (Option _)) → Pulls deref ends s rs t
-        → s ≡ given_in_front deref ends rs ++ (t ++ given_at_back deref ends rs) }
+/// what it yielded at the back are its list: it yields each item once. `shows` is what an item
+/// stands for: what a reference points to, the pair of two references, or itself.
+pub fn a_walk_gives_each_item_once<A, X>()
+    ensures { (shows : A → X) (ends : List Bool) (s t : List X) (rs : List (Option A))
+        → Pulls shows ends s rs t
+        → s ≡ given_in_front shows ends rs ++ (t ++ given_at_back shows ends rs) }
 {}
 
 /// Each call leaves one item less, until none remains.
-pub fn a_walk_ends<T>()
-    ensures { (ends : List Bool) (s t : List T) (rs : List (Option _)) → Pulls deref ends s rs t
-        → length t ≡ length s - length ends }
+pub fn a_walk_ends<A, X>()
+    ensures { (shows : A → X) (ends : List Bool) (s t : List X) (rs : List (Option A))
+        → Pulls shows ends s rs t → length t ≡ length s - length ends }
 {}
 
 /// With no item remaining, `next` and `next_back` return `None`: the iterator is fused.
-pub fn a_walk_stays_at_its_end<T>()
-    ensures first { (r : Option _) (t : List T) → TakesFirst deref [] r t → (r ≡ None) × (t ≡ []) }
-    ensures last { (r : Option _) (t : List T) → TakesLast deref [] r t → (r ≡ None) × (t ≡ []) }
+pub fn a_walk_stays_at_its_end<A, X>()
+    ensures first { (shows : A → X) (r : Option A) (t : List X) → TakesFirst shows [] r t
+        → (r ≡ None) × (t ≡ []) }
+    ensures last { (shows : A → X) (r : Option A) (t : List X) → TakesLast shows [] r t
+        → (r ≡ None) × (t ≡ []) }
+{}
+
+/// An iterator over a set or a range of one yields each element once, whatever calls of `next` and
+/// `next_back`, and then `None`.
+pub fn shared_iterators_yield_each_element_once<'a, T: 'a>()
+    ensures { IsWalk deref ⟦<Iter<'a, T> as Iterator>⟧.next_gives
+        ⟦<Iter<'a, T> as DoubleEndedIterator>⟧.next_back_gives }
+{}
+
+/// So does an iterator that owns the elements.
+pub fn owning_iterators_yield_each_element_once<T: Drop>()
+    ensures { IsWalk (λ x. x) ⟦<IntoIter<T> as Iterator>⟧.next_gives
+        ⟦<IntoIter<T> as DoubleEndedIterator>⟧.next_back_gives }
 {}
 
 /// The part between two positions is the elements at the positions that satisfy both bounds.

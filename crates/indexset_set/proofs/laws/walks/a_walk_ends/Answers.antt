@@ -1,6 +1,5 @@
-use Rattle.std.specs.Map.Iter.{deref}
-use Rattle.indexset_set.proofs.SetWalkLemmas.{ends_at_last}
+use Rattle.indexset_core.proofs.PullLemmas.{ends_at_last}
 use Rattle.indexset_set.proofs.laws.walks.a_walk_ends.Goals as goal
 
 pub returns : goal.returns
-returns g c = λ ends s t rs turns. ends_at_last deref ends s t rs turns
+returns g c = λ shows ends s t rs turns. ends_at_last shows ends s t rs turns
