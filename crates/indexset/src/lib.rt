@@ -5,8 +5,9 @@
 //! and [`BTreeMap`] with their types stand at the root, the logged set, map and multimap in
 //! [`concurrent`], their events in [`cdc`], what both families use in [`base`], look-ups by
 //! borrowed text in [`text`], and the replica that follows a tree by its events in [`replica`];
-//! laws of sets are in [`laws`]. `Rattle.indexset.specs.Words` has the words of its contracts, and
-//! `docs/CALLING.md` is the page for callers.
+//! laws of sets are in [`laws`], of iterators over maps in [`map_laws`].
+//! `Rattle.indexset.specs.Words` has the words of its contracts, and `docs/CALLING.md` is the page
+//! for callers.
 #![tactic(auto)]
 
 /// What the collections are made of.
@@ -23,21 +24,22 @@ pub mod base {
 pub mod concurrent {
     /// The logged set, its iterators, and its nodes.
     pub mod set {
-        pub use indexset_log::set::BTreeSet;
         pub use indexset_log::set::iter::Iter;
         pub use indexset_log::set::nodes::Nodes;
         pub use indexset_log::set::range::Range;
+        pub use indexset_log::set::{BTreeSet, laws};
     }
 
     /// The logged map and its iterators.
     pub mod map {
-        pub use indexset_log::map::BTreeMap;
         pub use indexset_log::map::iter::Iter;
         pub use indexset_log::map::range::Range;
+        pub use indexset_log::map::{BTreeMap, laws};
     }
 
     /// The multimap and its iterators.
     pub mod multimap {
+        pub use indexset_multi::laws;
         pub use indexset_multi::multimap::BTreeMultiMap;
         pub use indexset_multi::multimap::iter::Iter;
         pub use indexset_multi::multimap::range::{Range, RawRange};
@@ -63,7 +65,7 @@ pub use indexset_core::bounds::Bounds;
 pub use indexset_core::positions::Positions;
 pub use indexset_map::{
     BTreeMap, CursorMap, Entry, ExtractIfMap, IntoIterMap, IntoKeys, IntoValues, IterMap, IterMut,
-    Keys, OccupiedEntry, RangeMap, RangeMut, VacantEntry, Values, ValuesMut,
+    Keys, OccupiedEntry, RangeMap, RangeMut, VacantEntry, Values, ValuesMut, laws as map_laws,
 };
 pub use indexset_set::{
     BTreeSet, Cursor, Difference, ExtractIf, Intersection, IntoIter, Iter, Range,

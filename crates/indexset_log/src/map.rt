@@ -15,6 +15,7 @@ ghost use Rattle.indexset_core.specs.Places.{located};
 
 mod ends;
 pub mod iter;
+pub mod laws;
 mod positions;
 mod put;
 pub mod range;

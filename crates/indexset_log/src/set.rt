@@ -14,6 +14,7 @@ mod attach;
 mod ends;
 mod from_nodes;
 pub mod iter;
+pub mod laws;
 mod make;
 pub mod nodes;
 mod positions;

@@ -7,4 +7,5 @@
 //! `ends`, iterators in `iter` and `range`. Its events are those of the set's puts and removals.
 #![tactic(auto)]
 
+pub mod laws;
 pub mod multimap;

@@ -1,0 +1,19 @@
+//! Laws of the iterators over a logged map. Each function does nothing; its contract is the law.
+ghost use Rattle.indexset_core.specs.Pairs.{pair_shown};
+ghost use Rattle.indexset_core.specs.Pulls.{IsWalk};
+
+use super::iter::Iter;
+use indexset_core::node::NodeLike;
+use indexset_core::pair::Pair;
+
+/// An iterator over a logged map or over a range of one yields each pair once, whatever calls of
+/// `next` and `next_back`, and then `None`.
+pub fn iterators_yield_each_pair_once<
+    'a,
+    K: Ord + Clone + Drop + 'a,
+    V: Clone + Drop + 'a,
+    Node: NodeLike<Pair<K, V>> + 'a,
+>()
+    ensures { IsWalk pair_shown ⟦<Iter<'a, K, V, Node> as Iterator>⟧.next_gives
+        ⟦<Iter<'a, K, V, Node> as DoubleEndedIterator>⟧.next_back_gives }
+{}

@@ -1,0 +1,25 @@
+//! Laws of the iterators over a multimap. Each function does nothing; its contract is the law.
+ghost use Rattle.indexset_core.specs.Pairs.{pair_shown};
+ghost use Rattle.indexset_core.specs.Pulls.{IsWalk};
+ghost use Rattle.indexset_multi.specs.Keys.{number_shown};
+
+use crate::multimap::iter::Iter;
+use crate::multimap::range::{Range, RawRange};
+use indexset_core::multipair::MultiPair;
+use indexset_core::node::NodeLike;
+
+/// An iterator over the pairs of a multimap, of a range of one or of a key yields each once,
+/// whatever calls of `next` and `next_back`, and then `None`.
+pub fn iterators_yield_each_pair_once<
+    'a,
+    K: Ord + Clone + Drop + 'a,
+    V: Eq + Clone + Drop + 'a,
+    Node: NodeLike<MultiPair<K, V>> + 'a,
+>()
+    ensures pairs { IsWalk pair_shown ⟦<Iter<'a, K, V, Node> as Iterator>⟧.next_gives
+        ⟦<Iter<'a, K, V, Node> as DoubleEndedIterator>⟧.next_back_gives }
+    ensures range { IsWalk pair_shown ⟦<Range<'a, K, V, Node> as Iterator>⟧.next_gives
+        ⟦<Range<'a, K, V, Node> as DoubleEndedIterator>⟧.next_back_gives }
+    ensures raw_range { IsWalk number_shown ⟦<RawRange<'a, K, V, Node> as Iterator>⟧.next_gives
+        ⟦<RawRange<'a, K, V, Node> as DoubleEndedIterator>⟧.next_back_gives }
+{}
