@@ -1,5 +1,5 @@
 //! The nodes of a set.
-ghost use Rattle.std.specs.Prelude.{◌≡◌, ◌≤◌, length, List, map, IfSome, Some};
+ghost use Rattle.std.specs.Prelude.{◌≡◌, ◌≤◌, length, List, map, min, sum_by, IfSome, Some};
 ghost use Rattle.std.specs.Iterator.{UpTo, at_most};
 ghost use Rattle.std.specs.Iterator.SizeHint.{IsWithinCount};
 ghost use Rattle.std.specs.Map.Iter.{TakesFirst, TakesLast, ShowsInOrder, ShowsInReverse, deref};
@@ -39,6 +39,21 @@ impl<'a, Node> Nodes<'a, Node> {
         ensures { result.now ≡ self.now }
     {
         self.rest.as_slice()
+    }
+
+    /// Returns how many items the remaining nodes have room for: the sum of their capacities, which
+    /// stops at `usize::MAX`. Of all nodes of a tree it is what the tree's `capacity` returns.
+    ///
+    /// ```
+    /// let tree: set::BTreeSet<u64, Vec<u64>> = set::BTreeSet::from_iter(alloc, [5, 10, 15])?;
+    /// assert!(rt; tree.iter_nodes().capacity::<u64>() == tree.capacity());
+    /// ```
+    pub fn capacity<T: Ord + Drop>(&self) -> usize
+    where
+        Node: NodeLike<T>,
+        ensures { result ≡ min usize.MAX (sum_by Node.room self.now) }
+    {
+        capacity_of(self.as_slice())
     }
 }
 
