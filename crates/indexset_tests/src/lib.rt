@@ -19,6 +19,8 @@ mod map;
 #[cfg(test)]
 mod multimap;
 #[cfg(test)]
+mod names;
+#[cfg(test)]
 mod paths;
 #[cfg(test)]
 mod probe;
