@@ -1,7 +1,7 @@
 -- What the result of a failed call says, and what it is not.
-use Rattle.std.proofs.Common.{◌≡◌, ◌⊎◌, true, Result, Ok, Err, OnOk, refl, ap, subst, inl, inr}
+use Rattle.std.proofs.Common.{◌≡◌, ◌⊎◌, true, Result, Ok, Err, OnOk, refl, ap, inl, inr}
 use Rattle.std.proofs.lemmas.Bool.{false≢true}
-use Rattle.std.specs.Result.{IsErr, IsErrAnd, MatchResult, is_err}
+use Rattle.std.specs.Result.{IsErr, IsErrAnd, is_err}
 use Rattle.indexset_lines.specs.declared.fault.RunFault.{RunFault}
 use Rattle.indexset_lines.specs.declared.fault.RunFault.TheVariants.{Memory, Numbers, Read, Write}
 

@@ -3,4 +3,3 @@ pub mod Faults
 pub mod Lines
 pub mod Pieces
 pub mod Runs
-pub mod Sought

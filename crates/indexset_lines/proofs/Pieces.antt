@@ -1,13 +1,14 @@
 -- How a line is read, piece by piece.
-use Rattle.std.proofs.Common.{Option, true, false, cond, None, Some, IfSome, OnSome, ◌≡◌, ◌≢◌, ℕ, ◌==◌, not, ◌+◌, ◌<◌, ◌≤◌, List, [], ◌∷◌, ◌++◌, length, take, get_or, refl, sym, ap, subst, ◌∙◌, arith, append_assoc, append-nil, eq-eqb, eqb-true, true≢false, length-take-le, get_or-take}
+use Rattle.std.proofs.Common.{Option, true, false, cond, None, Some, IfSome, OnSome, ◌≡◌, ◌≢◌, ℕ, suc, ◌==◌, not, ◌||◌, ◌+◌, ◌<◌, ◌≤◌, List, [], ◌∷◌, ◌++◌, length, take, get_or, refl, sym, ap, subst, ◌∙◌, arith, rules, append_assoc, append-nil, eq-eqb, eqb-true, true≢false, length-take-le, get_or-take}
 use Rattle.std.proofs.lemmas.List.{take_more}
 use Rattle.std.proofs.lemmas.List.Elements.{All-append, All-from_get_or}
+use Rattle.std.proofs.lemmas.List.Folds.{list_any-append}
 use Rattle.std.proofs.lemmas.List.Sums.{fails_before_first, passes_at_first, prefix_len-le-length}
 use Rattle.std.proofs.KnownBytes.{Consumes-kept, Consumes-nil, Consumes-trans}
 use Rattle.std.proofs.Transfers.{starts_with_length}
-use borrow.Author.Tests.{ltb-false}
+use Rattle.std.proofs.lemmas.Bool.{ltb-false}
 use Rattle.std.specs.Prelude.{Bool, nat_lt, unwrap_or}
-use Rattle.std.specs.List.{position, position_or_len}
+use Rattle.std.specs.List.{list_any, position, position_or_len}
 use Rattle.std.specs.Io.{StartsWith}
 use Rattle.std.specs.Io.KnownBytes.{Consumes, IsAtEnd, Keeps}
 use Rattle.indexset_lines.specs.declared.line.Part.{Part}
@@ -27,6 +28,20 @@ position-or_len p xs = at (nat_lt (position_or_len p xs) (length xs)) refl
         let past = ltb-false (position_or_len p xs) (length xs) e in
         let within = prefix_len-le-length (λ x. not (p x)) xs in
         omega arith
+
+module _ {X : Type 0} (p : X → Bool) where
+  -- no element of a concatenation passes if none of either part does
+  pub none_in_both : (xs ys : List X) → list_any p xs ≡ false → list_any p ys ≡ false → list_any p (xs ++ ys) ≡ false
+  none_in_both xs ys none also = list_any-append p xs ys ∙ rw (none, also) refl
+
+  step : (b c : Bool) (n m l : ℕ) → (b || c) ≡ false → (c ≡ false → n ≡ l + m) → cond (not b) (1 + n) 0 ≡ suc l + m
+  step false c n m l none more = omega (arith, more none)
+  step true c n m l none more = absurd (cc)
+
+  -- the first that passes is behind a part of which none does
+  pub position_or_len-behind : (xs ys : List X) → list_any p xs ≡ false → position_or_len p (xs ++ ys) ≡ length xs + position_or_len p ys
+  position_or_len-behind [] ys none = search rules
+  position_or_len-behind (x ∷ xs) ys none = step (p x) (list_any p xs) _ _ (length xs) none (position_or_len-behind xs ys)
 
 module _ (shown : List ℕ) (n : ℕ) (first : n ≡ position_or_len (λ b. b == 10) shown) where
   pub first_end_within : n ≤ length shown

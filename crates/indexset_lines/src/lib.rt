@@ -1,10 +1,9 @@
 //! Lines: read from a reader, answered one after another, and what ends such a run.
 //!
-//! [`line`] reads lines, [`run`] has each answered by what implements [`Answers`], [`RunFault`]
-//! says what ended a run before its input did, and [`bytes`] seeks within a line.
+//! [`line`] reads lines, [`run`] has each answered by what implements [`Answers`], and [`RunFault`]
+//! says what ended a run before its input did.
 #![tactic(auto)]
 
-pub mod bytes;
 mod fault;
 pub mod line;
 pub mod output;

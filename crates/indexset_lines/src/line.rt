@@ -1,12 +1,11 @@
 //! Lines of a reader.
 
-ghost use Rattle.std.specs.Prelude.{◌⊎◌, ◌≡◌, ◌≢◌, ◌==◌, ◌+◌, ◌<◌, length, vec_len, vec_capacity, false, Ok, Err, IfOk, IfErr, IfSome, OnErr, OnSome, IsTrue};
-ghost use Rattle.std.specs.List.{position_or_len};
+ghost use Rattle.std.specs.Prelude.{◌⊎◌, ◌≡◌, ◌≢◌, ◌==◌, ◌+◌, ◌<◌, ◌≤◌, length, vec_len, vec_capacity, false, Ok, Err, IfOk, IfErr, IfSome, OnErr, OnSome, IsTrue};
+ghost use Rattle.std.specs.List.{position, position_or_len};
 ghost use Rattle.std.specs.Io.KnownBytes.{IsAtEnd, Keeps};
 ghost use Rattle.indexset_lines.specs.Lines.{HasNoEnd};
 ghost use Rattle.indexset_lines.specs.Reading.{Reads, Stops, TakesPiece};
 
-use crate::bytes::first_place;
 use crate::fault::RunFault;
 use crate::output::flush;
 use std::io::{BufRead, ErrorKind, Write};
@@ -91,11 +90,31 @@ fn take_piece<R: BufRead>(reader: &mut R, line: &mut Vec<u8>) -> Result<Option<P
     }
 }
 
-/// Returns how many bytes are before the first line end.
+/// Returns how many bytes are before the first line end. It skips blocks of 32 bytes that have
+/// none, since `contains` compiles to vector instructions and `position` does not.
 fn line_len(bytes: &[u8]) -> usize
     ensures { result ≡ position_or_len (λ b. b == 10) bytes.now }
 {
-    first_place(bytes, b'\n').unwrap_or(bytes.len())
+    let mut skipped = 0;
+    while bytes.len() - skipped >= 32 && !bytes[skipped..skipped + 32].contains(&b'\n') {
+        skipped += 32;
+    }
+    skipped + line_len_bytewise(&bytes[skipped..])
+}
+
+/// Returns the same, a byte at a time.
+fn line_len_bytewise(bytes: &[u8]) -> usize
+    ensures value { result ≡ position_or_len (λ b. b == 10) bytes.now }
+    ensures within { result ≤ length bytes.now }
+{
+    first_line_end(bytes).unwrap_or(bytes.len())
+}
+
+/// Returns the index of the first line end.
+fn first_line_end(bytes: &[u8]) -> Option<usize>
+    ensures { result ≡ position (λ b. b == 10) bytes.now }
+{
+    bytes.iter().position(|b| *b == b'\n')
 }
 
 /// Returns whether nothing remains to read.
