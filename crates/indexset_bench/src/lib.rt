@@ -10,6 +10,7 @@
 
 pub mod command;
 pub mod command_run;
+mod digits;
 pub mod key;
 pub mod laws;
 pub mod logged;

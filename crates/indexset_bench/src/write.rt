@@ -6,6 +6,7 @@ ghost use Rattle.std.specs.Io.KnownBytes.{Appends};
 ghost use Rattle.indexset_bench.specs.Pairs.{echo_text, reply_ended};
 ghost use Rattle.indexset_bench.specs.PairText.{ended, event_head, event_text, lines_for, node_text, pair_text};
 
+use crate::digits::fill_decimal;
 use crate::key::Key;
 use crate::pair_text::{EventText, PairText};
 use crate::pairs::Pairs;
@@ -13,7 +14,6 @@ use crate::reply::Reply;
 use indexset_core::pair::Pair;
 use indexset_events::change::{ChangeEvent, Id};
 use indexset_lines::RunFault;
-use itoa::Buffer;
 use std::io::Write;
 
 /// Writes bytes.
@@ -30,8 +30,9 @@ pub fn write_number<W: Write>(writer: &mut W, number: u64) -> Result<(), RunFaul
         (decimal number)) }
     ensures fault { IfErr result (λ fault. fault ≡ RunFault.Write) }
 {
-    let mut buffer = Buffer::new();
-    write_bytes(writer, buffer.format(number).as_bytes())
+    let mut buffer = [0; 20];
+    let start = fill_decimal(number, &mut buffer);
+    write_bytes(writer, &buffer[start..])
 }
 
 /// Writes a pair.
