@@ -77,11 +77,10 @@ impl<T: Ord> BTreeSet<T> {
         ensures { option_copied result ≡ equal_element Q.order (items self.now) value }
     {
         let spot = locate(&self.spine, value);
-        if spot.found {
-            Some(self.spine.item(&spot))
-        } else {
-            None
+        if !spot.found {
+            return None;
         }
+        Some(self.spine.item(&spot))
     }
 
     /// Returns whether an element equal to the value is present, by two binary searches.

@@ -2,12 +2,12 @@ use Rattle.std.proofs.Common.{sym, ◌∙◌}
 use Rattle.indexset_core.proofs.CallerLemmas.{found_equal, gap_equal}
 use Rattle.indexset_set.proofs.BTreeSet.get.Goals as goal
 
-pub returns-then-spot : goal.returns-then-spot
-returns-then-spot g c =
-    let there = rw c.if-spot.true at c.locate-spot.ensures.found in
-    rw (← c.self.view_is) (sym (found_equal _ _ _ _ there ∙ c.item.ensures))
-
-pub returns-else-spot : goal.returns-else-spot
-returns-else-spot g c =
-    let gap = rw c.if-spot.false at c.locate-spot.ensures.gap in
+pub returns-then-not-spot : goal.returns-then-not-spot
+returns-then-not-spot g c =
+    let gap = rw c.if-not-spot.true at c.locate-spot.ensures.gap in
     rw (← c.self.view_is) (sym (gap_equal _ _ _ _ gap))
+
+pub returns : goal.returns
+returns g c =
+    let there = rw c.if-not-spot.false at c.locate-spot.ensures.found in
+    rw (← c.self.view_is) (sym (found_equal _ _ _ _ there ∙ c.item.ensures))
