@@ -53,8 +53,8 @@ impl<K: Ord + Clone + Drop, V: Eq + Clone + Drop, Node: NodeLike<MultiPair<K, V>
         ensures told { IfOk result (λ r. MultiTold K.cmp K.is_clone V.is_clone self.old self.new
             (some_removal K.cmp Q.order self.old key) r.1.items) }
     {
-        let place = self.first_place(&key);
-        self.take_cdc(place)
+        let first = self.first_place(&key);
+        self.take_cdc(first)
     }
 
     /// Removes the first pair of a key, if any, and returns it. It consumes as many event numbers
@@ -86,8 +86,8 @@ impl<K: Ord + Clone + Drop, V: Eq + Clone + Drop, Node: NodeLike<MultiPair<K, V>
         ensures changed { OnOk result (MultiChanged K.cmp self.old self.new
             (some_removal K.cmp Q.order self.old key)) }
     {
-        let place = self.first_place(&key);
-        self.take(place)
+        let first = self.first_place(&key);
+        self.take(first)
     }
 
     /// Removes the first pair of a key whose value is equal, if any, and returns it with the
