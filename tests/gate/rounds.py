@@ -156,6 +156,11 @@ def test_same_function() -> None:
     expect({"right_first": "wrong_first", "right_fir": "lemma_fir"}, 2, checks=2)
 
 
+def test_page_counts_the_edits() -> None:
+    count = len([*(TOP / "crates").glob("*/must-fail/*.edit")])
+    assert f"`tests/edits.py`: {count} edits " in (TOP / "docs/GATE.md").read_text(encoding="utf-8"), count
+
+
 if __name__ == "__main__":
     tests = {name: it for name, it in globals().items() if name.startswith("test_")}
     sys.exit(testing.run("Tests tests/edits.py on a made-up crate.", tests))
