@@ -26,7 +26,7 @@ using Peer = tree<uint64_t, null_type, std::less<uint64_t>, rb_tree_tag, tree_or
 using Numbers = std::vector<uint64_t>;
 using Texts = std::vector<std::string>;
 
-static uint64_t sum;  // of all answers, so that no call is left out
+static uint64_t sum; // of all answers, so that no call is left out
 
 template <typename Item, typename Call>
 static double cost(const std::vector<Item> &items, Call call) {
@@ -34,7 +34,9 @@ static double cost(const std::vector<Item> &items, Call call) {
     clock_gettime(CLOCK_THREAD_CPUTIME_ID, &start);
     for (const Item &item : items) call(item);
     clock_gettime(CLOCK_THREAD_CPUTIME_ID, &end);
-    return ((end.tv_sec - start.tv_sec) * 1e9 + (end.tv_nsec - start.tv_nsec)) / items.size();
+    const auto seconds = static_cast<double>(end.tv_sec - start.tv_sec);
+    const auto nanoseconds = static_cast<double>(end.tv_nsec - start.tv_nsec);
+    return (seconds * 1e9 + nanoseconds) / static_cast<double>(items.size());
 }
 
 struct Costs {
@@ -77,9 +79,12 @@ static void run_texts(const Texts &keys, const Texts &asked, TextCosts &costs) {
     indexset_text_map map = INDEXSET_HANDLE;
     uint64_t value = 0;
     if (indexset_text_map_new(&map) != INDEXSET_YES) std::exit(1);
-    costs.insert.push_back(cost(keys, [&](auto &key) { sum += indexset_text_map_insert(&map, key.data(), key.size(), 1, &value); }));
-    costs.get.push_back(cost(asked, [&](auto &key) { sum += indexset_text_map_get(&map, key.data(), key.size(), &value); }));
-    costs.remove.push_back(cost(asked, [&](auto &key) { sum += indexset_text_map_remove(&map, key.data(), key.size(), &value); }));
+    costs.insert.push_back(
+        cost(keys, [&](auto &key) { sum += indexset_text_map_insert(&map, key.data(), key.size(), 1, &value); }));
+    costs.get.push_back(
+        cost(asked, [&](auto &key) { sum += indexset_text_map_get(&map, key.data(), key.size(), &value); }));
+    costs.remove.push_back(
+        cost(asked, [&](auto &key) { sum += indexset_text_map_remove(&map, key.data(), key.size(), &value); }));
     if (indexset_text_map_len(&map) != 0) std::exit(1);
     indexset_text_map_free(&map);
 }
@@ -112,7 +117,8 @@ static void compare_texts(const Texts &keys, const Texts &asked) {
     std::pair<const char *, std::vector<double> TextCosts::*> rows[] = {
         {"text_insert", &TextCosts::insert}, {"text_get", &TextCosts::get}, {"text_remove", &TextCosts::remove}};
     for (auto [name, of] : rows)
-        std::printf("%8zu %-12s %8.0f %8.0f/%.0f\n", keys.size(), name, least(ours.*of), least(of_std.*of), least(of_absl.*of));
+        std::printf("%8zu %-12s %8.0f %8.0f/%.0f\n", keys.size(), name, least(ours.*of), least(of_std.*of),
+                    least(of_absl.*of));
 }
 
 static void compare(size_t count) {
@@ -132,8 +138,11 @@ static void compare(size_t count) {
         run_ours(keys, asked, positions, ours);
         run_peer(keys, asked, positions, peer);
     }
-    std::pair<const char *, std::vector<double> Costs::*> rows[] = {
-        {"insert", &Costs::insert}, {"contains", &Costs::contains}, {"rank", &Costs::rank}, {"at", &Costs::at}, {"remove", &Costs::remove}};
+    std::pair<const char *, std::vector<double> Costs::*> rows[] = {{"insert", &Costs::insert},
+                                                                    {"contains", &Costs::contains},
+                                                                    {"rank", &Costs::rank},
+                                                                    {"at", &Costs::at},
+                                                                    {"remove", &Costs::remove}};
     for (auto [name, of] : rows) std::printf("%8zu %-12s %8.0f %8.0f\n", count, name, least(ours.*of), least(peer.*of));
     compare_texts(texts_of(keys), texts_of(asked));
     std::fflush(stdout);

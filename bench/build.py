@@ -27,7 +27,10 @@ import lay  # noqa: E402
 
 # Our programs: the folder of their sources, and the libraries that they use.
 OURS = {
-    "speed": ("ours", "indexset_core indexset_set indexset_map indexset_events indexset_log indexset_replica indexset_bench"),
+    "speed": (
+        "ours",
+        "indexset_core indexset_set indexset_map indexset_events indexset_log indexset_replica indexset_bench",
+    ),
     "rows": ("rows", "anyhow sqlite sqlite_trees indexset_journal"),
 }
 

@@ -16,10 +16,16 @@ from tables import Programs, shown, table
 
 ONCE = ["append, all above", "retain, every second"]  # of as many elements as there are keys, each an operation
 # So is it of these.
-WHOLE = ["iterate", "iterate from both ends", "map, iterate", "clone", "equality", "from", "from, ascending", "from_unsorted"]
+WHOLE = [
+    "iterate", "iterate from both ends", "map, iterate", "clone", "equality", "from", "from, ascending",
+    "from_unsorted",
+]
 SPLIT = "split in the middle"  # one operation
 CHANGES = ["insert", "remove", "pop_last", "pop_first", "map, insert", "texts, insert", "texts, remove"]
-LOOK_UPS = ["contains", "contains, absent", "element at a position", "rank", "range of 100", "map, get", "map, get_mut", "texts, get", "first"]
+LOOK_UPS = [
+    "contains", "contains, absent", "element at a position", "rank", "range of 100", "map, get", "map, get_mut",
+    "texts, get", "first",
+]
 ROWS = [*LOOK_UPS, *CHANGES, *WHOLE, *ONCE, SPLIT]
 COUNT = 100_000  # calls of a run, as many as a program prepares; changes of no more than there are keys
 WHAT = "instructions/misses of the first level/of the last level/mispredicted branches"
@@ -34,16 +40,24 @@ Counter = Callable[[list[str]], Counts]  # of the words of a command
 def by_perf(command: list[str]) -> Counts:
     """The mean of five runs; nothing where `perf` may not count."""
     events = ",".join(event for events in OF_PERF for event in events)
-    done = subprocess.run(["perf", "stat", "-r", "5", "-x", ";", "-e", events, *command], capture_output=True, text=True)
+    done = subprocess.run(
+        ["perf", "stat", "-r", "5", "-x", ";", "-e", events, *command], capture_output=True, text=True
+    )
     cells = [line.split(";") for line in done.stderr.splitlines()]
     return {cell[2]: int(cell[0]) for cell in cells if len(cell) > 2 and cell[0].isdigit()}
 
 
 def by_cachegrind(command: list[str]) -> Counts:
     with tempfile.NamedTemporaryFile("r") as out:
-        words = ["valgrind", "--tool=cachegrind", "--cache-sim=yes", "--branch-sim=yes", f"--cachegrind-out-file={out.name}"]
+        words = [
+            "valgrind", "--tool=cachegrind", "--cache-sim=yes", "--branch-sim=yes", f"--cachegrind-out-file={out.name}",
+        ]
         subprocess.run([*words, *command], check=True, capture_output=True)
-        lines = dict(line.split(": ", 1) for line in pathlib.Path(out.name).read_text().splitlines() if line.startswith(("events: ", "summary: ")))
+        lines = dict(
+            line.split(": ", 1)
+            for line in pathlib.Path(out.name).read_text().splitlines()
+            if line.startswith(("events: ", "summary: "))
+        )
     return {event: int(count) for event, count in zip(lines["events"].split(), lines["summary"].split())}
 
 
@@ -77,7 +91,10 @@ def cell(counter: Counter, counted: list[list[str]], program: pathlib.Path, row:
         return "–"
     count, operations = counts(row, keys)
     some, none = (counter(words(program, row, keys, it)) for it in (count, 0))
-    each = [sum(some[it] - none[it] for it in events) / operations if set(events) <= some.keys() & none.keys() else None for events in counted]
+    each = [
+        sum(some[it] - none[it] for it in events) / operations if set(events) <= some.keys() & none.keys() else None
+        for events in counted
+    ]
     return "/".join(shown(it if it is None else max(it, 0)) for it in each)
 
 

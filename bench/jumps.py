@@ -4,10 +4,10 @@
     bench/jumps.py ROW KEYS PROGRAM..
 
 Intel's processors take decoded code of one block a cycle, and those of 2015 to 2019 keep none of a block with a jump
-that crosses its boundary or ends there. So a short loop takes up to twice the time by where it lies, which is decided by
-what is linked before it. For each program of bench/build.py it prints, for one operation of the row, the instructions,
-the jumps, those that lie badly, and how often the code went on into another block, by callgrind and objdump. A
-comparison just before a jump counts with it where the processor joins the two.
+that crosses its boundary or ends there. So a short loop takes up to twice the time by where it lies, which is decided
+by what is linked before it. For each program of bench/build.py it prints, for one operation of the row, the
+instructions, the jumps, those that lie badly, and how often the code went on into another block, by callgrind and
+objdump. A comparison just before a jump counts with it where the processor joins the two.
 """
 
 from __future__ import annotations
@@ -41,7 +41,9 @@ class Code:
 
 
 def code_of(program: pathlib.Path) -> Code:
-    listed = subprocess.run(["objdump", "-d", "--no-show-raw-insn", program], check=True, capture_output=True, text=True).stdout
+    listed = subprocess.run(
+        ["objdump", "-d", "--no-show-raw-insn", program], check=True, capture_output=True, text=True
+    ).stdout
     lines = [(int(found[1], 16), found[2]) for line in listed.splitlines() if (found := INSTRUCTION.match(line))]
     code = Code(set(), set(), set())
     for (before, word), (at, jump), (end, _) in zip(lines, lines[1:], lines[2:]):
@@ -81,7 +83,10 @@ def cell(row: str, keys: int, program: pathlib.Path) -> str:
     some, none = (executed(program, counters.words(program, row, keys, it)) for it in (count, 0))
     some.subtract(none)
     code = code_of(program)
-    each = [sum(some.values()), *(sum(some[it] for it in addresses) for addresses in (code.jumps, code.bad, code.crossed))]
+    each = [
+        sum(some.values()),
+        *(sum(some[it] for it in addresses) for addresses in (code.jumps, code.bad, code.crossed)),
+    ]
     return "/".join(shown(it / operations) for it in each)
 
 

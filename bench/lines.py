@@ -99,7 +99,8 @@ def of_lines(times: int) -> str | None:
         [
             f"`indexset_program`, over {LINES:,} lines:\n",
             table(["what", "time"], of_each(program, times)),
-            f"`indexset_store`, in nodes of 256 pairs: events a second of all keys put in no order, and of {COMMANDS:,} puts and cuts.\n",
+            "`indexset_store`, in nodes of 256 pairs: events a second of all keys put in no order,"
+            f" and of {COMMANDS:,} puts and cuts.\n",
             table(["events a second", *(f"{keys:,} keys" for keys in KEYS)], rows),
         ]
     )

@@ -24,7 +24,10 @@ PANELS = [
 COLOURS = ["#1f4e9c", "#c2571a", "#3f8f3f", "#8a3f8f", "#7a6a1f"]
 WIDTH, HEIGHT, LEFT, RIGHT, TOP, COLUMNS = 300, 200, 52, 34, 30, 3
 HEAD, FOOT = 64, 24  # what stands above the panels, and below them
-SAID = "Nanoseconds (ns) or microseconds (µs) an operation, by number of keys; lower is better. Both scales are logarithmic."
+SAID = (
+    "Nanoseconds (ns) or microseconds (µs) an operation, by number of keys; lower is better."
+    " Both scales are logarithmic."
+)
 LEAST = 0.1  # nanoseconds: what is less is drawn as this
 
 Points = list[tuple[int, float]]  # numbers of keys, each with its nanoseconds
@@ -95,9 +98,15 @@ def plot(names: list[str], keys: list[int], figures: Figures) -> str:
 
     shown = [what for what in PANELS if any(points(name, what) for name in names)]
     width, height = WIDTH * COLUMNS, HEIGHT * -(-len(shown) // COLUMNS) + HEAD + FOOT
-    out = [f'<svg xmlns="http://www.w3.org/2000/svg" width="{width}" height="{height}" font-family="sans-serif" font-size="11">']
+    out = [
+        f'<svg xmlns="http://www.w3.org/2000/svg" width="{width}" height="{height}"'
+        ' font-family="sans-serif" font-size="11">'
+    ]
     out += [f'<rect width="{width}" height="{height}" fill="white"/>', *legend(names)]
     for at, what in enumerate(shown):
         out += panel(what, [points(name, what) for name in names], at % COLUMNS * WIDTH, at // COLUMNS * HEIGHT + HEAD)
-    out.append(f'<text x="{width / 2:g}" y="{height - 8}" text-anchor="middle">number of keys (less than {LEAST:g} ns stands at {LEAST:g} ns)</text>')
+    out.append(
+        f'<text x="{width / 2:g}" y="{height - 8}" text-anchor="middle">'
+        f"number of keys (less than {LEAST:g} ns stands at {LEAST:g} ns)</text>"
+    )
     return "\n".join([*out, "</svg>"]) + "\n"

@@ -52,8 +52,7 @@ struct Lists {
     Keys mixed, sought, absent, positions;
 
     explicit Lists(uint64_t keys)
-        : mixed(listed(keys, key)),
-          sought(listed(keys, [=](uint64_t i) { return key(i * 7919 % keys); })),
+        : mixed(listed(keys, key)), sought(listed(keys, [=](uint64_t i) { return key(i * 7919 % keys); })),
           absent(listed(keys, [=](uint64_t i) { return key(keys + i); })),
           positions(listed(keys, [=](uint64_t i) { return key(i) % keys; })) {}
 };
@@ -63,7 +62,7 @@ static void row(const char *name, uint64_t operations, Work work) {
     auto start = Clock::now();
     sink = work();
     double nanoseconds = std::chrono::duration<double, std::nano>(Clock::now() - start).count();
-    printf("%s\t%.1f\n", name, nanoseconds / (operations ? operations : 1));
+    printf("%s\t%.1f\n", name, nanoseconds / static_cast<double>(operations ? operations : 1));
 }
 
 template <class Set>
@@ -341,7 +340,7 @@ static void hold(uint64_t keys, uint64_t copies, bool is_mixed) {
     sink = getchar() + sets.size();
 }
 
-static constexpr uint64_t PREPARED = 100000;  // calls, of which a run makes the first ones
+static constexpr uint64_t PREPARED = 100000; // calls, of which a run makes the first ones
 
 // What a row asks for.
 static Keys prepared(const std::string &name, uint64_t keys, uint64_t count) {
@@ -456,7 +455,8 @@ template <class Library>
 static bool call(const std::string &name, uint64_t keys, uint64_t count) {
     Keys asked = prepared(name, keys, count);
     if (name == "first") return call_first<typename Library::Set>(keys, count);
-    for (auto whole : {"append, all above", "retain, every second", "from", "from, ascending", "clone", "equality", "pop_last", "pop_first"})
+    for (auto whole : {"append, all above", "retain, every second", "from", "from, ascending", "clone", "equality",
+                       "pop_last", "pop_first"})
         if (name == whole) return call_whole<Library>(name, keys, count);
     if (name.rfind("map, ", 0) == 0) return call_map<typename Library::Map>(name, keys, asked);
     if (name.rfind("texts, ", 0) == 0) return call_texts<typename Library::TextMap>(name, keys, asked);

@@ -32,13 +32,13 @@ def timed(program: pathlib.Path, what: str, keys: int) -> Rows:
 
 
 def turns(keys: int, times: int) -> int:
-    """How many runs a table takes: of few keys, which take little time, more, and of 10,000,000, which take minutes, one."""
+    """How many runs a table takes: more of few keys, which take little time, one of 10,000,000, which take minutes."""
     return 10 * times if keys <= 100_000 else times if keys < 10_000_000 else 1
 
 
 def leasts(programs: Programs, what: str, keys: int, times: int) -> dict[str, Rows]:
-    """Of each program its rows, the least of some runs, in turn with the others': a processor that others use too is now
-    quick and now slow."""
+    """Of each program its rows, the least of some runs, in turn with the others': a processor that others use too is
+    now quick and now slow."""
     runs: dict[str, list[Rows]] = {name: [] for name in programs}
     for _ in range(turns(keys, times)):
         for name, program in programs.items():
@@ -109,7 +109,9 @@ def of_logged(program: pathlib.Path, keys: list[int], times: int) -> str:
 def logged_tables(nodes: list[str], calls: list[str], found: Mapping[int, Rows]) -> str:
     parts = ["The logged set, the logged map and replicas, by type and size of nodes, nanoseconds an operation.\n"]
     for k, rows in found.items():
-        lines = [[of_call(call), *(of_logged_call(call, rows.get(f"{node}: {call}")) for node in nodes)] for call in calls]
+        lines = [
+            [of_call(call), *(of_logged_call(call, rows.get(f"{node}: {call}")) for node in nodes)] for call in calls
+        ]
         parts.append(f"### {k:,} items, logged\n\n" + table(["call", *nodes], lines))
     return "\n".join(parts)
 

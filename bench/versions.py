@@ -3,8 +3,9 @@
 
     bench/versions.py BEFORE AFTER [--minutes 5] [--processor 3] [--most 1.1]
 
-BEFORE and AFTER are programs that bench/build.py built from two commits, or both by bench/unproved.py. It prints each row's median over all
-rounds, of nodes of a `Vec` at 1,000 to 1,000,000 keys, where both have it, and by how much the second differs, the slowest first.
+BEFORE and AFTER are programs that bench/build.py built from two commits, or both by bench/unproved.py. It prints each
+row's median over all rounds, of nodes of a `Vec` at 1,000 to 1,000,000 keys, where both have it, and by how much the
+second differs, the slowest first.
 """
 
 from __future__ import annotations

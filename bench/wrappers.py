@@ -36,9 +36,13 @@ def read_python(text: str) -> Cells:
 def c_cells(keys: list[str]) -> Cells:
     build.OUT.mkdir(exist_ok=True)
     made, library = build.OUT / "beside", OUT / "c/out/libindexset.a"
-    built = library.exists() and build.ran("g++", "-O2", "-I", str(OUT / "c"), str(build.HERE / "beside.cpp"), str(library), *ABSL, "-o", str(made))
+    built = library.exists() and build.ran(
+        "g++", "-O2", "-I", str(OUT / "c"), str(build.HERE / "beside.cpp"), str(library), *ABSL, "-o", str(made)
+    )
     if not built:
-        print("C is left out: `make -C bindings/c` makes its library, and `g++` the program, with Debian's `libabsl-dev`")
+        print(
+            "C is left out: `make -C bindings/c` makes its library, and `g++` the program, with Debian's `libabsl-dev`"
+        )
         return {}
     return read(subprocess.run(["taskset", "-c", "0", made, *keys], check=True, capture_output=True, text=True).stdout)
 
@@ -59,7 +63,9 @@ def of_python(found: dict[str, Cells], keys: list[int]) -> str:
     """The table of every row, with a column a backend and number of keys."""
     head = ["Ours/`sortedcontainers`", *(f"{name}, {k:,}" for name in found for k in keys)]
     rows = list(dict.fromkeys(row for cells in found.values() for _, row in cells))
-    return table(head, [[f"`{row}`", *(cells.get((k, row), "–") for cells in found.values() for k in keys)] for row in rows])
+    return table(
+        head, [[f"`{row}`", *(cells.get((k, row), "–") for cells in found.values() for k in keys)] for row in rows]
+    )
 
 
 def of_wrappers(keys: list[int]) -> str | None:
@@ -68,7 +74,10 @@ def of_wrappers(keys: list[int]) -> str | None:
     in_c = c_cells(words)
     found = {name: cells for name in BACKENDS if (cells := python_cells(words, name)) is not None}
     heads = {"Ours/pb_ds, in C": dict(zip(ROWS, ROWS)), "Texts, ours/std/absl": TEXTS}
-    tables = {head: [[shown, *(in_c.get((k, row), "–") for k in keys)] for row, shown in rows.items()] for head, rows in heads.items()}
+    tables = {
+        head: [[shown, *(in_c.get((k, row), "–") for k in keys)] for row, shown in rows.items()]
+        for head, rows in heads.items()
+    }
     parts = [table([head, *(f"{k:,}" for k in keys)], lines) for head, lines in tables.items() if in_c]
     parts += [of_python(found, keys)] if found else []
     return "\n".join(parts) or None

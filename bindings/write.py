@@ -20,10 +20,15 @@ HERE = pathlib.Path(__file__).resolve().parent
 EXPORTS = HERE.parent / "crates/indexset_c/src"
 HEADER = HERE / "c/indexset.h"
 TABLE = HERE / "python/indexset/_signatures.py"
-HANDLES = {"Set": "set", "Map": "map", "Text": "text_map", "TextLog": "text_log", "Multi": "multi", "Log": "log", "Replica": "replica"}
+HANDLES = {
+    "Set": "set", "Map": "map", "Text": "text_map", "TextLog": "text_log", "Multi": "multi", "Log": "log",
+    "Replica": "replica",
+}
 PLAIN = {"u8": "void", "u32": "uint32_t", "u64": "uint64_t", "usize": "size_t", "bool": "bool", "": "void"}
 PLAIN |= {"Event": "indexset_event", "TextEvent": "indexset_text_event", "Cursor": "indexset_cursor"}
 IN_PYTHON = {"u32": "c_uint32", "u64": "c_uint64", "usize": "c_size_t", "bool": "c_bool", "": "None"}
+WIDTH = 120  # of a line
+NEXT = "\n     "  # before the rest of an entry of Python's table
 EXPORT = re.compile(r'pub extern "C" fn indexset_(\w+)\(([^)]*)\)(?: -> (\w+))?\s(.*?)^\{', re.M | re.S)
 PROTOTYPE = re.compile(r"^\w[\w ]* \*?indexset_(\w+)\([^)]*\);$", re.M)
 
@@ -57,7 +62,8 @@ class Word:
         if base.endswith(("Handle", "Owner")):
             handle = HANDLES[base.removesuffix("Handle").removesuffix("Owner")]
             stars = "*" if base.endswith("Handle") else "**"
-            return f"{const}indexset_{handle} {stars}{handle.removeprefix('text_') if self.name == 'handle' else self.name}"
+            name = handle.removeprefix("text_") if self.name == "handle" else self.name
+            return f"{const}indexset_{handle} {stars}{name}"
         if not self.kind.startswith("&"):
             return f"{PLAIN[base]} {self.name}"
         length = f", size_t {self.length(words)}" if "[" in self.kind else ""
@@ -79,12 +85,20 @@ class Call:
     result: str
 
     def in_c(self) -> str:
-        words = ", ".join(it.in_c(self.words) for it in self.words)
-        return f"{PLAIN[self.result]} indexset_{self.name}({words or 'void'});"
+        """The prototype, laid out as clang-format does it."""
+        head = f"{PLAIN[self.result]} indexset_{self.name}("
+        words = ", ".join(it.in_c(self.words) for it in self.words) or "void"
+        lines = [head]
+        for word in re.split("(?<=,) ", f"{words});"):
+            if len(lines[-1]) + len(word) + 1 > WIDTH:
+                lines.append(" " * (len(head) - 1))
+            lines[-1] += word if lines[-1] == head else f" {word}"
+        return "\n".join(lines)
 
     def in_python(self) -> str:
         words = [of for it in self.words for of in it.in_python()]
-        return f'    ("{self.name}", {IN_PYTHON[self.result]}, [{", ".join(words)}]),'
+        head, types = f'    ("{self.name}", {IN_PYTHON[self.result]},', f"[{', '.join(words)}]),"
+        return f"{head}{' ' if len(head) + len(types) < WIDTH else NEXT}{types}"
 
 
 def calls() -> list[Call]:

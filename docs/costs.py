@@ -8,13 +8,13 @@ import pathlib
 FILE = pathlib.Path(__file__).resolve().parent / "costs.txt"
 # What a page with costs says of them at its head.
 ABOUT = (
-    "*Cost*, at most: n is the length, n' that of the other collection, m the number of nodes, B the node size (1024 unless"
-    " given), L = digits(m) + digits(B) + 1 the comparisons of a look-up, digits being the bit length, and p the number of"
-    " pairs of a key, or of items that a comparator finds Equal. *Moves* are elements; a node that comes or goes also moves"
-    " the headers of the nodes after it. A position reads digits(m) cells of the index in a plain collection, and in a"
-    " logged one digits(m / 32 + 1) cells and up to 32 node lengths. A call without a cost compares, moves and allocates"
-    " nothing. Proved are the comparisons of `locate_by`, `get_by` and `places_by`, and the reads of `find_in` and"
-    " `prefix_in`; the other numbers describe the code."
+    "*Cost*, at most: n is the length, n' that of the other collection, m the number of nodes, B the node size (1024"
+    " unless given), L = digits(m) + digits(B) + 1 the comparisons of a look-up, digits being the bit length, and p the"
+    " number of pairs of a key, or of items that a comparator finds Equal. *Moves* are elements; a node that comes or"
+    " goes also moves the headers of the nodes after it. A position reads digits(m) cells of the index in a plain"
+    " collection, and in a logged one digits(m / 32 + 1) cells and up to 32 node lengths. A call without a cost compares,"
+    " moves and allocates nothing. Proved are the comparisons of `locate_by`, `get_by` and `places_by`, and the reads of"
+    " `find_in` and `prefix_in`; the other numbers describe the code."
 )
 
 
@@ -44,7 +44,9 @@ class Line:
 
 def lines() -> list[Line]:
     """The lines of the file."""
-    read = (text.split("|") for text in FILE.read_text(encoding="utf-8").splitlines() if text and not text.startswith("#"))
+    read = (
+        text.split("|") for text in FILE.read_text(encoding="utf-8").splitlines() if text and not text.startswith("#")
+    )
     return [Line(pages.split(), calls.split(), Cost(*(part.strip() for part in cost))) for pages, calls, *cost in read]
 
 
@@ -71,4 +73,6 @@ def has(page: str) -> bool:
 def unknown(calls: set[tuple[str, str, str]]) -> list[str]:
     """What the file names and is no call: each call is given by its page, its type and its name."""
     named = {key_of(*call) for call in calls}
-    return sorted(call for line in LINES for call in line.calls if not any((page, call) in named for page in line.pages))
+    return sorted(
+        call for line in LINES for call in line.calls if not any((page, call) in named for page in line.pages)
+    )

@@ -44,7 +44,9 @@ def nodes(x: int, y: int, lists: list[list[int]], new: Sequence[int] = ()) -> Sh
         for at, item in enumerate(items):
             out += cell(left + CELL * at, y, item, NEW if item in new else NODE)
         width = CELL * len(items)
-        out.append(f'<rect x="{left}" y="{y}" width="{width}" height="{HIGH}" fill="none" stroke="{INK}" stroke-width="2"/>')
+        out.append(
+            f'<rect x="{left}" y="{y}" width="{width}" height="{HIGH}" fill="none" stroke="{INK}" stroke-width="2"/>'
+        )
     return out
 
 
@@ -123,7 +125,8 @@ def main() -> None:
     argparse.ArgumentParser(description="Draws docs/nodes.svg.").parse_args()
     width, height = 860, 412
     out = [
-        f'<svg xmlns="http://www.w3.org/2000/svg" width="{width}" height="{height}" viewBox="0 0 {width} {height}" font-family="sans-serif" font-size="13">',
+        f'<svg xmlns="http://www.w3.org/2000/svg" width="{width}" height="{height}" viewBox="0 0 {width} {height}"'
+        ' font-family="sans-serif" font-size="13">',
         f'<rect width="{width}" height="{height}" fill="white"/>',
     ]
     out += two_levels(24, 30) + a_change(24, 238) + ["</svg>"]

@@ -99,7 +99,9 @@ def row(it: Word, star: bool) -> str:
 
 def text(pages: Iterable[Code], crates: Iterable[str]) -> str:
     """The text of GLOSSARY.md, with the words of these crates."""
-    out = ["# Glossary", "", ABOUT, "", *terms(), "", "## Each word", "", ABOUT_WORDS, "", "|Word|Meaning|", "|---|---|"]
+    out = [
+        "# Glossary", "", ABOUT, "", *terms(), "", "## Each word", "", ABOUT_WORDS, "", "|Word|Meaning|", "|---|---|",
+    ]
     words, passed = used(pages), passed_on()
     for crate in crates:
         for file in sorted((ROOT / "crates" / crate / "specs").glob("*.antt")):

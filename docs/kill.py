@@ -25,7 +25,11 @@ BEFORE = ("#1 put 5 50", "#2 put 3 30", "#3 put 9 90")
 AFTER = ("sum", "#4 put 7 70")
 LINE, LEFT, TOP_OF, WIDE, HIGH = 19, 14, 62, 930, 366
 INK, SOFT, PAPER, ASKED, LOST = "#222", "#666", "#f6f8fb", "#1d4f91", "#b3261e"
-COLUMNS = ((12, 250, "indexset_store --keep map.db --lead"), (280, 350, "the rows of map.db"), (648, 270, "started again"))
+COLUMNS = (
+    (12, 250, "indexset_store --keep map.db --lead"),
+    (280, 350, "the rows of map.db"),
+    (648, 270, "started again"),
+)
 
 Lines = list[tuple[str, str]]  # (each with its colour)
 
@@ -54,14 +58,17 @@ def talk(path: pathlib.Path, commands: tuple[str, ...], is_killed: bool) -> Line
 def rows(path: pathlib.Path) -> Lines:
     """What is kept, as SQLite itself reads it."""
     with contextlib.closing(sqlite3.connect(path)) as base:
-        return [(f"{number}  {line}", INK) for number, line in base.execute("SELECT number, line FROM kept ORDER BY number")]
+        return [
+            (f"{number}  {line}", INK) for number, line in base.execute("SELECT number, line FROM kept ORDER BY number")
+        ]
 
 
 def panel(x: int, wide: int, head: str, lines: Lines) -> list[str]:
     box = f'<rect x="{x}" y="40" width="{wide}" height="{HIGH - 52}" rx="6" fill="{PAPER}" stroke="{SOFT}"/>'
     title = f'<text x="{x}" y="28" font-weight="bold" fill="{INK}">{html.escape(head)}</text>'
     body = [
-        f'<text x="{x + LEFT}" y="{TOP_OF + LINE * at}" font-family="monospace" font-size="13" fill="{colour}">{html.escape(line)}</text>'
+        f'<text x="{x + LEFT}" y="{TOP_OF + LINE * at}" font-family="monospace" font-size="13" fill="{colour}">'
+        f"{html.escape(line)}</text>"
         for at, (line, colour) in enumerate(lines)
     ]
     return [title, box, *body]
@@ -75,7 +82,9 @@ def main() -> None:
         kept = rows(path)
         again = talk(path, AFTER, is_killed=False)
     shapes = [shape for column, lines in zip(COLUMNS, (told, kept, again)) for shape in panel(*column, lines)]
-    head = f'<svg xmlns="http://www.w3.org/2000/svg" viewBox="0 0 {WIDE} {HIGH}" font-family="sans-serif" font-size="14">'
+    head = (
+        f'<svg xmlns="http://www.w3.org/2000/svg" viewBox="0 0 {WIDE} {HIGH}" font-family="sans-serif" font-size="14">'
+    )
     back = f'<rect width="{WIDE}" height="{HIGH}" fill="white"/>'
     (TOP / "docs/kill.svg").write_text("\n".join([head, back, *shapes, "</svg>", ""]), encoding="utf-8")
 

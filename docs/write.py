@@ -56,7 +56,8 @@ def library_crates() -> list[str]:
     """The crates of crates.txt that are neither programs nor tests nor what tests play on, in its order."""
     lines = (ROOT / "crates.txt").read_text(encoding="utf-8").splitlines()
     names = [line.split(":")[0].split()[0] for line in lines if line.strip() and not line.startswith("#")]
-    return [it for it in names if (ROOT / "crates" / it / "src/lib.rt").exists() and not it.endswith(("_tests", "_drill", "_play"))]
+    names = [it for it in names if not it.endswith(("_tests", "_drill", "_play"))]
+    return [it for it in names if (ROOT / "crates" / it / "src/lib.rt").exists()]
 
 
 def source_files(crate: str) -> list[pathlib.Path]:
@@ -264,7 +265,8 @@ def files_of(crate: str, part: str) -> Iterator[pathlib.Path]:
     src = ROOT / "crates" / crate / "src"
     for file in source_files(crate):
         name = str(file.relative_to(src).with_suffix(""))
-        if name not in INNER and not name.startswith(INNER) and (not part or name == part or name.startswith(part + "/")):
+        is_in_part = not part or name == part or name.startswith(part + "/")
+        if is_in_part and name not in INNER and not name.startswith(INNER):
             yield file
 
 
@@ -274,7 +276,9 @@ def files_apart(crate: str) -> Iterator[pathlib.Path]:
     return (file for file in source_files(crate) if file not in apart)
 
 
-def page_of(page: Page, crate: str, files: Iterable[pathlib.Path], public: set[str], *, shows_all: bool = False) -> Page:
+def page_of(
+    page: Page, crate: str, files: Iterable[pathlib.Path], public: set[str], *, shows_all: bool = False
+) -> Page:
     """Fills the page of some files of a crate: of its public modules, or of all."""
     src = ROOT / "crates" / crate / "src"
     taken: dict[str, int] = {}
@@ -300,7 +304,9 @@ def pages_of_contracts() -> dict[str, Page]:
     crates = library_crates()
     public = public_names(crates)
     outer = [(name, it) for name, it in {**PAGES, **FOR_C}.items() if it[1] in crates]
-    found = {name: page_of(Page(name, title), crate, files_of(crate, part), public) for name, (title, crate, part) in outer}
+    found = {}
+    for name, (title, crate, part) in outer:
+        found[name] = page_of(Page(name, title), crate, files_of(crate, part), public)
     for name, (title, crate, part) in USES.items():
         found[name] = page_of(Page(name, title), crate, files_of(crate, part), public, shows_all=True)
     for crate in crates:
@@ -312,14 +318,17 @@ def pages_of_contracts() -> dict[str, Page]:
     return found
 
 
-ABOUT = "A `requires` is a condition on the caller; an `ensures` is proved. Of an `impl` of a trait the lines are its ghost members, which the trait's own contract uses. [GLOSSARY.md](../GLOSSARY.md) has the words."
+ABOUT = (
+    "A `requires` is a condition on the caller; an `ensures` is proved. Of an `impl` of a trait the lines are its ghost"
+    " members, which the trait's own contract uses. [GLOSSARY.md](../GLOSSARY.md) has the words."
+)
 
 
 def text_of(page: Page) -> str:
     """The text of a page of contracts."""
-    head = [f"# {page.title}", "", f"Written by `docs/write.py` from the sources; [the index](README.md) has all pages. {ABOUT}", ""]
+    about = f"Written by `docs/write.py` from the sources; [the index](README.md) has all pages. {ABOUT}"
     about_costs = [costs.ABOUT, ""] if costs.has(page.name) else []
-    return "\n".join([*head, *about_costs, *page.lines])
+    return "\n".join([f"# {page.title}", "", about, "", *about_costs, *page.lines])
 
 
 def links(name: str, owner: str, calls: list[Link]) -> list[str]:
@@ -334,10 +343,12 @@ def links(name: str, owner: str, calls: list[Link]) -> list[str]:
 
 def index(pages: dict[str, Page]) -> str:
     """The text of the index: of each page the calls by type."""
-    out = ["# Contracts", "", f"Each public call of the library crates with its clauses, written by `docs/write.py` from the sources. {ABOUT}", ""]
-    out += [", ".join(f"[{page.title}](#{anchor_of(page.title, {})})" for name, page in pages.items() if name in {**PAGES, **FOR_C, **USES}) + ".", ""]
     outer = {**PAGES, **FOR_C, **USES}
-    heads = {next(iter(FOR_C)): "# For C", next(iter(USES)): "# Callers", next(it for it in pages if it not in outer): "# Inner crates"}
+    about = "Each public call of the library crates with its clauses, written by `docs/write.py` from the sources."
+    titles = [f"[{page.title}](#{anchor_of(page.title, {})})" for name, page in pages.items() if name in outer]
+    out = ["# Contracts", "", f"{about} {ABOUT}", "", f"{', '.join(titles)}.", ""]
+    heads = {next(iter(FOR_C)): "# For C", next(iter(USES)): "# Callers"}
+    heads[next(it for it in pages if it not in outer)] = "# Inner crates"
     for name, page in pages.items():
         if name in heads:
             out += [heads[name], ""]
@@ -350,10 +361,12 @@ def index(pages: dict[str, Page]) -> str:
 def contracts() -> dict[str, str]:
     """The texts of docs/contracts, by the name of the file."""
     pages = pages_of_contracts()
-    named = {(name, owner, it.name) for name, page in pages.items() for owner, calls in page.calls.items() for it in calls}
+    of_pages = [(name, owner, calls) for name, page in pages.items() for owner, calls in page.calls.items()]
+    named = {(name, owner, it.name) for name, owner, calls in of_pages for it in calls}
     if strange := costs.unknown(named):
         sys.exit(f"docs/costs.txt: no such call: {', '.join(strange)}")
-    return {"contracts/README.md": index(pages), **{f"contracts/{name}.md": text_of(page) for name, page in pages.items()}}
+    texts = {f"contracts/{name}.md": text_of(page) for name, page in pages.items()}
+    return {"contracts/README.md": index(pages), **texts}
 
 
 def code_of_collections() -> Iterator[glossary.Code]:
@@ -367,11 +380,12 @@ def code_of_collections() -> Iterator[glossary.Code]:
 
 def main() -> None:
     ask = argparse.ArgumentParser(description="Writes docs/contracts and docs/GLOSSARY.md from the sources.")
-    ask.add_argument("--check", action="store_true", help="write nothing, and fail where a page differs from what would be written")
+    ask.add_argument("--check", action="store_true", help="write nothing, and fail where a page is out of date")
     given = ask.parse_args()
     folder = ROOT / "docs"
     pages = {**contracts(), "GLOSSARY.md": glossary.text(code_of_collections(), library_crates())}
-    stale = [f"contracts/{it.name}" for it in sorted((folder / "contracts").glob("*")) if f"contracts/{it.name}" not in pages]
+    there = [f"contracts/{it.name}" for it in sorted((folder / "contracts").glob("*"))]
+    stale = [name for name in there if name not in pages]
     for name, text in pages.items():
         file = folder / name
         if not given.check:

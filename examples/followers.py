@@ -1,4 +1,4 @@
-"""What the examples share: commands, a link that loses, doubles and swaps, kills by a seed, and the table in the end."""
+"""What the examples share: commands, a link that loses, doubles and swaps, kills by a seed, and the last table."""
 
 from __future__ import annotations
 
@@ -50,7 +50,7 @@ def number(event: bytes) -> int:
 
 
 def spoiled(events: list[bytes], chance: random.Random, counts: Counts) -> list[bytes]:
-    """Events that come in pieces of 1 to 40, of which some are lost, some doubled and some swapped; these are counted."""
+    """Events that come in pieces of 1 to 40, some of them lost, some doubled and some swapped; these are counted."""
     pieces: list[list[bytes]] = []
     at = 0
     while at < len(events):
@@ -175,7 +175,7 @@ class Course:
             self.run.counts["sent"] += len(events)
 
     def follow_anew(self, from_snapshot: bool) -> None:
-        """A follower comes in place of one that is gone: from the leader's snapshot, or from the first event that is kept."""
+        """Starts a follower in place of one that is gone: from the leader's snapshot, or from the first event kept."""
         follower = self.run.store()
         if from_snapshot:
             snapshot = self.leader.snapshot()

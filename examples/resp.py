@@ -116,7 +116,10 @@ def as_entry(reply: Reply) -> Entry:
 
 def served(port: int, folder: str, *arguments: str) -> subprocess.Popen[bytes]:
     """A server on loopback, whose files lie in a folder."""
-    words = ["redis-server", "--port", str(port), "--bind", "127.0.0.1", "--dir", folder, "--save", "", "--loglevel", "warning"]
+    words = [
+        "redis-server", "--port", str(port), "--bind", "127.0.0.1", "--dir", folder, "--save", "", "--loglevel",
+        "warning",
+    ]
     return subprocess.Popen([*words, *arguments], stdout=subprocess.DEVNULL)
 
 

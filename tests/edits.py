@@ -301,7 +301,9 @@ def why_not(edit: Edit, finding: kit.Finding, checked: kit.Checked) -> str:
     if finding.said == "proved":
         return f"NOT REFUSED: {name} is still proved with this edit"
     if finding.is_refused() and finding.stale:
-        return f"BAD EDIT: {name} is refused only because a proof names what the edit took away: {finding.stale[0][:200]}"
+        return (
+            f"BAD EDIT: {name} is refused only because a proof names what the edit took away: {finding.stale[0][:200]}"
+        )
     if finding.is_refused() and finding.has_refused_callee():
         return f"NOT REFUSED: {name} is refused only for what it calls"
     return f"NOT REFUSED: the check ended with status {checked.status}, and said of {name}: {finding.said[:200]}"
@@ -314,7 +316,9 @@ def stop_on_unbuilt(trials: list[Trial]) -> None:
         if it.crate.makes_rlib() and not kit.is_built(it.crate, it.built):
             lacking.append(it.crate.name)
         if lacking:
-            sys.exit(f"not built, or not of these sources: {', '.join(lacking)}. Run `rt lib` in {it.crate.folder} first")
+            sys.exit(
+                f"not built, or not of these sources: {', '.join(lacking)}. Run `rt lib` in {it.crate.folder} first"
+            )
 
 
 def arguments() -> argparse.Namespace:
@@ -356,7 +360,10 @@ def main() -> int:
         runs = [pool.submit(it.run, given.pick) for it in trials]
         tallies = [it.result() for it in runs]
     for it in tallies:
-        print(f"{it.crate}: {it.passed} of {it.passed + it.failed} refused in {it.checks} checks, {it.seconds:.0f} s of processor")
+        print(
+            f"{it.crate}: {it.passed} of {it.passed + it.failed} refused in {it.checks} checks,"
+            f" {it.seconds:.0f} s of processor"
+        )
     passed, failed = sum(it.passed for it in tallies), sum(it.failed for it in tallies)
     print(f"{passed} passed, {failed} failed")
     return 1 if failed or not passed else 0

@@ -261,7 +261,11 @@ def main() -> int:
     for part in parts:
         with tempfile.TemporaryDirectory() as room:
             lay.lay(pathlib.Path(room), lay.every())
-            ran = shell_faults(blocks, room) if part == SHELL else run_tests(part, written(part, blocks), pathlib.Path(room))
+            ran = (
+                shell_faults(blocks, room)
+                if part == SHELL
+                else run_tests(part, written(part, blocks), pathlib.Path(room))
+            )
         passed += ran[0]
         faults += ran[1]
     if SHELL in parts:

@@ -77,7 +77,9 @@ def tool() -> Callable[[], int]:
 def proved(*words: str | pathlib.Path) -> tuple[bool, str]:
     """Whether tools/proved ended well, and what it said."""
     said = io.StringIO()
-    with mock.patch("sys.argv", [str(TOOL), *map(str, words)]), contextlib.redirect_stdout(said), contextlib.redirect_stderr(said):
+    with mock.patch("sys.argv", [str(TOOL), *map(str, words)]), contextlib.redirect_stdout(
+        said
+    ), contextlib.redirect_stderr(said):
         try:
             status = tool()()
         except SystemExit as why:

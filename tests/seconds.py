@@ -59,7 +59,9 @@ def main() -> int:
     for crate in crates:
         file = top / f"out/seconds/{crate.name}.tsv"
         if not given.kept and (lacking := kit.unbuilt(crate, built[crate.name])):
-            sys.exit(f"{crate.name}: not built of these sources: {', '.join(lacking)}. Run `rt check` in its folder first")
+            sys.exit(
+                f"{crate.name}: not built of these sources: {', '.join(lacking)}. Run `rt check` in its folder first"
+            )
         found = read(file) if given.kept else measured(built[crate.name], crate, file)
         print(f"{crate.name}: {len(found)} functions, {sum(it for it, _ in found):.0f} s", flush=True)
         every += found

@@ -59,7 +59,9 @@ def lay(to: pathlib.Path, names: list[str] | None = None, top: pathlib.Path = TO
 
 
 def main() -> None:
-    ask = argparse.ArgumentParser(description="Lays crates of this repository into a folder, as a repository of their own.")
+    ask = argparse.ArgumentParser(
+        description="Lays crates of this repository into a folder, as a repository of their own."
+    )
     ask.add_argument("folder", type=pathlib.Path)
     ask.add_argument("crates", nargs="*")
     given = ask.parse_args()

@@ -23,5 +23,7 @@ def built(name: str) -> pathlib.Path:
         return pathlib.Path(folder, name).resolve()
     program = proved(name)
     if not program:
-        sys.exit(f"crates/{name}/out/{name} is not there, or older than the sources: `rt run` in crates/{name} builds it")
+        sys.exit(
+            f"crates/{name}/out/{name} is not there, or older than the sources: `rt run` in crates/{name} builds it"
+        )
     return program

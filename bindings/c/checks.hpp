@@ -33,7 +33,8 @@ extern "C" {
 
 // A removal may ask for memory, but in nodes of the library's size it hardly does: here every 97th does.
 extern "C" uint32_t __real_indexset_multi_remove_at(indexset_multi *, size_t, uint64_t *, uint64_t *);
-extern "C" uint32_t __wrap_indexset_multi_remove_at(indexset_multi *multi, size_t position, uint64_t *key, uint64_t *value) {
+extern "C" uint32_t __wrap_indexset_multi_remove_at(indexset_multi *multi, size_t position, uint64_t *key,
+                                                    uint64_t *value) {
     static unsigned removals = 0;
     if (removals == 96 && refused()) return INDEXSET_MEMORY;
     removals = (removals + 1) % 97;
@@ -57,8 +58,8 @@ bool is_refused(unsigned long refuse, Call call, unsigned long &which = nth) {
 }
 
 // Makes a call on a copy of a collection with the first request refused, then the second, and so on, until none is; and
-// then with all from the first on, from the second on. Where the call throws, the copy is as it was, and else as `changed`
-// has it.
+// then with all from the first on, from the second on. Where the call throws, the copy is as it was, and else as
+// `changed` has it.
 template <class Collection, class Call>
 void sweep(const Collection &before, const Collection &changed, Call call) {
     for (unsigned long *which : {&nth, &onward}) {
@@ -66,7 +67,10 @@ void sweep(const Collection &before, const Collection &changed, Call call) {
         do {
             Collection copy(before);
             requests = 0, at++;
-            CHECK(is_refused(at, [&] { call(copy); }, *which) ? copy == before : copy == changed);
+            CHECK(is_refused(
+                      at, [&] { call(copy); }, *which)
+                      ? copy == before
+                      : copy == changed);
         } while (requests >= at && at < 5000);
         CHECK(at < 5000);
     }

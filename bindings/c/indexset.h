@@ -41,13 +41,13 @@ extern "C" {
 
 /* What a call answers that can fail. */
 enum indexset_status {
-    INDEXSET_NO = 0,     /* there was nothing to do */
-    INDEXSET_YES = 1,    /* it was done */
-    INDEXSET_MEMORY = 2, /* memory was refused */
-    INDEXSET_NONE = 3,   /* the handle leads to no collection */
-    INDEXSET_HELD = 4,   /* the handle leads to a collection already */
+    INDEXSET_NO = 0,      /* there was nothing to do */
+    INDEXSET_YES = 1,     /* it was done */
+    INDEXSET_MEMORY = 2,  /* memory was refused */
+    INDEXSET_NONE = 3,    /* the handle leads to no collection */
+    INDEXSET_HELD = 4,    /* the handle leads to a collection already */
     INDEXSET_NUMBERS = 5, /* too few numbers are left */
-    INDEXSET_UNFIT = 6,  /* what was given does not fit */
+    INDEXSET_UNFIT = 6,   /* what was given does not fit */
     /* why a replica refuses a change, besides INDEXSET_MEMORY, INDEXSET_NUMBERS and INDEXSET_UNFIT */
     INDEXSET_GAP = 11,            /* changes before it are missing */
     INDEXSET_NO_SUCH_NODE = 12,   /* no node has the last key that it names */
@@ -66,7 +66,9 @@ typedef struct indexset_set {
 } indexset_set;
 
 /* What a handle starts as: `indexset_set set = INDEXSET_HANDLE;` */
+/* clang-format off */
 #define INDEXSET_HANDLE {NULL, false}
+/* clang-format on */
 
 /* Where a walk of a collection stands: between two elements or pairs, before all of them, or at the end. It
  * belongs to the caller, who may copy it, and it owns nothing. It starts as INDEXSET_CURSOR, before all; the
@@ -82,7 +84,9 @@ typedef struct indexset_cursor {
 } indexset_cursor;
 
 /* What a cursor starts as: `indexset_cursor cursor = INDEXSET_CURSOR;` */
+/* clang-format off */
 #define INDEXSET_CURSOR {0, 0}
+/* clang-format on */
 
 /* Returns the version of the library: major * 65536 + minor * 256 + patch. */
 uint32_t indexset_version(void);
@@ -99,8 +103,8 @@ uint32_t indexset_set_clone(const indexset_set *set, indexset_set *to);
 /* Frees the set, and leaves the handle with none. Of a handle with none it does nothing. */
 void indexset_set_free(indexset_set *set);
 
-/* Makes an empty set, under a handle on the heap, and writes where the handle lies. INDEXSET_YES, or INDEXSET_MEMORY; unless it is
- * INDEXSET_YES, nothing is written. Each call takes this handle too. */
+/* Makes an empty set, under a handle on the heap, and writes where the handle lies. INDEXSET_YES, or INDEXSET_MEMORY;
+ * unless it is INDEXSET_YES, nothing is written. Each call takes this handle too. */
 uint32_t indexset_set_create(indexset_set **set);
 
 /* Frees a handle that indexset_set_create made, and what it leads to, and writes a null pointer. */
@@ -195,7 +199,8 @@ size_t indexset_set_ranks(const indexset_set *set, const uint64_t *keys, size_t 
 
 /* Writes the element at each of `count` positions into an array of `places` places, as many as it has
  * room for, and stops at the first position that has no element. Returns how many it wrote. */
-size_t indexset_set_at_all(const indexset_set *set, const size_t *positions, size_t count, uint64_t *out, size_t places);
+size_t indexset_set_at_all(const indexset_set *set, const size_t *positions, size_t count, uint64_t *out,
+                           size_t places);
 
 /* The handle of an ordered map from uint64_t to uint64_t. Both fields are the library's own. */
 typedef struct indexset_map {
@@ -215,8 +220,8 @@ uint32_t indexset_map_clone(const indexset_map *map, indexset_map *to);
 /* Frees the map, and leaves the handle with none. Of a handle with none it does nothing. */
 void indexset_map_free(indexset_map *map);
 
-/* Makes an empty map, under a handle on the heap, and writes where the handle lies. INDEXSET_YES, or INDEXSET_MEMORY; unless it is
- * INDEXSET_YES, nothing is written. Each call takes this handle too. */
+/* Makes an empty map, under a handle on the heap, and writes where the handle lies. INDEXSET_YES, or INDEXSET_MEMORY;
+ * unless it is INDEXSET_YES, nothing is written. Each call takes this handle too. */
 uint32_t indexset_map_create(indexset_map **map);
 
 /* Frees a handle that indexset_map_create made, and what it leads to, and writes a null pointer. */
@@ -287,11 +292,13 @@ bool indexset_map_remove_at(indexset_map *map, size_t position, uint64_t *key, u
 
 /* Writes the pairs of the keys from `low` to `high`, both included, in order into two arrays, as many as
  * both have room for. Returns how many it wrote. */
-size_t indexset_map_range_by_key(const indexset_map *map, uint64_t low, uint64_t high, uint64_t *keys, size_t key_places, uint64_t *values, size_t value_places);
+size_t indexset_map_range_by_key(const indexset_map *map, uint64_t low, uint64_t high, uint64_t *keys,
+                                 size_t key_places, uint64_t *values, size_t value_places);
 
 /* Writes the pairs from a position on, in order into two arrays, as many as both have room for. Returns
  * how many it wrote. */
-size_t indexset_map_range_by_position(const indexset_map *map, size_t from, uint64_t *keys, size_t key_places, uint64_t *values, size_t value_places);
+size_t indexset_map_range_by_position(const indexset_map *map, size_t from, uint64_t *keys, size_t key_places,
+                                      uint64_t *values, size_t value_places);
 
 /* Moves a cursor to a position, counted from 0, or to the end where there is none. */
 void indexset_map_cursor_at(const indexset_map *map, size_t position, indexset_cursor *cursor);
@@ -301,16 +308,19 @@ void indexset_map_cursor_from(const indexset_map *map, uint64_t from, indexset_c
 
 /* Writes the pairs from a cursor on, in order into two arrays, as many as both have room for, and moves the cursor
  * past them. Returns how many it wrote: 0 at the end. */
-size_t indexset_map_cursor_next(const indexset_map *map, indexset_cursor *cursor, uint64_t *keys, size_t key_places, uint64_t *values, size_t value_places);
+size_t indexset_map_cursor_next(const indexset_map *map, indexset_cursor *cursor, uint64_t *keys, size_t key_places,
+                                uint64_t *values, size_t value_places);
 
 /* Makes each value that of its key, first to last, as many as there are both keys and values, and writes
  * how many it took to `taken`. INDEXSET_YES where it took them all, or INDEXSET_MEMORY where memory was
  * refused for the key after those, or INDEXSET_NONE. */
-uint32_t indexset_map_insert_all(indexset_map *map, const uint64_t *keys, size_t key_count, const uint64_t *values, size_t value_count, size_t *taken);
+uint32_t indexset_map_insert_all(indexset_map *map, const uint64_t *keys, size_t key_count, const uint64_t *values,
+                                 size_t value_count, size_t *taken);
 
 /* Writes the value of each of `count` keys, or `absent` where the key is not there, into an array of
  * `places` places, as many as it has room for. Returns how many it wrote. */
-size_t indexset_map_gets(const indexset_map *map, const uint64_t *keys, size_t count, uint64_t absent, uint64_t *out, size_t places);
+size_t indexset_map_gets(const indexset_map *map, const uint64_t *keys, size_t count, uint64_t absent, uint64_t *out,
+                         size_t places);
 
 /* The handle of an ordered map from uint64_t to uint64_t whose keys may have several values. The values
  * of a key are distinct and stand in the order in which they came. Both fields are the library's own. */
@@ -326,8 +336,8 @@ uint32_t indexset_multi_new(indexset_multi *multi);
 /* Frees the multimap, and leaves the handle with none. Of a handle with none it does nothing. */
 void indexset_multi_free(indexset_multi *multi);
 
-/* Makes an empty multimap, under a handle on the heap, and writes where the handle lies. INDEXSET_YES, or INDEXSET_MEMORY; unless it is
- * INDEXSET_YES, nothing is written. Each call takes this handle too. */
+/* Makes an empty multimap, under a handle on the heap, and writes where the handle lies. INDEXSET_YES, or
+ * INDEXSET_MEMORY; unless it is INDEXSET_YES, nothing is written. Each call takes this handle too. */
 uint32_t indexset_multi_create(indexset_multi **multi);
 
 /* Frees a handle that indexset_multi_create made, and what it leads to, and writes a null pointer. */
@@ -398,11 +408,13 @@ bool indexset_multi_last(const indexset_multi *multi, uint64_t *key, uint64_t *v
 
 /* Writes the pairs of the keys from `low` to `high`, both included, in order into two arrays, as many as
  * both have room for. Returns how many it wrote. */
-size_t indexset_multi_range(const indexset_multi *multi, uint64_t low, uint64_t high, uint64_t *keys, size_t key_places, uint64_t *values, size_t value_places);
+size_t indexset_multi_range(const indexset_multi *multi, uint64_t low, uint64_t high, uint64_t *keys, size_t key_places,
+                            uint64_t *values, size_t value_places);
 
 /* Writes the pairs from a position on, in order into two arrays, as many as both have room for. Returns how
  * many it wrote. */
-size_t indexset_multi_range_by_position(const indexset_multi *multi, size_t from, uint64_t *keys, size_t key_places, uint64_t *values, size_t value_places);
+size_t indexset_multi_range_by_position(const indexset_multi *multi, size_t from, uint64_t *keys, size_t key_places,
+                                        uint64_t *values, size_t value_places);
 
 /* Moves a cursor to a position, counted from 0, or to the end where there is none. */
 void indexset_multi_cursor_at(const indexset_multi *multi, size_t position, indexset_cursor *cursor);
@@ -412,7 +424,8 @@ void indexset_multi_cursor_from(const indexset_multi *multi, uint64_t from, inde
 
 /* Writes the pairs from a cursor on, in order into two arrays, as many as both have room for, and moves the cursor
  * past them. Returns how many it wrote: 0 at the end. */
-size_t indexset_multi_cursor_next(const indexset_multi *multi, indexset_cursor *cursor, uint64_t *keys, size_t key_places, uint64_t *values, size_t value_places);
+size_t indexset_multi_cursor_next(const indexset_multi *multi, indexset_cursor *cursor, uint64_t *keys,
+                                  size_t key_places, uint64_t *values, size_t value_places);
 
 /* What a change does. A node is a run of pairs in order; it is named by its last pair before the change. */
 enum indexset_kind {
@@ -451,8 +464,9 @@ uint32_t indexset_log_new(indexset_log *log, size_t size, uint64_t next);
 /* Frees the map, and leaves the handle with none. Of a handle with none it does nothing. */
 void indexset_log_free(indexset_log *log);
 
-/* Makes an empty map as indexset_log_new does, under a handle on the heap, and writes where the handle lies. INDEXSET_YES, or INDEXSET_MEMORY, or INDEXSET_UNFIT; unless it is
- * INDEXSET_YES, nothing is written. Each call takes this handle too. */
+/* Makes an empty map as indexset_log_new does, under a handle on the heap, and writes where the handle lies.
+ * INDEXSET_YES, or INDEXSET_MEMORY, or INDEXSET_UNFIT; unless it is INDEXSET_YES, nothing is written. Each call takes
+ * this handle too. */
 uint32_t indexset_log_create(indexset_log **log, size_t size, uint64_t next);
 
 /* Frees a handle that indexset_log_create made, and what it leads to, and writes a null pointer. */
@@ -474,13 +488,15 @@ uint64_t indexset_log_next(const indexset_log *log);
  * INDEXSET_YES where the key was not there; INDEXSET_NO where it was, and then the value before is written
  * to `before`; or INDEXSET_MEMORY, INDEXSET_NUMBERS, INDEXSET_NONE, or INDEXSET_UNFIT where `events` has
  * fewer than INDEXSET_CHANGES places: then nothing changes, and 0 is written to `told` alone. */
-uint32_t indexset_log_insert(indexset_log *log, uint64_t key, uint64_t value, uint64_t *before, indexset_event *events, size_t places, size_t *told);
+uint32_t indexset_log_insert(indexset_log *log, uint64_t key, uint64_t value, uint64_t *before, indexset_event *events,
+                             size_t places, size_t *told);
 
 /* Removes a key and writes its value, the changes and how many they are. INDEXSET_YES, or INDEXSET_NO
  * where the key is not there, or INDEXSET_MEMORY, INDEXSET_NUMBERS, or INDEXSET_UNFIT where `events` has
  * fewer than INDEXSET_CHANGES places; unless it is INDEXSET_YES, nothing changes, and 0 is written to
  * `told` alone. */
-uint32_t indexset_log_remove(indexset_log *log, uint64_t key, uint64_t *out, indexset_event *events, size_t places, size_t *told);
+uint32_t indexset_log_remove(indexset_log *log, uint64_t key, uint64_t *out, indexset_event *events, size_t places,
+                             size_t *told);
 
 /* Writes the value of a key. True, or false where the key is not there, and then nothing is written. */
 bool indexset_log_get(const indexset_log *log, uint64_t key, uint64_t *out);
@@ -497,11 +513,13 @@ bool indexset_log_at(const indexset_log *log, size_t position, uint64_t *key, ui
 
 /* Writes the pairs of the keys from `low` to `high`, both included, in order into two arrays, as many as
  * both have room for. Returns how many it wrote. */
-size_t indexset_log_range(const indexset_log *log, uint64_t low, uint64_t high, uint64_t *keys, size_t key_places, uint64_t *values, size_t value_places);
+size_t indexset_log_range(const indexset_log *log, uint64_t low, uint64_t high, uint64_t *keys, size_t key_places,
+                          uint64_t *values, size_t value_places);
 
 /* Writes the pairs from a position on, in order into two arrays, as many as both have room for. Returns how
  * many it wrote. */
-size_t indexset_log_range_by_position(const indexset_log *log, size_t from, uint64_t *keys, size_t key_places, uint64_t *values, size_t value_places);
+size_t indexset_log_range_by_position(const indexset_log *log, size_t from, uint64_t *keys, size_t key_places,
+                                      uint64_t *values, size_t value_places);
 
 /* Moves a cursor to a position, counted from 0, or to the end where there is none. */
 void indexset_log_cursor_at(const indexset_log *log, size_t position, indexset_cursor *cursor);
@@ -511,7 +529,8 @@ void indexset_log_cursor_from(const indexset_log *log, uint64_t from, indexset_c
 
 /* Writes the pairs from a cursor on, in order into two arrays, as many as both have room for, and moves the cursor
  * past them. Returns how many it wrote: 0 at the end. */
-size_t indexset_log_cursor_next(const indexset_log *log, indexset_cursor *cursor, uint64_t *keys, size_t key_places, uint64_t *values, size_t value_places);
+size_t indexset_log_cursor_next(const indexset_log *log, indexset_cursor *cursor, uint64_t *keys, size_t key_places,
+                                uint64_t *values, size_t value_places);
 
 /* Writes how many pairs each node has, in order into an array of `places` places, as many as it has room
  * for. Returns how many it wrote. These, the pairs from 0 to UINT64_MAX and the number of the next change
@@ -538,8 +557,8 @@ uint32_t indexset_replica_from_log(indexset_replica *replica, const indexset_log
 /* Frees the replica, and leaves the handle with none. Of a handle with none it does nothing. */
 void indexset_replica_free(indexset_replica *replica);
 
-/* Makes a replica as indexset_replica_new does, under a handle on the heap, and writes where the handle lies. INDEXSET_YES, or INDEXSET_MEMORY; unless it is
- * INDEXSET_YES, nothing is written. Each call takes this handle too. */
+/* Makes a replica as indexset_replica_new does, under a handle on the heap, and writes where the handle lies.
+ * INDEXSET_YES, or INDEXSET_MEMORY; unless it is INDEXSET_YES, nothing is written. Each call takes this handle too. */
 uint32_t indexset_replica_create(indexset_replica **replica, uint64_t next);
 
 /* Frees a handle that indexset_replica_create made, and what it leads to, and writes a null pointer. */
@@ -563,7 +582,8 @@ uint32_t indexset_replica_apply(indexset_replica *replica, const indexset_event 
 /* Makes `count` changes, first to last, and passes over each whose number is below the one that is awaited.
  * Writes how many it took to `taken`, those that it passed over among them. INDEXSET_YES where it took them
  * all, or else the status of the change after those, as indexset_replica_apply has it; or INDEXSET_NONE. */
-uint32_t indexset_replica_apply_all(indexset_replica *replica, const indexset_event *events, size_t count, size_t *taken);
+uint32_t indexset_replica_apply_all(indexset_replica *replica, const indexset_event *events, size_t count,
+                                    size_t *taken);
 
 /* Returns how many pairs there are, how many nodes, and the number of the change that is awaited. */
 size_t indexset_replica_len(const indexset_replica *replica);
@@ -590,11 +610,13 @@ bool indexset_replica_last(const indexset_replica *replica, uint64_t *key, uint6
 
 /* Writes the pairs of the keys from `low` to `high`, both included, in order into two arrays, as many as
  * both have room for. Returns how many it wrote. */
-size_t indexset_replica_range(const indexset_replica *replica, uint64_t low, uint64_t high, uint64_t *keys, size_t key_places, uint64_t *values, size_t value_places);
+size_t indexset_replica_range(const indexset_replica *replica, uint64_t low, uint64_t high, uint64_t *keys,
+                              size_t key_places, uint64_t *values, size_t value_places);
 
 /* Writes the pairs from a position on, in order into two arrays, as many as both have room for. Returns how
  * many it wrote. */
-size_t indexset_replica_range_by_position(const indexset_replica *replica, size_t from, uint64_t *keys, size_t key_places, uint64_t *values, size_t value_places);
+size_t indexset_replica_range_by_position(const indexset_replica *replica, size_t from, uint64_t *keys,
+                                          size_t key_places, uint64_t *values, size_t value_places);
 
 /* Moves a cursor to a position, counted from 0, or to the end where there is none. */
 void indexset_replica_cursor_at(const indexset_replica *replica, size_t position, indexset_cursor *cursor);
@@ -604,7 +626,8 @@ void indexset_replica_cursor_from(const indexset_replica *replica, uint64_t from
 
 /* Writes the pairs from a cursor on, in order into two arrays, as many as both have room for, and moves the cursor
  * past them. Returns how many it wrote: 0 at the end. */
-size_t indexset_replica_cursor_next(const indexset_replica *replica, indexset_cursor *cursor, uint64_t *keys, size_t key_places, uint64_t *values, size_t value_places);
+size_t indexset_replica_cursor_next(const indexset_replica *replica, indexset_cursor *cursor, uint64_t *keys,
+                                    size_t key_places, uint64_t *values, size_t value_places);
 
 /* Writes how many pairs each node has, in order into an array of `places` places, as many as it has room
  * for. Returns how many it wrote. */
@@ -640,8 +663,8 @@ uint32_t indexset_text_map_clone(const indexset_text_map *map, indexset_text_map
 /* Frees the map, and leaves the handle with none. Of a handle with none it does nothing. */
 void indexset_text_map_free(indexset_text_map *map);
 
-/* Makes an empty map, under a handle on the heap, and writes where the handle lies. INDEXSET_YES, or INDEXSET_MEMORY; unless it is
- * INDEXSET_YES, nothing is written. Each call takes this handle too. */
+/* Makes an empty map, under a handle on the heap, and writes where the handle lies. INDEXSET_YES, or INDEXSET_MEMORY;
+ * unless it is INDEXSET_YES, nothing is written. Each call takes this handle too. */
 uint32_t indexset_text_map_create(indexset_text_map **map);
 
 /* Frees a handle that indexset_text_map_create made, and what it leads to, and writes a null pointer. */
@@ -663,12 +686,14 @@ size_t indexset_text_map_len(const indexset_text_map *map);
 /* Makes a value that of a key. INDEXSET_YES where the key was not there; INDEXSET_NO where it was, and
  * then the value before is written to `before`, and no memory is taken; or INDEXSET_MEMORY or INDEXSET_NONE,
  * and then nothing changes. `before` is written for INDEXSET_NO alone. */
-uint32_t indexset_text_map_insert(indexset_text_map *map, const void *key, size_t key_len, uint64_t value, uint64_t *before);
+uint32_t indexset_text_map_insert(indexset_text_map *map, const void *key, size_t key_len, uint64_t value,
+                                  uint64_t *before);
 
 /* Makes a value that of a key in the same way, and writes the key's rank to `rank`, which is the position where
  * its pair stands then, also where it was there. `rank` is written for INDEXSET_YES and INDEXSET_NO alone. It
  * costs a search more. */
-uint32_t indexset_text_map_insert_ranked(indexset_text_map *map, const void *key, size_t key_len, uint64_t value, uint64_t *before, size_t *rank);
+uint32_t indexset_text_map_insert_ranked(indexset_text_map *map, const void *key, size_t key_len, uint64_t value,
+                                         uint64_t *before, size_t *rank);
 
 /* Removes a key and writes its value. True, or false where the key is not there, and then nothing
  * changes and nothing is written. */
@@ -690,11 +715,13 @@ size_t indexset_text_map_count_up_to(const indexset_text_map *map, const void *k
 /* Writes the pair at a position, counted from 0: its key's bytes into an array of `places` places, as many
  * as it has room for; how many bytes the key has to `len`, which may be more; and its value. True, or false
  * where there is none, and then nothing is written. */
-bool indexset_text_map_at(const indexset_text_map *map, size_t position, void *key, size_t places, size_t *len, uint64_t *value);
+bool indexset_text_map_at(const indexset_text_map *map, size_t position, void *key, size_t places, size_t *len,
+                          uint64_t *value);
 
 /* Removes the pair at a position and writes it in the same way. True, or false where there is none, and then
  * nothing changes and nothing is written. */
-bool indexset_text_map_remove_at(indexset_text_map *map, size_t position, void *key, size_t places, size_t *len, uint64_t *value);
+bool indexset_text_map_remove_at(indexset_text_map *map, size_t position, void *key, size_t places, size_t *len,
+                                 uint64_t *value);
 
 /* Writes the pair of the least or the greatest key in the same way. True, or false where the map is empty,
  * and then nothing is written. */
@@ -703,8 +730,10 @@ bool indexset_text_map_last(const indexset_text_map *map, void *key, size_t plac
 
 /* Writes the pair of the first key that is not below `from`, which has `from_len` bytes, or of the first that
  * is above it, in the same way. True, or false where there is none, and then nothing is written. */
-bool indexset_text_map_lower_bound(const indexset_text_map *map, const void *from, size_t from_len, void *key, size_t places, size_t *len, uint64_t *value);
-bool indexset_text_map_upper_bound(const indexset_text_map *map, const void *from, size_t from_len, void *key, size_t places, size_t *len, uint64_t *value);
+bool indexset_text_map_lower_bound(const indexset_text_map *map, const void *from, size_t from_len, void *key,
+                                   size_t places, size_t *len, uint64_t *value);
+bool indexset_text_map_upper_bound(const indexset_text_map *map, const void *from, size_t from_len, void *key,
+                                   size_t places, size_t *len, uint64_t *value);
 
 /* Writes the values of the pairs from a position on, in the order of their keys, into an array of `places`
  * places, as many as it has room for. Returns how many it wrote. */
@@ -714,20 +743,24 @@ size_t indexset_text_map_range_by_position(const indexset_text_map *map, size_t 
  * as many as it has room for, and the bytes of those keys, one key behind another, into an array of
  * `byte_places` places, as many as it has room for: what has no room is cut, also within a key. Returns how
  * many lengths it wrote. */
-size_t indexset_text_map_keys_by_position(const indexset_text_map *map, size_t from, void *bytes, size_t byte_places, size_t *lengths, size_t length_places);
+size_t indexset_text_map_keys_by_position(const indexset_text_map *map, size_t from, void *bytes, size_t byte_places,
+                                          size_t *lengths, size_t length_places);
 
 /* Moves a cursor to a position, counted from 0, or to the end where there is none. */
 void indexset_text_map_cursor_at(const indexset_text_map *map, size_t position, indexset_cursor *cursor);
 
 /* Moves a cursor to the first pair whose key is not below `from`, which has `from_len` bytes, or to the end where
  * there is none. */
-void indexset_text_map_cursor_from(const indexset_text_map *map, const void *from, size_t from_len, indexset_cursor *cursor);
+void indexset_text_map_cursor_from(const indexset_text_map *map, const void *from, size_t from_len,
+                                   indexset_cursor *cursor);
 
 /* Writes how many bytes each key from a cursor on has, and the value of its pair, in order into two arrays, as
  * many as both have room for, and the bytes of those keys, one key behind another, into an array of
  * `byte_places` places, as many as it has room for: what has no room is cut, also within a key. Moves the cursor
  * past these pairs. Returns how many they are: 0 at the end. */
-size_t indexset_text_map_cursor_next(const indexset_text_map *map, indexset_cursor *cursor, void *bytes, size_t byte_places, size_t *lengths, size_t length_places, uint64_t *values, size_t value_places);
+size_t indexset_text_map_cursor_next(const indexset_text_map *map, indexset_cursor *cursor, void *bytes,
+                                     size_t byte_places, size_t *lengths, size_t length_places, uint64_t *values,
+                                     size_t value_places);
 
 /* A change of a logged map from byte strings. The bytes of its two keys are written beside it. What a kind has
  * no use for is 0. */
@@ -781,7 +814,8 @@ uint64_t indexset_text_log_next(const indexset_text_log *log);
  * `told`: at most INDEXSET_CHANGES. INDEXSET_YES where the key was not there; INDEXSET_NO where it was, and
  * then the value before is written to `before`; or INDEXSET_MEMORY, INDEXSET_NUMBERS or INDEXSET_NONE: then
  * nothing changes, and 0 is written to `told` alone. */
-uint32_t indexset_text_log_insert(indexset_text_log *log, const void *key, size_t key_len, uint64_t value, uint64_t *before, size_t *told);
+uint32_t indexset_text_log_insert(indexset_text_log *log, const void *key, size_t key_len, uint64_t value,
+                                  uint64_t *before, size_t *told);
 
 /* Removes a key and writes its value, keeps the changes, and writes how many they are. INDEXSET_YES, or
  * INDEXSET_NO where the key is not there, or INDEXSET_MEMORY or INDEXSET_NUMBERS; unless it is INDEXSET_YES,
@@ -791,7 +825,8 @@ uint32_t indexset_text_log_remove(indexset_text_log *log, const void *key, size_
 /* Writes one of the changes that are kept, counted from 0: its record, and the bytes of the key that names its
  * node and of its pair's key into two arrays, as many as each has room for; the record has how many there are.
  * True, or false where there is none, and then nothing is written. */
-bool indexset_text_log_change(const indexset_text_log *log, size_t i, indexset_text_event *event, void *node, size_t node_places, void *key, size_t key_places);
+bool indexset_text_log_change(const indexset_text_log *log, size_t i, indexset_text_event *event, void *node,
+                              size_t node_places, void *key, size_t key_places);
 
 /* Writes the value of a key. True, or false where the key is not there, and then nothing is written. */
 bool indexset_text_log_get(const indexset_text_log *log, const void *key, size_t key_len, uint64_t *out);
@@ -805,22 +840,27 @@ size_t indexset_text_log_count_up_to(const indexset_text_log *log, const void *k
 
 /* Writes the pair at a position, and the values or the keys of the pairs from a position on, as the calls of
  * an indexset_text_map do. */
-bool indexset_text_log_at(const indexset_text_log *log, size_t position, void *key, size_t places, size_t *len, uint64_t *value);
+bool indexset_text_log_at(const indexset_text_log *log, size_t position, void *key, size_t places, size_t *len,
+                          uint64_t *value);
 size_t indexset_text_log_range_by_position(const indexset_text_log *log, size_t from, uint64_t *values, size_t places);
-size_t indexset_text_log_keys_by_position(const indexset_text_log *log, size_t from, void *bytes, size_t byte_places, size_t *lengths, size_t length_places);
+size_t indexset_text_log_keys_by_position(const indexset_text_log *log, size_t from, void *bytes, size_t byte_places,
+                                          size_t *lengths, size_t length_places);
 
 /* Moves a cursor to a position, counted from 0, or to the end where there is none. */
 void indexset_text_log_cursor_at(const indexset_text_log *log, size_t position, indexset_cursor *cursor);
 
 /* Moves a cursor to the first pair whose key is not below `from`, which has `from_len` bytes, or to the end where
  * there is none. */
-void indexset_text_log_cursor_from(const indexset_text_log *log, const void *from, size_t from_len, indexset_cursor *cursor);
+void indexset_text_log_cursor_from(const indexset_text_log *log, const void *from, size_t from_len,
+                                   indexset_cursor *cursor);
 
 /* Writes how many bytes each key from a cursor on has, and the value of its pair, in order into two arrays, as
  * many as both have room for, and the bytes of those keys, one key behind another, into an array of
  * `byte_places` places, as many as it has room for: what has no room is cut, also within a key. Moves the cursor
  * past these pairs. Returns how many they are: 0 at the end. */
-size_t indexset_text_log_cursor_next(const indexset_text_log *log, indexset_cursor *cursor, void *bytes, size_t byte_places, size_t *lengths, size_t length_places, uint64_t *values, size_t value_places);
+size_t indexset_text_log_cursor_next(const indexset_text_log *log, indexset_cursor *cursor, void *bytes,
+                                     size_t byte_places, size_t *lengths, size_t length_places, uint64_t *values,
+                                     size_t value_places);
 
 #ifdef __cplusplus
 }

@@ -20,12 +20,12 @@
 // of `key_code`. A value is of a type that is trivially copyable and has at most 8 bytes: a number, a pointer, an
 // index. A collection hands out copies: what an iterator leads to cannot be written through it.
 //
-// Iterators are positions. They meet std::random_access_iterator of C++20, and all rules of such an iterator of C++17 but
-// one: `*it` is a value and no reference. A change of a collection invalidates its iterators, but for those that the
-// change returns. As long as the collection lives, to use an invalid one touches no freed memory, but it may lead to
-// another element, or to none, which an assertion refuses. After a move or a swap iterators lead into the collection
-// that has the elements. Elements are fetched in runs, so that a walk does not search for each; where there is no memory
-// for a run, it does.
+// Iterators are positions. They meet std::random_access_iterator of C++20, and all rules of such an iterator of C++17
+// but one: `*it` is a value and no reference. A change of a collection invalidates its iterators, but for those that
+// the change returns. As long as the collection lives, to use an invalid one touches no freed memory, but it may lead
+// to another element, or to none, which an assertion refuses. After a move or a swap iterators lead into the collection
+// that has the elements. Elements are fetched in runs, so that a walk does not search for each; where there is no
+// memory for a run, it does.
 //
 // Exceptions: std::bad_alloc alone, where memory is refused, and what the caller's own iterators and functions throw.
 // After an exception nothing has changed. `apply_all` of a replica throws only where it took no change: else it returns
@@ -69,18 +69,24 @@ auto erase_if(Collection &from, Condition condition) -> typename Collection::siz
 // What the iterators are.
 static_assert(std::is_same_v<set<int>::reference, int> && std::is_same_v<map<int, int>::reference, std::pair<int, int>>,
               "what an iterator hands out is a value, where C++17 asks a forward iterator for a reference");
-static_assert(std::is_nothrow_move_constructible_v<set<int>> && std::is_nothrow_move_assignable_v<map<int, int>> &&
-              std::is_nothrow_swappable_v<byte_map<int>> && std::is_nothrow_default_constructible_v<set<int>>);
+static_assert(std::is_nothrow_move_constructible_v<set<int>>);
+static_assert(std::is_nothrow_move_assignable_v<map<int, int>>);
+static_assert(std::is_nothrow_swappable_v<byte_map<int>>);
+static_assert(std::is_nothrow_default_constructible_v<set<int>>);
 #if __cplusplus >= 202002L
-static_assert(std::ranges::random_access_range<const set<int>> && std::ranges::random_access_range<const map<int, int>> &&
-              std::ranges::random_access_range<const byte_map<int>>);
-static_assert(std::ranges::sized_range<const set<int>> && std::ranges::common_range<const set<int>> &&
-              !std::ranges::contiguous_range<const set<int>>);
-static_assert(std::ranges::random_access_range<const multimap<int, int>> &&
-              std::ranges::random_access_range<const logged_map<>> &&
-              std::ranges::random_access_range<const logged_byte_map<>> && std::ranges::random_access_range<const replica<>>);
+static_assert(std::ranges::random_access_range<const set<int>>);
+static_assert(std::ranges::random_access_range<const map<int, int>>);
+static_assert(std::ranges::random_access_range<const byte_map<int>>);
+static_assert(std::ranges::sized_range<const set<int>>);
+static_assert(std::ranges::common_range<const set<int>>);
+static_assert(!std::ranges::contiguous_range<const set<int>>);
+static_assert(std::ranges::random_access_range<const multimap<int, int>>);
+static_assert(std::ranges::random_access_range<const logged_map<>>);
+static_assert(std::ranges::random_access_range<const logged_byte_map<>>);
+static_assert(std::ranges::random_access_range<const replica<>>);
 static_assert(!std::indirectly_writable<set<int>::iterator, int>);
-static_assert(std::three_way_comparable<set<int>> && std::three_way_comparable<map<int, int>>);
+static_assert(std::three_way_comparable<set<int>>);
+static_assert(std::three_way_comparable<map<int, int>>);
 #endif
 
 } // namespace indexset

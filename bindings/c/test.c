@@ -158,7 +158,10 @@ static void step_change(indexset_set *set, uint64_t key) {
         CHECK(out == (at < count ? model[at] : 77));
         if (at < count) model_remove_at(at);
         return;
-    case 3: case 4: case 5: case 6:
+    case 3:
+    case 4:
+    case 5:
+    case 6:
         CHECK(indexset_set_remove(set, key) == there);
         if (there) model_remove_at(model_rank(key));
         return;
@@ -238,7 +241,8 @@ static void test_random(unsigned long refuse, unsigned steps) {
         if (i % 64 == 0) {
             CHECK(same_as_model(&set));
             uint32_t status = indexset_set_clone(&set, &cloned);
-            CHECK(status == INDEXSET_YES ? same_as_model(&cloned) : nth != 0 && status == INDEXSET_MEMORY && !cloned.live);
+            CHECK(status == INDEXSET_YES ? same_as_model(&cloned)
+                                         : nth != 0 && status == INDEXSET_MEMORY && !cloned.live);
             indexset_set_free(&cloned);
             status = indexset_set_new(&cloned);
             CHECK(status == INDEXSET_YES || (nth != 0 && status == INDEXSET_MEMORY && !cloned.live));
@@ -281,8 +285,10 @@ static void test_map_none(void) {
     CHECK(indexset_map_len(&map) == 0 && indexset_map_rank(&map, 5) == 0 && indexset_map_count_up_to(&map, 5) == 0);
     CHECK(!indexset_map_lower_bound(&map, 0, &key, &value) && !indexset_map_upper_bound(&map, 0, &key, &value));
     CHECK(!indexset_map_remove_at(&map, 0, &key, &value));
-    CHECK(!indexset_map_contains(&map, 0) && !indexset_map_get(&map, 0, &value) && !indexset_map_remove(&map, 0, &value));
-    CHECK(!indexset_map_at(&map, 0, &key, &value) && !indexset_map_first(&map, &key, &value) && !indexset_map_last(&map, &key, &value));
+    CHECK(!indexset_map_contains(&map, 0) && !indexset_map_get(&map, 0, &value)
+          && !indexset_map_remove(&map, 0, &value));
+    CHECK(!indexset_map_at(&map, 0, &key, &value) && !indexset_map_first(&map, &key, &value)
+          && !indexset_map_last(&map, &key, &value));
     CHECK(!indexset_map_pop_first(&map, &key, &value) && !indexset_map_pop_last(&map, &key, &value));
     CHECK(indexset_map_range_by_key(&map, 0, UINT64_MAX, &key, 1, &value, 1) == 0);
     CHECK(indexset_map_range_by_position(&map, 0, &key, 1, &value, 1) == 0);
@@ -332,12 +338,16 @@ static void map_step_change(indexset_map *map, uint64_t key) {
         CHECK(place < count ? k == model[place] && v == model_values[place] : k == 77 && v == 78);
         if (place < count) map_model_remove_at(place);
         return;
-    case 3: case 4: case 5: case 6:
+    case 3:
+    case 4:
+    case 5:
+    case 6:
         CHECK(indexset_map_remove(map, key, &v) == there && v == (there ? model_values[at] : 78));
         if (there) map_model_remove_at(at);
         return;
     default: {
-        uint32_t status = ranked ? indexset_map_insert_ranked(map, key, value, &v, &rank) : indexset_map_insert(map, key, value, &v);
+        uint32_t status =
+            ranked ? indexset_map_insert_ranked(map, key, value, &v, &rank) : indexset_map_insert(map, key, value, &v);
         CHECK(rank == (ranked && status != INDEXSET_MEMORY ? at : 99));
         CHECK(there ? status == INDEXSET_NO : status == INDEXSET_YES || (nth != 0 && status == INDEXSET_MEMORY));
         CHECK(v == (there ? model_values[at] : 78));
@@ -405,7 +415,8 @@ static void test_map_random(unsigned long refuse, unsigned steps) {
         if (i % 64 == 0) {
             CHECK(map_same_as_model(&map));
             uint32_t status = indexset_map_clone(&map, &cloned);
-            CHECK(status == INDEXSET_YES ? map_same_as_model(&cloned) : nth != 0 && status == INDEXSET_MEMORY && !cloned.live);
+            CHECK(status == INDEXSET_YES ? map_same_as_model(&cloned)
+                                         : nth != 0 && status == INDEXSET_MEMORY && !cloned.live);
             indexset_map_free(&cloned);
         }
     }

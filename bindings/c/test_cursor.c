@@ -40,14 +40,16 @@ static void set_put(uint64_t key, uint64_t value) {
 static void set_take(uint64_t key) { CHECK(indexset_set_remove(&set, key)); }
 
 /* ---- what holds pairs of numbers */
-#define PAIRS(name, of)                                                                                              \
-    static void name##_at(size_t position, indexset_cursor *cursor) { indexset_##name##_cursor_at(of, position, cursor); } \
-    static void name##_from(uint64_t key, indexset_cursor *cursor) { indexset_##name##_cursor_from(of, key, cursor); }  \
-    static size_t name##_next(indexset_cursor *cursor, uint64_t *keys, uint64_t *values, size_t places) {             \
-        return indexset_##name##_cursor_next(of, cursor, keys, places, values, places);                               \
-    }                                                                                                                 \
-    static size_t name##_all(uint64_t *keys, uint64_t *values) {                                                      \
-        return indexset_##name##_range_by_position(of, 0, keys, ROOM, values, ROOM);                                  \
+#define PAIRS(name, of)                                                                                                \
+    static void name##_at(size_t position, indexset_cursor *cursor) {                                                  \
+        indexset_##name##_cursor_at(of, position, cursor);                                                             \
+    }                                                                                                                  \
+    static void name##_from(uint64_t key, indexset_cursor *cursor) { indexset_##name##_cursor_from(of, key, cursor); } \
+    static size_t name##_next(indexset_cursor *cursor, uint64_t *keys, uint64_t *values, size_t places) {              \
+        return indexset_##name##_cursor_next(of, cursor, keys, places, values, places);                                \
+    }                                                                                                                  \
+    static size_t name##_all(uint64_t *keys, uint64_t *values) {                                                       \
+        return indexset_##name##_range_by_position(of, 0, keys, ROOM, values, ROOM);                                   \
     }
 
 PAIRS(map, &map)
@@ -74,7 +76,8 @@ static void multi_take(uint64_t key) {
 /* The replica follows the logged map. */
 static void tell(const indexset_event *events, size_t many) {
     size_t taken = 0;
-    if (replica.live) CHECK(indexset_replica_apply_all(&replica, events, many, &taken) == INDEXSET_YES && taken == many);
+    if (replica.live)
+        CHECK(indexset_replica_apply_all(&replica, events, many, &taken) == INDEXSET_YES && taken == many);
 }
 static void log_put(uint64_t key, uint64_t value) {
     indexset_event events[INDEXSET_CHANGES];
@@ -109,23 +112,25 @@ static void read_keys(const char *bytes, const size_t *lengths, size_t many, uin
 static char bytes[ROOM * TEXT];
 static size_t lengths[ROOM];
 
-#define TEXTS(name, of)                                                                                              \
-    static void name##_at(size_t position, indexset_cursor *cursor) { indexset_##name##_cursor_at(of, position, cursor); } \
-    static void name##_from(uint64_t key, indexset_cursor *cursor) {                                                  \
-        char text[TEXT];                                                                                              \
-        size_t len = text_of(key, text);                                                                              \
-        indexset_##name##_cursor_from(of, text, len, cursor);                                                         \
-    }                                                                                                                 \
-    static size_t name##_next(indexset_cursor *cursor, uint64_t *keys, uint64_t *values, size_t places) {             \
+#define TEXTS(name, of)                                                                                                \
+    static void name##_at(size_t position, indexset_cursor *cursor) {                                                  \
+        indexset_##name##_cursor_at(of, position, cursor);                                                             \
+    }                                                                                                                  \
+    static void name##_from(uint64_t key, indexset_cursor *cursor) {                                                   \
+        char text[TEXT];                                                                                               \
+        size_t len = text_of(key, text);                                                                               \
+        indexset_##name##_cursor_from(of, text, len, cursor);                                                          \
+    }                                                                                                                  \
+    static size_t name##_next(indexset_cursor *cursor, uint64_t *keys, uint64_t *values, size_t places) {              \
         size_t many = indexset_##name##_cursor_next(of, cursor, bytes, sizeof bytes, lengths, places, values, places); \
-        read_keys(bytes, lengths, many, keys);                                                                        \
-        return many;                                                                                                  \
-    }                                                                                                                 \
-    static size_t name##_all(uint64_t *keys, uint64_t *values) {                                                      \
-        size_t many = indexset_##name##_keys_by_position(of, 0, bytes, sizeof bytes, lengths, ROOM);                  \
-        read_keys(bytes, lengths, many, keys);                                                                        \
-        CHECK(indexset_##name##_range_by_position(of, 0, values, ROOM) == many);                                      \
-        return many;                                                                                                  \
+        read_keys(bytes, lengths, many, keys);                                                                         \
+        return many;                                                                                                   \
+    }                                                                                                                  \
+    static size_t name##_all(uint64_t *keys, uint64_t *values) {                                                       \
+        size_t many = indexset_##name##_keys_by_position(of, 0, bytes, sizeof bytes, lengths, ROOM);                   \
+        read_keys(bytes, lengths, many, keys);                                                                         \
+        CHECK(indexset_##name##_range_by_position(of, 0, values, ROOM) == many);                                       \
+        return many;                                                                                                   \
     }
 
 TEXTS(text_map, &text_map)
@@ -164,9 +169,11 @@ static bool goes_on(const kind *of, indexset_cursor *cursor, size_t position, si
     size_t rest = position < count ? count - position : 0;
     size_t many = rest < places ? rest : places;
     next_keys[many] = 77;
-    if (of->next(cursor, next_keys, next_values, places) != many || (many == places && next_keys[many] != 77)) return false;
-    return many == 0 || (memcmp(next_keys, keys + position, many * sizeof *keys) == 0 &&
-                         memcmp(next_values, values + position, many * sizeof *values) == 0);
+    if (of->next(cursor, next_keys, next_values, places) != many || (many == places && next_keys[many] != 77))
+        return false;
+    return many == 0
+           || (memcmp(next_keys, keys + position, many * sizeof *keys) == 0
+               && memcmp(next_values, values + position, many * sizeof *values) == 0);
 }
 
 static void walk_in_pages(const kind *of, size_t page) {
@@ -246,14 +253,17 @@ static void test_room(void) {
         map_put(i, i + 10);
         text_map_put(i, i + 10);
     }
-    CHECK(indexset_map_cursor_next(&map, &cursor, some, 3, more, 2) == 2 && some[1] == 1 && some[2] == 72 && more[1] == 11 && more[2] == 82);
+    CHECK(indexset_map_cursor_next(&map, &cursor, some, 3, more, 2) == 2 && some[1] == 1 && some[2] == 72
+          && more[1] == 11 && more[2] == 82);
     CHECK(indexset_map_cursor_next(&map, &cursor, some, 0, more, 4) == 0);
-    CHECK(indexset_map_cursor_next(&map, &cursor, some, 4, more, 4) == 2 && some[0] == 2 && some[1] == 3 && some[2] == 72);
+    CHECK(indexset_map_cursor_next(&map, &cursor, some, 4, more, 4) == 2 && some[0] == 2 && some[1] == 3
+          && some[2] == 72);
     cursor = (indexset_cursor)INDEXSET_CURSOR;
     CHECK(indexset_text_map_cursor_next(&text_map, &cursor, cut, 13, sizes, 2, more, 4) == 2);
     CHECK(memcmp(cut, "0000000000000...", 16) == 0);
     CHECK(sizes[0] == 10 && sizes[1] == 11 && sizes[2] == 92 && more[0] == 10 && more[1] == 11 && more[2] == 82);
-    CHECK(indexset_text_map_cursor_next(&text_map, &cursor, cut, 16, sizes, 4, more, 1) == 1 && sizes[0] == 12 && more[0] == 12);
+    CHECK(indexset_text_map_cursor_next(&text_map, &cursor, cut, 16, sizes, 4, more, 1) == 1 && sizes[0] == 12
+          && more[0] == 12);
     CHECK(memcmp(cut, "0000000002ab....", 12) == 0);
     indexset_map_clear(&map);
     indexset_text_map_clear(&text_map);
@@ -268,7 +278,8 @@ int main(void) {
     CHECK(indexset_set_new(&set) == INDEXSET_YES && indexset_map_new(&map) == INDEXSET_YES);
     CHECK(indexset_multi_new(&multi) == INDEXSET_YES && indexset_text_map_new(&text_map) == INDEXSET_YES);
     for (size_t size = 2; size < 100; size = size * 4 + 1) {
-        CHECK(indexset_log_new(&logged, size, 5) == INDEXSET_YES && indexset_text_log_new(&text_log, size, 5) == INDEXSET_YES);
+        CHECK(indexset_log_new(&logged, size, 5) == INDEXSET_YES
+              && indexset_text_log_new(&text_log, size, 5) == INDEXSET_YES);
         test(&kinds[3], 700);
         test(&kinds[5], 700);
         CHECK(indexset_replica_from_log(&replica, &logged) == INDEXSET_YES);

@@ -26,13 +26,9 @@ static size_t named(uint64_t key) {
     return at;
 }
 
-static void open_at(size_t at) {
-    memmove(nodes + at + 1, nodes + at, (node_count++ - at) * sizeof *nodes);
-}
+static void open_at(size_t at) { memmove(nodes + at + 1, nodes + at, (node_count++ - at) * sizeof *nodes); }
 
-static void close_at(size_t at) {
-    memmove(nodes + at, nodes + at + 1, (--node_count - at) * sizeof *nodes);
-}
+static void close_at(size_t at) { memmove(nodes + at, nodes + at + 1, (--node_count - at) * sizeof *nodes); }
 
 static void move_pairs(node *to, size_t at, const node *from, size_t first, size_t many) {
     memmove(to->keys + at, from->keys + first, many * sizeof *to->keys);
@@ -63,9 +59,7 @@ static void make_change(const indexset_event *event) {
         move_pairs(named_node, i, named_node, i + 1, length - i - 1);
         named_node->length--;
         return;
-    case INDEXSET_DROP:
-        close_at(at);
-        return;
+    case INDEXSET_DROP: close_at(at); return;
     case INDEXSET_SPLIT:
         CHECK(0 < i && i < length);
         open_at(at);
@@ -94,7 +88,8 @@ static void compare(const indexset_log *log) {
     }
     CHECK(first == count);
     for (size_t draws = 0; draws < 8; draws++) {
-        size_t at = (size_t)(draw() % (count + 2)), past = count - (at < count ? at : count), wrote = past < 3 ? past : 3;
+        size_t at = (size_t)(draw() % (count + 2)), past = count - (at < count ? at : count),
+               wrote = past < 3 ? past : 3;
         uint64_t key = 77, value = 78, some_keys[4] = {77, 77, 77, 77}, some_values[4] = {78, 78, 78, 78};
         CHECK(indexset_log_at(log, at, &key, &value) == (at < count));
         CHECK(at < count ? key == keys[at] && value == values[at] : key == 77 && value == 78);
@@ -131,13 +126,16 @@ static void test_life(void) {
     CHECK(indexset_log_new(&log, 2, 0) == INDEXSET_HELD && indexset_log_next(&log) == 100);
     CHECK(indexset_log_insert(&log, 10, 1, &out, events, 2, &told) == INDEXSET_UNFIT && told == 0);
     CHECK(indexset_log_insert(&log, 10, 1, &out, events, 3, &told) == INDEXSET_YES && told == 1);
-    CHECK(events[0].number == 100 && events[0].kind == INDEXSET_CREATE && events[0].node_key == 10 && events[0].node_value == 1);
+    CHECK(events[0].number == 100 && events[0].kind == INDEXSET_CREATE && events[0].node_key == 10
+          && events[0].node_value == 1);
     CHECK(indexset_log_insert(&log, 20, 2, &out, events, 3, &told) == INDEXSET_YES && told == 1);
     CHECK(events[0].number == 101 && events[0].kind == INDEXSET_INSERT && events[0].node_key == 10);
     CHECK(events[0].key == 20 && events[0].value == 2 && events[0].index == 1);
     CHECK(indexset_log_insert(&log, 30, 3, &out, events, 3, &told) == INDEXSET_YES && told == 2);
-    CHECK(events[0].number == 102 && events[0].kind == INDEXSET_SPLIT && events[0].node_key == 20 && events[0].index == 1);
-    CHECK(events[1].number == 103 && events[1].kind == INDEXSET_INSERT && events[1].node_key == 20 && events[1].key == 30);
+    CHECK(events[0].number == 102 && events[0].kind == INDEXSET_SPLIT && events[0].node_key == 20
+          && events[0].index == 1);
+    CHECK(events[1].number == 103 && events[1].kind == INDEXSET_INSERT && events[1].node_key == 20
+          && events[1].key == 30);
     /* the node of 20 and 30 is full, so it is split first, and 30 is then the only pair of its node */
     CHECK(indexset_log_insert(&log, 30, 4, &out, events, 3, &told) == INDEXSET_NO && out == 3 && told == 3);
     CHECK(events[0].number == 104 && events[0].kind == INDEXSET_SPLIT && events[0].node_key == 30);

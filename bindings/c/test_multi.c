@@ -48,7 +48,8 @@ static bool same_as_model(const indexset_multi *multi) {
     static uint64_t keys[ROOM], values[ROOM];
     if (indexset_multi_len(multi) != count) return false;
     if (indexset_multi_range(multi, 0, UINT64_MAX, keys, ROOM, values, ROOM) != count) return false;
-    return memcmp(keys, model_keys, count * sizeof *keys) == 0 && memcmp(values, model_values, count * sizeof *values) == 0;
+    return memcmp(keys, model_keys, count * sizeof *keys) == 0
+           && memcmp(values, model_values, count * sizeof *values) == 0;
 }
 
 /* ---- a handle that leads to none, and the life of a multimap */
@@ -98,11 +99,14 @@ static void step_change(indexset_multi *multi, uint64_t key) {
     switch (draw() % 8) {
     case 0:
         status = indexset_multi_remove_first(multi, key, &out);
-        CHECK(first == past ? status == INDEXSET_NO : status == INDEXSET_YES || (nth != 0 && status == INDEXSET_MEMORY));
+        CHECK(first == past ? status == INDEXSET_NO
+                            : status == INDEXSET_YES || (nth != 0 && status == INDEXSET_MEMORY));
         CHECK(out == (status == INDEXSET_YES ? model_values[first] : 77));
         if (status == INDEXSET_YES) remove_at(first);
         return;
-    case 1: case 2: case 3:
+    case 1:
+    case 2:
+    case 3:
         status = indexset_multi_remove(multi, key, value);
         CHECK(at == past ? status == INDEXSET_NO : status == INDEXSET_YES || (nth != 0 && status == INDEXSET_MEMORY));
         if (status == INDEXSET_YES) remove_at(at);

@@ -1,5 +1,5 @@
-// multimap, logged_map, logged_byte_map and replica of indexset.hpp beside std::multimap and std::map: random scripts, also
-// with every Nth request for memory refused.
+// multimap, logged_map, logged_byte_map and replica of indexset.hpp beside std::multimap and std::map: random scripts,
+// also with every Nth request for memory refused.
 #include "walks.hpp"
 #include <limits>
 #include <map>
@@ -26,7 +26,8 @@ struct multimap_script {
 
     typename Peer::iterator find(K key, V value) {
         const auto range = peer.equal_range(key);
-        const auto found = std::find_if(range.first, range.second, [&](const auto &pair) { return pair.second == value; });
+        const auto found =
+            std::find_if(range.first, range.second, [&](const auto &pair) { return pair.second == value; });
         return found == range.second ? peer.end() : found;
     }
     V draw_value() const { return static_cast<V>(draw_below(bound)); }
@@ -54,7 +55,8 @@ struct multimap_script {
         const V value = draw_value();
         const auto wanted = find(key, value);
         std::size_t removed = 0;
-        CHECK(ours.contains(key, value) == (wanted != peer.end()) && (ours.find(key, value) != ours.end()) == (wanted != peer.end()));
+        CHECK(ours.contains(key, value) == (wanted != peer.end())
+              && (ours.find(key, value) != ours.end()) == (wanted != peer.end()));
         if (wanted != peer.end()) CHECK(is_at(ours, peer, ours.find(key, value), wanted));
         if (is_refused(refuse, [&] { removed = ours.erase(key, value); })) return;
         CHECK(removed == (wanted != peer.end()));
@@ -72,16 +74,19 @@ struct multimap_script {
         if (peer.empty()) return;
         const auto steps = static_cast<std::ptrdiff_t>(draw_below(peer.size()));
         auto after = ours.end();
-        if (is_refused(refuse, [&] { after = ours.erase(ours.find_by_order(static_cast<std::size_t>(steps))); })) return;
+        if (is_refused(refuse, [&] { after = ours.erase(ours.find_by_order(static_cast<std::size_t>(steps))); }))
+            return;
         CHECK(is_at(ours, peer, after, peer.erase(std::next(peer.begin(), steps))));
     }
     void erase_range() {
         const auto first = static_cast<std::ptrdiff_t>(draw_below(peer.size() + 1));
-        const auto many = static_cast<std::ptrdiff_t>(draw_below(std::min<std::size_t>(peer.size() - static_cast<std::size_t>(first), 9) + 1));
+        const auto many = static_cast<std::ptrdiff_t>(
+            draw_below(std::min<std::size_t>(peer.size() - static_cast<std::size_t>(first), 9) + 1));
         const auto from = std::next(ours.begin(), first);
         auto after = ours.end();
         if (!is_refused(refuse, [&] { after = ours.erase(from, from + many); })) {
-            CHECK(is_at(ours, peer, after, peer.erase(std::next(peer.begin(), first), std::next(peer.begin(), first + many))));
+            CHECK(is_at(ours, peer, after,
+                        peer.erase(std::next(peer.begin(), first), std::next(peer.begin(), first + many))));
         }
         const K key = draw_key<K>();
         std::size_t removed = 0;
@@ -98,7 +103,8 @@ struct multimap_script {
         CHECK((ours <=> others) == (peer <=> other_peer));
 #endif
 #ifdef HAS_VIEWS
-        CHECK(std::ranges::equal(ours | std::views::reverse, peer | std::views::reverse, {}, {}, [](const auto &pair) { return std::pair<K, V>(pair); }));
+        CHECK(std::ranges::equal(ours | std::views::reverse, peer | std::views::reverse, {}, {},
+                                 [](const auto &pair) { return std::pair<K, V>(pair); }));
 #endif
         Ours moved(std::move(ours));
         CHECK(ours.empty() && ours.begin() == ours.end() && same(moved, peer)); // NOLINT: what was moved from is empty
@@ -112,7 +118,8 @@ struct multimap_script {
             switch (draw_below(10)) {
             case 0: erase_first(); break;
             case 1: erase_at(); break;
-            case 2: case 3: erase(); break;
+            case 2:
+            case 3: erase(); break;
             case 4: insert_some(); break;
             default: insert();
             }
@@ -165,15 +172,16 @@ static bool has_all(const Multi &ours, const MultiPeer &peer) {
         std::vector<int> wanted;
         for (auto it = peer.lower_bound(key); it != peer.upper_bound(key); ++it) wanted.push_back(it->second);
         has = has && ours.values(key) == wanted && std::all_of(wanted.begin(), wanted.end(), [&](int value) {
-            return ours.contains(key, value) && ours.find(key, value) != ours.end();
-        });
+                  return ours.contains(key, value) && ours.find(key, value) != ours.end();
+              });
     }
     return has;
 }
 
 // Whether a collection hides pairs for want of memory: a change of no pair removes them first.
 static bool is_hiding(Multi &ours) {
-    return is_refused(1, [&] { ours.erase(-1, 0); }, onward);
+    return is_refused(
+        1, [&] { ours.erase(-1, 0); }, onward);
 }
 
 // Each read of pairs that a change left, also while pairs are hidden, and what the next change leaves.
@@ -186,13 +194,18 @@ static void check_several(const Multi &before, const MultiPeer &peer_before, Cal
     do {
         Multi ours(before);
         requests = 0, at++;
-        MultiPeer peer = is_refused(at, [&] { call(ours); }, onward) ? peer_before : changed;
+        MultiPeer peer = is_refused(
+                             at, [&] { call(ours); }, onward)
+                             ? peer_before
+                             : changed;
         CHECK(requests < at || is_hiding(ours) || ours.size() != 0);
         if (is_hiding(ours)) {
             hiding++;
             CHECK(has_all(ours, peer) && Multi(ours) == ours);
             const auto middle = ours.begin() + static_cast<std::ptrdiff_t>(ours.size() / 2);
-            CHECK(is_refused(1, [&] { ours.erase(middle, ours.end()); }, onward) && has_all(ours, peer) && is_hiding(ours));
+            CHECK(is_refused(
+                      1, [&] { ours.erase(middle, ours.end()); }, onward)
+                  && has_all(ours, peer) && is_hiding(ours));
             const bool added = ours.insert({4, -7}).second;
             CHECK(added && !is_hiding(ours) && ours.erase(4, -7) == 1);
         }
@@ -209,16 +222,23 @@ static void test_several() {
         if (ours.insert(pair).second) peer.insert(pair);
     }
     const auto at = [](const MultiPeer &of, std::ptrdiff_t steps) { return std::next(of.begin(), steps); };
-    check_several(ours, peer, [](Multi &of) { of.erase(12); }, [](MultiPeer &of) { of.erase(12); });
-    check_several(ours, peer, [](Multi &of) { of.erase(of.begin() + 500, of.begin() + 5400); },
-                  [&](MultiPeer &of) { of.erase(at(of, 500), at(of, 5400)); });
+    check_several(
+        ours, peer, [](Multi &of) { of.erase(12); }, [](MultiPeer &of) { of.erase(12); });
+    check_several(
+        ours, peer, [](Multi &of) { of.erase(of.begin() + 500, of.begin() + 5400); },
+        [&](MultiPeer &of) { of.erase(at(of, 500), at(of, 5400)); });
     const auto is_odd = [](const auto &pair) { return pair.second % 8 != 0; };
-    check_several(ours, peer, [&](Multi &of) { indexset::erase_if(of, is_odd); }, [&](MultiPeer &of) {
-        for (auto it = of.begin(); it != of.end();) it = is_odd(*it) ? of.erase(it) : std::next(it);
-    });
+    check_several(
+        ours, peer, [&](Multi &of) { indexset::erase_if(of, is_odd); },
+        [&](MultiPeer &of) {
+            for (auto it = of.begin(); it != of.end();) it = is_odd(*it) ? of.erase(it) : std::next(it);
+        });
     std::vector<std::pair<int, int>> pairs;
+    pairs.reserve(3000);
     for (int i = 0; i < 3000; i++) pairs.emplace_back(draw_below(25), -i);
-    check_several(ours, peer, [&](Multi &of) { of.insert(pairs.begin(), pairs.end()); }, [&](MultiPeer &of) { of.insert(pairs.begin(), pairs.end()); });
+    check_several(
+        ours, peer, [&](Multi &of) { of.insert(pairs.begin(), pairs.end()); },
+        [&](MultiPeer &of) { of.insert(pairs.begin(), pairs.end()); });
 }
 
 // Each request of a call refused in turn.
@@ -240,7 +260,8 @@ static void test_sweep() {
     sweep(multi, even, [&](auto &copy) { indexset::erase_if(copy, is_odd); });
     sweep(multi, other, [](auto &copy) { copy = {{1, 2}, {1, 2}}; });
     indexset::multimap<int, int> without(multi), without_some(multi);
-    CHECK(without.erase(50) == 3 && without_some.erase(without_some.begin() + 10, without_some.begin() + 200) - without_some.begin() == 10);
+    CHECK(without.erase(50) == 3
+          && without_some.erase(without_some.begin() + 10, without_some.begin() + 200) - without_some.begin() == 10);
     sweep(multi, without, [](auto &copy) { copy.erase(50); });
     sweep(multi, without_some, [](auto &copy) { copy.erase(copy.begin() + 10, copy.begin() + 200); });
     sweep(multi, indexset::multimap<int, int>(), [](auto &copy) { copy.erase(copy.begin(), copy.end()); });
@@ -269,12 +290,18 @@ struct log_script {
         const auto found = peer.find(key);
         const std::uint64_t next = log.next();
         indexset::told<V> told;
-        if (is_refused(refuse, [&] { told = kind == 0 ? log.insert({key, value}) : kind < 3 ? log.insert_or_assign(key, value) : log.erase(key); })) {
+        if (is_refused(refuse, [&] {
+                told = kind == 0  ? log.insert({key, value})
+                       : kind < 3 ? log.insert_or_assign(key, value)
+                                  : log.erase(key);
+            })) {
             CHECK(log.next() == next);
             return;
         }
-        CHECK(!told.out_of_numbers && told.before.has_value() == (found != peer.end()) && (!told.before || *told.before == found->second));
-        CHECK(told.empty() == (kind == 0 ? found != peer.end() : kind >= 3 && found == peer.end()) && log.next() == next + told.size());
+        CHECK(!told.out_of_numbers && told.before.has_value() == (found != peer.end())
+              && (!told.before || *told.before == found->second));
+        CHECK(told.empty() == (kind == 0 ? found != peer.end() : kind >= 3 && found == peer.end())
+              && log.next() == next + told.size());
         kind == 0 ? void(peer.insert({key, value})) : kind < 3 ? void(peer[key] = value) : void(peer.erase(key));
         all.insert(all.end(), told.begin(), told.end());
         follow(told);
@@ -299,7 +326,8 @@ struct log_script {
         Replica late(0);
         if (!is_refused(refuse, [&] { late = Replica(log); })) CHECK(late == replica && late.next() == log.next());
         Log moved(std::move(log));
-        CHECK(log.empty() && log.next() == 1000 && log.begin() == log.end()); // NOLINT: what was moved from is as it began
+        // NOLINTNEXTLINE: what was moved from is as it began
+        CHECK(log.empty() && log.next() == 1000 && log.begin() == log.end());
         log = std::move(moved);
         swap(late, replica);
         swap(late, replica);
@@ -322,8 +350,8 @@ struct log_script {
     }
 };
 
-// Many changes in a call, with each request refused in turn, and with all from one on: it throws where it took none, and
-// else the next call goes on with the rest.
+// Many changes in a call, with each request refused in turn, and with all from one on: it throws where it took none,
+// and else the next call goes on with the rest.
 static void test_apply_all() {
     indexset::logged_map<int, int> log(4);
     std::vector<indexset::event> changes;
@@ -338,18 +366,21 @@ static void test_apply_all() {
             indexset::replica<int, int> replica, peer;
             std::pair<indexset::status, std::size_t> answer{};
             requests = 0, at++;
-            if (is_refused(at, [&] { answer = replica.apply_all(changes); }, *which)) {
+            if (is_refused(
+                    at, [&] { answer = replica.apply_all(changes); }, *which)) {
                 threw++;
                 CHECK(answer.second == 0 && replica.empty() && replica.node_count() == 0);
             } else {
                 const bool took_all = answer.second == changes.size();
                 took_some += !took_all;
-                CHECK(answer.second != 0 && answer.first == (took_all ? indexset::status::changed : indexset::status::no_memory));
+                CHECK(answer.second != 0
+                      && answer.first == (took_all ? indexset::status::changed : indexset::status::no_memory));
             }
             for (std::size_t i = 0; i < answer.second; i++) CHECK(peer.apply(changes[i]) == indexset::status::changed);
             CHECK(replica == peer && replica.next() == peer.next() && replica.node_lengths() == peer.node_lengths());
             answer = replica.apply_all(changes.data() + answer.second, changes.size() - answer.second);
-            CHECK(answer.first == indexset::status::changed && replica == indexset::replica(log) && replica.next() == log.next());
+            CHECK(answer.first == indexset::status::changed && replica == indexset::replica(log)
+                  && replica.next() == log.next());
         } while (requests >= at && at < 5000);
         CHECK(at < 5000);
     }
@@ -377,13 +408,15 @@ struct byte_log_script {
         return std::find_if(nodes.begin(), nodes.end(), [&](const auto &node) { return node.back() == name; });
     }
     void make_change(const indexset::byte_event &event) {
-        const pair name(event.node, static_cast<int>(event.code.node_value)), of(event.key, static_cast<int>(event.code.value));
+        const pair name(event.node, static_cast<int>(event.code.node_value)),
+            of(event.key, static_cast<int>(event.code.value));
         const auto index = static_cast<std::ptrdiff_t>(event.code.index);
         auto at = named(name);
         CHECK((at == nodes.end()) == (event.code.kind == INDEXSET_CREATE));
         switch (event.code.kind) {
         case INDEXSET_CREATE:
-            at = std::find_if(nodes.begin(), nodes.end(), [&](const auto &node) { return node.back().first > name.first; });
+            at = std::find_if(nodes.begin(), nodes.end(),
+                              [&](const auto &node) { return node.back().first > name.first; });
             nodes.insert(at, {name});
             break;
         case INDEXSET_INSERT: at->insert(at->begin() + index, of); break;
@@ -412,12 +445,18 @@ struct byte_log_script {
         const auto found = peer.find(key);
         const std::uint64_t next = log.next();
         indexset::told_bytes<int> told;
-        if (is_refused(refuse, [&] { told = kind == 0 ? log.insert({key, value}) : kind < 3 ? log.insert_or_assign(key, value) : log.erase(key); })) {
+        if (is_refused(refuse, [&] {
+                told = kind == 0  ? log.insert({key, value})
+                       : kind < 3 ? log.insert_or_assign(key, value)
+                                  : log.erase(key);
+            })) {
             CHECK(log.next() == next);
             return;
         }
-        CHECK(!told.out_of_numbers && told.before.has_value() == (found != peer.end()) && (!told.before || *told.before == found->second));
-        CHECK((told.changes == 0) == (kind == 0 ? found != peer.end() : kind >= 3 && found == peer.end()) && log.next() == next + told.changes);
+        CHECK(!told.out_of_numbers && told.before.has_value() == (found != peer.end())
+              && (!told.before || *told.before == found->second));
+        CHECK((told.changes == 0) == (kind == 0 ? found != peer.end() : kind >= 3 && found == peer.end())
+              && log.next() == next + told.changes);
         std::vector<indexset::byte_event> changes;
         while (told.changes != 0 && is_refused(refuse, [&] { changes = log.last_told(); })) CHECK(changes.empty());
         CHECK(changes.size() == told.changes);
@@ -433,14 +472,17 @@ struct byte_log_script {
             change();
             const std::string key = draw_bytes();
             check_reads(log, peer, key);
-            CHECK(log.get(key).has_value() == (peer.count(key) != 0) && (peer.count(key) == 0 || log.get(key) == peer.at(key)));
+            CHECK(log.get(key).has_value() == (peer.count(key) != 0)
+                  && (peer.count(key) == 0 || log.get(key) == peer.at(key)));
             if (i % 32 != 0) continue;
             std::vector<pair> all;
             for (const auto &node : nodes) all.insert(all.end(), node.begin(), node.end());
-            CHECK(same(log, peer) && std::equal(log.begin(), log.end(), all.begin(), all.end()) && log.node_count() == nodes.size());
+            CHECK(same(log, peer) && std::equal(log.begin(), log.end(), all.begin(), all.end())
+                  && log.node_count() == nodes.size());
             check_walks(log);
             indexset::logged_byte_map<int> moved(std::move(log));
-            CHECK(log.empty() && log.next() == 1000 && log.last_told().empty()); // NOLINT: what was moved from is as it began
+            // NOLINTNEXTLINE: what was moved from is as it began
+            CHECK(log.empty() && log.next() == 1000 && log.last_told().empty());
             swap(log, moved);
         }
     }
@@ -450,14 +492,17 @@ static void test_statuses() {
     indexset::logged_map log(2, std::numeric_limits<std::uint64_t>::max());
     CHECK(log.insert_or_assign(1, 2).out_of_numbers && log.empty());
     indexset::logged_byte_map<> bytes(2, std::numeric_limits<std::uint64_t>::max());
-    CHECK(bytes.insert_or_assign("a", 2).out_of_numbers && bytes.empty() && bytes.last_told().empty() && bytes.erase("a").changes == 0);
+    CHECK(bytes.insert_or_assign("a", 2).out_of_numbers && bytes.empty() && bytes.last_told().empty()
+          && bytes.erase("a").changes == 0);
     indexset::replica<> replica;
-    const indexset::event create{0, 10, 1, 0, 0, 0, INDEXSET_CREATE}, unfit{1, 10, 1, 0, 0, 0, 0}, drop{1, 9, 1, 0, 0, 0, INDEXSET_DROP};
+    const indexset::event create{0, 10, 1, 0, 0, 0, INDEXSET_CREATE}, unfit{1, 10, 1, 0, 0, 0, 0},
+        drop{1, 9, 1, 0, 0, 0, INDEXSET_DROP};
     CHECK(replica.apply(create) == indexset::status::changed && replica.get(10) == 1 && replica.next() == 1);
     CHECK(replica.apply(unfit) == indexset::status::unfit && replica.apply(drop) == indexset::status::no_such_node);
     CHECK(replica.apply_all(&drop, 1) == std::make_pair(indexset::status::no_such_node, std::size_t{0}));
     const indexset::logged_map<> none;
-    CHECK(indexset::replica<>(none).empty() && none.node_lengths().empty() && none.find(1) == none.end() && none.rbegin() == none.rend());
+    CHECK(indexset::replica<>(none).empty() && none.node_lengths().empty() && none.find(1) == none.end()
+          && none.rbegin() == none.rend());
 }
 
 int main() {

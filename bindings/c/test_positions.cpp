@@ -1,5 +1,5 @@
-// set, map and byte_map of indexset.hpp beside std::set, std::map and the trees of pb_ds: the same random scripts, also with
-// every Nth request for memory refused.
+// set, map and byte_map of indexset.hpp beside std::set, std::map and the trees of pb_ds: the same random scripts, also
+// with every Nth request for memory refused.
 #include "walks.hpp"
 #include <cmath>
 #include <ext/pb_ds/assoc_container.hpp>
@@ -11,7 +11,8 @@
 #include <string>
 
 template <class K, class V>
-using tree = __gnu_pbds::tree<K, V, std::less<K>, __gnu_pbds::rb_tree_tag, __gnu_pbds::tree_order_statistics_node_update>;
+using tree =
+    __gnu_pbds::tree<K, V, std::less<K>, __gnu_pbds::rb_tree_tag, __gnu_pbds::tree_order_statistics_node_update>;
 
 enum class color : short { red = -3, green = 0, blue = 7 };
 
@@ -21,7 +22,13 @@ K draw_key() {
     const std::size_t drawn = draw_below(400);
     if constexpr (std::is_floating_point_v<K>) {
         using limits = std::numeric_limits<K>;
-        const K odd[] = {-limits::infinity(), limits::infinity(), limits::lowest(), limits::max(), limits::denorm_min(), -limits::min(), 0};
+        const K odd[] = {-limits::infinity(),
+                         limits::infinity(),
+                         limits::lowest(),
+                         limits::max(),
+                         limits::denorm_min(),
+                         -limits::min(),
+                         0};
         return drawn < 7 ? odd[drawn] : (static_cast<K>(drawn) - 200) / 8;
     } else if constexpr (std::is_enum_v<K>) {
         return static_cast<K>(static_cast<short>(drawn) - 200);
@@ -82,7 +89,8 @@ struct set_script {
         CHECK(is_at(ours, peer, after, peer.erase(std::next(peer.begin(), position))));
     }
     void erase_some() {
-        const std::size_t from = draw_below(peer.size() + 1), many = draw_below(std::min<std::size_t>(peer.size() - from, 90) + 1);
+        const std::size_t from = draw_below(peer.size() + 1),
+                          many = draw_below(std::min<std::size_t>(peer.size() - from, 90) + 1);
         const auto first = std::next(peer.begin(), static_cast<std::ptrdiff_t>(from));
         const auto after = ours.erase(ours.find_by_order(from), ours.find_by_order(from + many));
         CHECK(is_at(ours, peer, after, peer.erase(first, std::next(first, static_cast<std::ptrdiff_t>(many)))));
@@ -95,7 +103,8 @@ struct set_script {
             it = at % 3 == 0 ? peer.erase(it) : std::next(it);
         }
         at = 0;
-        CHECK(indexset::erase_if(ours, [&](const auto &) { return at++ % 3 == 0; }) == gone && ours.size() == before - gone);
+        CHECK(indexset::erase_if(ours, [&](const auto &) { return at++ % 3 == 0; }) == gone
+              && ours.size() == before - gone);
     }
 
     void run(unsigned steps) {
@@ -104,7 +113,10 @@ struct set_script {
             case 0: erase_at(); break;
             case 1: erase_some(); break;
             case 2: insert_some(); break;
-            case 3: case 4: case 5: case 6: erase(); break;
+            case 3:
+            case 4:
+            case 5:
+            case 6: erase(); break;
             default: insert();
             }
             check_reads(ours, peer, draw_key<K>());
@@ -156,7 +168,10 @@ struct map_script {
         const auto key = draw_a_key();
         const V value = draw_value();
         std::pair<typename Ours::iterator, bool> found;
-        if (is_refused(refuse, [&] { found = replaces ? ours.insert_or_assign(key, value) : ours.insert({key, value}); })) return;
+        if (is_refused(refuse, [&] {
+                found = replaces ? ours.insert_or_assign(key, value) : ours.insert({key, value});
+            }))
+            return;
         const auto wanted = replaces ? peer.insert_or_assign(key, value) : peer.insert({key, value});
         CHECK(found.second == wanted.second && is_at(ours, peer, found.first, wanted.first));
         CHECK(found.first->first == wanted.first->first && found.first->second == wanted.first->second);
@@ -164,7 +179,8 @@ struct map_script {
     void insert_some() {
         std::vector<typename Ours::value_type> pairs(draw_below(20));
         for (auto &pair : pairs) pair = {draw_a_key(), draw_value()};
-        if (!is_refused(refuse, [&] { ours.insert(pairs.begin(), pairs.end()); })) peer.insert(pairs.begin(), pairs.end());
+        if (!is_refused(refuse, [&] { ours.insert(pairs.begin(), pairs.end()); }))
+            peer.insert(pairs.begin(), pairs.end());
     }
     void index() {
         const auto key = draw_a_key();
@@ -183,7 +199,8 @@ struct map_script {
         const auto key = draw_a_key();
         CHECK(ours.erase(key) == peer.erase(key));
         if (peer.empty()) return;
-        const std::size_t from = draw_below(peer.size()), many = draw_below(std::min<std::size_t>(peer.size() - from, 9) + 1);
+        const std::size_t from = draw_below(peer.size()),
+                          many = draw_below(std::min<std::size_t>(peer.size() - from, 9) + 1);
         const auto first = std::next(peer.begin(), static_cast<std::ptrdiff_t>(from));
         CHECK(is_at(ours, peer, ours.erase(ours.begin() + static_cast<std::ptrdiff_t>(from)), peer.erase(first)));
         if (draw_below(4) != 0 || many == 0) return;
@@ -197,12 +214,14 @@ struct map_script {
             switch (draw_below(8)) {
             case 0: insert_some(); break;
             case 1: index(); break;
-            case 2: case 3: erase_some(); break;
+            case 2:
+            case 3: erase_some(); break;
             default: insert(draw_below(2) == 0);
             }
             const auto key = draw_a_key();
             check_reads(ours, peer, key);
-            CHECK(ours.get(key).has_value() == (peer.count(key) != 0) && ours.get(key).value_or(V{}) == (peer.count(key) != 0 ? peer.at(key) : V{}));
+            CHECK(ours.get(key).has_value() == (peer.count(key) != 0)
+                  && ours.get(key).value_or(V{}) == (peer.count(key) != 0 ? peer.at(key) : V{}));
             if (i % 32 == 0) {
                 CHECK(same(ours, peer));
                 check_walks(ours);
@@ -314,7 +333,8 @@ void test_set(unsigned steps) {
 template <class Ours, class Peer, class DrawKey>
 void test_map(DrawKey draw_a_key, unsigned steps) {
     map_script<Ours, Peer, DrawKey>{draw_a_key, 0}.run(steps);
-    for (unsigned long refuse = 1; refuse <= 12; refuse++) map_script<Ours, Peer, DrawKey>{draw_a_key, refuse}.run(steps / 20);
+    for (unsigned long refuse = 1; refuse <= 12; refuse++)
+        map_script<Ours, Peer, DrawKey>{draw_a_key, refuse}.run(steps / 20);
 }
 
 int main() {
@@ -332,7 +352,8 @@ int main() {
     beside_tree<double>(4000);
     beside_tree<float>(2000);
     beside_tree<color>(2000);
-    test_map<indexset::map<std::uint64_t, std::uint64_t>, std::map<std::uint64_t, std::uint64_t>>(draw_key<std::uint64_t>, 3000);
+    test_map<indexset::map<std::uint64_t, std::uint64_t>, std::map<std::uint64_t, std::uint64_t>>(
+        draw_key<std::uint64_t>, 3000);
     test_map<indexset::map<double, float>, std::map<double, float>>(draw_key<double>, 3000);
     test_map<indexset::byte_map<int>, std::map<std::string, int>>(draw_bytes, 3000);
     return told();

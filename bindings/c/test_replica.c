@@ -14,7 +14,8 @@ static void test_none(void) {
     indexset_event event = {0, 1, 2, 0, 0, 0, INDEXSET_CREATE};
     uint64_t key = 7, value = 8;
     size_t taken = 9, length = 5;
-    CHECK(indexset_replica_len(&replica) == 0 && indexset_replica_node_count(&replica) == 0 && indexset_replica_next(&replica) == 0);
+    CHECK(indexset_replica_len(&replica) == 0 && indexset_replica_node_count(&replica) == 0
+          && indexset_replica_next(&replica) == 0);
     CHECK(!indexset_replica_get(&replica, 1, &value) && !indexset_replica_contains(&replica, 1));
     CHECK(!indexset_replica_first(&replica, &key, &value) && !indexset_replica_last(&replica, &key, &value));
     CHECK(indexset_replica_range(&replica, 0, UINT64_MAX, &key, 1, &value, 1) == 0 && key == 7 && value == 8);
@@ -46,12 +47,9 @@ static void test_worked(void) {
     indexset_replica replica = INDEXSET_HANDLE, other = INDEXSET_HANDLE;
     /* nodes {10, 20} and {30} */
     indexset_event events[] = {
-        {100, 10, 1, 0, 0, 0, INDEXSET_CREATE},
-        {101, 10, 1, 20, 2, 1, INDEXSET_INSERT},
-        {100, 10, 1, 0, 0, 0, INDEXSET_CREATE},
-        {102, 20, 2, 30, 3, 2, INDEXSET_INSERT},
-        {103, 30, 3, 0, 0, 2, INDEXSET_SPLIT},
-        {105, 30, 3, 0, 0, 0, INDEXSET_DROP},
+        {100, 10, 1, 0, 0, 0, INDEXSET_CREATE}, {101, 10, 1, 20, 2, 1, INDEXSET_INSERT},
+        {100, 10, 1, 0, 0, 0, INDEXSET_CREATE}, {102, 20, 2, 30, 3, 2, INDEXSET_INSERT},
+        {103, 30, 3, 0, 0, 2, INDEXSET_SPLIT},  {105, 30, 3, 0, 0, 0, INDEXSET_DROP},
     };
     uint64_t key = 0, value = 0, keys[4], values[4];
     size_t taken = 9, lengths[3] = {7, 7, 7};
@@ -64,15 +62,18 @@ static void test_worked(void) {
     CHECK(lengths[0] == 2 && lengths[1] == 1 && lengths[2] == 7);
     CHECK(indexset_replica_first(&replica, &key, &value) && key == 10 && value == 1);
     CHECK(indexset_replica_last(&replica, &key, &value) && key == 30 && value == 3);
-    CHECK(indexset_replica_get(&replica, 20, &value) && value == 2 && !indexset_replica_get(&replica, 21, &value) && value == 2);
+    CHECK(indexset_replica_get(&replica, 20, &value) && value == 2 && !indexset_replica_get(&replica, 21, &value)
+          && value == 2);
     CHECK(indexset_replica_contains(&replica, 30) && !indexset_replica_contains(&replica, 0));
     CHECK(indexset_replica_new(&other, 7) == INDEXSET_YES);
     indexset_replica_swap(&replica, &other);
     CHECK(indexset_replica_next(&replica) == 7 && indexset_replica_next(&other) == 104);
     indexset_replica_move(&replica, &other);
     CHECK(!other.live && indexset_replica_next(&replica) == 104 && indexset_replica_len(&replica) == 3);
-    CHECK(indexset_replica_range(&replica, 11, 30, keys, 4, values, 4) == 2 && keys[0] == 20 && keys[1] == 30 && values[1] == 3);
-    CHECK(indexset_replica_range(&replica, 10, 30, keys, 4, values, 1) == 1 && indexset_replica_range(&replica, 30, 10, keys, 4, values, 4) == 0);
+    CHECK(indexset_replica_range(&replica, 11, 30, keys, 4, values, 4) == 2 && keys[0] == 20 && keys[1] == 30
+          && values[1] == 3);
+    CHECK(indexset_replica_range(&replica, 10, 30, keys, 4, values, 1) == 1
+          && indexset_replica_range(&replica, 30, 10, keys, 4, values, 4) == 0);
     refuses(&replica, (indexset_event){104, 30, 3, 0, 0, 0, 0}, INDEXSET_UNFIT);
     refuses(&replica, (indexset_event){0, 30, 3, 0, 0, 0, 7}, INDEXSET_UNFIT);
     refuses(&replica, (indexset_event){103, 99, 0, 0, 0, 0, INDEXSET_DROP}, INDEXSET_NO);
@@ -88,7 +89,8 @@ static void test_worked(void) {
     refuses(&replica, (indexset_event){104, 30, 3, 20, 2, 0, INDEXSET_MERGE}, INDEXSET_NOT_NEIGHBOURS);
     CHECK(indexset_replica_apply(&replica, &(indexset_event){104, 20, 2, 30, 3, 0, INDEXSET_MERGE}) == INDEXSET_YES);
     CHECK(indexset_replica_apply(&replica, &(indexset_event){105, 30, 3, 20, 2, 1, INDEXSET_REMOVE}) == INDEXSET_YES);
-    CHECK(indexset_replica_node_lengths(&replica, lengths, 3) == 1 && lengths[0] == 2 && !indexset_replica_contains(&replica, 20));
+    CHECK(indexset_replica_node_lengths(&replica, lengths, 3) == 1 && lengths[0] == 2
+          && !indexset_replica_contains(&replica, 20));
     indexset_replica_free(&replica);
     CHECK(!replica.live && indexset_replica_new(&replica, UINT64_MAX) == INDEXSET_YES);
     refuses(&replica, (indexset_event){UINT64_MAX, 1, 1, 0, 0, 0, INDEXSET_CREATE}, INDEXSET_NUMBERS);
@@ -118,7 +120,8 @@ static void same_as_log(const indexset_replica *replica, const indexset_log *log
     CHECK(indexset_replica_next(replica) == indexset_log_next(log));
     CHECK(indexset_replica_range(replica, 0, UINT64_MAX, keys[1], ROOM, values[1], ROOM) == pairs);
     CHECK(indexset_replica_node_lengths(replica, lengths[1], ROOM) == nodes);
-    CHECK(memcmp(keys[0], keys[1], pairs * sizeof **keys) == 0 && memcmp(values[0], values[1], pairs * sizeof **values) == 0);
+    CHECK(memcmp(keys[0], keys[1], pairs * sizeof **keys) == 0
+          && memcmp(values[0], values[1], pairs * sizeof **values) == 0);
     CHECK(memcmp(lengths[0], lengths[1], nodes * sizeof **lengths) == 0);
     for (size_t at = 0; at < KEYS; at += 7) {
         uint64_t key = key_of(at), wanted = 77, out = 77;
@@ -126,8 +129,10 @@ static void same_as_log(const indexset_replica *replica, const indexset_log *log
         CHECK(indexset_replica_contains(replica, key) == indexset_log_contains(log, key));
     }
     uint64_t key = 77, value = 77;
-    CHECK(indexset_replica_first(replica, &key, &value) == (pairs != 0) && (pairs == 0 || (key == keys[0][0] && value == values[0][0])));
-    CHECK(indexset_replica_last(replica, &key, &value) == (pairs != 0) && (pairs == 0 || (key == keys[0][pairs - 1] && value == values[0][pairs - 1])));
+    CHECK(indexset_replica_first(replica, &key, &value) == (pairs != 0)
+          && (pairs == 0 || (key == keys[0][0] && value == values[0][0])));
+    CHECK(indexset_replica_last(replica, &key, &value) == (pairs != 0)
+          && (pairs == 0 || (key == keys[0][pairs - 1] && value == values[0][pairs - 1])));
 }
 
 /* ---- the changes of many calls, and the sum after each number of them */
@@ -139,8 +144,9 @@ static void step_log(indexset_log *log, indexset_replica *exact, bool grows) {
     uint64_t key = key_of((size_t)(draw() % KEYS)), out;
     size_t told = 0;
     indexset_event *to = changes + made;
-    uint32_t status = draw() % 8 < (grows ? 6 : 2) ? indexset_log_insert(log, key, draw(), &out, to, INDEXSET_CHANGES, &told)
-                                                   : indexset_log_remove(log, key, &out, to, INDEXSET_CHANGES, &told);
+    uint32_t status = draw() % 8 < (grows ? 6 : 2)
+                          ? indexset_log_insert(log, key, draw(), &out, to, INDEXSET_CHANGES, &told)
+                          : indexset_log_remove(log, key, &out, to, INDEXSET_CHANGES, &told);
     CHECK(status <= INDEXSET_YES);
     for (size_t i = 0; i < told; i++) {
         CHECK(indexset_replica_apply(exact, to + i) == INDEXSET_YES);
@@ -169,7 +175,11 @@ static void step_replica(indexset_replica *replica, uint64_t start) {
     if (count != 0) {
         uint64_t next = indexset_replica_next(replica), number = sent[0].number;
         status = indexset_replica_apply(replica, sent);
-        CHECK(status == (number < next ? INDEXSET_NO : number > next ? INDEXSET_GAP : INDEXSET_YES) || (nth != 0 && number == next && status == INDEXSET_MEMORY));
+        CHECK(status
+                  == (number < next   ? INDEXSET_NO
+                      : number > next ? INDEXSET_GAP
+                                      : INDEXSET_YES)
+              || (nth != 0 && number == next && status == INDEXSET_MEMORY));
     }
     CHECK(sum_of(replica) == sums[indexset_replica_next(replica) - start]);
 }

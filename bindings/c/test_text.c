@@ -104,7 +104,8 @@ static void test_life(void) {
     CHECK(indexset_text_map_len(&map) == 0 && indexset_text_map_rank(&map, apple, 5) == 0);
     CHECK(!indexset_text_map_contains(&map, apple, 5));
     CHECK(!indexset_text_map_get(&map, apple, 5, &value) && !indexset_text_map_remove(&map, apple, 5, &value));
-    CHECK(!indexset_text_map_at(&map, 0, out, 8, &len, &value) && !indexset_text_map_remove_at(&map, 0, out, 8, &len, &value));
+    CHECK(!indexset_text_map_at(&map, 0, out, 8, &len, &value)
+          && !indexset_text_map_remove_at(&map, 0, out, 8, &len, &value));
     CHECK(!indexset_text_map_first(&map, out, 8, &len, &value) && !indexset_text_map_last(&map, out, 8, &len, &value));
     CHECK(!indexset_text_map_lower_bound(&map, none, 0, out, 8, &len, &value));
     CHECK(!indexset_text_map_upper_bound(&map, none, 0, out, 8, &len, &value));
@@ -125,8 +126,10 @@ static void test_life(void) {
     CHECK(indexset_text_map_insert(&map, apple, 3, 3, &value) == INDEXSET_YES);
     CHECK(indexset_text_map_insert(&map, none, 0, 4, &value) == INDEXSET_YES);
     CHECK(indexset_text_map_first(&map, out, 8, &len, &value) && len == 0 && value == 4 && out[0] == '#');
-    CHECK(indexset_text_map_at(&map, 1, out, 8, &len, &value) && len == 3 && value == 3 && memcmp(out, "app####", 8) == 0);
-    CHECK(indexset_text_map_last(&map, out, 4, &len, &value) && len == 5 && value == 2 && memcmp(out, "appl###", 8) == 0);
+    CHECK(indexset_text_map_at(&map, 1, out, 8, &len, &value) && len == 3 && value == 3
+          && memcmp(out, "app####", 8) == 0);
+    CHECK(indexset_text_map_last(&map, out, 4, &len, &value) && len == 5 && value == 2
+          && memcmp(out, "appl###", 8) == 0);
     CHECK(indexset_text_map_clone(&map, &other) == INDEXSET_YES);
     CHECK(indexset_text_map_clone(&map, &other) == INDEXSET_HELD);
     indexset_text_map_clear(&map);
@@ -140,7 +143,8 @@ static void test_life(void) {
     indexset_text_map_free(&other);
     CHECK(!other.live);
     indexset_text_map *heap = NULL;
-    CHECK(indexset_text_map_create(&heap) == INDEXSET_YES && indexset_text_map_insert(heap, apple, 5, 1, &value) == INDEXSET_YES);
+    CHECK(indexset_text_map_create(&heap) == INDEXSET_YES
+          && indexset_text_map_insert(heap, apple, 5, 1, &value) == INDEXSET_YES);
     indexset_text_map_destroy(&heap);
     CHECK(heap == NULL);
 }
@@ -201,11 +205,16 @@ static void step_pair(const indexset_text_map *map, key from) {
         uint64_t value = 66;
         bool found;
         memset(bytes, 0x77, sizeof bytes);
-        if (call == 0) found = indexset_text_map_at(map, drawn, bytes, places, &len, &value);
-        else if (call == 1) found = indexset_text_map_first(map, bytes, places, &len, &value);
-        else if (call == 2) found = indexset_text_map_last(map, bytes, places, &len, &value);
-        else if (call == 3) found = indexset_text_map_lower_bound(map, from.bytes, from.len, bytes, places, &len, &value);
-        else found = indexset_text_map_upper_bound(map, from.bytes, from.len, bytes, places, &len, &value);
+        if (call == 0)
+            found = indexset_text_map_at(map, drawn, bytes, places, &len, &value);
+        else if (call == 1)
+            found = indexset_text_map_first(map, bytes, places, &len, &value);
+        else if (call == 2)
+            found = indexset_text_map_last(map, bytes, places, &len, &value);
+        else if (call == 3)
+            found = indexset_text_map_lower_bound(map, from.bytes, from.len, bytes, places, &len, &value);
+        else
+            found = indexset_text_map_upper_bound(map, from.bytes, from.len, bytes, places, &len, &value);
         CHECK(found == (positions[call] < count));
         CHECK(found ? wrote(positions[call], bytes, places, len, value) : unwritten(bytes, len, value));
     }
@@ -251,7 +260,8 @@ static void test_random(unsigned long refuse, unsigned steps) {
         if (i % 64 == 0) {
             CHECK(same_as_model(&map));
             uint32_t status = indexset_text_map_clone(&map, &cloned);
-            CHECK(status == INDEXSET_YES ? same_as_model(&cloned) : nth != 0 && status == INDEXSET_MEMORY && !cloned.live);
+            CHECK(status == INDEXSET_YES ? same_as_model(&cloned)
+                                         : nth != 0 && status == INDEXSET_MEMORY && !cloned.live);
             indexset_text_map_free(&cloned);
             status = indexset_text_map_new(&cloned);
             CHECK(status == INDEXSET_YES || (nth != 0 && status == INDEXSET_MEMORY && !cloned.live));

@@ -86,9 +86,7 @@ static void make_change(const indexset_text_event *event, const pair *name, cons
         move_pairs(of_name, i, of_name, i + 1, length - i - 1);
         of_name->length--;
         return;
-    case INDEXSET_DROP:
-        close_at(at);
-        return;
+    case INDEXSET_DROP: close_at(at); return;
     case INDEXSET_SPLIT:
         CHECK(0 < i && i < length);
         open_at(at);
@@ -114,7 +112,8 @@ static void make_changes(const indexset_text_log *log, uint64_t next, size_t tol
         name.len = event.node_len, name.value = event.node_value;
         of.len = event.key_len, of.value = event.value;
         CHECK(event.number == next + i && name.len <= LONGEST && of.len <= LONGEST);
-        CHECK(indexset_text_log_change(log, i, &cut, few, 2, fewer, 1) && cut.number == event.number && cut.kind == event.kind);
+        CHECK(indexset_text_log_change(log, i, &cut, few, 2, fewer, 1) && cut.number == event.number
+              && cut.kind == event.kind);
         CHECK(cut.node_len == event.node_len && cut.key_len == event.key_len && cut.index == event.index);
         CHECK(memcmp(few, name.bytes, name.len < 2 ? name.len : 2) == 0 && (name.len > 1 || few[1] == 0x77));
         CHECK(of.len == 0 ? fewer[0] == 0x77 : fewer[0] == of.bytes[0]);
@@ -148,7 +147,8 @@ static void test_life(void) {
     uint8_t node[8] = "nnnnnnn", key[8] = "kkkkkkk";
     uint64_t out = 7;
     size_t told = 9, length = 5;
-    CHECK(indexset_text_log_len(&log) == 0 && indexset_text_log_node_count(&log) == 0 && indexset_text_log_next(&log) == 0);
+    CHECK(indexset_text_log_len(&log) == 0 && indexset_text_log_node_count(&log) == 0
+          && indexset_text_log_next(&log) == 0);
     CHECK(!indexset_text_log_get(&log, "a", 1, &out) && !indexset_text_log_contains(&log, "a", 1) && out == 7);
     CHECK(indexset_text_log_rank(&log, "a", 1) == 0 && indexset_text_log_count_up_to(&log, "a", 1) == 0);
     CHECK(!indexset_text_log_at(&log, 0, key, 8, &length, &out) && out == 7 && length == 5 && key[0] == 'k');
@@ -164,22 +164,29 @@ static void test_life(void) {
     CHECK(indexset_text_log_new(&log, 2, 0) == INDEXSET_HELD && indexset_text_log_next(&log) == 100);
     CHECK(!indexset_text_log_change(&log, 0, &event, node, 8, key, 8));
     CHECK(indexset_text_log_insert(&log, "bee", 3, 1, &out, &told) == INDEXSET_YES && told == 1);
-    CHECK(indexset_text_log_change(&log, 0, &event, node, 8, key, 8) && event.number == 100 && event.kind == INDEXSET_CREATE);
+    CHECK(indexset_text_log_change(&log, 0, &event, node, 8, key, 8) && event.number == 100
+          && event.kind == INDEXSET_CREATE);
     CHECK(event.node_len == 3 && memcmp(node, "beennnn", 7) == 0 && event.node_value == 1);
     CHECK(event.key_len == 0 && event.value == 0 && event.index == 0 && key[0] == 'k');
     CHECK(indexset_text_log_insert(&log, "cat", 3, 2, &out, &told) == INDEXSET_YES && told == 1);
-    CHECK(indexset_text_log_change(&log, 0, &event, node, 2, key, 1) && event.number == 101 && event.kind == INDEXSET_INSERT);
-    CHECK(memcmp(node, "beennnn", 7) == 0 && memcmp(key, "ckkkkkk", 7) == 0 && event.key_len == 3 && event.value == 2 && event.index == 1);
+    CHECK(indexset_text_log_change(&log, 0, &event, node, 2, key, 1) && event.number == 101
+          && event.kind == INDEXSET_INSERT);
+    CHECK(memcmp(node, "beennnn", 7) == 0 && memcmp(key, "ckkkkkk", 7) == 0 && event.key_len == 3 && event.value == 2
+          && event.index == 1);
     CHECK(indexset_text_log_insert(&log, "dog", 3, 3, &out, &told) == INDEXSET_YES && told == 2);
-    CHECK(indexset_text_log_change(&log, 0, &event, node, 8, key, 8) && event.kind == INDEXSET_SPLIT && event.index == 1);
-    CHECK(indexset_text_log_change(&log, 1, &event, node, 8, key, 8) && event.number == 103 && memcmp(node, "cat", 3) == 0);
+    CHECK(indexset_text_log_change(&log, 0, &event, node, 8, key, 8) && event.kind == INDEXSET_SPLIT
+          && event.index == 1);
+    CHECK(indexset_text_log_change(&log, 1, &event, node, 8, key, 8) && event.number == 103
+          && memcmp(node, "cat", 3) == 0);
     /* what is not there leaves the changes that are kept */
     CHECK(indexset_text_log_remove(&log, "ant", 3, &out, &told) == INDEXSET_NO && told == 0);
     CHECK(indexset_text_log_change(&log, 1, &event, node, 8, key, 8) && event.number == 103);
     CHECK(indexset_text_log_insert(&log, "dog", 3, 4, &out, &told) == INDEXSET_NO && out == 3 && told == 3);
     CHECK(indexset_text_log_remove(&log, "bee", 3, &out, &told) == INDEXSET_YES && out == 1 && told == 1);
-    CHECK(indexset_text_log_change(&log, 0, &event, node, 8, key, 8) && event.kind == INDEXSET_DROP && event.number == 107);
-    CHECK(indexset_text_log_next(&log) == 108 && indexset_text_log_len(&log) == 2 && indexset_text_log_node_count(&log) == 2);
+    CHECK(indexset_text_log_change(&log, 0, &event, node, 8, key, 8) && event.kind == INDEXSET_DROP
+          && event.number == 107);
+    CHECK(indexset_text_log_next(&log) == 108 && indexset_text_log_len(&log) == 2
+          && indexset_text_log_node_count(&log) == 2);
     CHECK(indexset_text_log_new(&other, 4, 7) == INDEXSET_YES);
     indexset_text_log_swap(&log, &other);
     CHECK(indexset_text_log_next(&log) == 7 && indexset_text_log_next(&other) == 108);
@@ -232,7 +239,8 @@ static void step_read(const indexset_text_log *log) {
     CHECK(indexset_text_log_count_up_to(log, of.bytes, of.len) == at + is_there);
     CHECK(indexset_text_log_at(log, position, bytes, LONGEST, &length, &value) == (position < count));
     if (position < count) {
-        CHECK(length == model[position].len && value == model[position].value && memcmp(bytes, model[position].bytes, length) == 0);
+        CHECK(length == model[position].len && value == model[position].value
+              && memcmp(bytes, model[position].bytes, length) == 0);
     } else {
         CHECK(length == 55 && value == 66);
     }

@@ -47,7 +47,8 @@ void check_reads(const Ours &ours, const Peer &peer, const Key &key) {
     CHECK(ours.order_of_key(key) == static_cast<std::size_t>(std::distance(peer.begin(), peer.lower_bound(key))));
     const std::size_t position = draw_below(ours.size() + 2);
     const auto found = ours.find_by_order(position);
-    CHECK(is_at(ours, peer, found, position < peer.size() ? std::next(peer.begin(), static_cast<std::ptrdiff_t>(position)) : peer.end()));
+    CHECK(is_at(ours, peer, found,
+                position < peer.size() ? std::next(peer.begin(), static_cast<std::ptrdiff_t>(position)) : peer.end()));
 }
 
 // Two walks of one collection at a time, one from each end, and jumps.
@@ -60,18 +61,21 @@ void check_walks(const Ours &ours) {
     }
     CHECK(forth == ours.end() && back == ours.begin() && !(forth < back));
     for (std::size_t i = 0; i < 20 && !all.empty(); i++) {
-        const auto from = static_cast<std::ptrdiff_t>(draw_below(all.size())), to = static_cast<std::ptrdiff_t>(draw_below(all.size()));
+        const auto from = static_cast<std::ptrdiff_t>(draw_below(all.size())),
+                   to = static_cast<std::ptrdiff_t>(draw_below(all.size()));
         auto it = ours.begin() + from;
         CHECK(it[to - from] == all[static_cast<std::size_t>(to)] && *(it + (to - from)) == it[to - from]);
         it += to - from;
-        CHECK(it - ours.begin() == to && (ours.begin() + from < it) == (from < to) && (it <= ours.begin() + from) == (to <= from));
+        CHECK(it - ours.begin() == to && (ours.begin() + from < it) == (from < to)
+              && (it <= ours.begin() + from) == (to <= from));
         it -= to;
         CHECK(it == ours.begin() && std::distance(it, ours.end()) == static_cast<std::ptrdiff_t>(all.size()));
         CHECK(*std::prev(ours.end()) == all.back() && *std::next(it, to) == all[static_cast<std::size_t>(to)]);
     }
 #if __cplusplus >= 202002L
     const auto key = [](const auto &element) { return key_of(element); };
-    CHECK(std::ranges::is_sorted(ours, std::less<>(), key) && std::ranges::distance(ours) == static_cast<std::ptrdiff_t>(all.size()));
+    CHECK(std::ranges::is_sorted(ours, std::less<>(), key)
+          && std::ranges::distance(ours) == static_cast<std::ptrdiff_t>(all.size()));
     CHECK(std::ranges::equal(ours, all));
     if (!all.empty()) {
         const auto last = std::ranges::lower_bound(ours, key_of(all.back()), std::less<>(), key);
@@ -80,7 +84,8 @@ void check_walks(const Ours &ours) {
 #endif
 #ifdef HAS_VIEWS
     CHECK(std::ranges::equal(ours | std::views::reverse, all | std::views::reverse));
-    CHECK(std::ranges::equal(ours | std::views::drop(3) | std::views::take(5), all | std::views::drop(3) | std::views::take(5)));
+    CHECK(std::ranges::equal(ours | std::views::drop(3) | std::views::take(5),
+                             all | std::views::drop(3) | std::views::take(5)));
 #endif
 }
 

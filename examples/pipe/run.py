@@ -71,7 +71,10 @@ def piped(run: Run) -> None:
         took = time.perf_counter() - start
     has_ended = leader.wait() == follower.wait() == 0
     is_taken = answers[-1:] == [b"next %d" % len(answers)]
-    run.check(f"{run.commands} commands told {len(answers)} events, of which each is taken over the pipe", has_ended and is_taken)
+    run.check(
+        f"{run.commands} commands told {len(answers)} events, of which each is taken over the pipe",
+        has_ended and is_taken,
+    )
     print(f"events a second over the pipe: {len(answers) / took:,.0f}")
 
 

@@ -8,7 +8,6 @@ import pathlib
 import random
 import subprocess
 import sys
-import time
 
 from engine import Engine
 from followers import free_port, wait_for
@@ -24,7 +23,9 @@ Process = subprocess.Popen[bytes]
 def commands(count: int, chance: random.Random) -> list[bytes]:
     """Puts, and some cuts."""
     keys = chance.choices(range(KEYS), k=count)
-    return [b"cut %d" % key if chance.random() < 0.3 else b"put %d %d" % (key, chance.randrange(10**6)) for key in keys]
+    return [
+        b"cut %d" % key if chance.random() < 0.3 else b"put %d %d" % (key, chance.randrange(10**6)) for key in keys
+    ]
 
 
 def children(process: int) -> list[int]:

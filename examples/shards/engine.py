@@ -96,7 +96,7 @@ class Engine:
         return found if isinstance(found, int) else 0
 
     def together(self, commands: list[list[Word]]) -> None:
-        """Writes of which all are carried out or none. Those that were carried out before are refused by their names."""
+        """Carries out all of these writes or none. Those that were carried out before are refused by their names."""
         whole: list[list[Word]] = [["MULTI"], *commands, ["EXEC"]]
         for reply in listed(self.patiently(lambda server: server.replies(whole))[-1]):
             if isinstance(reply, Refused) and "equal or smaller" not in reply.why:

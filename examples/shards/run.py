@@ -34,7 +34,11 @@ def measured(cluster: Cluster, lines: list[bytes]) -> tuple[Reader, Figures]:
     routed = time.perf_counter() - start
     cluster.until_shown(reader, cluster.head())
     shown = time.perf_counter() - start
-    memory = sum(cluster.engine.memory(f"{stream}:{shard}") for stream in ("commands", "events") for _, shard in cluster.engine.table())
+    memory = sum(
+        cluster.engine.memory(f"{stream}:{shard}")
+        for stream in ("commands", "events")
+        for _, shard in cluster.engine.table()
+    )
     figures = {
         "commands a second, routed": f"{len(lines) / routed:,.0f}",
         "commands a second, shown by a reader": f"{len(lines) / shown:,.0f}",

@@ -43,9 +43,12 @@ static long number(const char *name) {
 }
 
 static void find(void) {
-    next_malloc = __interceptor_malloc ? __interceptor_malloc : dlsym(RTLD_NEXT, "malloc");
-    next_realloc = __interceptor_realloc ? __interceptor_realloc : dlsym(RTLD_NEXT, "realloc");
-    next_free = __interceptor_free ? __interceptor_free : dlsym(RTLD_NEXT, "free");
+    next_malloc = __interceptor_malloc;
+    if (!next_malloc) next_malloc = dlsym(RTLD_NEXT, "malloc");
+    next_realloc = __interceptor_realloc;
+    if (!next_realloc) next_realloc = dlsym(RTLD_NEXT, "realloc");
+    next_free = __interceptor_free;
+    if (!next_free) next_free = dlsym(RTLD_NEXT, "free");
 }
 
 __attribute__((constructor)) static void begin(void) {
@@ -63,15 +66,15 @@ __attribute__((constructor)) static void begin(void) {
 }
 
 static void tell(const char *line, int length) {
-    if (report > 0 && next_write(report, line, length) != length) {
+    if (report > 0 && next_write((int)report, line, length) != length) {
         _exit(99);
     }
 }
 
 __attribute__((destructor)) static void end(void) {
     char line[128];
-    tell(line, snprintf(line, sizeof line, "%ld %ld %ld %ld %ld\n", memory.made, reads.made, writes.made,
-                        failed, blocks));
+    tell(line,
+         snprintf(line, sizeof line, "%ld %ld %ld %ld %ld\n", memory.made, reads.made, writes.made, failed, blocks));
 }
 
 /* Has a copy read on where the program is, without moving it. */

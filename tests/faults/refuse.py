@@ -63,9 +63,7 @@ class Sweep:
         """Runs a program over these lines while such requests fail."""
         reader, writer = os.pipe()
         settings = self.settings(writer, refuse)
-        done = subprocess.run(
-            words, input=given, env=settings, capture_output=True, pass_fds=[writer], timeout=SECONDS
-        )
+        done = subprocess.run(words, input=given, env=settings, capture_output=True, pass_fds=[writer], timeout=SECONDS)
         os.close(writer)
         with os.fdopen(reader) as report:
             counts = report.read().split() or ["-1"] * 5

@@ -250,7 +250,7 @@ class Model:
         return b"bad" if told is None else told
 
     def voiced(self, line: bytes, answer: bytes) -> list[bytes]:
-        """What is written of an answer: by a quiet follower what is missing or does not fit, and answers to requests."""
+        """What is written of an answer: by a quiet follower what is missing or unfit, and answers to requests."""
         is_request = line in (b"lead", b"follow") or self.asked(line) is not None
         is_told = not self.is_quiet or self.leads or is_request or answer.startswith((b"gap ", b"unfit "))
         return [answer] if is_told else []

@@ -1,6 +1,6 @@
 #!/usr/bin/env python3
-"""Fuzzes the follower with adversarial lines, 100,000 at its window and 10,000 at each of others, and 20,000 of a map of
-texts, and compares each answer with that of a model.
+"""Fuzzes the follower with adversarial lines, and compares each answer with that of a model: 100,000 lines at its
+window, 10,000 at each of others, and 20,000 of a map of texts.
 
 The lines are events in turn and out of turn, events with a number, a name, an item, an index or a word
 altered, whole nodes that do not fit, snapshots cut short, requests, and bytes of any kind. The model is
@@ -144,7 +144,9 @@ class Hostile:
         number, key = self.some_number, self.some_key
         words = [b"nodes", b"len", b"first", b"last", b"next", b"sum"]
         asked = [b"get " + key(), b"rank " + key(), b"at %d" % number(), self.head()]
-        return self.random.choice(words + asked * 2 + [b"range %b %b" % (key(), key()), b"page %d %d" % (number(), number())] * 3)
+        return self.random.choice(
+            words + asked * 2 + [b"range %b %b" % (key(), key()), b"page %d %d" % (number(), number())] * 3
+        )
 
     def head(self) -> bytes:
         return b"head %d" % self.random.choice([self.some_number(), self.model.next, self.model.next + 1])
@@ -174,7 +176,9 @@ class Hostile:
         if kind < 0.82:
             return self.altered(self.whole_node())
         if kind < 0.83:
-            return b"start %d" % random.choice([0] * 9 + [5, MOST - 3, MOST]) + random.choice([b"", b"", b" 7", b" 0", b" %d" % self.some_number()])
+            return b"start %d" % random.choice([0] * 9 + [5, MOST - 3, MOST]) + random.choice(
+                [b"", b"", b" 7", b" 0", b" %d" % self.some_number()]
+            )
         if kind < 0.84:
             return self.end()
         if kind < 0.86:
@@ -201,7 +205,9 @@ class HostileTexts(Hostile):
         at = line.find(b"%", self.random.randrange(len(line)))
         if at < 0 or self.random.random() < 0.6:
             return super().altered(line)
-        code = self.random.choice([line[at : at + 3].lower(), line[at : at + 2], b"%41", b"%2D", b"%%", b"%", b"+", b"%3A", b"%20"])
+        code = self.random.choice(
+            [line[at : at + 3].lower(), line[at : at + 2], b"%41", b"%2D", b"%%", b"%", b"+", b"%3A", b"%20"]
+        )
         return line[:at] + code + line[at + 3 :]
 
 
@@ -214,13 +220,17 @@ sys.exit(subprocess.run([sys.argv[1]], stdin=sys.stdin).returncode)
 
 def limited(program: pathlib.Path, given: bytes, memory: int) -> subprocess.CompletedProcess[bytes]:
     """What the follower answers to these bytes, within that much memory."""
-    return subprocess.run([sys.executable, "-c", LIMITED, program, str(memory)], input=given, capture_output=True, timeout=SECONDS)
+    return subprocess.run(
+        [sys.executable, "-c", LIMITED, program, str(memory)], input=given, capture_output=True, timeout=SECONDS
+    )
 
 
 def sanitized(program: pathlib.Path, given: bytes, memory: int) -> subprocess.CompletedProcess[bytes]:
     """The same, of a program that the sanitizer checks."""
     options = f"hard_rss_limit_mb={memory // 1_000_000}:quarantine_size_mb=1:allocator_release_to_os_interval_ms=0"
-    return subprocess.run([program], input=given, capture_output=True, timeout=SECONDS, env={**os.environ, "ASAN_OPTIONS": options})
+    return subprocess.run(
+        [program], input=given, capture_output=True, timeout=SECONDS, env={**os.environ, "ASAN_OPTIONS": options}
+    )
 
 
 def joined(lines: list[bytes]) -> bytes:
@@ -246,7 +256,9 @@ def kind(answer: bytes) -> str:
 
 def told(program: pathlib.Path, words: list[str], window: int, lines: list[bytes], answers: list[bytes]) -> Counts:
     """Counts of lines that a follower answers so, and of others."""
-    done = subprocess.run([program, *words, "--window", str(window)], input=joined(lines), capture_output=True, timeout=SECONDS)
+    done = subprocess.run(
+        [program, *words, "--window", str(window)], input=joined(lines), capture_output=True, timeout=SECONDS
+    )
     kinds = collections.Counter(map(kind, answers))
     print(f"window {window}: " + ", ".join(f"{word} {count}" for word, count in sorted(kinds.items())))
     if (done.returncode, done.stdout, done.stderr) == (0, joined(answers), b""):

@@ -2,10 +2,10 @@
 """Compares a map that leads with a model, line by line, and a follower that takes over with the leader that goes on.
 
 The lines to a leader are commands, reads, commands and reads with a word or a byte altered, snapshots that it
-begins with while it has no node, `follow` and then events, and bytes of any kind; some lines go to a quiet program. A follower reads the events of a
-leader up to some line, and then `lead` and the commands behind that line: what it answers must be, byte for byte,
-what the leader answered to these. Another begins from the snapshot that the leader gives at that line. Some lines
-to a leader are cut at every byte.
+begins with while it has no node, `follow` and then events, and bytes of any kind; some lines go to a quiet program. A
+follower reads the events of a leader up to some line, and then `lead` and the commands behind that line: what it
+answers must be, byte for byte, what the leader answered to these. Another begins from the snapshot that the leader
+gives at that line. Some lines to a leader are cut at every byte.
 
 Run it once the program is built. The last line is 'N passed, M failed'.
 """
@@ -67,7 +67,9 @@ class Store(Model):
         if echo is None:
             return "\n".join([reply, *texts(events, PAIRS), f"next {self.next}"]).encode()
         self.done = max(self.done, echo)
-        return "\n".join([f"#{echo} {reply}", *texts(events, PAIRS), f"done {self.done} {self.next}", f"next {self.next}"]).encode()
+        return "\n".join(
+            [f"#{echo} {reply}", *texts(events, PAIRS), f"done {self.done} {self.next}", f"next {self.next}"]
+        ).encode()
 
     def led(self, line: bytes) -> bytes:
         """The answer of a leader."""
@@ -83,7 +85,11 @@ class Store(Model):
             self.leads = False
             return b"next %d" % self.next
         try:
-            if not self.nodes and (started := START.fullmatch(line)) and number(started[1]) + number(started[2] or b"0") >= 0:
+            if (
+                not self.nodes
+                and (started := START.fullmatch(line))
+                and number(started[1]) + number(started[2] or b"0") >= 0
+            ):
                 self.leads = False
             return self.led(line) if self.leads else super().told(line)
         except OverflowError:
@@ -92,7 +98,19 @@ class Store(Model):
 
 def random_echo(chance: random.Random, done: int) -> bytes:
     """A number before a command, most often the one after the greatest, and what looks like one."""
-    return chance.choice([b"#%d " % (done % MOST + 1)] * 6 + [b"#0 ", b"#%d " % chance.randrange(99), b"#%d " % (MOST if chance.random() < 0.01 else 7), b"# ", b"#01 ", b"#%d " % (MOST + 1), b"##1 ", b"#1  "])
+    return chance.choice(
+        [b"#%d " % (done % MOST + 1)] * 6
+        + [
+            b"#0 ",
+            b"#%d " % chance.randrange(99),
+            b"#%d " % (MOST if chance.random() < 0.01 else 7),
+            b"# ",
+            b"#01 ",
+            b"#%d " % (MOST + 1),
+            b"##1 ",
+            b"#1  ",
+        ]
+    )
 
 
 class Commands(Hostile):
@@ -125,7 +143,14 @@ class Commands(Hostile):
         if kind < 0.96:
             return self.altered(random.choice([self.command(), self.read()]))
         if kind < 0.98:
-            given = [b"start %d" % random.choice([0, 3, 60, MOST + 1]), b"start 3 17", self.end(), self.whole_node(), b"0 create 1:1", self.done()]
+            given = [
+                b"start %d" % random.choice([0, 3, 60, MOST + 1]),
+                b"start 3 17",
+                self.end(),
+                self.whole_node(),
+                b"0 create 1:1",
+                self.done(),
+            ]
             return random.choice([b"lead", b"lead", b"follow", b"snapshot", *given])
         return bytes(random.choices(range(256), k=random.randrange(40))).replace(b"\n", b"")
 
@@ -198,7 +223,12 @@ def begins_late(program: pathlib.Path, size: int, seed: int) -> Counts:
     given = snapshot(leader.nodes, leader.next, leader.done)
     whole = run(program, ["--lead", "--node-size", str(size)], [*lines, b"snapshot"])
     more = [b"start 9", b"sum", b"lead", b"end 0 0", b"sum", *(author.command() for _ in range(300))]
-    answers = [*[b"held"] * (len(given) - 1), b"next %d" % leader.next, b"held", *(leader.answer(line) for line in more[1:])]
+    answers = [
+        *[b"held"] * (len(given) - 1),
+        b"next %d" % leader.next,
+        b"held",
+        *(leader.answer(line) for line in more[1:]),
+    ]
     done = run(program, ["--node-size", str(size)], [*given, *more])
     passed = whole.stdout.endswith(b"\n" + joined(given)) and done.stdout == joined(answers)
     if not passed:
@@ -208,17 +238,28 @@ def begins_late(program: pathlib.Path, size: int, seed: int) -> Counts:
 
 def cut_lines(program: pathlib.Path) -> Counts:
     """The counts for commands, reads and `lead` to a leader and a follower that end at each byte."""
-    lines = [b"put 3 30", b"#17 put 12 120\r", b"done 21 1", b"start 5 17", b"lead\r", b"cut 3", b"range 1 20", b"sum\r", b"start 5", b"lead", b"put 4 40", b"follow", b"head 12"]
+    lines = [
+        b"put 3 30", b"#17 put 12 120\r", b"done 21 1", b"start 5 17", b"lead\r", b"cut 3", b"range 1 20", b"sum\r",
+        b"start 5", b"lead", b"put 4 40", b"follow", b"head 12",
+    ]
     leading = cuts(program, joined(lines), ["--lead"], lambda: Store(256))
     following = cuts(program, joined(lines), [], lambda: Store(256, leads=False))
-    silent = cuts(program, joined([b"start 0", b"node 1:1", b"0 create 1:1", *lines]), ["--quiet"], lambda: Store(256, leads=False, is_quiet=True))
+    silent = cuts(
+        program,
+        joined([b"start 0", b"node 1:1", b"0 create 1:1", *lines]),
+        ["--quiet"],
+        lambda: Store(256, leads=False, is_quiet=True),
+    )
     parts = (leading, following, silent)
     return Counts(sum(it.passed for it in parts), sum(it.failed for it in parts))
 
 
 def too_large(program: pathlib.Path) -> Counts:
     """A follower whose node is too large for a leader stays one."""
-    lines = [*snapshot([[(1, 1), (2, 2), (3, 3)]], 7), b"lead", b"put 1 1", b"7 split 3:3 1", b"lead", b"8 create 9:9", b"put 9 9", b"nodes"]
+    lines = [
+        *snapshot([[(1, 1), (2, 2), (3, 3)]], 7), b"lead", b"put 1 1", b"7 split 3:3 1", b"lead", b"8 create 9:9",
+        b"put 9 9", b"nodes",
+    ]
     wanted = [b"held", b"held", b"next 7", b"unfit 7 size", b"bad", b"next 8", b"next 8", b"bad"]
     wanted += [b"new", b"8 split 3:3 1", b"9 insert 3:3 9:9 1", b"next 10", b"1:1", b"2:2", b"3:3 9:9", b"next 10"]
     done = run(program, ["--node-size", "2"], lines)
@@ -231,7 +272,11 @@ def too_large(program: pathlib.Path) -> Counts:
 def no_number(program: pathlib.Path) -> Counts:
     """A leader that has no number left for an event ends with a fault, and the answers before it are told."""
     done = run(program, [], [*snapshot([], MOST), b"lead", b"cut 1", b"put 1 1", b"len"])
-    passed = (done.returncode, done.stdout, done.stderr) == (2, b"held\nnext %d\nnext %d\nnone\nnext %d\n" % (MOST, MOST, MOST), b"numbers\n")
+    passed = (done.returncode, done.stdout, done.stderr) == (
+        2,
+        b"held\nnext %d\nnext %d\nnone\nnext %d\n" % (MOST, MOST, MOST),
+        b"numbers\n",
+    )
     if not passed:
         print(f"no number left: status {done.returncode}, {done.stdout!r} {done.stderr!r}")
     return Counts(int(passed), int(not passed))
@@ -239,19 +284,35 @@ def no_number(program: pathlib.Path) -> Counts:
 
 def arguments(program: pathlib.Path) -> Counts:
     """Arguments that the program knows, and others."""
-    usage = b"usage: indexset_store [--follow | --lead] [--keys numbers|text] [--keep FILE] [--node-size N] [--window N] [--pass-others] [--quiet] | --help | --version"
+    usage = (
+        b"usage: indexset_store [--follow | --lead] [--keys numbers|text] [--keep FILE] [--node-size N] [--window N]"
+        b" [--pass-others] [--quiet] | --help | --version"
+    )
     project = (HERE.parent.parent / "bindings/python/pyproject.toml").read_text()
     version = f"indexset_store {project.split('version = ')[1].split()[0].strip(chr(34))}".encode()
-    bad: list[Sequence[str | bytes]] = [["--node-size"], ["--lead", "--node-size"], ["--node-size", "1"], ["--node-size", "65536"], ["--node-size", "x"]]
+    bad: list[Sequence[str | bytes]] = [
+        ["--node-size"], ["--lead", "--node-size"], ["--node-size", "1"], ["--node-size", "65536"],
+        ["--node-size", "x"],
+    ]
     bad += [["--leads"], ["--lead", "-"], ["--node-size", "--quiet"], [b"--lead\xff"], [""], ["--lead", "--help="]]
     bad += [it * 2 for it in (["--lead"], ["--follow"], ["--pass-others"], ["--quiet"], ["--node-size", "2"])]
     bad += [["--window"], ["--window", "x"], ["--window", str(MOST + 1)], ["--window", "1", "--window", "1"]]
-    bad += [["--lead", "--follow"], ["--follow", "--lead"], ["--keys"], ["--keys", "x"], ["--keys", "text", "--keys", "text"]]
-    good = [["--lead"], ["--follow"], ["--quiet", "--lead"], ["--node-size", "2"], ["--node-size", "65535", "--pass-others"]]
+    bad += [
+        ["--lead", "--follow"], ["--follow", "--lead"], ["--keys"], ["--keys", "x"],
+        ["--keys", "text", "--keys", "text"],
+    ]
+    good = [
+        ["--lead"], ["--follow"], ["--quiet", "--lead"], ["--node-size", "2"],
+        ["--node-size", "65535", "--pass-others"],
+    ]
     good += [["--window", "0"], ["--window", str(MOST)], ["--keys", "text"], ["--keys", "numbers", "--lead"]]
     told = {("--help",): usage, ("--lead", "--help"): usage, ("--version",): version, ("--quiet", "--version"): version}
     failed = 0
-    for words, wanted in [(it, (5, b"", usage)) for it in bad] + [(it, (0, b"", b"")) for it in good] + [([*it], (0, line, b"")) for it, line in told.items()]:
+    for words, wanted in (
+        [(it, (5, b"", usage)) for it in bad]
+        + [(it, (0, b"", b"")) for it in good]
+        + [([*it], (0, line, b"")) for it, line in told.items()]
+    ):
         done = run(program, words, [])
         if (done.returncode, done.stdout.split(b"\n")[0], done.stderr.strip()) != wanted:
             print(f"{words}: status {done.returncode}, {done.stdout!r} {done.stderr!r}")
@@ -265,7 +326,9 @@ def main() -> int:
     given = ask.parse_args()
     program = built("indexset_store")
     counts = [compare(program, size, keys, given.seed + size) for size, keys in ((2, 3), (3, 12), (4, 60), (9, 60))]
-    counts += [take_over(program, random.Random(given.seed + turn).randrange(2, 9), given.seed + turn) for turn in range(TURNS)]
+    counts += [
+        take_over(program, random.Random(given.seed + turn).randrange(2, 9), given.seed + turn) for turn in range(TURNS)
+    ]
     counts += [begins_late(program, random.Random(turn).randrange(2, 9), given.seed + turn) for turn in range(TURNS)]
     counts += [quiet(program, leads, given.seed) for leads in (True, False)]
     counts += [cut_lines(program), too_large(program), no_number(program), arguments(program)]

@@ -31,7 +31,10 @@ LINES = 4_000
 SECONDS = 1200  # for one run, on a busy machine
 EVENT = re.compile(rb"\d+ (?:create|drop|insert|remove|split|merge) .*")
 PLAIN = b"abcdefghijklmnopqrstuvwxyzABCDEFGHIJKLMNOPQRSTUVWXYZ0123456789-._~"
-POOL = [b"", b"a", b"b", b"ab", b"alice", b"J\xc3\xbcrgen", b"a b", b"a:b", b":", b" ", b"%", b"%41", b"\n", b"\r\n", b"\x00", b"\xff", b"5", b"05", b"lead", b"#1"]
+POOL = [
+    b"", b"a", b"b", b"ab", b"alice", b"J\xc3\xbcrgen", b"a b", b"a:b", b":", b" ", b"%", b"%41", b"\n", b"\r\n",
+    b"\x00", b"\xff", b"5", b"05", b"lead", b"#1",
+]
 
 
 def spelled(text: bytes) -> bytes:
@@ -147,13 +150,25 @@ def compare(program: pathlib.Path, size: int, seed: int) -> Counts:
 
 def misspelled(program: pathlib.Path) -> Counts:
     """Texts that are spelled in another way are no texts."""
-    wrong = [b"%41", b"%2", b"%", b"%zz", b"%2d", b"%c3%bc", b"%7e", b"a+b%", b"\xc3\xbc", b"a/b", b"a+b", b"%%", b"%2%30", b"a\tb", b"%5F", b"%GG", b"%0a", b"a:b"]
-    forms = [b"put W 1", b"put 1 W", b"cut W", b"get W", b"rank W", b"range W z", b"range a W", b"0 create W:1", b"0 create 1:W", b"0 insert W:1 1:1 0", b"node 1:1 W:1", b"put W W"]
+    wrong = [
+        b"%41", b"%2", b"%", b"%zz", b"%2d", b"%c3%bc", b"%7e", b"a+b%", b"\xc3\xbc", b"a/b", b"a+b", b"%%", b"%2%30",
+        b"a\tb", b"%5F", b"%GG", b"%0a", b"a:b",
+    ]
+    forms = [
+        b"put W 1", b"put 1 W", b"cut W", b"get W", b"rank W", b"range W z", b"range a W", b"0 create W:1",
+        b"0 create 1:W", b"0 insert W:1 1:1 0", b"node 1:1 W:1", b"put W W",
+    ]
     lines = [form.replace(b"W", word) for word in wrong for form in forms]
     right = [b"put %25 %0A", b"get %25", b"put - ~", b"get -", b"put  ", b"get ", b"put a ", b"get a"]
     done = run(program, ["--lead"], joined([*lines, *right]))
     told = done.stdout.split(b"\n")
-    passed = told[: len(lines)] == [b"bad"] * len(lines) and b"%25:%0A" in told and b"-:~" in told and b":" in told and b"a:" in told
+    passed = (
+        told[: len(lines)] == [b"bad"] * len(lines)
+        and b"%25:%0A" in told
+        and b"-:~" in told
+        and b":" in told
+        and b"a:" in told
+    )
     if not passed:
         print(f"misspelled: {[line for line, answer in zip(lines, told) if answer != b'bad']}, {told[len(lines) :]}")
     follower = run(program, [], joined([line for line in lines if line[:1].isdigit() or line.startswith(b"node")]))
@@ -161,17 +176,23 @@ def misspelled(program: pathlib.Path) -> Counts:
     return Counts((len(lines) if passed else 0) + int(follows), int(not passed) + int(not follows))
 
 
-READ = re.compile(rb"(?:get|rank) WORD|range WORD WORD|len|first|last|nodes|next|sum|snapshot|compact".replace(b"WORD", rb"((?:[A-Za-z0-9._~-]|%[0-9A-F]{2})*)"))
+READ = re.compile(
+    rb"(?:get|rank) WORD|range WORD WORD|len|first|last|nodes|next|sum|snapshot|compact".replace(
+        b"WORD", rb"((?:[A-Za-z0-9._~-]|%[0-9A-F]{2})*)"
+    )
+)
 
 
 def is_read(line: bytes) -> bool:
     """Whether a line asks for a read."""
     found = READ.fullmatch(line)
-    return found is not None and all(spelled(urllib.parse.unquote_to_bytes(word)) == word for word in found.groups() if word is not None)
+    return found is not None and all(
+        spelled(urllib.parse.unquote_to_bytes(word)) == word for word in found.groups() if word is not None
+    )
 
 
 def cuts(program: pathlib.Path, words: list[str], given: bytes) -> Counts:
-    """The counts for lines that are cut at each byte: what is cut off is answered where it is a read, and changes nothing."""
+    """The counts for lines that are cut at each byte: a cut read is answered, and no cut line changes anything."""
     failed = 0
     for end in range(len(given) + 1):
         whole, _, rest = given[:end].rpartition(b"\n")
@@ -195,8 +216,16 @@ def kept(program: pathlib.Path) -> Counts:
         texts, numbers = f"{room}/texts", f"{room}/numbers"
         run(program, ["--lead", "--keep", texts], b"put alice 12\nput J%C3%BCrgen a%20b\ncut alice\nput  %25\n")
         again = run(program, ["--keep", texts], b"nodes\n")
-        subprocess.run([program, "--lead", "--keep", numbers], input=b"put 9 1\nput 10 2\ncompact\n", capture_output=True, timeout=SECONDS)
-        wrong = [subprocess.run([program, *words], input=b"", capture_output=True, timeout=SECONDS) for words in (["--keep", texts], ["--keys", "text", "--keep", numbers])]
+        subprocess.run(
+            [program, "--lead", "--keep", numbers],
+            input=b"put 9 1\nput 10 2\ncompact\n",
+            capture_output=True,
+            timeout=SECONDS,
+        )
+        wrong = [
+            subprocess.run([program, *words], input=b"", capture_output=True, timeout=SECONDS)
+            for words in (["--keep", texts], ["--keys", "text", "--keep", numbers])
+        ]
         if again.stdout != b":%25 J%C3%BCrgen:a%20b\nnext 4\n":
             print(f"a file of texts: {again.stdout!r} {again.stderr!r}")
             failed += 1
@@ -214,8 +243,14 @@ def main() -> int:
     program = built("indexset_store")
     counts = [compare(program, size, given.seed + size) for size in (2, 3, 8, 256)]
     counts += [misspelled(program), kept(program)]
-    leading = [b"put alice 12", b"put J%C3%BCrgen a%20b", b"#7 put %3A %25", b"get %3A", b"range a z", b"cut J%C3%BCrgen", b"put  ", b"first"]
-    following = [b"0 create alice:12", b"1 insert alice:12 J%C3%BCrgen:a%20b 0", b"start 3", b"node %25:%3A a:b", b"get alice", b"done 7 1"]
+    leading = [
+        b"put alice 12", b"put J%C3%BCrgen a%20b", b"#7 put %3A %25", b"get %3A", b"range a z", b"cut J%C3%BCrgen",
+        b"put  ", b"first",
+    ]
+    following = [
+        b"0 create alice:12", b"1 insert alice:12 J%C3%BCrgen:a%20b 0", b"start 3", b"node %25:%3A a:b", b"get alice",
+        b"done 7 1",
+    ]
     counts += [cuts(program, ["--lead"], joined(leading)), cuts(program, [], joined(following))]
     passed, failed = sum(it.passed for it in counts), sum(it.failed for it in counts)
     print(f"{passed} passed, {failed} failed")

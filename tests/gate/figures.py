@@ -1,5 +1,5 @@
 #!/usr/bin/env python3
-"""Writes the figures of docs/GATE.md from what `.ci/run` printed: the minutes of processor and by the clock of its parts.
+"""Writes the figures of docs/GATE.md from what `.ci/run` printed: each part's minutes of processor and by the clock.
 
     .ci/run 2>&1 | tee LOG
     tests/gate/figures.py LOG

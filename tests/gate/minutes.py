@@ -85,7 +85,9 @@ def watched(command: list[str]) -> tuple[int, Processes]:
 
 
 def main() -> int:
-    ask = argparse.ArgumentParser(description="Runs a command, and writes how many minutes of processor time its proofs took.")
+    ask = argparse.ArgumentParser(
+        description="Runs a command, and writes how many minutes of processor time its proofs took."
+    )
     ask.add_argument("file", type=pathlib.Path, help="what the minutes are written to")
     ask.add_argument("command", nargs=argparse.REMAINDER, metavar="COMMAND", help="a command, with its words")
     given = ask.parse_args()

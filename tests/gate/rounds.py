@@ -50,10 +50,12 @@ impl<T> Heap<T, Vec<T>> {
 NAMES = {"first": "made::heap::first", "place": "made::heap::NearProbe::place", "last": "made::Heap+T+Vec+T::last"}
 # What the prover says of a function whose body has a word.
 SAYS = {
-    "wrong": "note: src/heap.rt:1:1: it is not proved that it holds (`returns`)\nfn {0}: no proof: expected answers in {1}",
+    "wrong": "note: src/heap.rt:1:1: it is not proved that it holds (`returns`)\n"
+    "fn {0}: no proof: expected answers in {1}",
     "stale": "./proofs/{1}/Answers.antt:1:1: error: `returns`: it has no field `count`\nfn {0}: not proved",
     "lemma": "./proofs/{1}/Answers.antt:1:1: error: `returns`: the two types differ\nfn {0}: not proved",
-    "beside": "./proofs/{1}/Answers.antt:1:1: error: `returns`: x\nfn {0}: not proved; it calls `made::heap::first`, which is not proved",
+    "beside": "./proofs/{1}/Answers.antt:1:1: error: `returns`: x\n"
+    "fn {0}: not proved; it calls `made::heap::first`, which is not proved",
     "right": "fn {0}: proved",
 }
 
@@ -128,7 +130,9 @@ def test_refused_only_for_its_callee() -> None:
 
 
 def test_changes_nothing() -> None:
-    expect({"right_first": "right_first + 0", "right_place": "wrong_place"}, 1, "NOT REFUSED: heap::first is still proved")
+    expect(
+        {"right_first": "right_first + 0", "right_place": "wrong_place"}, 1, "NOT REFUSED: heap::first is still proved"
+    )
 
 
 def test_old_text_is_gone() -> None:

@@ -73,7 +73,11 @@ def rule_fault(file: pathlib.Path) -> str:
         return f"{begun} and {beside:,} lines are kept before they are many"
     told_by(file, lines_of([f"put {it} {MANY}" for it in range(COMMANDS)]), "--lead")
     begun, beside = begins(file)
-    return "" if begun != first and beside < 2 * COMMANDS else f"{begun} and {beside:,} lines are kept where they were many"
+    return (
+        ""
+        if begun != first and beside < 2 * COMMANDS
+        else f"{begun} and {beside:,} lines are kept where they were many"
+    )
 
 
 def main() -> int:

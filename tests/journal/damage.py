@@ -69,7 +69,9 @@ class Bench:
         self.counts: Counter[str] = Counter()
         self.said: Counter[str] = Counter()
 
-    def run(self, file: pathlib.Path, lines: list[str], *words: str, user: int | None = None) -> subprocess.CompletedProcess[str]:
+    def run(
+        self, file: pathlib.Path, lines: list[str], *words: str, user: int | None = None
+    ) -> subprocess.CompletedProcess[str]:
         """A run on a file, as this user or as the one of this process."""
         return subprocess.run(
             [self.program, "--keep", str(file), "--node-size", "4", *words],
@@ -163,7 +165,9 @@ def damaged(bench: Bench, room: pathlib.Path, files: Files, name: str, maps: lis
         return bench.fault(pathlib.Path(folder), maps)
 
 
-def damages(bench: Bench, room: pathlib.Path, files: Files, name: str, maps: list[str], stride: int, seed: int) -> Iterator[Case]:
+def damages(
+    bench: Bench, room: pathlib.Path, files: Files, name: str, maps: list[str], stride: int, seed: int
+) -> Iterator[Case]:
     """All changes of one of the files."""
     used = len(files[name].rstrip(b"\0")) + 1 if name == LOG else len(files[name])
     for what, change in changes(used, stride, random.Random(seed)):
@@ -171,7 +175,7 @@ def damages(bench: Bench, room: pathlib.Path, files: Files, name: str, maps: lis
 
 
 def of_damage(bench: Bench, room: pathlib.Path, stride: int, seed: int) -> Iterator[Case]:
-    """Changes of a file that holds all, and then of one beside which a log holds the newest commits, and of this log."""
+    """Changes of a file that holds all, then of one beside which a log holds the newest commits, and of this log."""
     made = room / "made"
     made.mkdir()
     file = made / "map.db"
@@ -209,7 +213,9 @@ def others() -> dict[str, list[str]]:
         "a row below 0": [loose, "INSERT INTO kept VALUES (-1, 'x')"],
         "a third column": [loose.replace("TEXT", "TEXT, more TEXT"), "INSERT INTO kept VALUES (0, 'x', 'y')"],
         "no column of numbers": ["CREATE TABLE kept (line TEXT)", "INSERT INTO kept VALUES ('x')"],
-        "a table with no rowid": ["CREATE TABLE kept (number INTEGER PRIMARY KEY, line TEXT NOT NULL) STRICT, WITHOUT ROWID"],
+        "a table with no rowid": [
+            "CREATE TABLE kept (number INTEGER PRIMARY KEY, line TEXT NOT NULL) STRICT, WITHOUT ROWID"
+        ],
         "no seal": statements(["0 create 1:1"]),
         "a wrong seal": statements(["0 create 1:1", "seal 1"]),
         "a line behind the last seal": statements([*sealed(["0 create 1:1"]), "1 drop 1:1"]),

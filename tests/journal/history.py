@@ -59,7 +59,9 @@ class History:
 
     def lines(self, begin: int, end: int) -> list[str]:
         """The lines that lead from event `begin` to event `end`."""
-        marks = {number: [f"done {it} {number}" for it in self.done.get(number, [])] for number in range(begin, end + 1)}
+        marks = {
+            number: [f"done {it} {number}" for it in self.done.get(number, [])] for number in range(begin, end + 1)
+        }
         return marks[begin] + [line for it in range(begin, end) for line in (self.events[it], *marks[it + 1])]
 
     def has_all(self, begin: int, end: int) -> bool:

@@ -1,5 +1,5 @@
 #!/usr/bin/env python3
-"""Kills a map that is kept in a file, in either role, at moments by a seed, and compares what is found with what was told.
+"""Kills a map that is kept in a file, in either role, at moments by a seed, and compares what it kept and told.
 
 usage: kills.py [SEED] [KILLS], where PYTHONHASHSEED=0 makes it quicker (seals.py). A leader gets commands in bursts, or
 one after each answer, `compact` among them in some runs; in the others the file grows until the program compacts it by
@@ -164,7 +164,9 @@ class Drill:
             side.found = found
             return
         if found.model.next < number or found.model.done < done:
-            raise Wrong(f"a follower acknowledged {number} and {done}, and keeps {found.model.next} and {found.model.done}")
+            raise Wrong(
+                f"a follower acknowledged {number} and {done}, and keeps {found.model.next} and {found.model.done}"
+            )
         self.agrees(side, feed.sent, found)
         self.counts["snapshots taken by followers"] += is_taken
         side.found, side.is_other = found, False
@@ -184,7 +186,7 @@ class Drill:
             raise Wrong(f"a follower keeps {found.model.done} as the number of a command")
 
     def promote(self) -> None:
-        """Has the follower lead in place of the leader that is gone, with all that was told of it, and kills it then."""
+        """Has the follower lead in place of the leader that is gone, with all that it told, and then kills it."""
         old, side = self.leader, self.follower
         end = max(self.history.next, 0 if side.is_other else side.model.next)
         run = self.start(side, False)

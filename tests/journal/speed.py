@@ -1,15 +1,16 @@
 #!/usr/bin/env python3
 """Times a map that is kept in a file, beside SQLite with the same commits, and Redis with its append-only file.
 
-usage: speed.py [--seconds S] [--rounds R] [--one-file] [--large] [--folder FOLDER]. Commands go out one after each answer, in
-groups that are answered together, and from a file at full speed; the rows of such commands, a seal behind each group,
-are kept by the journal in its process too (bench/rows). SQLite, by Python's module, gets the same rows in the same
-transactions, with synchronous=FULL, in this process and behind a pipe as the program is (rows_by_pipe.py); so does its
-own shell, by one statement a group; Redis syncs its file at each group (appendfsync always). The last two are left out
-where they are not installed. Each size of groups begins with empty files, unless one file is asked for, and what goes
-out is made before the clock starts. A disk is now quick and now slow, so they take turns: a rate is the median of R
-turns of S seconds. The files stand in a folder of the disk that is measured. Recovery is the time from the start of the
-program to its first answer, the least of three; `--large` times starts of large maps alone, in some minutes.
+usage: speed.py [--seconds S] [--rounds R] [--one-file] [--large] [--folder FOLDER]. Commands go out one after each
+answer, in groups that are answered together, and from a file at full speed; the rows of such commands, a seal behind
+each group, are kept by the journal in its process too (bench/rows). SQLite, by Python's module, gets the same rows in
+the same transactions, with synchronous=FULL, in this process and behind a pipe as the program is (rows_by_pipe.py); so
+does its own shell, by one statement a group; Redis syncs its file at each group (appendfsync always). The last two are
+left out where they are not installed. Each size of groups begins with empty files, unless one file is asked for, and
+what goes out is made before the clock starts. A disk is now quick and now slow, so they take turns: a rate is the
+median of R turns of S seconds. The files stand in a folder of the disk that is measured. Recovery is the time from the
+start of the program to its first answer, the least of three; `--large` times starts of large maps alone, in some
+minutes.
 
 It needs the built `indexset_store`, and for the journal `indexset_rows`, which `bench/build.py rows` builds, both
 proved where the figures are to be told.
@@ -264,7 +265,10 @@ def redis(folder: pathlib.Path) -> Iterator[Remote]:
     with socket.socket() as found:
         found.bind(("127.0.0.1", 0))
         port = found.getsockname()[1]
-    words = ["redis-server", "--port", str(port), "--dir", str(folder), "--save", "", "--appendonly", "yes", "--appendfsync", "always"]
+    words = [
+        "redis-server", "--port", str(port), "--dir", str(folder), "--save", "", "--appendonly", "yes", "--appendfsync",
+        "always",
+    ]
     with subprocess.Popen([*words, "--daemonize", "no", "--loglevel", "warning"], stdout=subprocess.DEVNULL) as run:
         try:
             until = time.monotonic() + 30
@@ -313,7 +317,10 @@ def answers(folder: pathlib.Path, seconds: float, rounds: int, has_one_file: boo
             with contextlib.nullcontext(one) if one else opened(fresh(folder, f"groups{group}")) as timed:
                 for it, rate in zip(timed, rates(timed, group, seconds, rounds)):
                     rows.setdefault(it.name, []).append(rate)
-    row("commands a second", ["one at a time", f"groups of {GROUPS[1]}", *(f"of {it:,}" for it in GROUPS[2:]), "from a file"])
+    row(
+        "commands a second",
+        ["one at a time", f"groups of {GROUPS[1]}", *(f"of {it:,}" for it in GROUPS[2:]), "from a file"],
+    )
     row("---", ["---"] * 5)
     for name, cells in rows.items():
         row(name, [*cells, pace if name == piped.name else "–"])
@@ -328,7 +335,10 @@ def answers(folder: pathlib.Path, seconds: float, rounds: int, has_one_file: boo
 def recoveries(folder: pathlib.Path) -> None:
     """Seconds to the first answer, and bytes."""
     print()
-    row("Kept lines", ["pairs", "seconds to the first answer", "bytes a line", "after compaction: lines", "seconds", "bytes a pair"])
+    row(
+        "Kept lines",
+        ["pairs", "seconds to the first answer", "bytes a line", "after compaction: lines", "seconds", "bytes a pair"],
+    )
     row("---:", ["---:"] * 6)
     for count in KEPT:
         store = Store(fresh(folder, f"kept{count}"))
@@ -339,7 +349,13 @@ def recoveries(folder: pathlib.Path) -> None:
         lines, size, seconds = lines_of(store.file), store.size(), store.recovery()
         store.piped(["compact"])
         after, small = lines_of(store.file), store.size()
-        row(f"{lines:,}", [f"{pairs:,}", f"{seconds:.3f}", f"{size / lines:.1f}", f"{after:,}", f"{store.recovery():.3f}", f"{small / pairs:.1f}"])
+        row(
+            f"{lines:,}",
+            [
+                f"{pairs:,}", f"{seconds:.3f}", f"{size / lines:.1f}", f"{after:,}", f"{store.recovery():.3f}",
+                f"{small / pairs:.1f}",
+            ],
+        )
         shutil.rmtree(store.file.parent)
 
 
@@ -349,7 +365,7 @@ def behind(pairs: int) -> int:
 
 
 def large_starts(folder: pathlib.Path) -> None:
-    """Seconds to the first answer of large maps: behind a snapshot alone, and with nearly as many events as are kept."""
+    """Seconds to the first answer of large maps: after a snapshot only, and with nearly as many events as are kept."""
     print()
     row("Pairs", ["compacted in", "seconds to the first answer", "events behind the snapshot", "seconds, three starts"])
     row("---:", ["---:"] * 4)
@@ -398,8 +414,12 @@ def main() -> int:
     ask = argparse.ArgumentParser(description="Times a map that is kept in a file.")
     ask.add_argument("--seconds", type=float, default=0.5, help="for each turn")
     ask.add_argument("--rounds", type=int, default=11, help="turns of each")
-    ask.add_argument("--one-file", action="store_true", help="for all sizes of groups, so that the later ones meet a larger map")
-    ask.add_argument("--folder", type=pathlib.Path, default=pathlib.Path(tempfile.gettempdir()), help="on the disk that is measured")
+    ask.add_argument(
+        "--one-file", action="store_true", help="for all sizes of groups, so that the later ones meet a larger map"
+    )
+    ask.add_argument(
+        "--folder", type=pathlib.Path, default=pathlib.Path(tempfile.gettempdir()), help="on the disk that is measured"
+    )
     ask.add_argument("--large", action="store_true", help="the starts of maps of 1,000,000 to 10,000,000 pairs alone")
     given = ask.parse_args()
     with tempfile.TemporaryDirectory(dir=given.folder) as folder:

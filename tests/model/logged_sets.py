@@ -139,5 +139,3 @@ class LoggedSets(Followed):
             return None
         self.tree.remove_range(*self.bounds(words))
         return ""
-
-

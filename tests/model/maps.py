@@ -13,8 +13,6 @@ from plain import Plain, is_partly_appended
 from walks import NONE, follow, walk
 
 
-
-
 class Maps(Subject):
     """Two maps."""
 

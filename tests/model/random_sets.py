@@ -143,5 +143,3 @@ class SetAuthor(Author):
         """A search that may make no more comparisons than are promised."""
         most = self.sets.set.most_comparisons() if self.sets.set.nodes is not None else 64
         return f"locate_by {most} {self.few()}"
-
-

@@ -13,8 +13,6 @@ from plain import Plain, inserted, is_partly_appended
 from walks import NONE, follow, walk
 
 
-
-
 class Sets(Subject):
     """Two sets."""
 

@@ -67,9 +67,7 @@ class Cursor:
         return read_natural(index) if name == "peek_index" else self.position
 
 
-def follow(
-    items: Sequence[str], position: int, words: Words, parts: dict[str, Callable[[str], str]]
-) -> str:
+def follow(items: Sequence[str], position: int, words: Words, parts: dict[str, Callable[[str], str]]) -> str:
     """What a cursor shows at each word; `parts` are the words for what stands at its position."""
     cursor, answers = Cursor(len(items), position), []
     for word in words:

@@ -2,11 +2,11 @@
 """Kills every part of a map over several shards, by a seed, while commands come, and compares it with a plain map.
 
 usage: kills.py [SEED] [COMMANDS]. The engine, the router, a leader, one that stands by, a leader's program, a reader
-and a reader's follower are killed at random batches, and engine and leader together; a leader begins again on its machine, with its file, on a new
-one, or with a damaged file. Shards are split and merged while one of their leaders is down. At cuts, some of them
-while later commands are on their way, and in the end: how many pairs there are, ranks, positions, pages over the
-borders, and all pairs; and each event that a file kept beside the one that was told under its number. It ends with a
-table, and the last line is 'N passed, M failed'.
+and a reader's follower are killed at random batches, and engine and leader together; a leader begins again on its
+machine, with its file, on a new one, or with a damaged file. Shards are split and merged while one of their leaders is
+down. At cuts, some of them while later commands are on their way, and in the end: how many pairs there are, ranks,
+positions, pages over the borders, and all pairs; and each event that a file kept beside the one that was told under
+its number. It ends with a table, and the last line is 'N passed, M failed'.
 
 It needs redis-server and the built `indexset_store`.
 """
@@ -136,7 +136,9 @@ class Drill:
         self.counts[f"file: {fate}"] += 1
         if fate != "stays" or self.chance.random() < 0.7:
             self.witness.read_kept(shard, file)
-            self.counts["file: ahead of what is told"] += read_behind(file, self.cluster.engine.last(f"events:{shard}")) != {}
+            self.counts["file: ahead of what is told"] += (
+                read_behind(file, self.cluster.engine.last(f"events:{shard}")) != {}
+            )
         befall(file, fate, self.chance)
 
     def refit(self, word: str) -> None:
@@ -178,7 +180,10 @@ class Drill:
                 self.check("page over a border", reader.page(start, size) == whole[start : start + size])
         self.check("all pairs", reader.page(0, len(keys)) == whole)
         self.counts["comparisons"] += 1
-        print(f"after {reader.at}: {len(reader.shown)} shards, {len(keys)} pairs, {len(self.wrong) - before} wrong", flush=True)
+        print(
+            f"after {reader.at}: {len(reader.shown)} shards, {len(keys)} pairs, {len(self.wrong) - before} wrong",
+            flush=True,
+        )
 
     def check(self, name: str, is_right: bool) -> None:
         self.counts["checks"] += 1

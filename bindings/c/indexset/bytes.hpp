@@ -96,7 +96,9 @@ class byte_store : public held<Calls> {
         runs_.forget();
     }
 
-    std::size_t rank(std::string_view key) const noexcept { return Calls::rank(this->handle(), bytes_of(key), key.size()); }
+    std::size_t rank(std::string_view key) const noexcept {
+        return Calls::rank(this->handle(), bytes_of(key), key.size());
+    }
     std::size_t count_up_to(std::string_view key) const noexcept {
         return Calls::count_up_to(this->handle(), bytes_of(key), key.size());
     }

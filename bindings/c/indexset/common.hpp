@@ -108,9 +108,7 @@ class comparisons {
         return a.size() == b.size() && are_equal<Order>(walk_of(a), walk_of(b));
     }
 #if __cplusplus >= 202002L
-    friend auto operator<=>(const Self &a, const Self &b)
-        requires(Order::is_ordered)
-    {
+    friend auto operator<=>(const Self &a, const Self &b) requires(Order::is_ordered) {
         return compare<Order>(walk_of(a), walk_of(b));
     }
 #else

@@ -37,16 +37,15 @@ template <class K>
 struct key_code<K, std::enable_if_t<std::is_enum_v<K>>> {
     using number = std::underlying_type_t<K>;
 
-    static constexpr std::uint64_t encode(K key) noexcept {
-        return key_code<number>::encode(static_cast<number>(key));
-    }
+    static constexpr std::uint64_t encode(K key) noexcept { return key_code<number>::encode(static_cast<number>(key)); }
 
     static constexpr K decode(std::uint64_t code) noexcept { return static_cast<K>(key_code<number>::decode(code)); }
 };
 
 template <class K>
 struct key_code<K, std::enable_if_t<std::is_floating_point_v<K>>> {
-    static_assert(std::numeric_limits<double>::is_iec559 && sizeof(K) <= sizeof(double), "a key is a float or a double");
+    static_assert(std::numeric_limits<double>::is_iec559 && sizeof(K) <= sizeof(double),
+                  "a key is a float or a double");
 
     static std::uint64_t encode(K key) noexcept {
         if (key != key) return ~std::uint64_t{0};

@@ -70,12 +70,12 @@ class number_nodes : public nodes<Self, Store, V> {
 
 // What a call of a logged map or of a replica answers.
 enum class status : std::uint32_t {
-    unchanged = INDEXSET_NO,        // there was nothing to do, or the change was made before
-    changed = INDEXSET_YES,         // it was done
-    no_memory = INDEXSET_MEMORY,    // memory was refused, by apply_all alone: other calls throw
+    unchanged = INDEXSET_NO,           // there was nothing to do, or the change was made before
+    changed = INDEXSET_YES,            // it was done
+    no_memory = INDEXSET_MEMORY,       // memory was refused, by apply_all alone: other calls throw
     out_of_numbers = INDEXSET_NUMBERS, // too few numbers are left
-    unfit = INDEXSET_UNFIT,         // what was given does not fit
-    gap = INDEXSET_GAP,             // changes before it are missing
+    unfit = INDEXSET_UNFIT,            // what was given does not fit
+    gap = INDEXSET_GAP,                // changes before it are missing
     no_such_node = INDEXSET_NO_SUCH_NODE,
     index_outside = INDEXSET_INDEX_OUTSIDE,
     value_differs = INDEXSET_VALUE_DIFFERS,
@@ -113,12 +113,13 @@ class told {
 // An ordered map that tells its changes, one number after another. It is moved, and not copied; one that was moved
 // from is as it began.
 template <class K = std::uint64_t, class V = std::uint64_t>
-class logged_map
-    : public detail::number_nodes<logged_map<K, V>, detail::number_store<detail::log_calls, detail::map_code<K, V>>, V> {
+class logged_map : public detail::number_nodes<logged_map<K, V>,
+                                               detail::number_store<detail::log_calls, detail::map_code<K, V>>, V> {
   public:
     using base = typename logged_map::number_nodes;
 
-    // An empty map, whose nodes hold at most `node_size` pairs, at least 2, and whose first change has the number `next`.
+    // An empty map, whose nodes hold at most `node_size` pairs, at least 2, and whose first change has the number
+    // `next`.
     explicit logged_map(std::size_t node_size = 1024, std::uint64_t next = 0) noexcept
         : base(next), node_size_(node_size < 2 ? 2 : node_size) {}
 
@@ -127,8 +128,9 @@ class logged_map
         this->made_of(indexset_log_new, node_size_, this->next_);
         told<V> told;
         std::uint64_t before;
-        const std::uint32_t answer = indexset_log_insert(handle(), key_code<K>::encode(key), value_code<V>::encode(value),
-                                                         &before, told.events_.data(), told.events_.size(), &told.count_);
+        const std::uint32_t answer =
+            indexset_log_insert(handle(), key_code<K>::encode(key), value_code<V>::encode(value), &before,
+                                told.events_.data(), told.events_.size(), &told.count_);
         detail::pass(answer);
         this->store_->changed();
         told.out_of_numbers = answer == INDEXSET_NUMBERS;
@@ -136,7 +138,8 @@ class logged_map
         return told;
     }
 
-    // Adds a pair whose key is not there, and tells the changes: none where the key is there, and the value that it has.
+    // Adds a pair whose key is not there, and tells the changes: none where the key is there, and the value that it
+    // has.
     told<V> insert(const std::pair<K, V> &pair) {
         told<V> told;
         told.before = this->get(pair.first);
@@ -148,8 +151,8 @@ class logged_map
         told<V> told;
         if (!this->store_) return told;
         std::uint64_t before;
-        const std::uint32_t answer = indexset_log_remove(handle(), key_code<K>::encode(key), &before, told.events_.data(),
-                                                         told.events_.size(), &told.count_);
+        const std::uint32_t answer = indexset_log_remove(handle(), key_code<K>::encode(key), &before,
+                                                         told.events_.data(), told.events_.size(), &told.count_);
         detail::pass(answer);
         this->store_->changed();
         told.out_of_numbers = answer == INDEXSET_NUMBERS;
@@ -183,12 +186,12 @@ struct told_bytes {
 // An ordered map from byte strings that tells its changes, one number after another. It is moved, and not copied; one
 // that was moved from is as it began.
 template <class V = std::uint64_t>
-class logged_byte_map
-    : public detail::nodes<logged_byte_map<V>, detail::byte_store<detail::logged_byte_calls, V>, V> {
+class logged_byte_map : public detail::nodes<logged_byte_map<V>, detail::byte_store<detail::logged_byte_calls, V>, V> {
   public:
     using base = typename logged_byte_map::nodes;
 
-    // An empty map, whose nodes hold at most `node_size` pairs, at least 2, and whose first change has the number `next`.
+    // An empty map, whose nodes hold at most `node_size` pairs, at least 2, and whose first change has the number
+    // `next`.
     explicit logged_byte_map(std::size_t node_size = 1024, std::uint64_t next = 0) noexcept
         : base(next), node_size_(node_size < 2 ? 2 : node_size) {}
 
@@ -219,7 +222,8 @@ class logged_byte_map
         return told_of(answer, answer == INDEXSET_YES, before, changes);
     }
 
-    // Returns the changes of the last call that made any, in order. Where memory is refused, they can be asked for again.
+    // Returns the changes of the last call that made any, in order. Where memory is refused, they can be asked for
+    // again.
     std::vector<byte_event> last_told() const {
         std::vector<byte_event> told;
         byte_event event;
@@ -250,8 +254,8 @@ class logged_byte_map
 
 // A copy of the nodes of a logged map, which follows the map by its changes. It is moved, and not copied.
 template <class K = std::uint64_t, class V = std::uint64_t>
-class replica
-    : public detail::number_nodes<replica<K, V>, detail::number_store<detail::replica_calls, detail::map_code<K, V>>, V> {
+class replica : public detail::number_nodes<replica<K, V>,
+                                            detail::number_store<detail::replica_calls, detail::map_code<K, V>>, V> {
   public:
     using base = typename replica::number_nodes;
 
@@ -263,8 +267,8 @@ class replica
         if (log.store_) this->made_of(indexset_replica_from_log, log.handle());
     }
 
-    // Makes a change of the logged map, and awaits the next. It answers `changed`; `unchanged` where the change was made
-    // before; or why it does not fit, and then nothing changes.
+    // Makes a change of the logged map, and awaits the next. It answers `changed`; `unchanged` where the change was
+    // made before; or why it does not fit, and then nothing changes.
     status apply(const event &change) {
         const std::uint32_t answer = indexset_replica_apply(made().handle(), &change);
         detail::pass(answer);

@@ -77,7 +77,8 @@ class mapped : public positions<Self, Store> {
         return value_code<V>::decode(code);
     }
 
-    // The value of a key, to be read or written: `map[key] = value`, `map[key] += 1`. It is made V{} where there is none.
+    // The value of a key, to be read or written: `map[key] = value`, `map[key] += 1`. It is made V{} where there is
+    // none.
     value_reference<Self> operator[](key_argument key) noexcept { return {static_cast<Self &>(*this), key}; }
 
     // Adds a pair whose key is not there. Returns the pair of the key, and whether it was added.
@@ -142,7 +143,8 @@ class mapped : public positions<Self, Store> {
         try {
             for (std::size_t i = 0; i < pairs.size(); i++) {
                 std::uint64_t before;
-                if (add(pairs[i].first, value_code<V>::encode(pairs[i].second), before)) std::swap(pairs[added++], pairs[i]);
+                if (add(pairs[i].first, value_code<V>::encode(pairs[i].second), before))
+                    std::swap(pairs[added++], pairs[i]);
             }
         } catch (...) {
             while (added != 0) this->erase(key_argument(pairs[--added].first));

@@ -42,7 +42,9 @@ class multimap : public detail::copied<multimap<K, V>, detail::multi_store<detai
 
     // Tells whether a key has a value, and how many it has. One search.
     using base::contains;
-    bool contains(K key, const V &value) const noexcept { return this->store_ && this->store_->contains(code(key, value)); }
+    bool contains(K key, const V &value) const noexcept {
+        return this->store_ && this->store_->contains(code(key, value));
+    }
     size_type count(K key) const noexcept { return this->store_ ? this->store_->count(key) : 0; }
 
     // Returns the pair of a key and a value, or the end where there is none. One search; where its position is asked

@@ -29,7 +29,8 @@ struct set_calls {
         return indexset_set_range_by_position(of, from, keys, places);
     }
     static constexpr auto cursor_at = indexset_set_cursor_at;
-    static std::size_t read_on(handle *of, indexset_cursor *cursor, std::uint64_t *keys, std::uint64_t *, std::size_t places) {
+    static std::size_t read_on(handle *of, indexset_cursor *cursor, std::uint64_t *keys, std::uint64_t *,
+                               std::size_t places) {
         return indexset_set_cursor_next(of, cursor, keys, places);
     }
     static bool at(handle *of, std::size_t position, pair &out) { return indexset_set_at(of, position, &out.key); }
@@ -52,10 +53,12 @@ struct pair_calls {
     static constexpr auto get = Get;
     static constexpr auto cursor_at = CursorAt;
 
-    static std::size_t read(handle *of, std::size_t from, std::uint64_t *keys, std::uint64_t *values, std::size_t places) {
+    static std::size_t read(handle *of, std::size_t from, std::uint64_t *keys, std::uint64_t *values,
+                            std::size_t places) {
         return Read(of, from, keys, places, values, places);
     }
-    static std::size_t read_on(handle *of, indexset_cursor *cursor, std::uint64_t *keys, std::uint64_t *values, std::size_t places) {
+    static std::size_t read_on(handle *of, indexset_cursor *cursor, std::uint64_t *keys, std::uint64_t *values,
+                               std::size_t places) {
         return CursorNext(of, cursor, keys, places, values, places);
     }
     static bool at(handle *of, std::size_t position, pair &out) { return At(of, position, &out.key, &out.value); }
@@ -66,7 +69,8 @@ struct pair_calls {
 };
 
 // The calls of the library for a map of numbers.
-struct map_calls : pair_calls<indexset_map, indexset_map_at, indexset_map_range_by_position, indexset_map_cursor_at, indexset_map_cursor_next, indexset_map_get> {
+struct map_calls : pair_calls<indexset_map, indexset_map_at, indexset_map_range_by_position, indexset_map_cursor_at,
+                              indexset_map_cursor_next, indexset_map_get> {
     static constexpr auto make = indexset_map_new;
     static constexpr auto clone = indexset_map_clone;
     static constexpr auto release = indexset_map_free;
@@ -97,7 +101,8 @@ inline bool first_value(indexset_multi *of, std::uint64_t key, std::uint64_t *ou
 }
 
 // The calls of the library for a multimap.
-struct multi_calls : pair_calls<indexset_multi, indexset_multi_at, indexset_multi_range_by_position, indexset_multi_cursor_at, indexset_multi_cursor_next, first_value> {
+struct multi_calls : pair_calls<indexset_multi, indexset_multi_at, indexset_multi_range_by_position,
+                                indexset_multi_cursor_at, indexset_multi_cursor_next, first_value> {
     static constexpr auto make = indexset_multi_new;
     static constexpr auto release = indexset_multi_free;
     static constexpr auto clear = indexset_multi_clear;
@@ -107,7 +112,8 @@ struct multi_calls : pair_calls<indexset_multi, indexset_multi_at, indexset_mult
 };
 
 // The calls of the library for a logged map.
-struct log_calls : pair_calls<indexset_log, indexset_log_at, indexset_log_range_by_position, indexset_log_cursor_at, indexset_log_cursor_next, indexset_log_get> {
+struct log_calls : pair_calls<indexset_log, indexset_log_at, indexset_log_range_by_position, indexset_log_cursor_at,
+                              indexset_log_cursor_next, indexset_log_get> {
     static constexpr auto release = indexset_log_free;
     static constexpr auto len = indexset_log_len;
     static constexpr auto rank = indexset_log_rank;
@@ -118,8 +124,8 @@ struct log_calls : pair_calls<indexset_log, indexset_log_at, indexset_log_range_
 };
 
 // The calls of the library for a replica.
-struct replica_calls
-    : pair_calls<indexset_replica, indexset_replica_at, indexset_replica_range_by_position, indexset_replica_cursor_at, indexset_replica_cursor_next, indexset_replica_get> {
+struct replica_calls : pair_calls<indexset_replica, indexset_replica_at, indexset_replica_range_by_position,
+                                  indexset_replica_cursor_at, indexset_replica_cursor_next, indexset_replica_get> {
     static constexpr auto release = indexset_replica_free;
     static constexpr auto len = indexset_replica_len;
     static constexpr auto rank = indexset_replica_rank;
@@ -144,7 +150,8 @@ struct number_run {
         if (goes_on && !walks_) Calls::cursor_at(handle, from, &end_);
         walks_ = goes_on;
         first = from;
-        count = goes_on ? Calls::read_on(handle, &end_, keys, values, places) : Calls::read(handle, from, keys, values, places);
+        count = goes_on ? Calls::read_on(handle, &end_, keys, values, places)
+                        : Calls::read(handle, from, keys, values, places);
     }
 
   private:
@@ -160,8 +167,8 @@ class number_store : public held<Calls> {
     using value_type = typename Code::value_type;
     using key_type = typename Code::key_type;
     using key_argument = key_type;
-    using element = pair; // what `at` returns
-    using order = Code;   // of elements
+    using element = pair;               // what `at` returns
+    using order = Code;                 // of elements
     static constexpr bool notes = true; // an iterator may have an element before its position is asked for
 
     // How many changes there were, from 1 on.

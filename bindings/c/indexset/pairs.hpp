@@ -18,7 +18,8 @@ namespace indexset {
 
 namespace detail {
 
-// Throws where a multimap was refused memory. Each change consumes a number of 64 bits: they do not run out in practice.
+// Throws where a multimap was refused memory. Each change consumes a number of 64 bits: they do not run out in
+// practice.
 inline void pass_multi(std::uint32_t answer) {
     if (answer == INDEXSET_MEMORY || answer == INDEXSET_NUMBERS) throw std::bad_alloc();
 }
@@ -52,7 +53,8 @@ class multi_store : public number_store<multi_calls, Code> {
     // Returns where a pair stands that is there, behind a walk over the values of its key before it.
     std::size_t position_of(const pair &element) noexcept {
         std::size_t position = rank_of(element.key);
-        for (std::size_t left = count_of(element.key); left > 1 && at(position).value != element.value; left--) position++;
+        for (std::size_t left = count_of(element.key); left > 1 && at(position).value != element.value; left--)
+            position++;
         return position;
     }
 
@@ -92,7 +94,9 @@ class multi_store : public number_store<multi_calls, Code> {
     // These change one pair or none.
     bool add(const pair &element) { return change(indexset_multi_insert, element.key, element.value); }
     bool remove(const pair &element) { return change(indexset_multi_remove, element.key, element.value); }
-    bool remove_first(std::uint64_t key, std::uint64_t &value) { return change(indexset_multi_remove_first, key, &value); }
+    bool remove_first(std::uint64_t key, std::uint64_t &value) {
+        return change(indexset_multi_remove_first, key, &value);
+    }
     bool remove_at(std::size_t position) {
         pair removed;
         return change(indexset_multi_remove_at, position, &removed.key, &removed.value);
@@ -113,7 +117,9 @@ class multi_store : public number_store<multi_calls, Code> {
 
   private:
     std::size_t rank_of(std::uint64_t key) const noexcept { return shown(multi_calls::rank(this->handle(), key)); }
-    std::size_t end_of(std::uint64_t key) const noexcept { return shown(multi_calls::count_up_to(this->handle(), key)); }
+    std::size_t end_of(std::uint64_t key) const noexcept {
+        return shown(multi_calls::count_up_to(this->handle(), key));
+    }
     std::size_t count_of(std::uint64_t key) const noexcept {
         return hidden_.empty() ? indexset_multi_count(this->handle(), key) : end_of(key) - rank_of(key);
     }
@@ -125,8 +131,11 @@ class multi_store : public number_store<multi_calls, Code> {
     }
     std::size_t real(std::size_t position) const noexcept {
         const std::size_t *const first = hidden_.data();
-        const auto is_before = [&](const std::size_t &it) { return it - static_cast<std::size_t>(&it - first) <= position; };
-        return position + static_cast<std::size_t>(std::partition_point(first, first + hidden_.size(), is_before) - first);
+        const auto is_before = [&](const std::size_t &it) {
+            return it - static_cast<std::size_t>(&it - first) <= position;
+        };
+        return position
+               + static_cast<std::size_t>(std::partition_point(first, first + hidden_.size(), is_before) - first);
     }
 
     template <class... Of>

@@ -146,7 +146,9 @@ class reading : public comparisons<Self, typename Store::order> {
     reverse_iterator crend() const noexcept { return rend(); }
 
     // Returns the element at a position, counted from 0, or the end where there is none. No search.
-    iterator find_by_order(size_type position) const noexcept { return at_position(position < size() ? position : size()); }
+    iterator find_by_order(size_type position) const noexcept {
+        return at_position(position < size() ? position : size());
+    }
 
     // Returns how many keys are below a key, each as often as it has values. One search, as each call below, unless it
     // says otherwise.
