@@ -18,8 +18,6 @@ from functools import partial
 from types import ModuleType
 from typing import Any, NamedTuple
 
-indexset = importlib.import_module("indexset")
-sortedcontainers = importlib.import_module("sortedcontainers")
 SLICE = 100
 TURNS, ENOUGH = 4, 2.0  # how often reads are repeated, those that end soon more often, and up to how many seconds
 
@@ -167,7 +165,9 @@ def of_text(lib: ModuleType, of: Keys) -> Iterator[Row]:
     yield Row("text: del d[k]", partial(delete, held, of.sought), count, False)
 
 
-def of_a_list(held: Any, name: str, added: Sequence[int], sought: Sequence[int], positions: Sequence[int]) -> Iterator[Row]:
+def of_a_list(
+    held: Any, name: str, added: Sequence[int], sought: Sequence[int], positions: Sequence[int]
+) -> Iterator[Row]:
     """The rows of a list, which is empty at first."""
     count = len(added)
     yield Row(f"{name}: add", partial(each, held.add, added), count, False)
@@ -194,12 +194,12 @@ def of_plain(lib: ModuleType, of: Keys) -> Iterator[Row]:
     yield Row("in, of a dict", partial(contains, dict.fromkeys(of.keys), of.drawn), len(of.keys))
 
 
-def compare(rows: Rows, count: int, times: int) -> None:
+def compare(rows: Rows, libraries: tuple[ModuleType, ModuleType], count: int, times: int) -> None:
     """Prints each row, with the least nanoseconds an operation of some runs."""
     found: dict[str, list[list[float]]] = {}
     for turn in range(times):
         of = Keys(count)
-        for both in zip(rows(indexset, of), rows(sortedcontainers, of)):
+        for both in zip(*(rows(lib, of) for lib in libraries)):
             spent = [it / both[0].operations * 1e9 for it in in_turn(both, turn % 2 == 1)]
             found.setdefault(both[0].name, []).append(spent)
         gc.collect()
@@ -214,11 +214,13 @@ def main() -> None:
     words.add_argument("counts", type=int, nargs="+")
     words.add_argument("--times", type=int, help="how many runs; more where there are few keys")
     given = words.parse_args()
+    ours, peer = map(importlib.import_module, ("indexset", "sortedcontainers"))
     gc.disable()
-    print(f"keys\trow\t{indexset.BACKEND}\tsortedcontainers")
+    print(f"keys\trow\t{ours.BACKEND}\tsortedcontainers")
     for count in given.counts:
         for rows in (of_set, of_dict, of_text, of_list, of_repeats, of_plain):
-            compare(rows, count, given.times or (21 if count < 10000 else 5 if count < 1000000 else 2))
+            times = given.times or (21 if count < 10000 else 5 if count < 1000000 else 2)
+            compare(rows, (ours, peer), count, times)
 
 
 if __name__ == "__main__":

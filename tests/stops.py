@@ -1,11 +1,13 @@
 #!/usr/bin/env python3
 """Tests that what tools/checked.py builds stops at each fault.
 
-It builds a crate of tests, and says of each whether it came out as its name says. The last line is 'N passed, M failed'.
+It builds a crate of tests, and says of each whether it came out as its name says. The last line is
+'N passed, M failed'.
 """
 
 from __future__ import annotations
 
+import argparse
 import pathlib
 import re
 import sys
@@ -75,12 +77,17 @@ def written(room: pathlib.Path) -> pathlib.Path:
 
 
 def main() -> int:
+    argparse.ArgumentParser(description="Tests that what tools/checked.py builds stops at each fault.").parse_args()
     with tempfile.TemporaryDirectory() as room:
         said = checked.tried(written(pathlib.Path(room)), ["--test"]).communicate()[0]
     found = {name: result == "ok" for name, result in re.findall(r"(?m)^test (\w+) \.\.\. (.*)$", said)}
     wanted = {**dict.fromkeys(PASSES, True), **dict.fromkeys(STOPS, False)}
     wrong = [name for name in wanted if found.get(name) != wanted[name]]
-    print(*(f"{name}: {'passed' if found.get(name) else 'did not pass'}" for name in wrong), said if wrong else "", sep="\n")
+    print(
+        *(f"{name}: {'passed' if found.get(name) else 'did not pass'}" for name in wrong),
+        said if wrong else "",
+        sep="\n",
+    )
     print(f"{len(wanted) - len(wrong)} passed, {len(wrong)} failed")
     return int(bool(wrong))
 

@@ -13,6 +13,7 @@ end of the shard, and where the file does not fit.
 
 from __future__ import annotations
 
+import argparse
 import json
 import os
 import pathlib
@@ -122,10 +123,15 @@ def serve(engine: Engine, kept: Kept, lease: Lease) -> None:
 
 
 def main() -> None:
-    engine, shard, folder = Engine(int(sys.argv[1])), sys.argv[2], pathlib.Path(sys.argv[3])
+    ask = argparse.ArgumentParser(description="The leader of a shard, or one that stands by.")
+    ask.add_argument("port", type=int, help="of the engine")
+    ask.add_argument("shard")
+    ask.add_argument("folder", type=pathlib.Path, help="of its file")
+    given = ask.parse_args()
+    engine, shard = Engine(given.port), given.shard
     while not is_founded(engine, shard):
         time.sleep(0.02)
-    kept, lease = Kept(engine, shard, folder), Lease(engine, shard)
+    kept, lease = Kept(engine, shard, given.folder), Lease(engine, shard)
     say(f"{shard} begins with {'its file' if kept.is_own else 'a snapshot'} behind {kept.at}")
     try:
         serve(engine, kept, lease)

@@ -12,6 +12,7 @@ An entry goes to each shard with each batch, so the number of an entry is a cut 
 
 from __future__ import annotations
 
+import argparse
 import bisect
 import json
 import pathlib
@@ -101,9 +102,13 @@ def batches() -> Iterator[tuple[int, list[bytes]]]:
 
 
 def main() -> None:
-    engine = Engine(int(sys.argv[1]))
+    ask = argparse.ArgumentParser(description="The router of a map over several shards.")
+    ask.add_argument("port", type=int, help="of the engine")
+    ask.add_argument("lows", type=int, nargs="*", help="the least keys of the first shards")
+    given = ask.parse_args()
+    engine = Engine(given.port)
     if engine.call("EXISTS", "tables") == 0:
-        engine.together(found([int(low) for low in sys.argv[2:]]))
+        engine.together(found(given.lows))
     router = Router(engine)
     for first, lines in batches():
         print(f"next {router.take(first, lines)}", flush=True)

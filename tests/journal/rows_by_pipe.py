@@ -9,6 +9,7 @@ as many bytes as the program answers. It holds the pairs in a dict, without an o
 
 from __future__ import annotations
 
+import argparse
 import os
 import sqlite3
 import sys
@@ -33,7 +34,9 @@ def keep(kept: sqlite3.Connection, rows: list[tuple[int, str]]) -> None:
 
 
 def main() -> int:
-    kept = opened(sys.argv[1], "WAL")
+    ask = argparse.ArgumentParser(description="Keeps commands of its input in a SQLite file in WAL mode.")
+    ask.add_argument("file", help="the file, which is not there yet")
+    kept = opened(ask.parse_args().file, "WAL")
     held: dict[int, int] = {}
     number, events, rest = 0, 0, b""
     while came := os.read(0, 1 << 16):

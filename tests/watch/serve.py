@@ -7,6 +7,7 @@ requests are refused; and what the watch started ends with it. The last line is 
 
 from __future__ import annotations
 
+import argparse
 import os
 import pathlib
 import signal
@@ -109,6 +110,7 @@ def ended(watch: Watched, how: signal.Signals, results: Results) -> None:
 
 
 def main() -> None:
+    argparse.ArgumentParser(description="Plays a person at examples/watch/run.py, with no browser.").parse_args()
     results = Results()
     with tempfile.TemporaryDirectory() as folder:
         path = pathlib.Path(folder, "events.txt")

@@ -1,0 +1,75 @@
+#!/usr/bin/env python3
+"""Tests that each script says what it is for by `--help`, and refuses an argument that it does not know.
+
+The scripts in bindings/python load the library, so they are not among these. The last line is 'N passed, M failed'.
+"""
+
+from __future__ import annotations
+
+import argparse
+import os
+import pathlib
+import signal
+import subprocess
+import sys
+from concurrent.futures import ThreadPoolExecutor
+
+TOP = pathlib.Path(__file__).resolve().parent.parent
+sys.dont_write_bytecode = True
+sys.path.insert(0, str(TOP / "tools"))
+import scripts  # noqa: E402
+
+SECONDS = 60
+UNKNOWN = "--no-such-argument"
+BEGINS = {"python": ["python3"], "shell": ["bash"]}
+
+
+def runnable() -> list[pathlib.Path]:
+    """The scripts that are run, and not only imported."""
+    python = [it for it in scripts.of("python") if '__name__ == "__main__"' in it.read_text(encoding="utf-8")]
+    apart = TOP / "bindings/python"
+    return [it for it in [*scripts.of("shell"), *python] if it.parent != apart]
+
+
+def ended(script: pathlib.Path, word: str) -> tuple[int | None, str]:
+    """The status of a script that is given a word, and what it wrote; None where it had to be stopped."""
+    words = [*BEGINS[scripts.language(script)], str(script), word]
+    ran = subprocess.Popen(
+        words,
+        cwd=TOP,
+        stdin=subprocess.DEVNULL,
+        stdout=subprocess.PIPE,
+        stderr=subprocess.STDOUT,
+        text=True,
+        start_new_session=True,
+    )
+    try:
+        return ran.wait(SECONDS), ran.communicate()[0]
+    except subprocess.TimeoutExpired:
+        os.killpg(ran.pid, signal.SIGKILL)
+        return None, ran.communicate()[0]
+
+
+def wrong(script: pathlib.Path) -> str:
+    """What is wrong with the arguments of a script."""
+    status, said = ended(script, "--help")
+    if status != 0 or not said:
+        return f"{script.relative_to(TOP)} --help ends with {status}: {said[-300:]}\n"
+    status, said = ended(script, UNKNOWN)
+    if not status or "Traceback" in said:
+        return f"{script.relative_to(TOP)} {UNKNOWN} ends with {status}: {said[-300:]}\n"
+    return ""
+
+
+def main() -> int:
+    argparse.ArgumentParser(description="Tests the arguments of each script.").parse_args()
+    found = runnable()
+    with ThreadPoolExecutor(len(os.sched_getaffinity(0))) as pool:
+        complaints = [it for it in pool.map(wrong, found) if it]
+    print("".join(complaints), end="")
+    print(f"{len(found) - len(complaints)} passed, {len(complaints)} failed")
+    return int(bool(complaints))
+
+
+if __name__ == "__main__":
+    sys.exit(main())
