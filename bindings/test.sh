@@ -1,8 +1,15 @@
 #!/usr/bin/env bash
-# Builds both bindings, each in its folder out/, and runs their tests side by side; what is missing here is
-# named in a line. The last line counts them.
+# Builds both bindings, each in its folder out/, and runs their tests side by side; a tool that is not installed fails
+# (tools/needs.py installs them). The last line counts them.
+#
+#     bindings/test.sh
 set -u
-cd "$(dirname "$0")"
+case "${1-}" in
+    "") ;;
+    --help) sed -n '2,/^set/s/^# \{0,1\}//p' "$0" && exit ;;
+    *) echo "$0 takes no argument but --help" >&2 && exit 2 ;;
+esac
+cd "$(dirname "$0")" || exit
 make -s -C c all out/examples.cpp || exit 1
 rm -rf python/out
 mkdir -p python/out/logs
@@ -19,11 +26,6 @@ try() {
     names+=("$*")
 }
 
-# Whether a command is here; a line says so where it is not.
-has() {
-    command -v "$1" > /dev/null || { echo "$1 is not installed: $2 is left out"; false; }
-}
-
 # The extension under sanitizers, in a folder of its own.
 sanitized() {
     local preload
@@ -38,32 +40,23 @@ sanitized() {
 
 try make -s -j "$(nproc)" -C c check
 for compiler in g++ clang++; do
-    has "$compiler" "the header for C++ by it" && try make -s -j "$(nproc)" -C c "check-$compiler"
+    try make -s -j "$(nproc)" -C c "check-$compiler"
 done
 try c/test_install.sh
 try python3 python/test_package.py
 try env PYTHONPATH=python/out python3 -m doctest README.md
-backends=(ctypes)
-python3 python/build_fast.py python/out && backends+=(extension)
-for backend in "${backends[@]}"; do
+python3 python/build_fast.py python/out || exit 1
+for backend in ctypes extension; do
     for test in test_defects test_equals test_indexset test_kinds test_list test_logged test_numbers test_text; do
         try env "INDEXSET_BACKEND=$backend" python3 "python/out/$test.py"
     done
     try env "INDEXSET_BACKEND=$backend" python3 python/out/peer_tests.py
 done
-if [ "${#backends[@]}" = 2 ] && has gcc "the extension under sanitizers"; then
-    try sanitized
-fi
-if has mypy "what the types say"; then
-    try mypy --strict --no-incremental --cache-dir=/dev/null python/indexset python/sample.py write.py
-fi
-# Another Python with numpy, where the first has none.
+try sanitized
+try mypy --strict --no-incremental --cache-dir=/dev/null python/indexset python/sample.py write.py
+# By Debian's Python, which has numpy.
 if ! python3 -c 'import numpy' 2> /dev/null; then
-    if /usr/bin/python3 -c 'import numpy' 2> /dev/null; then
-        try env INDEXSET_BACKEND=ctypes /usr/bin/python3 -W error python/out/test_equals.py
-    else
-        echo "numpy is not installed: its arrays are left out"
-    fi
+    try env INDEXSET_BACKEND=ctypes /usr/bin/python3 -W error python/out/test_equals.py
 fi
 
 failed=0

@@ -1,8 +1,15 @@
 #!/usr/bin/env bash
-# Installs the library in a folder, builds programs in C and C++ outside the repository on it, by pkg-config and by CMake,
-# and looks at the names that the libraries export. The last line counts.
+# Installs the library in a folder, builds programs in C and C++ outside the repository on it, by pkg-config and by
+# CMake, and looks at the names that the libraries export. A tool that is not installed fails. The last line counts.
+#
+#     bindings/c/test_install.sh
 set -u
-cd "$(dirname "$0")"
+case "${1-}" in
+    "") ;;
+    --help) sed -n '2,/^set/s/^# \{0,1\}//p' "$0" && exit ;;
+    *) echo "$0 takes no argument but --help" >&2 && exit 2 ;;
+esac
+cd "$(dirname "$0")" || exit
 room=$(mktemp -d)
 trap 'rm -rf "$room"' EXIT
 passed=0
@@ -19,16 +26,13 @@ try() {
     fi
 }
 
-has() {
-    command -v "$1" > /dev/null || { echo "$1 is not installed: its part is left out"; false; }
-}
-
 by_pkg_config() {
     export PKG_CONFIG_PATH="$room/to/lib/pkgconfig"
-    local words
-    words=$(pkg-config --cflags --libs indexset) &&
-        test "$(pkg-config --modversion indexset)" = "$(sed -n 's/^version = "\(.*\)"/\1/p' ../python/pyproject.toml)" &&
-        cc -Wall -Wextra -Werror "$room/least.c" $words -o "$room/shared" &&
+    local words version
+    version=$(sed -n 's/^version = "\(.*\)"/\1/p' ../python/pyproject.toml)
+    read -ra words < <(pkg-config --cflags --libs indexset) &&
+        test "$(pkg-config --modversion indexset)" = "$version" &&
+        cc -Wall -Wextra -Werror "$room/least.c" "${words[@]}" -o "$room/shared" &&
         readelf -d "$room/shared" | grep -q 'NEEDED.*libindexset\.so\.[0-9]*\.[0-9]*\]' &&
         test "$(LD_LIBRARY_PATH="$room/to/lib" "$room/shared")" = 7
 }
@@ -36,8 +40,8 @@ by_pkg_config() {
 by_pkg_config_in_cpp() {
     export PKG_CONFIG_PATH="$room/to/lib/pkgconfig"
     local words
-    words=$(pkg-config --cflags --libs indexset) &&
-        "$1" -std=c++17 -Wall -Wextra -Wpedantic -Werror "$room/middle.cpp" $words -o "$room/$1" &&
+    read -ra words < <(pkg-config --cflags --libs indexset) &&
+        "$1" -std=c++17 -Wall -Wextra -Wpedantic -Werror "$room/middle.cpp" "${words[@]}" -o "$room/$1" &&
         test "$(LD_LIBRARY_PATH="$room/to/lib" "$room/$1")" = "7 20 30"
 }
 
@@ -114,16 +118,11 @@ C
 
 try make -s install PREFIX="$room/to"
 try exports
-if has pkg-config; then
-    try by_pkg_config
-    for compiler in g++ clang++; do
-        has "$compiler" && try by_pkg_config_in_cpp "$compiler"
-    done
-fi
-if has cmake; then
-    try by_cmake
-    has c++ && try by_cmake_in_cpp
-    try refuses_another_version
-fi
+try by_pkg_config
+try by_pkg_config_in_cpp g++
+try by_pkg_config_in_cpp clang++
+try by_cmake
+try by_cmake_in_cpp
+try refuses_another_version
 echo "$passed passed, $failed failed"
 test "$failed" = 0

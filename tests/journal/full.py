@@ -49,13 +49,17 @@ class Disk:
         """Sends groups of commands, each after the answers to the one before, until the program ends: what it told."""
         told, number = list[str](), 0
         words = self.words
-        with subprocess.Popen(words, stdin=subprocess.PIPE, stdout=subprocess.PIPE, stderr=subprocess.PIPE, text=True) as run:
+        with subprocess.Popen(
+            words, stdin=subprocess.PIPE, stdout=subprocess.PIPE, stderr=subprocess.PIPE, text=True
+        ) as run:
             assert run.stdin and run.stdout and run.stderr
             with contextlib.suppress(BrokenPipeError):
                 while number < MOST:
                     lines = [f"#{it} put {it * 7919 % 1000} {it}" for it in range(number + 1, number + group + 1)]
                     number += group
-                    run.stdin.write("".join(f"{it}\n" for it in [*lines, "compact"] if it != "compact" or number % 11 == 0))
+                    run.stdin.write(
+                        "".join(f"{it}\n" for it in [*lines, "compact"] if it != "compact" or number % 11 == 0)
+                    )
                     run.stdin.flush()
                     answers = group + (number % 11 == 0)
                     while answers and (line := run.stdout.readline()):
@@ -75,7 +79,9 @@ class Disk:
 @contextlib.contextmanager
 def small(kilobytes: int) -> Iterator[Disk]:
     with tempfile.TemporaryDirectory() as folder, tempfile.TemporaryDirectory() as room:
-        subprocess.run(["mount", "-t", "tmpfs", "-o", f"size={kilobytes}k", "tmpfs", folder], check=True, capture_output=True)
+        subprocess.run(
+            ["mount", "-t", "tmpfs", "-o", f"size={kilobytes}k", "tmpfs", folder], check=True, capture_output=True
+        )
         try:
             yield Disk(pathlib.Path(folder), pathlib.Path(room))
         finally:
@@ -88,7 +94,11 @@ def holds(found: Found, told: list[str]) -> bool:
     kept = [line for line in filter(is_event, told) if number_of(line) >= found.last_start()]
     marks = [int(line.split(" ")[1]) for line in told if line.startswith("done ")]
     nexts = [int(line.split(" ")[1]) for line in told if line.startswith("next ")]
-    return all(events.get(number_of(it)) == it for it in kept) and found.model.done >= max(marks, default=0) and found.model.next >= max(nexts, default=0)
+    return (
+        all(events.get(number_of(it)) == it for it in kept)
+        and found.model.done >= max(marks, default=0)
+        and found.model.next >= max(nexts, default=0)
+    )
 
 
 def fills(kilobytes: int, group: int) -> None:
@@ -108,7 +118,10 @@ def fills(kilobytes: int, group: int) -> None:
         assert after.returncode == 0, f"{after}"
         assert after.stdout.splitlines()[: len(shown)] == shown, "once there is room it shows another map"
         assert disk.found().model.next == found.model.next + len(list(filter(is_event, after.stdout.splitlines())))
-        print(f"{kilobytes:>4} KB, {group:>3} at a time: {sum(map(is_event, told)):>6,} events told, {found.model.next:>6,} kept")
+        print(
+            f"{kilobytes:>4} KB, {group:>3} at a time: {sum(map(is_event, told)):>6,} events told,"
+            f" {found.model.next:>6,} kept"
+        )
 
 
 def can_mount() -> bool:
@@ -124,9 +137,9 @@ def main() -> int:
     ask.add_argument("--few", action="store_true", help="fill two disks alone")
     given = ask.parse_args()
     if not can_mount():
-        print("a disk cannot be mounted here: left out")
-        print("0 passed, 0 failed")
-        return 0
+        print("a disk cannot be mounted here, which takes the rights of root: nothing was tried")
+        print("0 passed, 1 failed")
+        return 1
     cases = FEW if given.few else list(itertools.product(KILOBYTES, GROUPS))
     failed = 0
     for size, group in cases:

@@ -1,0 +1,80 @@
+#!/usr/bin/env python3
+"""Holds the scripts and the sources in C and C++ to the rules that stand beside them.
+
+flake8 has its rules in setup.cfg, shellcheck in .shellcheckrc, clang-format and clang-tidy in files of their names. No
+line is longer than 120 characters. A tool that is not installed fails: tools/needs.py installs it. The last line is
+'N passed, M failed'.
+"""
+
+from __future__ import annotations
+
+import argparse
+import os
+import pathlib
+import subprocess
+import sys
+import sysconfig
+from collections.abc import Iterator
+from concurrent.futures import ThreadPoolExecutor
+
+TOP = pathlib.Path(__file__).resolve().parent.parent
+sys.dont_write_bytecode = True
+sys.path.insert(0, str(TOP / "tools"))
+import scripts  # noqa: E402
+
+WIDEST = 120
+FOLDERS = [TOP / "bindings/c", TOP / "bench", pathlib.Path(sysconfig.get_path("include"))]
+# The analyzer takes a minute for a test of templates, which runs under the sanitizers; of C it takes seconds.
+TIDY = {".c": ("-std=c11", ()), ".cpp": ("-std=c++20", ("--checks=-clang-analyzer-*",))}
+
+Command = list[str | pathlib.Path]
+
+
+def tidied(file: pathlib.Path) -> Command:
+    """The command that holds a file, and the headers that it includes, to the rules of clang-tidy."""
+    standard, words = TIDY[file.suffix]
+    return ["clang-tidy", "--quiet", *words, file, "--", standard, *(f"-I{it}" for it in FOLDERS)]
+
+
+def commands() -> Iterator[Command]:
+    """The commands, those that take long first."""
+    sources = [it for it in scripts.of("c", "c++") if it.suffix in TIDY]
+    yield from map(tidied, sorted(sources, key=lambda it: it.suffix, reverse=True))
+    yield ["flake8", *scripts.of("python")]
+    yield ["shellcheck", *scripts.of("shell")]
+    yield ["clang-format", "--dry-run", "-Werror", *scripts.of("c", "c++")]
+
+
+def ran(command: Command) -> str:
+    """What a command complains of, or that it is not installed."""
+    try:
+        done = subprocess.run(command, cwd=TOP, stdout=subprocess.PIPE, stderr=subprocess.STDOUT, text=True)
+    except FileNotFoundError:
+        return f"{command[0]} is not installed: tools/needs.py installs it\n"
+    return done.stdout if done.returncode else ""
+
+
+def wide_lines() -> str:
+    """The lines that are too long."""
+    found = ""
+    for file in scripts.of("python", "shell", "javascript", "c", "c++"):
+        lines = file.read_text(encoding="utf-8").splitlines()
+        wide = [number for number, line in enumerate(lines, 1) if len(line) > WIDEST]
+        found += "".join(f"{file.relative_to(TOP)}:{it}: longer than {WIDEST} characters\n" for it in wide)
+    return found
+
+
+def main() -> int:
+    ask = argparse.ArgumentParser(description="Holds the scripts and the sources in C and C++ to their rules.")
+    ask.add_argument("--jobs", type=int, default=len(os.sched_getaffinity(0)), help="how many at a time")
+    given = ask.parse_args()
+    with ThreadPoolExecutor(given.jobs) as pool:
+        complaints = [wide_lines(), *pool.map(ran, commands())]
+    print("".join(complaints), end="")
+    failed = sum(map(bool, complaints))
+    print(f"{len(complaints) - failed} passed, {failed} failed")
+    return int(failed > 0)
+
+
+if __name__ == "__main__":
+    sys.exit(main())
