@@ -3,8 +3,8 @@
 
     tests/gate/minutes.py out/minutes rt ci
 
-It ends as the command does. Each process of the prover is read once a second until it ends, so that a
-figure lacks up to a second for each; the total is exact.
+It ends as the command does. Each process of the prover below this one is read once a second until it ends, so that a
+figure lacks up to a second for each; the total is exact. `From` and `to` are minutes by the clock.
 """
 
 from __future__ import annotations
@@ -19,6 +19,7 @@ import resource
 import subprocess
 import sys
 import threading
+import time
 
 TOP = pathlib.Path(__file__).resolve().parent.parent.parent
 sys.dont_write_bytecode = True
@@ -26,14 +27,17 @@ sys.path.insert(0, str(TOP / "tools"))
 import kit  # noqa: E402
 
 KINDS = ["proof", "tests", "edits"]
+BEGAN = time.monotonic()
 
 
 @dataclasses.dataclass
 class Seen:
-    """What a process of the prover works on, and the processor seconds that it has taken."""
+    """What a process of the prover works on, the processor seconds that it has taken, and when it was seen."""
 
     work: kit.Work
     seconds: float = 0
+    first: float = dataclasses.field(default_factory=time.monotonic)
+    last: float = 0
 
 
 Processes = dict[tuple[int, int], Seen]  # by number and by when it began
@@ -45,10 +49,10 @@ def look(seen: Processes) -> None:
         with contextlib.suppress(OSError):
             it = kit.process(pid)
             key = pid, it.began
-            if key not in seen and (work := kit.work_of(pid)):
+            if key not in seen and (work := kit.work_of(pid)) and kit.descends(pid, os.getpid()):
                 seen[key] = Seen(work)
             if key in seen:
-                seen[key].seconds = it.seconds
+                seen[key].seconds, seen[key].last = it.seconds, time.monotonic()
 
 
 def shown(seconds: float) -> str:
@@ -56,14 +60,17 @@ def shown(seconds: float) -> str:
 
 
 def table(seen: Processes, total: float) -> str:
-    """The minutes of each crate by kind, those of all crates, and the total."""
+    """The minutes of each crate by kind and by the clock, those of all crates, and the total."""
     sums: dict[kit.Work, float] = collections.defaultdict(float)
     for it in seen.values():
         sums[it.work] += it.seconds
-    rows = [["Crate", *KINDS]]
+    rows = [["Crate", *KINDS, "from", "to"]]
     for crate in dict.fromkeys(work.crate for work in sums):
-        rows.append([f"`{crate}`", *(shown(sums.get(kit.Work(crate, kind), 0)) for kind in KINDS)])
-    rows.append(["all", *(shown(sum(sums[work] for work in sums if work.kind == kind)) for kind in KINDS)])
+        own = [it for it in seen.values() if it.work.crate == crate]
+        clock = min(it.first for it in own) - BEGAN, max(it.last for it in own) - BEGAN
+        minutes = [sums.get(kit.Work(crate, kind), 0) for kind in KINDS]
+        rows.append([f"`{crate}`", *map(shown, minutes), *map(shown, clock)])
+    rows.append(["all", *(shown(sum(sums[work] for work in sums if work.kind == kind)) for kind in KINDS), "", ""])
     return "\n".join(f"| {' | '.join(row)} |" for row in rows) + f"\nprocessor minutes in all: {total / 60:.1f}\n"
 
 
