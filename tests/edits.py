@@ -349,10 +349,10 @@ def main() -> int:
     top = given.top.resolve()
     given.top, given.built = top, (given.built or top).resolve()
     kit.guard()
-    (top / "out").mkdir(exist_ok=True)
+    (TOP / "out").mkdir(exist_ok=True)
     with (
         tempfile.TemporaryDirectory(prefix="edits-") as kept,
-        open(top / "out/edits.log", "w", encoding="utf-8") as log,
+        open(TOP / "out/edits.log", "w", encoding="utf-8") as log,
         ThreadPoolExecutor(given.jobs) as pool,
     ):
         trials = trials_of(given, pathlib.Path(kept), log)

@@ -40,7 +40,9 @@ def with_those_below(names: list[str], lines: dict[str, str]) -> list[str]:
     return [name for name in lines if name in wanted]
 
 
-def lay(to: pathlib.Path, names: list[str] | None = None, top: pathlib.Path = TOP) -> list[str]:
+def lay(
+    to: pathlib.Path, names: list[str] | None = None, top: pathlib.Path = TOP, has_edits: bool = False
+) -> list[str]:
     """Lays crates into a folder, in place of what lay there of them; returns all that it laid."""
     text = (top / "crates.txt").read_text(encoding="utf-8")
     lines = listed(text)
@@ -53,7 +55,7 @@ def lay(to: pathlib.Path, names: list[str] | None = None, top: pathlib.Path = TO
         for old in crate.iterdir() if crate.is_dir() else ():
             if old.name != "out":
                 shutil.rmtree(old) if old.is_dir() else old.unlink()
-        apart = shutil.ignore_patterns("out", "must-fail")
+        apart = shutil.ignore_patterns("out", *["must-fail"] * (not has_edits))
         shutil.copytree(top / "crates" / name, crate, ignore=apart, dirs_exist_ok=True)
     return laid
 
