@@ -11,6 +11,7 @@ from __future__ import annotations
 import argparse
 import os
 import pathlib
+import re
 import subprocess
 import sys
 import sysconfig
@@ -23,6 +24,7 @@ sys.path.insert(0, str(TOP / "tools"))
 import scripts  # noqa: E402
 
 WIDEST = 120
+COMPLAINT = re.compile(r"\S+:\d+:\d+: ")
 FOLDERS = [TOP / "bindings/c", TOP / "bench", pathlib.Path(sysconfig.get_path("include"))]
 # The analyzer takes a minute for a test of templates, which runs under the sanitizers; of C it takes seconds.
 TIDY = {".c": ("-std=c11", ()), ".cpp": ("-std=c++20", ("--checks=-clang-analyzer-*",))}
@@ -41,17 +43,20 @@ def commands() -> Iterator[Command]:
     sources = [it for it in scripts.of("c", "c++") if it.suffix in TIDY]
     yield from map(tidied, sorted(sources, key=lambda it: it.suffix, reverse=True))
     yield ["flake8", *scripts.of("python")]
-    yield ["shellcheck", *scripts.of("shell")]
+    yield ["shellcheck", "--format=gcc", *scripts.of("shell")]
     yield ["clang-format", "--dry-run", "-Werror", *scripts.of("c", "c++")]
 
 
 def ran(command: Command) -> str:
-    """What a command complains of, or that it is not installed."""
+    """What a command complains of, without the lines of the sources, or that it is not installed."""
     try:
         done = subprocess.run(command, cwd=TOP, stdout=subprocess.PIPE, stderr=subprocess.STDOUT, text=True)
     except FileNotFoundError:
         return f"{command[0]} is not installed: tools/needs.py installs it\n"
-    return done.stdout if done.returncode else ""
+    if done.returncode == 0:
+        return ""
+    said = [line for line in done.stdout.splitlines(keepends=True) if COMPLAINT.match(line)]
+    return "".join(said) or done.stdout
 
 
 def wide_lines() -> str:

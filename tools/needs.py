@@ -19,7 +19,6 @@ import sysconfig
 
 # What each command is for is said by the script that runs it; each comes with its package.
 COMMANDS = {
-    "apt-get": "apt",
     "c++": "g++",
     "cc": "gcc",
     "clang++": "clang",
