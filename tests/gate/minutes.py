@@ -25,6 +25,7 @@ TOP = pathlib.Path(__file__).resolve().parent.parent.parent
 sys.dont_write_bytecode = True
 sys.path.insert(0, str(TOP / "tools"))
 import kit  # noqa: E402
+import processes  # noqa: E402
 
 KINDS = ["proof", "tests", "edits"]
 BEGAN = time.monotonic()
@@ -47,9 +48,9 @@ def look(seen: Processes) -> None:
     """Notes what each process of the prover has taken so far, with its copies that have ended."""
     for pid in map(int, filter(str.isdigit, os.listdir("/proc"))):
         with contextlib.suppress(OSError):
-            it = kit.process(pid)
+            it = processes.process(pid)
             key = pid, it.began
-            if key not in seen and (work := kit.work_of(pid)) and kit.descends(pid, os.getpid()):
+            if key not in seen and (work := kit.work_of(pid)) and processes.descends(pid, os.getpid()):
                 seen[key] = Seen(work)
             if key in seen:
                 seen[key].seconds, seen[key].last = it.seconds, time.monotonic()

@@ -66,7 +66,7 @@ class Prover:
     def __init__(self) -> None:
         self.asked: list[list[str]] = []
 
-    def check(self, built: object, at: pathlib.Path, kept: pathlib.Path, flags: list[str]) -> kit.Checked:
+    def check(self, built: object, at: pathlib.Path, kept: pathlib.Path, flags: list[str], jobs: int) -> kit.Checked:
         words = flags[1::2]
         self.asked.append(words)
         text = (at / "src/heap.rt").read_text(encoding="utf-8")
