@@ -40,9 +40,7 @@ def with_those_below(names: list[str], lines: dict[str, str]) -> list[str]:
     return [name for name in lines if name in wanted]
 
 
-def lay(
-    to: pathlib.Path, names: list[str] | None = None, top: pathlib.Path = TOP, has_edits: bool = False
-) -> list[str]:
+def lay(to: pathlib.Path, names: list[str] | None = None, top: pathlib.Path = TOP) -> list[str]:
     """Lays crates into a folder, in place of what lay there of them; returns all that it laid."""
     text = (top / "crates.txt").read_text(encoding="utf-8")
     lines = listed(text)
@@ -55,7 +53,7 @@ def lay(
         for old in crate.iterdir() if crate.is_dir() else ():
             if old.name != "out":
                 shutil.rmtree(old) if old.is_dir() else old.unlink()
-        apart = shutil.ignore_patterns("out", *["must-fail"] * (not has_edits))
+        apart = shutil.ignore_patterns("out", "must-fail")
         shutil.copytree(top / "crates" / name, crate, ignore=apart, dirs_exist_ok=True)
     return laid
 

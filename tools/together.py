@@ -84,12 +84,14 @@ def join_proofs(crate: pathlib.Path, name: str) -> None:
         to.write_text(text.replace(f"Rattle.{name}.proofs.", f"Rattle.{crate.name}.proofs.{name}."), encoding="utf-8")
 
 
-def join_edits(crate: pathlib.Path, name: str) -> None:
-    """Writes the wrong bodies of a program as those of a module of a crate."""
-    (crate / "must-fail").mkdir(exist_ok=True)
+def lay_edits(to: pathlib.Path, name: str, is_module: bool) -> None:
+    """Lays the wrong bodies of a crate beside its sources, or those of a program as ones of a module."""
+    folder = to / "crates" / (NAME if is_module else name) / "must-fail"
+    folder.mkdir(exist_ok=True)
     for file in (lay.TOP / "crates" / name / "must-fail").glob("*.edit"):
-        text = file.read_text(encoding="utf-8").replace(f"file: {FILE}\n", f"file: src/{name}.rt\n")
-        (crate / "must-fail" / f"{name}.{file.name}").write_text(text, encoding="utf-8")
+        text = file.read_text(encoding="utf-8")
+        text = text.replace(f"file: {FILE}\n", f"file: src/{name}.rt\n") if is_module else text
+        (folder / (f"{name}.{file.name}" if is_module else file.name)).write_text(text, encoding="utf-8")
 
 
 def laid(to: pathlib.Path, name: str, names: list[str]) -> pathlib.Path:
@@ -103,14 +105,14 @@ def laid(to: pathlib.Path, name: str, names: list[str]) -> pathlib.Path:
 
 def lay_all(to: pathlib.Path, has_edits: bool) -> list[str]:
     """Lays the crates that the gate proves into a folder, the programs of one file as one; returns these."""
-    names = lay.lay(to, has_edits=has_edits)
+    names = lay.lay(to)
     small = [it for it in names if is_of_one_file(lay.TOP / "crates" / it)]
     line = join(to, NAME, small)
     crate = to / "crates" / NAME
     for it in small:
-        if has_edits:
-            join_edits(crate, it)
         shutil.rmtree(to / "crates" / it)
+    for it in names if has_edits else ():
+        lay_edits(to, it, it in small)
     # `rt ci` runs the first of them, on its input if it has one; tests/both.py runs each.
     (crate / "args").write_text(f"{small[0]}\n", encoding="utf-8")
     for file in (lay.TOP / "crates" / small[0]).glob("std*"):
