@@ -113,7 +113,7 @@ def lay_all(to: pathlib.Path, has_edits: bool) -> list[str]:
         shutil.rmtree(to / "crates" / it)
     for it in names if has_edits else ():
         lay_edits(to, it, it in small)
-    # `rt ci` runs the first of them, on its input if it has one; tests/both.py runs each.
+    # `rt ci` runs the first of them, on its input if it has one; tests/stored.py runs each.
     (crate / "args").write_text(f"{small[0]}\n", encoding="utf-8")
     for file in (lay.TOP / "crates" / small[0]).glob("std*"):
         shutil.copy(file, crate)
