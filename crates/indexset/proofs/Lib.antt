@@ -1,4 +1,4 @@
-mod Entries
-mod ListSums
-mod PairSums
+pub mod Entries
+pub mod ListSums
+pub mod PairSums
 pub mod CallerLemmas
