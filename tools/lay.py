@@ -40,6 +40,16 @@ def with_those_below(names: list[str], lines: dict[str, str]) -> list[str]:
     return [name for name in lines if name in wanted]
 
 
+def copy(name: str, to: pathlib.Path, top: pathlib.Path = TOP) -> None:
+    """Copies a crate into a folder, in place of what lay there of it."""
+    crate = to / "crates" / name
+    for old in crate.iterdir() if crate.is_dir() else ():
+        if old.name != "out":
+            shutil.rmtree(old) if old.is_dir() else old.unlink()
+    apart = shutil.ignore_patterns("out", "must-fail")
+    shutil.copytree(top / "crates" / name, crate, ignore=apart, dirs_exist_ok=True)
+
+
 def lay(to: pathlib.Path, names: list[str] | None = None, top: pathlib.Path = TOP) -> list[str]:
     """Lays crates into a folder, in place of what lay there of them; returns all that it laid."""
     text = (top / "crates.txt").read_text(encoding="utf-8")
@@ -49,12 +59,7 @@ def lay(to: pathlib.Path, names: list[str] | None = None, top: pathlib.Path = TO
     shutil.copy(top / "HANDLES", to)
     (to / "crates.txt").write_text("".join(f"{lines[name]}\n" for name in laid), encoding="utf-8")
     for name in laid:
-        crate = to / "crates" / name
-        for old in crate.iterdir() if crate.is_dir() else ():
-            if old.name != "out":
-                shutil.rmtree(old) if old.is_dir() else old.unlink()
-        apart = shutil.ignore_patterns("out", "must-fail")
-        shutil.copytree(top / "crates" / name, crate, ignore=apart, dirs_exist_ok=True)
+        copy(name, to, top)
     return laid
 
 
