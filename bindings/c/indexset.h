@@ -91,6 +91,9 @@ typedef struct indexset_cursor {
 /* Returns the version of the library: major * 65536 + minor * 256 + patch. */
 uint32_t indexset_version(void);
 
+/* 1 where the contracts of the library were proved before it was compiled, and 0 where it was built without proofs. */
+extern const int indexset_proved;
+
 /* Makes an empty set. INDEXSET_YES, or INDEXSET_MEMORY, or INDEXSET_HELD where the handle leads to a
  * set; unless it is INDEXSET_YES, nothing changes. */
 uint32_t indexset_set_new(indexset_set *set);

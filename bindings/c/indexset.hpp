@@ -56,6 +56,9 @@ namespace indexset {
 // Returns the version of the library: major * 65536 + minor * 256 + patch.
 inline std::uint32_t version() noexcept { return indexset_version(); }
 
+// Returns whether the contracts of the library were proved before it was compiled.
+inline bool is_proved() noexcept { return indexset_proved != 0; }
+
 // Removes the elements for which `condition` holds. Returns how many it removed. It asks of all of them before it
 // removes any.
 template <class Collection, class Condition>

@@ -267,6 +267,7 @@ static void test_keys() {
     CHECK(copied.get(1) == 2.5F && listed.begin()->second == 'a');
     CHECK(*deduced.begin() == 1 && std::accumulate(deduced.begin(), deduced.end(), 0) == 6);
     CHECK(indexset::version() == indexset_version());
+    CHECK(indexset::is_proved() == (indexset_proved == 1));
     indexset_set plain = INDEXSET_HANDLE; // which compilers take in C++ without a word too
     CHECK(indexset_set_len(&plain) == 0);
 }
