@@ -2,6 +2,7 @@
 import copy
 import doctest
 import math
+import os
 import pathlib
 import pickle
 import random
@@ -235,6 +236,10 @@ class Calls(unittest.TestCase):
         number = ".".join(map(str, indexset.version()))
         self.assertIn(f'version = "{number}"\n', (top / "bindings/python/pyproject.toml").read_text())
         self.assertIn(f"\n## {number}", (top / "CHANGELOG.md").read_text())
+
+    def test_proved(self):
+        """A library that was built without proofs says so."""
+        self.assertEqual(indexset.PROVED, "unproved" not in os.environ.get("INDEXSET_LIBRARY", "").split("/"))
 
     def test_examples(self):
         for module in (indexset, _set, _dict):

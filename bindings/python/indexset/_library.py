@@ -59,6 +59,9 @@ def _declare(loaded: Any) -> None:
 lib: Any = _load()
 _declare(lib)
 
+# Whether the contracts of the library were proved before it was compiled.
+PROVED = ctypes.c_int.in_dll(lib, "indexset_proved").value != 0
+
 _slots: dict[int, _Slot] = {}
 
 
