@@ -2,7 +2,9 @@
 
 ghost use Rattle.std.specs.Prelude.{◌≡◌, ◌≢◌, ◌↔◌, ◌-◌, ℕ, List, None, Some, map, true, is_some};
 ghost use Rattle.indexset_core.specs.Nodes.{IsNodeList};
+ghost use Rattle.indexset_core.specs.Pulls.{IsWalk};
 ghost use Rattle.std.specs.List.{AllZip, fold};
+ghost use Rattle.std.specs.Map.Iter.{deref};
 ghost use Rattle.std.specs.declared.cmp.Ordering.TheVariants.{Equal};
 ghost use Rattle.indexset_replica.specs.Copies.{AreClonesEqual, AreCopies, LeadsToCopies};
 ghost use Rattle.indexset_replica.specs.Delivery.{awaited, numbers_from, IsReached, IsSubsequence};
@@ -13,6 +15,8 @@ ghost use Rattle.indexset_events.specs.declared.change.ChangeEvent.{ChangeEvent}
 
 pub mod clones;
 pub mod positions;
+
+use crate::iter::Iter;
 
 /// Memory aside, an event is refused exactly where its number is not the next, or is `u64::MAX`, or
 /// where it is no step from these nodes.
@@ -77,4 +81,11 @@ pub fn copies_keep<T: Ord + Clone, U>()
 /// The list of all places has each of them in turn, from any one on.
 pub fn all_places_in_turn()
     ensures { (j n : ℕ) → IsSubsequence (numbers_from j (n - j)) (numbers_from 0 n) }
+{}
+
+/// An iterator over a replica, or over a range of one, yields each item once, whatever calls of
+/// `next` and `next_back`, and then `None`.
+pub fn iterators_yield_each_item_once<'a, T: 'a>()
+    ensures { IsWalk deref ⟦<Iter<'a, T> as Iterator>⟧.next_gives
+        ⟦<Iter<'a, T> as DoubleEndedIterator>⟧.next_back_gives }
 {}
