@@ -11,19 +11,22 @@ use indexset::base::search::{first_greater, first_not_less};
 use indexset::concurrent::{map, multimap, set};
 use indexset::replica::Replica;
 use indexset::{BTreeMap, BTreeSet};
+use indexset_bench::command_run::Run;
 use indexset_bench::logged::Logged;
 use indexset_bench::logged::map::LoggedMapCommand;
 use indexset_bench::logged::multimap::LoggedMultiCommand;
 use indexset_bench::logged::set::LoggedSetCommand;
 use indexset_bench::logged_run::{LogRun, run_logged};
 use indexset_bench::map_run::{MapCommand, run_map};
-use indexset_bench::set_run::{SetCommand, run_set};
+use indexset_bench::set_run::{SetCommand, SetReply, run_set};
 use indexset_bench::{RunFault, run};
+use indexset_core::steps::Steps;
 use indexset_core::walk::ReadVec;
 use indexset_index::fenwick::Fenwick;
 use indexset_index::fenwick::cells::{Cells, IndexCells};
 use indexset_index::fenwick::sums::{find_in, prefix_in};
 use indexset_spine::spine::Spine;
+use indexset_spine::spot::Spot;
 use std::collections::VecDeque;
 
 type ByNumber<'a> = ByItem<'a, u64>;
@@ -50,6 +53,8 @@ fn refusals_and_probes() {
     let _number = Refusal::number;
     let _parts = parts;
     let _bounds_are_ordered = bounds_are_ordered::<u64>;
+    let _steps = Steps::new;
+    let _tick = Steps::tick;
     let _by_item = ByItem::<u64>::new;
     let _by_key = ByKey::<u64>::new;
     let _counting = Counting::<ByNumber<'_>>::new;
@@ -73,6 +78,10 @@ fn nodes() {
     let _numbered = Pair::<u64, char>::numbered;
 }
 
+fn place(spot: &Spot) -> (usize, usize, bool) {
+    (spot.node, spot.offset, spot.found)
+}
+
 #[test]
 fn an_index_and_a_spine() {
     let _from_lengths = Fenwick::from_lengths;
@@ -87,6 +96,7 @@ fn an_index_and_a_spine() {
     let _find_in = find_in::<IndexCells<'_>>;
     let _new = Spine::<u64>::new;
     let _locate_by = Spine::<u64>::locate_by::<ByNumber<'_>>;
+    let _place = place;
     let _position = Spine::<u64>::position;
     let _spot = Spine::<u64>::spot;
     let _get = Spine::<u64>::get;
@@ -148,6 +158,10 @@ fn a_replica() {
     let _follow = Replica::<u64>::follow;
 }
 
+fn is_done(run: &Run<SetReply<u64>>) -> bool {
+    run.refused.is_none() || run.replies.is_empty()
+}
+
 fn is_whole(run: &LogRun<Set>) -> bool {
     run.replies.len() <= run.events.len() && run.refused.is_none()
 }
@@ -157,6 +171,7 @@ fn runs() {
     let _run_set = run_set::<u64>;
     let _run_map = run_map::<u64, char>;
     let _run_logged = run_logged::<Set>;
+    let _is_done = is_done;
     let _is_whole = is_whole;
     let _status = RunFault::status;
     let _word = RunFault::word;
