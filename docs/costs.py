@@ -12,9 +12,9 @@ ABOUT = (
     " unless given), L = digits(m) + digits(B) + 1 the comparisons of a look-up, digits being the bit length, and p the"
     " number of pairs of a key, or of items that a comparator finds Equal. *Moves* are elements; a node that comes or"
     " goes also moves the headers of the nodes after it. A position reads digits(m) cells of the index in a plain"
-    " collection, and in a logged one digits(m / 32 + 1) cells and up to 32 node lengths. A call without a cost compares,"
-    " moves and allocates nothing. Proved are the comparisons of `locate_by`, `get_by` and `places_by`, and the reads of"
-    " `find_in` and `prefix_in`; the other numbers describe the code."
+    " collection, and in a logged one digits(m / 32 + 1) cells and up to 32 node lengths. A call without a cost"
+    " compares, moves and allocates nothing. Proved are the comparisons of `locate_by`, `get_by` and `places_by`, and"
+    " the reads of `find_in` and `prefix_in`; the other numbers describe the code."
 )
 
 
