@@ -7,8 +7,8 @@
 CRATE is the folder of a program's crate, of this repository or of another one (the current folder). The program goes to
 CRATE/out/unproved/NAME, where it stays. It stops at an index out of bounds, an overflow or a bad access, as `rt try`
 does, but no `requires` or `ensures` is checked; with --unchecked it stops at none of them, and is as fast as a proved
-one. When it starts it writes a line to standard error that says that it is unproved, and the symbol `unproved` marks
-the file.
+one. Where a check stops it, it ends with a report of addresses; `rt try` on the same input names the check. When it starts
+it writes a line to standard error that says that it is unproved, and the symbol `unproved` marks the file.
 
 The library goes to crates/indexset_c/out/unproved/libindexset_c.a, and its symbol `unproved` marks it. `make -C
 bindings/c UNPROVED=1` makes the libraries of C of it, in bindings/c/out/unproved, whose `indexset_proved` is 0.
