@@ -88,6 +88,7 @@ impl<T: Ord + Clone + Drop, Node: NodeLike<T>> BTreeSet<T, Node> {
         requires within { size ≤ Node.most }
         ensures { result ≡ record { nodes = []; size = size; next = next } }
     {
+        prove!(2 <= size);
         BTreeSet {
             nodes: Vec::new(alloc),
             size,

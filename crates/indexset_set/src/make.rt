@@ -58,6 +58,7 @@ impl<T: Ord + Drop> BTreeSet<T> {
         ensures size { IfOk result (λ s. s.size ≡ size) }
         ensures refusal { IfErr result (λ e. e ≡ Refusal.Memory) }
     {
+        prove!(2 <= size);
         let spine = Spine::new(alloc, size)?;
         Ok(BTreeSet { spine })
     }
