@@ -4,7 +4,6 @@ ghost use Rattle.std.specs.Borrow.{sem};
 
 use super::VacantEntry;
 use indexset_core::refusal::{Refusal, Refused};
-use indexset_set::inner;
 use std::alloc::Global;
 
 impl<'a, K: Ord, V> VacantEntry<'a, K, V> {
@@ -74,6 +73,6 @@ impl<'a, K: Ord + Drop, V: Drop> VacantEntry<'a, K, V> {
 
     // Returns the allocator of the map.
     pub(super) fn allocator(&self) -> Global {
-        *inner::allocator(&self.map.set)
+        self.map.allocator()
     }
 }
