@@ -1,7 +1,7 @@
 #!/usr/bin/env python3
-"""Writes docs/contracts/ and docs/GLOSSARY.md from the sources.
+"""Writes docs/reference/ and docs/GLOSSARY.md from the sources.
 
-docs/contracts has each public call of the library crates with its clauses, a page for each type of the crate
+docs/reference has each public call of the library crates with its clauses, a page for each type of the crate
 `indexset` and for each inner crate, and an index, in which each call of a type has the first sentence of its docs.
 A call has its cost too (`costs.txt`).
 GLOSSARY.md has the terms and the words that the contracts of collections use (`glossary.py`).
@@ -359,14 +359,14 @@ def index(pages: dict[str, Page]) -> str:
 
 
 def contracts() -> dict[str, str]:
-    """The texts of docs/contracts, by the name of the file."""
+    """The texts of docs/reference, by the name of the file."""
     pages = pages_of_contracts()
     of_pages = [(name, owner, calls) for name, page in pages.items() for owner, calls in page.calls.items()]
     named = {(name, owner, it.name) for name, owner, calls in of_pages for it in calls}
     if strange := costs.unknown(named):
         sys.exit(f"docs/costs.txt: no such call: {', '.join(strange)}")
-    texts = {f"contracts/{name}.md": text_of(page) for name, page in pages.items()}
-    return {"contracts/README.md": index(pages), **texts}
+    texts = {f"reference/{name}.md": text_of(page) for name, page in pages.items()}
+    return {"reference/README.md": index(pages), **texts}
 
 
 def code_of_collections() -> Iterator[glossary.Code]:
@@ -379,12 +379,12 @@ def code_of_collections() -> Iterator[glossary.Code]:
 
 
 def main() -> None:
-    ask = argparse.ArgumentParser(description="Writes docs/contracts and docs/GLOSSARY.md from the sources.")
+    ask = argparse.ArgumentParser(description="Writes docs/reference and docs/GLOSSARY.md from the sources.")
     ask.add_argument("--check", action="store_true", help="write nothing, and fail where a page is out of date")
     given = ask.parse_args()
     folder = ROOT / "docs"
     pages = {**contracts(), "GLOSSARY.md": glossary.text(code_of_collections(), library_crates())}
-    there = [f"contracts/{it.name}" for it in sorted((folder / "contracts").glob("*"))]
+    there = [f"reference/{it.name}" for it in sorted((folder / "reference").glob("*"))]
     stale = [name for name in there if name not in pages]
     for name, text in pages.items():
         file = folder / name

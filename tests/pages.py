@@ -1,5 +1,5 @@
 #!/usr/bin/env python3
-"""Checks that the index of docs/contracts names each public function that a caller of `indexset` meets.
+"""Checks that the index of docs/reference names each public function that a caller of `indexset` meets.
 
 The crate `indexset` passes on modules and types: a module's functions count, with those of the modules
 within it, and the public functions of a type's own `impl` blocks, and a trait's. Each is to stand in the
@@ -113,7 +113,7 @@ def section(page: str, call: Call) -> str:
 def main() -> int:
     """Prints each function that the index does not name."""
     parser = argparse.ArgumentParser(description=__doc__, formatter_class=argparse.RawDescriptionHelpFormatter)
-    parser.add_argument("--page", type=pathlib.Path, default=TOP / "docs/contracts/README.md", help="the index to read")
+    parser.add_argument("--page", type=pathlib.Path, default=TOP / "docs/reference/README.md", help="the index to read")
     page = parser.parse_args().page.read_text(encoding="utf-8")
     found = calls()
     missing = sorted(call for call in found if call.name not in code_of(section(page, call)))

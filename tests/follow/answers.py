@@ -1,4 +1,4 @@
-"""What a follower answers to each line of its input, by docs/FOLLOWING.md."""
+"""What a follower answers to each line of its input, by docs/protocol.md."""
 
 from __future__ import annotations
 

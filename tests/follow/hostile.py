@@ -4,7 +4,7 @@ window, 10,000 at each of others, and 20,000 of a map of texts.
 
 The lines are events in turn and out of turn, events with a number, a name, an item, an index or a word
 altered, whole nodes that do not fit, snapshots cut short, requests, and bytes of any kind. The model is
-written from docs/FOLLOWING.md, and shares nothing with the program. Events of one map come too with losses and
+written from docs/protocol.md, and shares nothing with the program. Events of one map come too with losses and
 repeats, in any order. Some lines are then cut at every byte:
 what a last line without its end would be is not done. Lines of megabytes follow, each in a run of its own
 whose memory is bounded.

@@ -2,7 +2,7 @@
 """Compares a map of texts that leads with a model, and a follower with the leader that it follows.
 
 Keys and values have spaces, colons, percent signs, line ends and bytes of any kind, and some are empty. The model is
-a Python dictionary, written from docs/FOLLOWING.md: a text is spelled by `%` and two upper-case hexadecimal digits
+a Python dictionary, written from docs/protocol.md: a text is spelled by `%` and two upper-case hexadecimal digits
 for each byte but letters, digits and `-._~`, and keys are ordered by their bytes. A follower gets the events of the
 leader and must then give the same snapshot, and lead on as the leader goes on. What spells a text in another way is
 `bad`. Some lines are cut at every byte.

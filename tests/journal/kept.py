@@ -1,6 +1,6 @@
 """The file of a map that is kept, as Python's SQLite reads a copy of it, and a model of the lines in it.
 
-All of it is written from docs/FOLLOWING.md: the nodes that events lead to, and the sum of a snapshot.
+All of it is written from docs/protocol.md: the nodes that events lead to, and the sum of a snapshot.
 """
 
 from __future__ import annotations

@@ -1,4 +1,4 @@
-"""The seals of kept lines, from their definition in docs/DURABILITY.md.
+"""The seals of kept lines, from their definition in docs/durability.md.
 
 Python's own hash of bytes is a seal where PYTHONHASHSEED is 0, from Python 3.11 on, and is quicker. In `tests/run`
 kills.py takes it, and damage.py `siphash`.

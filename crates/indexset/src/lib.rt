@@ -6,7 +6,7 @@
 //! [`concurrent`], their events in [`cdc`], what both families use in [`base`], look-ups by
 //! borrowed text in [`text`], and the replica that follows a tree by its events in [`replica`];
 //! laws of sets are in [`laws`], of iterators over maps in [`map_laws`].
-//! `Rattle.indexset.specs.Words` has the words of its contracts, and `docs/CALLING.md` is the page
+//! `Rattle.indexset.specs.Words` has the words of its contracts, and `docs/guide.md` is the page
 //! for callers.
 #![tactic(auto)]
 

@@ -153,7 +153,7 @@ pub fn has_value(map: &BTreeMap<u64, u64>, sought: u64) -> bool
 
 // `for (k, v) in &mut map`, `for v in map.values_mut()` and `for (k, v) in map.range_mut(..)` are
 // refused: a walk lends from itself, and what it lends comes back before the next (the smallest
-// case is in docs/DECISIONS.md). So it is
+// case is in docs/design.md). So it is
 // `let mut values = map.values_mut(); while let Some(value) = values.next() { .. }`, or with a
 // proof of what it writes as `raise` of `prices.rt`.
 
