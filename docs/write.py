@@ -1,9 +1,9 @@
 #!/usr/bin/env python3
 """Writes docs/reference/ and docs/GLOSSARY.md from the sources.
 
-docs/reference has each public call of the library crates with its clauses, a page for each type of the crate
-`indexset` and for each inner crate, and an index, in which each call of a type has the first sentence of its docs.
-A call has its cost too (`costs.txt`).
+docs/reference has each public call of the library crates, a page for each type of the crate `indexset`, and an index,
+in which each call has the first sentence of its docs; docs/reference/internals has the same of each inner crate. A call
+has a summary, examples, errors, its cost (`costs.txt`) and its clauses.
 GLOSSARY.md has the terms and the words that the contracts of collections use (`glossary.py`).
 """
 
@@ -33,13 +33,23 @@ PAGES = {
     "multimap": ("Multimap", "indexset_multi", ""),
     "replica": ("Replica", "indexset_replica", ""),
     "events": ("Events", "indexset_events", ""),
-    "journal": ("Journal", "indexset_journal", ""),
     "base": ("What all stand on: `indexset::base`", "indexset_core", ""),
+    "journal": ("Journal", "indexset_journal", ""),
 }
 COLLECTIONS = ("set", "map", "logged_set", "logged_map", "multimap", "replica")
 FOR_C = {"c": ("Calls of the C library", "indexset_c", "")}
 USES = {"uses": ("Proved callers", "indexset_uses", "")}  # a program, of which each function is shown
 INNER = ("inner", "inner/")  # what a crate of a type has for the crates above it alone
+INTERNALS = "internals"  # the folder of pages of inner crates
+
+
+@dataclasses.dataclass(frozen=True)
+class Doc:
+    """A doc comment: what it says before its first heading, its examples, and its parts by their headings."""
+
+    summary: str = ""
+    examples: list[str] = dataclasses.field(default_factory=list)
+    parts: dict[str, str] = dataclasses.field(default_factory=dict)
 
 
 @dataclasses.dataclass(frozen=True)
@@ -47,7 +57,7 @@ class Call:
     """A call with its clauses; with no signature, the head of a trait, or the ghost members of an owner."""
 
     owner: str
-    doc: str
+    doc: Doc
     signature: str = ""
     clauses: list[str] = dataclasses.field(default_factory=list)
 
@@ -133,10 +143,20 @@ def head_and_clauses(lines: list[str]) -> tuple[str, list[str]]:
     return joined(lines[:first]), textwrap.dedent("\n".join(clauses)).splitlines()
 
 
-def doc_sentence(doc: list[str]) -> str:
-    """The doc comment before its first example, as one line."""
-    text = " ".join(doc).split("```")[0]
-    return " ".join(text.split())
+FAILS = re.compile(r"(?:Fails|A failed call)\b")
+
+
+def doc_of(lines: list[str]) -> Doc:
+    """A doc comment by its lines. What it says of failures is its part `Errors`, under that heading or not."""
+    text = "\n".join(lines)
+    fenced = re.compile(r"^```(?:rust)?\n(.*?)^```$", re.M | re.S)
+    shown = ("\n".join(it for it in code.splitlines() if not it.startswith("# ")) for code in fenced.findall(text))
+    summary, *parts = re.split(r"^# ", fenced.sub("", text), flags=re.M)
+    named = {name: said for name, _, said in (part.partition("\n") for part in parts)}
+    sentences = re.split(r"(?<=\.)\s+", " ".join(summary.split()))
+    fails = " ".join(it for it in sentences if FAILS.match(it))
+    texts = {"Errors": fails, **{name: " ".join(said.split()) for name, said in named.items()}}
+    return Doc(" ".join(it for it in sentences if not FAILS.match(it)), list(shown), texts)
 
 
 def first_sentence(doc: str) -> str:
@@ -162,18 +182,18 @@ def calls_of(text: str, free: Callable[[str], bool], public: set[str]) -> Iterat
     for at, line in enumerate(lines):
         text = line.strip()
         if text.startswith("///"):
-            doc.append(text[3:].strip())
+            doc.append(re.sub(r"^/// ?", "", text).rstrip())
             continue
         if re.match(r"(impl|pub trait)\b", line):
             owner = joined(take_head(lines, at))
             if owner.startswith("pub trait"):
-                yield Call(owner, doc_sentence(doc))
+                yield Call(owner, doc_of(doc))
         elif line == "}":
             owner = ""
         elif is_ghost_member(text) and owner_type(owner) in public:
-            yield Call(owner, doc_sentence(doc), "", textwrap.dedent("\n".join(take_head(lines, at))).splitlines())
+            yield Call(owner, doc_of(doc), "", textwrap.dedent("\n".join(take_head(lines, at))).splitlines())
         elif is_call(line, owner, free, public):
-            yield Call(owner, doc_sentence(doc), *head_and_clauses(take_head(lines, at)))
+            yield Call(owner, doc_of(doc), *head_and_clauses(take_head(lines, at)))
         elif text.startswith(("#[", "//")):
             continue
         doc = []
@@ -241,10 +261,14 @@ def shown(it: Call, page: Page, taken: dict[str, int], group: str = "") -> None:
     page.lines.extend([f"### `{name}`", ""])
     anchor = anchor_of(name, taken)
     owner, _, function = name.rpartition("::")
-    page.calls.setdefault(group or owner, []).append(Link(function, anchor, first_sentence(it.doc)))
-    said = [part for text in (it.doc, costs.line(page.name, owner, function)) if text for part in (text, "")]
+    page.calls.setdefault(group or owner, []).append(Link(function, anchor, first_sentence(it.doc.summary)))
+    examples = ["```rust", *"\n\n".join(it.doc.examples).splitlines(), "```"] if it.doc.examples else []
+    parts = [f"*{heading}:* {text}" for heading, text in it.doc.parts.items() if text]
+    cost = costs.line(page.name, owner, function)
+    for said in [[it.doc.summary], examples, *([part] for part in parts), [cost]]:
+        page.lines.extend([*said, ""] if any(said) else [])
     head = [it.owner] if it.owner else []
-    page.lines.extend([*said, "```text", *head, it.signature, *("    " + clause for clause in it.clauses), "```", ""])
+    page.lines.extend(["```text", *head, it.signature, *("    " + clause for clause in it.clauses), "```", ""])
 
 
 def add_ghosts(it: Call, page: Page, last: str) -> None:
@@ -252,9 +276,9 @@ def add_ghosts(it: Call, page: Page, last: str) -> None:
     lines = page.lines
     if it.owner not in ("", last):
         lines.extend([f"#### `{it.owner}`", ""])
-    if it.doc:
-        lines.extend([it.doc, ""])
-    if it.clauses and not it.doc and it.owner == last and lines[-2:] == ["```", ""]:
+    if it.doc.summary:
+        lines.extend([it.doc.summary, ""])
+    if it.clauses and not it.doc.summary and it.owner == last and lines[-2:] == ["```", ""]:
         lines[-2:] = [*it.clauses, "```", ""]
     elif it.clauses:
         lines.extend(["```text", *it.clauses, "```", ""])
@@ -311,7 +335,7 @@ def pages_of_contracts() -> dict[str, Page]:
         found[name] = page_of(Page(name, title), crate, files_of(crate, part), public, shows_all=True)
     for crate in crates:
         short = crate.removeprefix("indexset_")
-        name = f"{short}_inner" if short in found else short
+        name = f"{INTERNALS}/{short}"
         page = page_of(Page(name, f"`{crate}`"), crate, files_apart(crate), public)
         if page.lines:
             found[name] = page
@@ -320,42 +344,51 @@ def pages_of_contracts() -> dict[str, Page]:
 
 ABOUT = (
     "A `requires` is a condition on the caller; an `ensures` is proved. Of an `impl` of a trait the lines are its ghost"
-    " members, which the trait's own contract uses. [GLOSSARY.md](../GLOSSARY.md) has the words."
+    " members, which the trait's own contract uses. [The glossary]({up}GLOSSARY.md) has the words."
 )
 
 
 def text_of(page: Page) -> str:
     """The text of a page of contracts."""
-    about = f"Written by `docs/write.py` from the sources; [the index](README.md) has all pages. {ABOUT}"
+    words = ABOUT.format(up="../" * (page.name.count("/") + 1))
+    about = f"Written by `docs/write.py` from the sources; [the index](README.md) has all pages. {words}"
     about_costs = [costs.ABOUT, ""] if costs.has(page.name) else []
     return "\n".join([f"# {page.title}", "", about, "", *about_costs, *page.lines])
 
 
-def links(name: str, owner: str, calls: list[Link]) -> list[str]:
-    """The lines of the index for the calls of a type: those of a user's type have a line each."""
+def links(file: str, owner: str, calls: list[Link], is_inner: bool) -> list[str]:
+    """The lines of an index for the calls of a type: those of a user's type have a line each."""
     shown_owner = f"`{owner}`"
-    if name not in {**PAGES, **USES}:
-        names = ", ".join(f"[`{it.name}`]({name}.md#{it.anchor})" for it in calls)
+    if is_inner:
+        names = ", ".join(f"[`{it.name}`]({file}#{it.anchor})" for it in calls)
         return [f"- {shown_owner}: {names}" if owner else f"- {names}"]
-    lines = [f"- [`{it.name}`]({name}.md#{it.anchor})" + (f": {it.says}" if it.says else "") for it in calls]
+    lines = [f"- [`{it.name}`]({file}#{it.anchor})" + (f": {it.says}" if it.says else "") for it in calls]
     return [f"### {shown_owner}" if owner else "### Functions", "", *lines, ""]
 
 
+def listed(pages: Iterable[Page], is_inner: bool) -> Iterator[str]:
+    """The lines of an index for some pages: of each the calls by type."""
+    for page in pages:
+        file = page.name.rpartition("/")[2] + ".md"
+        yield from (f"## [{page.title}]({file})", "")
+        lines = [line for owner, calls in page.calls.items() for line in links(file, owner, calls, is_inner)]
+        yield from lines + [""] * (lines[-1:] != [""])
+
+
 def index(pages: dict[str, Page]) -> str:
-    """The text of the index: of each page the calls by type."""
-    outer = {**PAGES, **FOR_C, **USES}
-    about = "Each public call of the library crates with its clauses, written by `docs/write.py` from the sources."
-    titles = [f"[{page.title}](#{anchor_of(page.title, {})})" for name, page in pages.items() if name in outer]
-    out = ["# Contracts", "", f"{about} {ABOUT}", "", f"{', '.join(titles)}.", ""]
-    heads = {next(iter(FOR_C)): "# For C", next(iter(USES)): "# Callers"}
-    heads[next(it for it in pages if it not in outer)] = "# Inner crates"
-    for name, page in pages.items():
-        if name in heads:
-            out += [heads[name], ""]
-        out += [f"## [{page.title}]({name}.md)", ""]
-        out += [line for owner, calls in page.calls.items() for line in links(name, owner, calls)]
-        out += [""] * (out[-1] != "")
-    return "\n".join(out)
+    """The text of the index of the types that a user meets."""
+    shown = [page for name, page in pages.items() if not name.startswith(INTERNALS)]
+    about = f"Each public call, written by `docs/write.py` from the sources. {ABOUT.format(up='../')}"
+    names = ", ".join(f"[{page.title}](#{anchor_of(page.title, {})})" for page in shown)
+    inner = f"The crates below and beside these types have [pages of their own]({INTERNALS}/README.md)."
+    return "\n".join(["# Reference", "", about, "", f"{names}.", "", inner, "", *listed(shown, False)])
+
+
+def index_of_internals(pages: dict[str, Page]) -> str:
+    """The text of the index of the inner crates."""
+    shown = [page for name, page in pages.items() if name.startswith(INTERNALS)]
+    about = "The calls of the inner crates, written by `docs/write.py` from the sources. A program needs none of them."
+    return "\n".join(["# Internals", "", f"{about} {ABOUT.format(up='../../')}", "", *listed(shown, True)])
 
 
 def contracts() -> dict[str, str]:
@@ -365,8 +398,9 @@ def contracts() -> dict[str, str]:
     named = {(name, owner, it.name) for name, owner, calls in of_pages for it in calls}
     if strange := costs.unknown(named):
         sys.exit(f"docs/costs.txt: no such call: {', '.join(strange)}")
-    texts = {f"reference/{name}.md": text_of(page) for name, page in pages.items()}
-    return {"reference/README.md": index(pages), **texts}
+    texts = {"README": index(pages), f"{INTERNALS}/README": index_of_internals(pages)}
+    texts |= {name: text_of(page) for name, page in pages.items()}
+    return {f"reference/{name}.md": text for name, text in texts.items()}
 
 
 def code_of_collections() -> Iterator[glossary.Code]:
@@ -384,12 +418,12 @@ def main() -> None:
     given = ask.parse_args()
     folder = ROOT / "docs"
     pages = {**contracts(), "GLOSSARY.md": glossary.text(code_of_collections(), library_crates())}
-    there = [f"reference/{it.name}" for it in sorted((folder / "reference").glob("*"))]
-    stale = [name for name in there if name not in pages]
+    written = (str(it.relative_to(folder)) for it in sorted((folder / "reference").rglob("*.md")))
+    stale = [it for it in written if it not in pages]
     for name, text in pages.items():
         file = folder / name
         if not given.check:
-            file.parent.mkdir(exist_ok=True)
+            file.parent.mkdir(parents=True, exist_ok=True)
             file.write_text(text, encoding="utf-8")
         elif not file.exists() or file.read_text(encoding="utf-8") != text:
             stale.append(name)
