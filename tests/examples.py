@@ -55,7 +55,8 @@ PROVED = "indexset_uses"
 SECONDS = "240"  # for one test, on a busy machine
 PAGES = ["*.md", "docs/*.md", "bindings/*.md", "crates/*/README.md", "examples/**/*.md"]
 HEAD = "//! The examples of the documentation.\n"
-NAMES = """use indexset::base::multipair::MultiPair;
+NAMES = """use indexset::base::Text;
+use indexset::base::multipair::MultiPair;
 use indexset::base::pair::Pair;
 use indexset::base::refusal::Refusal;
 use indexset::cdc::change::{ChangeEvent, Id};
