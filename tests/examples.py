@@ -19,7 +19,8 @@ out. A line `EXPRESSION // TEXT` asserts that the value is printed so by `{:?}`.
 has clauses must stand, word for word, in the crate of proved callers, and a block with a `main` must be the root of a
 program of this repository.
 
-Where INDEXSET_PROGRAMS names a folder of built programs, `rt try` in a block of shell runs the program from there.
+Where INDEXSET_PROGRAMS names a folder of built programs, `rt try` in a block of shell runs the program from there. That
+folder, or else the one where `tests/run` builds programs, is the last on the path of blocks of shell.
 
 A test has `rt` and `alloc`. It has the names of `NAMES`, but in a module that imports its own.
 """
@@ -51,6 +52,8 @@ HOSTS = {
 }
 WITH_PAGES = "indexset_tests"  # the one that the blocks of pages go with
 SHELL = "shell"
+PROGRAMS = ["indexset_leaderboard", "indexset_program", "indexset_store"]  # those that the blocks of shell run
+UNPROVED = TOP / "out/unproved"  # where tests/run builds programs
 PROVED = "indexset_uses"
 SECONDS = "240"  # for one test, on a busy machine
 PAGES = ["*.md", "docs/*.md", "bindings/*.md", "crates/*/README.md", "examples/**/*.md"]
@@ -197,13 +200,15 @@ exec {rt} "$@"
 
 def shell_environment(room: pathlib.Path) -> dict[str, str]:
     """The environment of the blocks of shell."""
-    if not (folder := os.environ.get("INDEXSET_PROGRAMS")):
-        return dict(os.environ)
+    folder = os.environ.get("INDEXSET_PROGRAMS")
+    paths = f"{os.environ['PATH']}:{pathlib.Path(folder or UNPROVED).resolve()}"
+    if not folder:
+        return {**os.environ, "PATH": paths}
     command = room / "bin/rt"
     command.parent.mkdir()
     command.write_text(BUILT.format(folder=pathlib.Path(folder).resolve(), rt=shutil.which("rt")), encoding="utf-8")
     command.chmod(0o755)
-    return {**os.environ, "PATH": f"{command.parent}:{os.environ['PATH']}"}
+    return {**os.environ, "PATH": f"{command.parent}:{paths}"}
 
 
 def shell_faults(blocks: list[Block], room: str) -> tuple[int, list[str]]:
