@@ -15,9 +15,9 @@ other the body of a test. A comment before the block,
     <!-- run with let mut board = BTreeSet::from_iter(alloc, [30, 10])?; -->
 
 gives the lines that go before a body, or the test of a module; `<!-- not run: why -->` leaves the block
-out. A line `EXPRESSION // TEXT` asserts that the value is printed so by `{:?}`. A function of a page that
-has clauses must stand, word for word, in the crate of proved callers, and a block with a `main` must be the root of a
-program of this repository.
+out; `<!-- the file PATH -->` says that the block is that file. A line `EXPRESSION // TEXT` asserts that the value is
+printed so by `{:?}`. A function of a page that has clauses must be, word for word, in the crate of proved callers or in
+a program of one file, and a block with a `main` must be the root of a program of this repository.
 
 Where INDEXSET_PROGRAMS names a folder of built programs, `rt try` in a block of shell runs the program from there. That
 folder, or else the one where `tests/run` builds programs, is the last on the path of blocks of shell.
@@ -82,6 +82,7 @@ class Block:
     lines: list[str]
     given: list[str]
     left_out: str
+    file: str
 
 
 @dataclasses.dataclass
@@ -115,13 +116,13 @@ def page_blocks(page: pathlib.Path) -> list[Block]:
     text = page.read_text(encoding="utf-8")
     name = "_".join(page.relative_to(TOP).with_suffix("").parts).lower()
     found: list[Block] = []
-    said_before = r"(?:^<!-- (run with|not run:)((?:(?!-->).)*)-->\n+)?"
+    said_before = r"(?:^<!-- (run with|not run:|the file)((?:(?!-->).)*)-->\n+)?"
     form = re.compile(said_before + r"^```(\w*)\n(.*?)^```$", re.M | re.S)
     for kind, said, language, body in form.findall(text):
         given = said.strip().splitlines() if kind == "run with" else []
         left_out = " ".join(said.split()) if kind == "not run:" else ""
-        lines = body.splitlines()
-        found.append(Block(f"{name}_{len(found) + 1}", language, lines, given, left_out))
+        file = said.strip() if kind == "the file" else ""
+        found.append(Block(f"{name}_{len(found) + 1}", language, body.splitlines(), given, left_out, file))
     return found
 
 
@@ -171,16 +172,23 @@ def written(host: str, blocks: list[Block]) -> Sources:
 
 
 def unproved(blocks: list[Block]) -> list[str]:
-    """The functions with clauses that the crate of proved callers does not have word for word."""
-    files = (TOP / "crates" / PROVED / "src").rglob("*.rt")
+    """The functions with clauses that neither the crate of proved callers nor a program has word for word."""
+    files = [*(TOP / "crates" / PROVED / "src").rglob("*.rt"), *TOP.glob("crates/*/src/main.rt")]
     proved = "\n".join(file.read_text(encoding="utf-8") for file in files)
     found = []
     for block in blocks:
         shown = "\n".join(block.lines) + "\n" if block.language == "rust" else ""
-        for item in re.findall(r"^pub fn .*?^}$", shown, re.M | re.S):
+        for item in re.findall(r"^(?:pub )?fn .*?^}$", shown, re.M | re.S):
             if re.search(r"^ +(requires|ensures)\b", item, re.M) and item not in proved:
                 found.append(f"{block.name}: not proved as it stands: {item.splitlines()[0]}")
     return found
+
+
+def no_file(blocks: list[Block]) -> list[str]:
+    """The blocks that are not the file that they are said to be."""
+    shown = [it for it in blocks if it.file]
+    lines = {it.file: (TOP / it.file).read_text(encoding="utf-8").splitlines() for it in shown}
+    return [f"{it.name}: not as {it.file} is" for it in shown if it.lines != lines[it.file]]
 
 
 def no_program(blocks: list[Block]) -> list[str]:
@@ -275,7 +283,7 @@ def main() -> int:
         passed += ran[0]
         faults += ran[1]
     if SHELL in parts:
-        faults += unproved(blocks) + no_program(every)
+        faults += unproved(every) + no_program(every) + no_file(every)
         print(*(f"{it.name} is not run: {it.left_out}" for it in every if it.left_out), sep="\n")
     print(*faults, sep="\n")
     print(f"{passed} passed, {len(faults)} failed")
