@@ -1,7 +1,9 @@
 #!/usr/bin/env python3
-"""Checks the links of the pages: each leads to a file of the repository, and to a heading of that page.
+"""Checks the pages: each link leads to a file of the repository, and to a heading of that page, and the version is the
+same everywhere.
 
-The last line is 'N pages, M faults'.
+The version stands in bindings/python/pyproject.toml, from which pkg-config, CMake and Python have it. The last line is
+'N pages, M faults'.
 """
 
 from __future__ import annotations
@@ -56,11 +58,27 @@ def lost_links(page: pathlib.Path, anchors_of: dict[pathlib.Path, set[str]]) -> 
                 yield f"{page.relative_to(TOP)}: no such heading: {link}"
 
 
+def other_versions() -> Iterator[str]:
+    """The places that name another version than pyproject.toml."""
+    lines = (TOP / "bindings/python/pyproject.toml").read_text(encoding="utf-8")
+    version = re.findall(r'^version = "(.*)"$', lines, re.M)[0]
+    major, minor, patch = map(int, version.split("."))
+    named = {
+        "README.md": rf"^Version {re.escape(version)}\.",
+        "CHANGELOG.md": rf"^## \[{re.escape(version)}\]",
+        "crates/indexset_store/src/arguments.rt": rf'"indexset_store {re.escape(version)}"',
+        "crates/indexset_c/src/lib.rt": rf"^pub const VERSION: u32 = {major * 65536 + minor * 256 + patch};$",
+    }
+    for name, form in named.items():
+        if not re.search(form, (TOP / name).read_text(encoding="utf-8"), re.M):
+            yield f"{name}: the version is not {version}"
+
+
 def main() -> int:
     """Prints each fault."""
     argparse.ArgumentParser(description=__doc__, formatter_class=argparse.RawDescriptionHelpFormatter).parse_args()
     read, anchors_of = pages(), dict[pathlib.Path, set[str]]()
-    faults = [fault for page in read for fault in lost_links(page, anchors_of)]
+    faults = [fault for page in read for fault in lost_links(page, anchors_of)] + [*other_versions()]
     print(*faults, sep="\n")
     print(f"{len(read)} pages, {len(faults)} faults")
     return 1 if faults else 0
