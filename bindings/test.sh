@@ -46,7 +46,7 @@ for compiler in g++ clang++; do
 done
 try c/test_install.sh
 [ -n "${UNPROVED-}" ] || try python3 python/test_package.py
-try env PYTHONPATH=python/out python3 -m doctest README.md ../README.md
+try env PYTHONPATH=python/out python3 -m doctest python/README.md ../README.md
 python3 python/build_fast.py --library "c/$out/libindexset.a" python/out || exit 1
 for backend in ctypes extension; do
     for test in test_defects test_equals test_indexset test_kinds test_list test_logged test_numbers test_text; do

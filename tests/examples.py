@@ -56,7 +56,7 @@ PROGRAMS = ["indexset_leaderboard", "indexset_program", "indexset_store"]  # tho
 UNPROVED = TOP / "out/unproved"  # where tests/run builds programs
 PROVED = "indexset_uses"
 SECONDS = "240"  # for one test, on a busy machine
-PAGES = ["*.md", "docs/*.md", "bindings/*.md", "crates/*/README.md", "examples/**/*.md"]
+PAGES = ["*.md", "docs/*.md", "bindings/**/*.md", "crates/*/README.md", "examples/**/*.md"]
 HEAD = "//! The examples of the documentation.\n"
 NAMES = """use indexset::base::Text;
 use indexset::base::multipair::MultiPair;

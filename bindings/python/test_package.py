@@ -79,7 +79,6 @@ class Package(unittest.TestCase):
 
     def test_without_the_library(self):
         shutil.copytree(HERE, self.folder / "bare/bindings/python", ignore=shutil.ignore_patterns("out"))
-        shutil.copy(HERE.parent / "README.md", self.folder / "bare/bindings")
         status, said = ran(self.python, "-m", "pip", "install", "--no-index", self.folder / "bare/bindings/python")
         self.assertNotEqual(status, 0)
         self.assertNotIn("Traceback", said)

@@ -23,7 +23,7 @@ sys.path.insert(0, str(HERE))
 from build_fast import build, compiler
 
 TOP = HERE.parent.parent
-TEXTS = {"README.md": HERE.parent / "README.md", "LICENSE": TOP / "LICENSE"}
+TEXTS = {"README.md": HERE / "README.md", "LICENSE": TOP / "LICENSE"}
 NATIVE = {
     "libindexset.so": HERE.parent / "c/out/libindexset.so",
     "libindexset.a": HERE.parent / "c/out/libindexset.a",
