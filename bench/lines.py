@@ -75,15 +75,15 @@ def of_each(program: pathlib.Path, times: int) -> list[list[str]]:
 
 
 def paces(store: pathlib.Path, keys: int, times: int) -> dict[str, str]:
-    """How many events there are, and how many a second are told, followed, and both."""
+    """How many events there are, and how many a second are printed, followed, and both."""
     text = commands(keys)
     events = events_of(store, text)
     count = events.count(b"\n")
     spent = {
-        "told by a leader, to nowhere": least(times, lambda: seconds(store, text, "--lead")),
+        "printed by a leader, to nowhere": least(times, lambda: seconds(store, text, "--lead")),
         "followed, from a file": least(times, lambda: seconds(store, events)),
         "the same with `--quiet`": least(times, lambda: seconds(store, events, "--quiet")),
-        "told and followed, through a pipe": least(times, lambda: piped(store, text)),
+        "printed and followed, through a pipe": least(times, lambda: piped(store, text)),
     }
     return {"events": f"{count:,}", **{name: f"{count / it / 1e6:.2f} million" for name, it in spent.items()}}
 

@@ -1,9 +1,11 @@
 #!/usr/bin/env python3
-"""Checks the pages: each link leads to a file of the repository, and to a heading of that page, and the version is the
-same everywhere.
+"""Checks the pages: links, phrases and the version.
 
-The version stands in bindings/python/pyproject.toml, from which pkg-config, CMake and Python have it. The last line is
-'N pages, M faults'.
+    tests/prose.py [--sources]
+
+A link names a file of the repository, and a heading of that page. No page has a phrase of `PHRASES`; with --sources the
+lines of sources that have one are counted, which is no fault. The version is the one of bindings/python/pyproject.toml,
+which pkg-config, CMake and Python read. The last line is 'N pages, M faults'.
 """
 
 from __future__ import annotations
@@ -15,6 +17,14 @@ import sys
 from collections.abc import Iterator
 
 TOP = pathlib.Path(__file__).resolve().parent.parent
+# Phrases that std, SQLite and PostgreSQL do not write: say what does what.
+PHRASES = re.compile(
+    r"\b(that is there|as far as there is room|go(?:es)? on|where there is|alone|whatever|by which|is of this version"
+    r"|leads? to|stands?|tells?|told|says? nothing|lacks? its end|none of it|takes? out|let go|hands? back)\b",
+    re.I,
+)
+GENERATED = ("docs/reference", "docs/GLOSSARY.md")  # from comments in the sources
+OTHERS = ("CONTRIBUTING.md", "docs/GATE.md")  # not held to the phrases yet
 PAGES = ["*.md", "docs/**/*.md", "bindings/**/*.md", "crates/*/README.md", "examples/**/*.md", "tests/**/*.md"]
 
 
@@ -58,6 +68,24 @@ def lost_links(page: pathlib.Path, anchors_of: dict[pathlib.Path, set[str]]) -> 
                 yield f"{page.relative_to(TOP)}: no such heading: {link}"
 
 
+def phrases_of(page: pathlib.Path) -> Iterator[str]:
+    """The lines of a page that have a phrase which is not to be written."""
+    if str(page.relative_to(TOP)).startswith((*GENERATED, *OTHERS)):
+        return
+    for number, line in enumerate(prose(page).splitlines(), 1):
+        for phrase in PHRASES.findall(re.sub(r"`[^`]*`|<!--.*?-->|\]\([^)]*\)", "", line)):
+            yield f"{page.relative_to(TOP)}:{number}: {phrase}"
+
+
+def phrases_in_sources() -> Iterator[str]:
+    """The sources with comments that have such a phrase, and how many lines do."""
+    for file in sorted(it for form in ("*.rt", "*.antt", "*.py", "*.h", "*.hpp") for it in TOP.rglob(form)):
+        if "out" not in file.relative_to(TOP).parts:
+            comments = (re.search(r"(?://|--|#|/?\*|\"\"\").*", line) for line in file.read_text(encoding="utf-8").splitlines())
+            if count := sum(bool(it and PHRASES.search(it[0])) for it in comments):
+                yield f"{file.relative_to(TOP)}: {count}"
+
+
 def other_versions() -> Iterator[str]:
     """The places that name another version than pyproject.toml."""
     lines = (TOP / "bindings/python/pyproject.toml").read_text(encoding="utf-8")
@@ -76,9 +104,12 @@ def other_versions() -> Iterator[str]:
 
 def main() -> int:
     """Prints each fault."""
-    argparse.ArgumentParser(description=__doc__, formatter_class=argparse.RawDescriptionHelpFormatter).parse_args()
+    ask = argparse.ArgumentParser(description=__doc__, formatter_class=argparse.RawDescriptionHelpFormatter)
+    ask.add_argument("--sources", action="store_true", help="count the lines of sources with a phrase")
+    if ask.parse_args().sources:
+        print(*phrases_in_sources(), sep="\n")
     read, anchors_of = pages(), dict[pathlib.Path, set[str]]()
-    faults = [fault for page in read for fault in lost_links(page, anchors_of)] + [*other_versions()]
+    faults = [fault for page in read for fault in [*lost_links(page, anchors_of), *phrases_of(page)]] + [*other_versions()]
     print(*faults, sep="\n")
     print(f"{len(read)} pages, {len(faults)} faults")
     return 1 if faults else 0

@@ -165,7 +165,7 @@ class Served(Store):
 class Journal:
     """The journal in a process of its own, which makes rows as the program keeps them, and commits each group."""
 
-    name = "rows alone: `indexset_journal`"
+    name = "rows only: `indexset_journal`"
 
     def __init__(self, folder: pathlib.Path) -> None:
         self.words = [str(ROWS), str(folder / "rows.db")]
@@ -190,7 +190,7 @@ class Rows(Sender):
     """What gets rows as the program keeps them, a seal behind each group."""
 
     def __init__(self, name: str) -> None:
-        self.name, self.number, self.chance = f"rows alone: {name}", 0, random.Random(1)
+        self.name, self.number, self.chance = f"rows only: {name}", 0, random.Random(1)
 
     def pair(self) -> str:
         return f"{self.chance.getrandbits(KEY_BITS)}:{self.chance.randrange(10**6)}"
