@@ -1,19 +1,19 @@
 /* Ordered sets and maps of 64-bit numbers, with positions; maps whose keys may have several values; maps
- * that tell their changes, and replicas that follow such a map; maps from byte strings to 64-bit numbers; and
- * such maps that tell their changes.
+ * that report their changes, and replicas that follow such a map; maps from byte strings to 64-bit numbers; and
+ * such maps that report their changes.
  *
- * A handle leads to a collection on the heap, or to none. It starts as INDEXSET_HANDLE, which leads to
- * none; indexset_set_new has it lead to an empty set, and indexset_set_free to none again; the handles of the
- * other collections go the same way. Where a handle leads to none, a call that reads or removes finds an
+ * A handle owns a collection on the heap, or none. It starts as INDEXSET_HANDLE, which owns
+ * none; indexset_set_new gives it an empty set, and indexset_set_free frees that again; the handles of the
+ * other collections go the same way. Where a handle owns none, a call that reads or removes finds an
  * empty collection, and one that adds answers INDEXSET_NONE.
  *
- * Who owns what: the library owns what a handle leads to, and the caller owns the handle and every
- * array and number that it passes. A handle is passed by its address. No two handles lead to one
+ * Who owns what: the collection is the library's; the handle, and every array and number that the
+ * caller passes, are the caller's. A handle is passed by its address. No two handles own one
  * collection: a handle is moved by indexset_set_move or indexset_set_swap, or with the memory that it
  * lies in, as realloc does, where its old place is used no more. Its two fields are never written. A
  * handle that goes out of use is freed first, or its memory is lost.
  *
- * Const: a call that takes a handle as const leaves it, and what it leads to, as they were. It writes to
+ * Const: a call that takes a handle as const leaves it, and what it owns, as they were. It writes to
  * the handle meanwhile, so a handle is not itself an object of a const type.
  *
  * Threads: a handle is for one thread, the one that made its collection, and is in one call at a time.
@@ -21,7 +21,7 @@
  * from the forked child of a process with threads.
  *
  * Null: no pointer may be null, not even that of an array of no elements. Two pointers of one call
- * must not lead to the same memory, except two that are only read.
+ * must not alias, except two that are only read.
  *
  * No call aborts. Memory comes from malloc and realloc; where they refuse, the call says so, and
  * nothing has changed. They and free must be of one allocator, which aligns a block to each power of
@@ -44,15 +44,15 @@ enum indexset_status {
     INDEXSET_NO = 0,      /* there was nothing to do */
     INDEXSET_YES = 1,     /* it was done */
     INDEXSET_MEMORY = 2,  /* memory was refused */
-    INDEXSET_NONE = 3,    /* the handle leads to no collection */
-    INDEXSET_HELD = 4,    /* the handle leads to a collection already */
+    INDEXSET_NONE = 3,    /* the handle owns no collection */
+    INDEXSET_HELD = 4,    /* the handle owns a collection already */
     INDEXSET_NUMBERS = 5, /* too few numbers are left */
     INDEXSET_UNFIT = 6,   /* what was given does not fit */
     /* why a replica refuses a change, besides INDEXSET_MEMORY, INDEXSET_NUMBERS and INDEXSET_UNFIT */
     INDEXSET_GAP = 11,            /* changes before it are missing */
     INDEXSET_NO_SUCH_NODE = 12,   /* no node has the last key that it names */
     INDEXSET_INDEX_OUTSIDE = 13,  /* its index is outside the node */
-    INDEXSET_VALUE_DIFFERS = 14,  /* another key stands at its index */
+    INDEXSET_VALUE_DIFFERS = 14,  /* another key is at its index */
     INDEXSET_WOULD_BE_EMPTY = 15, /* it would remove the only pair of a node */
     INDEXSET_OUT_OF_ORDER = 16,   /* the keys would not be in order afterwards */
     INDEXSET_BAD_SPLIT = 17,      /* it would split off an empty part */
@@ -70,14 +70,14 @@ typedef struct indexset_set {
 #define INDEXSET_HANDLE {NULL, false}
 /* clang-format on */
 
-/* Where a walk of a collection stands: between two elements or pairs, before all of them, or at the end. It
+/* Where a walk of a collection is: between two elements or pairs, before all of them, or at the end. It
  * belongs to the caller, who may copy it, and it owns nothing. It starts as INDEXSET_CURSOR, before all; the
  * calls whose names end in cursor_at and cursor_from move it elsewhere, by searches, and those that end in
  * cursor_next write what follows it and move it past that, with no search: they cost what they write, and a step
  * for each node on the way. To write the same again, start from a copy of the cursor as it was.
  *
- * A cursor goes on from where it stood as long as the collection does not change. After a change, and in another
- * collection, it is as safe, but may stand elsewhere: `offset` elements of the node numbered `node` are before
+ * A cursor continues from where it was as long as the collection does not change. After a change, and in another
+ * collection, it is as safe, but may point elsewhere: `offset` elements of the node numbered `node` are before
  * it, or all of them where the node has fewer, and it is at the end where there are not so many nodes. */
 typedef struct indexset_cursor {
     size_t node, offset;
@@ -94,12 +94,12 @@ uint32_t indexset_version(void);
 /* 1 where the contracts of the library were proved before it was compiled, and 0 where it was built without proofs. */
 extern const int indexset_proved;
 
-/* Makes an empty set. INDEXSET_YES, or INDEXSET_MEMORY, or INDEXSET_HELD where the handle leads to a
+/* Makes an empty set. INDEXSET_YES, or INDEXSET_MEMORY, or INDEXSET_HELD where the handle owns a
  * set; unless it is INDEXSET_YES, nothing changes. */
 uint32_t indexset_set_new(indexset_set *set);
 
 /* Makes a clone of a set under the handle `to`. INDEXSET_YES, or INDEXSET_MEMORY, or INDEXSET_NONE
- * where `set` leads to none, or else INDEXSET_HELD where `to` leads to a set. `set` never changes, and
+ * where `set` owns none, or else INDEXSET_HELD where `to` owns a set. `set` never changes, and
  * `to` only where it is INDEXSET_YES. */
 uint32_t indexset_set_clone(const indexset_set *set, indexset_set *to);
 
@@ -110,14 +110,14 @@ void indexset_set_free(indexset_set *set);
  * unless it is INDEXSET_YES, nothing is written. Each call takes this handle too. */
 uint32_t indexset_set_create(indexset_set **set);
 
-/* Frees a handle that indexset_set_create made, and what it leads to, and writes a null pointer. */
+/* Frees a handle that indexset_set_create made, and what it owns, and writes a null pointer. */
 void indexset_set_destroy(indexset_set **set);
 
-/* Moves a set from one handle to another: frees what `to` leads to, has `to` lead to what `from` leads to, and
+/* Moves a set from one handle to another: frees what `to` owns, gives `to` what `from` owns, and
  * leaves `from` with none. */
 void indexset_set_move(indexset_set *to, indexset_set *from);
 
-/* Swaps what two handles lead to. */
+/* Swaps what two handles own. */
 void indexset_set_swap(indexset_set *one, indexset_set *other);
 
 /* Removes all elements. It allocates nothing. */
@@ -130,8 +130,8 @@ size_t indexset_set_len(const indexset_set *set);
  * unless it is INDEXSET_YES, nothing changes. */
 uint32_t indexset_set_insert(indexset_set *set, uint64_t key);
 
-/* Adds a key in the same way, and writes its rank to `rank`, which is the position where it stands then, also
- * where it was there. `rank` is written for INDEXSET_YES and INDEXSET_NO alone. It costs a search more. */
+/* Adds a key in the same way, and writes its rank to `rank`, which is the position where it is then, also
+ * where it was there. `rank` is written only for INDEXSET_YES and INDEXSET_NO. It costs a search more. */
 uint32_t indexset_set_insert_ranked(indexset_set *set, uint64_t key, size_t *rank);
 
 /* Removes a key. True, or false where it is not there, and then nothing changes. */
@@ -143,7 +143,7 @@ bool indexset_set_contains(const indexset_set *set, uint64_t key);
 /* Returns how many elements are below a key. */
 size_t indexset_set_rank(const indexset_set *set, uint64_t key);
 
-/* Returns how many elements are not above a key. The elements from `low` to `high` stand at the positions
+/* Returns how many elements are not above a key. The elements from `low` to `high` are at the positions
  * from the rank of `low` on, up to this number of `high`. */
 size_t indexset_set_count_up_to(const indexset_set *set, uint64_t key);
 
@@ -211,12 +211,12 @@ typedef struct indexset_map {
     bool live;
 } indexset_map;
 
-/* Makes an empty map. INDEXSET_YES, or INDEXSET_MEMORY, or INDEXSET_HELD where the handle leads to a
+/* Makes an empty map. INDEXSET_YES, or INDEXSET_MEMORY, or INDEXSET_HELD where the handle owns a
  * map; unless it is INDEXSET_YES, nothing changes. */
 uint32_t indexset_map_new(indexset_map *map);
 
 /* Makes a clone of a map under the handle `to`. INDEXSET_YES, or INDEXSET_MEMORY, or INDEXSET_NONE
- * where `map` leads to none, or else INDEXSET_HELD where `to` leads to a map. `map` never changes, and
+ * where `map` owns none, or else INDEXSET_HELD where `to` owns a map. `map` never changes, and
  * `to` only where it is INDEXSET_YES. */
 uint32_t indexset_map_clone(const indexset_map *map, indexset_map *to);
 
@@ -227,14 +227,14 @@ void indexset_map_free(indexset_map *map);
  * unless it is INDEXSET_YES, nothing is written. Each call takes this handle too. */
 uint32_t indexset_map_create(indexset_map **map);
 
-/* Frees a handle that indexset_map_create made, and what it leads to, and writes a null pointer. */
+/* Frees a handle that indexset_map_create made, and what it owns, and writes a null pointer. */
 void indexset_map_destroy(indexset_map **map);
 
-/* Moves a map from one handle to another: frees what `to` leads to, has `to` lead to what `from` leads to, and
+/* Moves a map from one handle to another: frees what `to` owns, gives `to` what `from` owns, and
  * leaves `from` with none. */
 void indexset_map_move(indexset_map *to, indexset_map *from);
 
-/* Swaps what two handles lead to. */
+/* Swaps what two handles own. */
 void indexset_map_swap(indexset_map *one, indexset_map *other);
 
 /* Removes all pairs. It allocates nothing. */
@@ -245,11 +245,11 @@ size_t indexset_map_len(const indexset_map *map);
 
 /* Makes a value that of a key. INDEXSET_YES where the key was not there; INDEXSET_NO where it was, and
  * then the value before is written to `before`, and no memory is taken; or INDEXSET_MEMORY or INDEXSET_NONE,
- * and then nothing changes. `before` is written for INDEXSET_NO alone. */
+ * and then nothing changes. `before` is written only for INDEXSET_NO. */
 uint32_t indexset_map_insert(indexset_map *map, uint64_t key, uint64_t value, uint64_t *before);
 
 /* Makes a value that of a key in the same way, and writes the key's rank to `rank`, which is the position where
- * its pair stands then, also where it was there. `rank` is written for INDEXSET_YES and INDEXSET_NO alone. It
+ * its pair is then, also if it was there. `rank` is written only for INDEXSET_YES and INDEXSET_NO. It
  * costs a search more. */
 uint32_t indexset_map_insert_ranked(indexset_map *map, uint64_t key, uint64_t value, uint64_t *before, size_t *rank);
 
@@ -266,7 +266,7 @@ bool indexset_map_contains(const indexset_map *map, uint64_t key);
 /* Returns how many keys are below a key. */
 size_t indexset_map_rank(const indexset_map *map, uint64_t key);
 
-/* Returns how many keys are not above a key. The pairs of the keys from `low` to `high` stand at the positions
+/* Returns how many keys are not above a key. The pairs of the keys from `low` to `high` are at the positions
  * from the rank of `low` on, up to this number of `high`. */
 size_t indexset_map_count_up_to(const indexset_map *map, uint64_t key);
 
@@ -326,13 +326,13 @@ size_t indexset_map_gets(const indexset_map *map, const uint64_t *keys, size_t c
                          size_t places);
 
 /* The handle of an ordered map from uint64_t to uint64_t whose keys may have several values. The values
- * of a key are distinct and stand in the order in which they came. Both fields are the library's own. */
+ * of a key are distinct and are in the order in which they came. Both fields are the library's own. */
 typedef struct indexset_multi {
     void *at;
     bool live;
 } indexset_multi;
 
-/* Makes an empty multimap. INDEXSET_YES, or INDEXSET_MEMORY, or INDEXSET_HELD where the handle leads to a
+/* Makes an empty multimap. INDEXSET_YES, or INDEXSET_MEMORY, or INDEXSET_HELD where the handle owns a
  * multimap; unless it is INDEXSET_YES, nothing changes. */
 uint32_t indexset_multi_new(indexset_multi *multi);
 
@@ -343,14 +343,14 @@ void indexset_multi_free(indexset_multi *multi);
  * INDEXSET_MEMORY; unless it is INDEXSET_YES, nothing is written. Each call takes this handle too. */
 uint32_t indexset_multi_create(indexset_multi **multi);
 
-/* Frees a handle that indexset_multi_create made, and what it leads to, and writes a null pointer. */
+/* Frees a handle that indexset_multi_create made, and what it owns, and writes a null pointer. */
 void indexset_multi_destroy(indexset_multi **multi);
 
-/* Moves a multimap from one handle to another: frees what `to` leads to, has `to` lead to what `from` leads to, and
+/* Moves a multimap from one handle to another: frees what `to` owns, gives `to` what `from` owns, and
  * leaves `from` with none. */
 void indexset_multi_move(indexset_multi *to, indexset_multi *from);
 
-/* Swaps what two handles lead to. */
+/* Swaps what two handles own. */
 void indexset_multi_swap(indexset_multi *one, indexset_multi *other);
 
 /* Removes all pairs. It allocates nothing. */
@@ -440,7 +440,7 @@ enum indexset_kind {
     INDEXSET_MERGE = 6   /* the node and the one after it, whose last pair is the pair, become one */
 };
 
-/* A change of a logged map. What a kind has no use for is 0. */
+/* A change of a logged map. Unused fields are 0. */
 typedef struct indexset_event {
     uint64_t number;
     uint64_t node_key, node_value;
@@ -452,7 +452,7 @@ typedef struct indexset_event {
 /* A call of a logged map makes at most this many changes. */
 #define INDEXSET_CHANGES 3
 
-/* The handle of an ordered map from uint64_t to uint64_t that tells its changes, one number after another.
+/* The handle of an ordered map from uint64_t to uint64_t that reports its changes, one number after another.
  * Both fields are the library's own. */
 typedef struct indexset_log {
     void *at;
@@ -460,7 +460,7 @@ typedef struct indexset_log {
 } indexset_log;
 
 /* Makes an empty map, whose nodes hold at most `size` pairs and whose first change has the number `next`.
- * INDEXSET_YES, or INDEXSET_MEMORY, or INDEXSET_HELD where the handle leads to a map, or INDEXSET_UNFIT
+ * INDEXSET_YES, or INDEXSET_MEMORY, or INDEXSET_HELD where the handle owns a map, or INDEXSET_UNFIT
  * where the size is below 2; unless it is INDEXSET_YES, nothing changes. */
 uint32_t indexset_log_new(indexset_log *log, size_t size, uint64_t next);
 
@@ -472,14 +472,14 @@ void indexset_log_free(indexset_log *log);
  * this handle too. */
 uint32_t indexset_log_create(indexset_log **log, size_t size, uint64_t next);
 
-/* Frees a handle that indexset_log_create made, and what it leads to, and writes a null pointer. */
+/* Frees a handle that indexset_log_create made, and what it owns, and writes a null pointer. */
 void indexset_log_destroy(indexset_log **log);
 
-/* Moves a map from one handle to another: frees what `to` leads to, has `to` lead to what `from` leads to, and
+/* Moves a map from one handle to another: frees what `to` owns, gives `to` what `from` owns, and
  * leaves `from` with none. */
 void indexset_log_move(indexset_log *to, indexset_log *from);
 
-/* Swaps what two handles lead to. */
+/* Swaps what two handles own. */
 void indexset_log_swap(indexset_log *one, indexset_log *other);
 
 /* Returns how many pairs there are, how many nodes, and the number of the next change. */
@@ -490,14 +490,14 @@ uint64_t indexset_log_next(const indexset_log *log);
 /* Makes a value that of a key, and writes the changes and how many they are to `events` and `told`.
  * INDEXSET_YES where the key was not there; INDEXSET_NO where it was, and then the value before is written
  * to `before`; or INDEXSET_MEMORY, INDEXSET_NUMBERS, INDEXSET_NONE, or INDEXSET_UNFIT where `events` has
- * fewer than INDEXSET_CHANGES places: then nothing changes, and 0 is written to `told` alone. */
+ * fewer than INDEXSET_CHANGES places: then nothing changes, and only `told` is written, as 0. */
 uint32_t indexset_log_insert(indexset_log *log, uint64_t key, uint64_t value, uint64_t *before, indexset_event *events,
                              size_t places, size_t *told);
 
 /* Removes a key and writes its value, the changes and how many they are. INDEXSET_YES, or INDEXSET_NO
  * where the key is not there, or INDEXSET_MEMORY, INDEXSET_NUMBERS, or INDEXSET_UNFIT where `events` has
- * fewer than INDEXSET_CHANGES places; unless it is INDEXSET_YES, nothing changes, and 0 is written to
- * `told` alone. */
+ * fewer than INDEXSET_CHANGES places; unless it is INDEXSET_YES, nothing changes, and only
+ * `told` is written, as 0. */
 uint32_t indexset_log_remove(indexset_log *log, uint64_t key, uint64_t *out, indexset_event *events, size_t places,
                              size_t *told);
 
@@ -537,7 +537,7 @@ size_t indexset_log_cursor_next(const indexset_log *log, indexset_cursor *cursor
 
 /* Writes how many pairs each node has, in order into an array of `places` places, as many as it has room
  * for. Returns how many it wrote. These, the pairs from 0 to UINT64_MAX and the number of the next change
- * are a snapshot, from which a copy goes on. */
+ * are a snapshot, from which a copy continues. */
 size_t indexset_log_node_lengths(const indexset_log *log, size_t *out, size_t places);
 
 /* The handle of a replica: a copy of the nodes of a logged map, which follows the map by its changes. Both
@@ -548,12 +548,12 @@ typedef struct indexset_replica {
 } indexset_replica;
 
 /* Makes a replica without nodes, which awaits the change of the number `next`. INDEXSET_YES, or
- * INDEXSET_MEMORY, or INDEXSET_HELD where the handle leads to a replica; unless it is INDEXSET_YES, nothing
+ * INDEXSET_MEMORY, or INDEXSET_HELD where the handle owns a replica; unless it is INDEXSET_YES, nothing
  * changes. */
 uint32_t indexset_replica_new(indexset_replica *replica, uint64_t next);
 
 /* Makes a replica with the nodes of a logged map, which awaits its next change. INDEXSET_YES, or
- * INDEXSET_MEMORY, or INDEXSET_NONE where `log` leads to none, or else INDEXSET_HELD where `replica` leads to
+ * INDEXSET_MEMORY, or INDEXSET_NONE where `log` owns none, or else INDEXSET_HELD where `replica` owns
  * a replica. `log` never changes, and `replica` only where it is INDEXSET_YES. */
 uint32_t indexset_replica_from_log(indexset_replica *replica, const indexset_log *log);
 
@@ -564,14 +564,14 @@ void indexset_replica_free(indexset_replica *replica);
  * INDEXSET_YES, or INDEXSET_MEMORY; unless it is INDEXSET_YES, nothing is written. Each call takes this handle too. */
 uint32_t indexset_replica_create(indexset_replica **replica, uint64_t next);
 
-/* Frees a handle that indexset_replica_create made, and what it leads to, and writes a null pointer. */
+/* Frees a handle that indexset_replica_create made, and what it owns, and writes a null pointer. */
 void indexset_replica_destroy(indexset_replica **replica);
 
-/* Moves a replica from one handle to another: frees what `to` leads to, has `to` lead to what `from` leads to, and
+/* Moves a replica from one handle to another: frees what `to` owns, gives `to` what `from` owns, and
  * leaves `from` with none. */
 void indexset_replica_move(indexset_replica *to, indexset_replica *from);
 
-/* Swaps what two handles lead to. */
+/* Swaps what two handles own. */
 void indexset_replica_swap(indexset_replica *one, indexset_replica *other);
 
 /* Makes a change of the logged map, and awaits the next. INDEXSET_YES, or the first of these that applies:
@@ -579,7 +579,7 @@ void indexset_replica_swap(indexset_replica *one, indexset_replica *other);
  * below the one that is awaited, so that the change was made before; INDEXSET_GAP where it is above it;
  * INDEXSET_NUMBERS where it is UINT64_MAX, after which there is none; a status from INDEXSET_NO_SUCH_NODE on,
  * where the change does not fit the nodes; INDEXSET_MEMORY. Unless it is INDEXSET_YES, nothing changes. What
- * fits goes by the keys, whatever the values are. */
+ * fits goes by the keys, for any values. */
 uint32_t indexset_replica_apply(indexset_replica *replica, const indexset_event *event);
 
 /* Makes `count` changes, first to last, and passes over each whose number is below the one that is awaited.
@@ -638,10 +638,10 @@ size_t indexset_replica_node_lengths(const indexset_replica *replica, size_t *ou
 
 /* The handle of an ordered map from byte strings to uint64_t. Both fields are the library's own.
  *
- * A key is an array of `key_len` bytes: text in UTF-8 or any other bytes, zeros too. Keys stand in the order
+ * A key is an array of `key_len` bytes: text in UTF-8 or any other bytes, zeros too. Keys are in the order
  * of memcmp, and a key before those that it begins; of text in UTF-8 that is the order of its code points. A
  * key that is passed is only read and belongs to the caller; the map keeps a copy of its own, which no call
- * leads to. A key that is read is copied into an array of the caller's. */
+ * owns. A key that is read is copied into an array of the caller's. */
 typedef struct indexset_text_map {
     void *at;
     bool live;
@@ -654,12 +654,12 @@ static inline int indexset_bytes_compare(const void *one, size_t one_len, const 
 }
 
 /* Makes an empty map, whose nodes hold at most 256 pairs. INDEXSET_YES, or INDEXSET_MEMORY, or INDEXSET_HELD
- * where the handle leads to a map; unless it is INDEXSET_YES, nothing changes. */
+ * where the handle owns a map; unless it is INDEXSET_YES, nothing changes. */
 uint32_t indexset_text_map_new(indexset_text_map *map);
 
 /* Makes a clone of a map under the handle `to`; the two share the bytes of the keys, and do not see each
- * other's changes. INDEXSET_YES, or INDEXSET_MEMORY, or INDEXSET_NONE where `map` leads to none, or else
- * INDEXSET_HELD where `to` leads to a map. `map` never changes, and `to` only where it is INDEXSET_YES. Both
+ * other's changes. INDEXSET_YES, or INDEXSET_MEMORY, or INDEXSET_NONE where `map` owns none, or else
+ * INDEXSET_HELD where `to` owns a map. `map` never changes, and `to` only where it is INDEXSET_YES. Both
  * are for one thread. */
 uint32_t indexset_text_map_clone(const indexset_text_map *map, indexset_text_map *to);
 
@@ -670,14 +670,14 @@ void indexset_text_map_free(indexset_text_map *map);
  * unless it is INDEXSET_YES, nothing is written. Each call takes this handle too. */
 uint32_t indexset_text_map_create(indexset_text_map **map);
 
-/* Frees a handle that indexset_text_map_create made, and what it leads to, and writes a null pointer. */
+/* Frees a handle that indexset_text_map_create made, and what it owns, and writes a null pointer. */
 void indexset_text_map_destroy(indexset_text_map **map);
 
-/* Moves a map from one handle to another: frees what `to` leads to, has `to` lead to what `from` leads to, and
+/* Moves a map from one handle to another: frees what `to` owns, gives `to` what `from` owns, and
  * leaves `from` with none. */
 void indexset_text_map_move(indexset_text_map *to, indexset_text_map *from);
 
-/* Swaps what two handles lead to. */
+/* Swaps what two handles own. */
 void indexset_text_map_swap(indexset_text_map *one, indexset_text_map *other);
 
 /* Removes all pairs. It allocates nothing. */
@@ -688,12 +688,12 @@ size_t indexset_text_map_len(const indexset_text_map *map);
 
 /* Makes a value that of a key. INDEXSET_YES where the key was not there; INDEXSET_NO where it was, and
  * then the value before is written to `before`, and no memory is taken; or INDEXSET_MEMORY or INDEXSET_NONE,
- * and then nothing changes. `before` is written for INDEXSET_NO alone. */
+ * and then nothing changes. `before` is written only for INDEXSET_NO. */
 uint32_t indexset_text_map_insert(indexset_text_map *map, const void *key, size_t key_len, uint64_t value,
                                   uint64_t *before);
 
 /* Makes a value that of a key in the same way, and writes the key's rank to `rank`, which is the position where
- * its pair stands then, also where it was there. `rank` is written for INDEXSET_YES and INDEXSET_NO alone. It
+ * its pair is then, also if it was there. `rank` is written only for INDEXSET_YES and INDEXSET_NO. It
  * costs a search more. */
 uint32_t indexset_text_map_insert_ranked(indexset_text_map *map, const void *key, size_t key_len, uint64_t value,
                                          uint64_t *before, size_t *rank);
@@ -711,7 +711,7 @@ bool indexset_text_map_get(const indexset_text_map *map, const void *key, size_t
 /* Returns how many keys are below a key. */
 size_t indexset_text_map_rank(const indexset_text_map *map, const void *key, size_t key_len);
 
-/* Returns how many keys are not above a key. The pairs of the keys from `low` to `high` stand at the positions
+/* Returns how many keys are not above a key. The pairs of the keys from `low` to `high` are at the positions
  * from the rank of `low` on, up to this number of `high`. */
 size_t indexset_text_map_count_up_to(const indexset_text_map *map, const void *key, size_t key_len);
 
@@ -777,7 +777,7 @@ typedef struct indexset_text_event {
     uint32_t kind;
 } indexset_text_event;
 
-/* The handle of an ordered map from byte strings to uint64_t that tells its changes, one number after another.
+/* The handle of an ordered map from byte strings to uint64_t that reports its changes, one number after another.
  * Both fields are the library's own. Its keys are those of an indexset_text_map. It keeps the changes of the
  * last call that made any, from which indexset_text_log_change reads them. */
 typedef struct indexset_text_log {
@@ -786,7 +786,7 @@ typedef struct indexset_text_log {
 } indexset_text_log;
 
 /* Makes an empty map, whose nodes hold at most `size` pairs and whose first change has the number `next`.
- * INDEXSET_YES, or INDEXSET_MEMORY, or INDEXSET_HELD where the handle leads to a map, or INDEXSET_UNFIT
+ * INDEXSET_YES, or INDEXSET_MEMORY, or INDEXSET_HELD where the handle owns a map, or INDEXSET_UNFIT
  * where the size is below 2; unless it is INDEXSET_YES, nothing changes. */
 uint32_t indexset_text_log_new(indexset_text_log *log, size_t size, uint64_t next);
 
@@ -798,14 +798,14 @@ void indexset_text_log_free(indexset_text_log *log);
  * call takes this handle too. */
 uint32_t indexset_text_log_create(indexset_text_log **log, size_t size, uint64_t next);
 
-/* Frees a handle that indexset_text_log_create made, and what it leads to, and writes a null pointer. */
+/* Frees a handle that indexset_text_log_create made, and what it owns, and writes a null pointer. */
 void indexset_text_log_destroy(indexset_text_log **log);
 
-/* Moves a map from one handle to another: frees what `to` leads to, has `to` lead to what `from` leads to, and
+/* Moves a map from one handle to another: frees what `to` owns, gives `to` what `from` owns, and
  * leaves `from` with none. */
 void indexset_text_log_move(indexset_text_log *to, indexset_text_log *from);
 
-/* Swaps what two handles lead to. */
+/* Swaps what two handles own. */
 void indexset_text_log_swap(indexset_text_log *one, indexset_text_log *other);
 
 /* Returns how many pairs there are, how many nodes, and the number of the next change. */
@@ -816,13 +816,13 @@ uint64_t indexset_text_log_next(const indexset_text_log *log);
 /* Makes a value that of a key, keeps the changes in the place of those before, and writes how many they are to
  * `told`: at most INDEXSET_CHANGES. INDEXSET_YES where the key was not there; INDEXSET_NO where it was, and
  * then the value before is written to `before`; or INDEXSET_MEMORY, INDEXSET_NUMBERS or INDEXSET_NONE: then
- * nothing changes, and 0 is written to `told` alone. */
+ * nothing changes, and only `told` is written, as 0. */
 uint32_t indexset_text_log_insert(indexset_text_log *log, const void *key, size_t key_len, uint64_t value,
                                   uint64_t *before, size_t *told);
 
 /* Removes a key and writes its value, keeps the changes, and writes how many they are. INDEXSET_YES, or
  * INDEXSET_NO where the key is not there, or INDEXSET_MEMORY or INDEXSET_NUMBERS; unless it is INDEXSET_YES,
- * nothing changes, and 0 is written to `told` alone. */
+ * nothing changes, and only `told` is written, as 0. */
 uint32_t indexset_text_log_remove(indexset_text_log *log, const void *key, size_t key_len, uint64_t *out, size_t *told);
 
 /* Writes one of the changes that are kept, counted from 0: its record, and the bytes of the key that names its
