@@ -25,11 +25,7 @@ BEFORE = ("#1 put 5 50", "#2 put 3 30", "#3 put 9 90")
 AFTER = ("sum", "#4 put 7 70")
 LINE, LEFT, TOP_OF, WIDE, HIGH = 19, 14, 62, 930, 366
 INK, SOFT, PAPER, ASKED, LOST = "#222", "#666", "#f6f8fb", "#1d4f91", "#b3261e"
-COLUMNS = (
-    (12, 250, "indexset_store --keep map.db --lead"),
-    (280, 350, "the rows of map.db"),
-    (648, 270, "started again"),
-)
+COLUMNS = ((12, 250, "a leader, --keep map.db"), (280, 350, "the rows of map.db"), (648, 270, "started again"))
 
 Lines = list[tuple[str, str]]  # (each with its colour)
 
