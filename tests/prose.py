@@ -23,6 +23,7 @@ PHRASES = re.compile(
     r"|leads? to|stands?|tells?|told|says? nothing|lacks? its end|none of it|takes? out|let go|hands? back)\b",
     re.I,
 )
+COMMENT = re.compile(r"(?://|--|#|/?\*|\"\"\").*")
 GENERATED = ("docs/reference", "docs/GLOSSARY.md")  # from comments in the sources
 OTHERS = ("CONTRIBUTING.md", "docs/GATE.md")  # not held to the phrases yet
 PAGES = ["*.md", "docs/**/*.md", "bindings/**/*.md", "crates/*/README.md", "examples/**/*.md", "tests/**/*.md"]
@@ -81,8 +82,9 @@ def phrases_in_sources() -> Iterator[str]:
     """The sources with comments that have such a phrase, and how many lines do."""
     for file in sorted(it for form in ("*.rt", "*.antt", "*.py", "*.h", "*.hpp") for it in TOP.rglob(form)):
         if "out" not in file.relative_to(TOP).parts:
-            comments = (re.search(r"(?://|--|#|/?\*|\"\"\").*", line) for line in file.read_text(encoding="utf-8").splitlines())
-            if count := sum(bool(it and PHRASES.search(it[0])) for it in comments):
+            lines = file.read_text(encoding="utf-8").splitlines()
+            comments = (it[0] for it in map(COMMENT.search, lines) if it)
+            if count := sum(bool(PHRASES.search(it)) for it in comments):
                 yield f"{file.relative_to(TOP)}: {count}"
 
 
@@ -109,7 +111,8 @@ def main() -> int:
     if ask.parse_args().sources:
         print(*phrases_in_sources(), sep="\n")
     read, anchors_of = pages(), dict[pathlib.Path, set[str]]()
-    faults = [fault for page in read for fault in [*lost_links(page, anchors_of), *phrases_of(page)]] + [*other_versions()]
+    faults = [fault for page in read for fault in [*lost_links(page, anchors_of), *phrases_of(page)]]
+    faults += other_versions()
     print(*faults, sep="\n")
     print(f"{len(read)} pages, {len(faults)} faults")
     return 1 if faults else 0
