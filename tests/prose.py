@@ -3,7 +3,8 @@
 
     tests/prose.py [--sources]
 
-A link names a file of the repository, and a heading of that page. No page has a phrase of `PHRASES`; with --sources the
+A link names a file of the repository, and a heading of that page; what is shown as code for a call of the reference, as
+a clause, is a word of that call. No page has a phrase of `PHRASES`; with --sources the
 lines of sources that have one are counted, which is no fault. The version is the one of bindings/python/pyproject.toml,
 which pkg-config, CMake and Python read. The last line is 'N pages, M faults'.
 """
@@ -23,6 +24,7 @@ PHRASES = re.compile(
     r"|leads? to|stands?|tells?|told|says? nothing|lacks? its end|none of it|takes? out|let go|hands? back)\b",
     re.I,
 )
+REFERENCE = TOP / "docs/reference"
 COMMENT = re.compile(r"(?://|--|#|/?\*|\"\"\").*")
 GENERATED = ("docs/reference", "docs/GLOSSARY.md")  # from comments in the sources
 OTHERS = ("CONTRIBUTING.md", "docs/GATE.md")  # not held to the phrases yet
@@ -41,21 +43,23 @@ def prose(page: pathlib.Path) -> str:
     return re.sub(r"^```.*?^```$", lambda block: "\n" * block[0].count("\n"), text, flags=re.M | re.S)
 
 
-def anchors(page: pathlib.Path) -> set[str]:
-    """The anchors of a page's headings."""
-    found: set[str] = set()
+def sections(page: pathlib.Path) -> dict[str, str]:
+    """The text below each heading of a page, by its anchor."""
+    found: dict[str, str] = {}
     taken: dict[str, int] = {}
-    for heading in re.findall(r"^#+ (.*)$", prose(page), re.M):
-        words = re.sub(r"\[([^\]]*)\]\([^)]*\)", r"\1", heading)
+    lines, text = prose(page).splitlines(), page.read_text(encoding="utf-8").splitlines()
+    heads = [at for at, line in enumerate(lines) if re.match("#+ ", line)]
+    for at, end in zip(heads, [*heads[1:], len(lines)]):
+        words = re.sub(r"\[([^\]]*)\]\([^)]*\)", r"\1", lines[at].lstrip("#").strip())
         plain = re.sub(r"[^\w\- ]", "", words.lower()).replace(" ", "-")
         taken[plain] = taken.get(plain, -1) + 1
-        found.add(f"{plain}-{taken[plain]}" if taken[plain] else plain)
+        found[f"{plain}-{taken[plain]}" if taken[plain] else plain] = "\n".join(text[at:end])
     return found
 
 
-def lost_links(page: pathlib.Path, anchors_of: dict[pathlib.Path, set[str]]) -> Iterator[str]:
-    """The links of a page that lead nowhere."""
-    for link in re.findall(r"\]\(([^)\s]+)\)", prose(page)):
+def lost_links(page: pathlib.Path, sections_of: dict[pathlib.Path, dict[str, str]]) -> Iterator[str]:
+    """The links of a page to no file or heading, or to a call that lacks the word that they show."""
+    for shown, link in re.findall(r"\[([^\[\]]*)\]\(([^)\s]+)\)", prose(page)):
         path, _, anchor = link.partition("#")
         if ":" in path:
             continue
@@ -63,10 +67,13 @@ def lost_links(page: pathlib.Path, anchors_of: dict[pathlib.Path, set[str]]) -> 
         if not target.exists():
             yield f"{page.relative_to(TOP)}: no such file: {link}"
         elif anchor and target.suffix == ".md":
-            if target not in anchors_of:
-                anchors_of[target] = anchors(target)
-            if anchor not in anchors_of[target]:
+            if target not in sections_of:
+                sections_of[target] = sections(target)
+            word = re.fullmatch(r"`(\w+)`", shown)
+            if anchor not in sections_of[target]:
                 yield f"{page.relative_to(TOP)}: no such heading: {link}"
+            elif word and REFERENCE in target.parents and not re.search(rf"\b{word[1]}\b", sections_of[target][anchor]):
+                yield f"{page.relative_to(TOP)}: no {word[1]} in {link}"
 
 
 def phrases_of(page: pathlib.Path) -> Iterator[str]:
@@ -110,8 +117,8 @@ def main() -> int:
     ask.add_argument("--sources", action="store_true", help="count the lines of sources with a phrase")
     if ask.parse_args().sources:
         print(*phrases_in_sources(), sep="\n")
-    read, anchors_of = pages(), dict[pathlib.Path, set[str]]()
-    faults = [fault for page in read for fault in [*lost_links(page, anchors_of), *phrases_of(page)]]
+    read, sections_of = pages(), dict[pathlib.Path, dict[str, str]]()
+    faults = [fault for page in read for fault in [*lost_links(page, sections_of), *phrases_of(page)]]
     faults += other_versions()
     print(*faults, sep="\n")
     print(f"{len(read)} pages, {len(faults)} faults")
