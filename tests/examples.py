@@ -191,6 +191,12 @@ def no_file(blocks: list[Block]) -> list[str]:
     return [f"{it.name}: not as {it.file} is" for it in shown if it.lines != lines[it.file]]
 
 
+def no_names(blocks: list[Block]) -> list[str]:
+    """The imports that a page shows in a block of text, and that tests do not have."""
+    shown = [(it.name, line) for it in blocks if it.language == "text" for line in it.lines if line.startswith("use ")]
+    return [f"{name}: tests do not have it: {line}" for name, line in shown if line not in NAMES.splitlines()]
+
+
 def no_program(blocks: list[Block]) -> list[str]:
     """The blocks with a `main` that are no program of this repository."""
     programs = [file.read_text(encoding="utf-8") for file in TOP.glob("crates/*/src/main.rt")]
@@ -283,7 +289,7 @@ def main() -> int:
         passed += ran[0]
         faults += ran[1]
     if SHELL in parts:
-        faults += unproved(every) + no_program(every) + no_file(every)
+        faults += unproved(every) + no_program(every) + no_file(every) + no_names(every)
         print(*(f"{it.name} is not run: {it.left_out}" for it in every if it.left_out), sep="\n")
     print(*faults, sep="\n")
     print(f"{passed} passed, {len(faults)} failed")
