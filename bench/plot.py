@@ -105,5 +105,8 @@ def plot(names: list[str], keys: list[int], figures: Figures) -> str:
     out += [f'<rect width="{width}" height="{height}" fill="white"/>', *legend(names)]
     for at, what in enumerate(shown):
         out += panel(what, [points(name, what) for name in names], at % COLUMNS * WIDTH, at // COLUMNS * HEIGHT + HEAD)
-    out.append(f'<text x="{width / 2:g}" y="{height - 8}" text-anchor="middle">number of keys (less than {LEAST:g} ns is shown as {LEAST:g} ns)</text>')
+    out.append(
+        f'<text x="{width / 2:g}" y="{height - 8}" text-anchor="middle">'
+        f"number of keys (less than {LEAST:g} ns is shown as {LEAST:g} ns)</text>"
+    )
     return "\n".join([*out, "</svg>"]) + "\n"
