@@ -657,10 +657,9 @@ static inline int indexset_bytes_compare(const void *one, size_t one_len, const 
  * where the handle owns a map; unless it is INDEXSET_YES, nothing changes. */
 uint32_t indexset_text_map_new(indexset_text_map *map);
 
-/* Makes a clone of a map under the handle `to`; the two share the bytes of the keys, and do not see each
- * other's changes. INDEXSET_YES, or INDEXSET_MEMORY, or INDEXSET_NONE where `map` owns none, or else
- * INDEXSET_HELD where `to` owns a map. `map` never changes, and `to` only where it is INDEXSET_YES. Both
- * are for one thread. */
+/* Makes a clone of a map under the handle `to`, with copies of the keys. INDEXSET_YES, or INDEXSET_MEMORY, or
+ * INDEXSET_NONE where `map` owns none, or else INDEXSET_HELD where `to` owns a map. `map` never changes, and
+ * `to` only where it is INDEXSET_YES. */
 uint32_t indexset_text_map_clone(const indexset_text_map *map, indexset_text_map *to);
 
 /* Frees the map, and leaves the handle with none. Of a handle with none it does nothing. */

@@ -6,4 +6,5 @@ use Rattle.indexset_core.specs.Nodes.{joined}
 use Rattle.indexset_handle.proofs.text_log.TextLog.count_up_to.Goals as goal
 
 pub returns : goal.returns
-returns c = c.len.ensures.value ∙ ap length c.range.ensures.rest ∙ length-filter (λ p. is_le (slice_cmp nat_cmp p.key c.args.key.now)) (joined c.args.self.now.tree.nodes)
+returns c = rw (← c.self.view_is)
+    (c.len.ensures.value ∙ ap length c.range.ensures.rest ∙ length-filter (λ p. is_le (slice_cmp nat_cmp p.key c.args.key.now)) (joined c.self.inside.tree.nodes))

@@ -1,31 +1,31 @@
-use Rattle.std.proofs.Common.{◌≡◌, None, is_some, not, ap, sym, subst, ◌∙◌}
-use Rattle.std.specs.Option.{option_map}
+use Rattle.std.proofs.Common.{◌≡◌, None, sym, ap, subst, ◌∙◌}
 use Rattle.std.proofs.lemmas.Bool.{false≢true}
 use Rattle.std.proofs.lemmas.Result.{err_from_is_err_and}
 use Rattle.std.specs.Cmp.Lexicographic.{slice_cmp}
 use Rattle.std.specs.Ordering.{nat_cmp}
 use Rattle.indexset_core.specs.Nodes.{joined}
-use Rattle.indexset_core.specs.Pairs.{by_key, entry_of, value_of}
-use Rattle.indexset_log.specs.Changed.{Changed, key_removal, refusal_of}
-use Rattle.indexset_handle.proofs.LogLemmas.{mapped_none}
+use Rattle.indexset_core.specs.Pairs.{entry_of, pair_of, value_of}
+use Rattle.indexset_log.specs.Changed.{key_removal, refusal_of}
+use Rattle.indexset_handle.specs.TextLogs.{ToldTree}
+use Rattle.indexset_handle.proofs.LogLemmas.{kept_tree, mapped_none, none_told}
 use Rattle.indexset_handle.proofs.text_log.TextLog.remove.Goals as goal
 
--- the copied key is the key
+-- the key is not there, so the removal leaves the map as it is
+pub returns-in_default-clause-absent : goal.returns-in_default-clause-absent
+returns-in_default-clause-absent c = λ _.
+    let none = mapped_none entry_of _ (sym c.in_ok-found.ensures.answer ∙ c.in_default.is) in
+    let same = kept_tree (slice_cmp nat_cmp) (slice_cmp nat_cmp) c.self.inside.tree c.remove_cdc.new.self c.args.key.now none c.in_ok-found.ensures.changed in
+    (λ i. record { tree = same i; told = c.self.inside.told.items }) ∙ c.self.view_is
+
 pub returns-in_err-found-clause-refusal : goal.returns-in_err-found-clause-refusal
 returns-in_err-found-clause-refusal c =
     let e = err_from_is_err_and c.from_residual.result c.from_residual.ensures.1 in
-    rw e.1 (λ _. e.2 ∙ (c.in_err-found.ensures.refusal ∙ (ap (λ k. refusal_of c.self.inside.tree (key_removal (slice_cmp nat_cmp) c.self.inside.tree k)) c.in-Ok.ensures ∙ ap (λ s. refusal_of s.tree (key_removal (slice_cmp nat_cmp) s.tree c.args.key.now)) c.self.view_is)))
+    rw e.1 (e.2 ∙ (c.in_err-found.ensures.refusal ∙ ap (λ (s : ToldTree). refusal_of s.tree (key_removal (slice_cmp nat_cmp) s.tree c.args.key.now)) c.self.view_is))
 
-pub returns-in-Some-clause-changed : goal.returns-in-Some-clause-changed
-returns-in-Some-clause-changed c = λ _.
-    subst (λ s. Changed (by_key (slice_cmp nat_cmp)) s.tree c.remove_cdc.new.self (key_removal (slice_cmp nat_cmp) s.tree c.args.key.now)) c.self.view_is
-    (subst (λ k. Changed (by_key (slice_cmp nat_cmp)) c.self.inside.tree c.remove_cdc.new.self (key_removal (slice_cmp nat_cmp) c.self.inside.tree k)) c.in-Ok.ensures c.in_ok-found.ensures.changed)
-
--- the key is there, so a removal finds it
-pub returns-clause-absent : goal.returns-clause-absent
-returns-clause-absent c = λ _.
-    let none = mapped_none entry_of _ (sym c.in_ok-found.ensures.answer ∙ c.in-None.is) in
-    let copied = ap (option_map (λ p. p.value)) none in
-    let key = subst (λ k. value_of (slice_cmp nat_cmp) (joined c.self.inside.tree.nodes) k ≡ None) c.in-Ok.ensures copied in
-    let gone = subst (λ s. value_of (slice_cmp nat_cmp) (joined s.tree.nodes) c.args.key.now ≡ None) c.self.view_is key in
-    absurd (false≢true (sym (ap is_some (c.get.ensures ∙ gone)) ∙ (c.is_none.ensures ∙ ap not c.if-is_none.false)))
+-- where the key is not there, there is no event, and such a removal does not fail
+pub returns-in_err-found-clause-no_event : goal.returns-in_err-found-clause-no_event
+returns-in_err-found-clause-no_event c none =
+    let t = c.self.inside.tree in
+    let before = subst (λ (s : ToldTree). value_of (slice_cmp nat_cmp) (joined s.tree.nodes) c.args.key.now ≡ None) (sym c.self.view_is) none in
+    let gone = mapped_none (λ p. p.value) (pair_of (slice_cmp nat_cmp) (joined t.nodes) c.args.key.now) before in
+    absurd (false≢true (c.in_err-found.ensures.no_event (none_told (slice_cmp nat_cmp) t.size t.nodes c.args.key.now gone)))
