@@ -35,7 +35,7 @@ sanitized() {
     mkdir python/out/sanitized
     cp -r python/indexset python/test_*.py python/out/sanitized
     python3 python/build_fast.py --sanitize --library "c/$out/libindexset.a" python/out/sanitized || return 1
-    for test in test_defects test_equals test_indexset test_kinds test_list test_text; do
+    for test in test_answers test_defects test_equals test_indexset test_kinds test_list test_text; do
         LD_PRELOAD="$preload" ASAN_OPTIONS=detect_leaks=0 python3 "python/out/sanitized/$test.py" || return 1
     done
 }
@@ -49,7 +49,7 @@ try c/test_install.sh
 try env PYTHONPATH=python/out python3 -m doctest python/README.md ../README.md
 python3 python/build_fast.py --library "c/$out/libindexset.a" python/out || exit 1
 for backend in ctypes extension; do
-    for test in test_defects test_equals test_indexset test_kinds test_list test_logged test_numbers test_text; do
+    for test in test_answers test_defects test_equals test_indexset test_kinds test_list test_logged test_numbers test_text; do
         try env "INDEXSET_BACKEND=$backend" python3 "python/out/$test.py"
     done
     try env "INDEXSET_BACKEND=$backend" python3 python/out/peer_tests.py
@@ -58,7 +58,9 @@ try sanitized
 try mypy --strict --no-incremental --cache-dir=/dev/null python/indexset python/sample.py write.py
 # By Debian's Python, which has numpy.
 if ! python3 -c 'import numpy' 2> /dev/null; then
-    try env INDEXSET_BACKEND=ctypes /usr/bin/python3 -W error python/out/test_equals.py
+    for test in test_answers test_equals; do
+        try env INDEXSET_BACKEND=ctypes /usr/bin/python3 -W error "python/out/$test.py"
+    done
 fi
 
 failed=0

@@ -163,7 +163,7 @@ class Arrays(unittest.TestCase):
             self.assertEqual(list(SortedSet(values, keys="int64")), [0, 1])
             self.assertEqual(list(SortedList(values)), [0, 1, 1])
         self.assertEqual(list(SortedSet(numpy.arange(10)[::3])), [0, 3, 6, 9])
-        for values in (numpy.array(["2020-01-01"], dtype="M8[D]"), numpy.array([1j]), numpy.eye(2), numpy.array(["a"])):
+        for values in (numpy.array([1j]), numpy.eye(2), numpy.array([["a"]])):
             with self.assertRaisesRegex(TypeError, "an array"):
                 SortedSet(values)
         self.assertEqual(SortedSet([1, 2, 3])[numpy.int64(1)], 2)

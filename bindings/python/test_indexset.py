@@ -157,7 +157,7 @@ class Keys(unittest.TestCase):
     def test_zero(self):
         numbers = SortedSet([-0.0], keys="float64")
         self.assertIn(0.0, numbers)
-        self.assertEqual(str(numbers[0]), "0.0")
+        self.assertEqual(str(numbers[0]), "-0.0")
 
     def test_numbers_of_other_types(self):
         self.assertIn(2.0, SortedSet([2]))
@@ -358,11 +358,16 @@ class Dictionaries(unittest.TestCase):
                 self.assertEqual(sys.getrefcount(number), before)
 
     def test_zero_is_one(self):
+        """Both zeros are one key, and the one that came first is handed out."""
         for zeros in ([0.0, -0.0], [-0.0, 0.0]):
             for ours in (SortedSet(zeros), SortedSet(zeros[:1], keys="float64"), SortedSet([-1.5, *zeros])):
-                ours.add(zeros[0])
-                ours.update(zeros)
-                self.assertEqual(str(ours[-1]), "0.0")
+                ours.add(zeros[1])
+                ours.update(zeros[::-1])
+                self.assertEqual((str(ours[-1]), sum(it == 0 for it in ours)), (str(zeros[0]), 1))
+                self.assertEqual(str(ours.copy()[-1]), str(zeros[0]))
+                ours.remove(0.0)
+                ours.add(zeros[1])
+                self.assertEqual(str(ours[-1]), str(zeros[1]))
 
     def test_objects_are_let_go(self):
         class Thing:

@@ -123,8 +123,8 @@ class Calls(unittest.TestCase):
             again = pickle.loads(pickle.dumps(refused.exception))
             self.assertEqual((str(again), again.status), (str(refused.exception), refused.exception.status))
         self.assertRaises(ValueError, replica.apply, cases[0]._replace(kind="text"))
-        self.assertRaises(TypeError, replica.apply, cases[0]._replace(pair=(5, 1)))
-        self.assertRaises(TypeError, replica.apply, cases[0]._replace(node=("c", 0), pair=("d", "x"), label=1 << 60))
+        self.assertRaises(Refused, replica.apply, cases[0]._replace(pair=(5, 1)))
+        self.assertRaises(Refused, replica.apply, cases[0]._replace(node=("c", 0), pair=("d", "x"), label=1 << 60))
         ours["d"] = 4
         replica.apply_all(told)
         self.assertEqual(replica.nodes(), ours.nodes())

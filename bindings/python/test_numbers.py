@@ -227,8 +227,10 @@ class Replicas(unittest.TestCase):
         self.assertEqual((refused.exception.status, refused.exception.taken), (12, 1))
         self.assertNotIsInstance(refused.exception, Gap)
         self.assertRaises(ValueError, replica.apply, wrong._replace(kind="text"))
-        self.assertRaises(OverflowError, replica.apply, wrong._replace(node=(1 << 63, 0)))
-        self.assertRaises(OverflowError, replica.apply, wrong._replace(index=-1))
+        for change in (wrong._replace(node=(1 << 63, 0)), wrong._replace(index=-1)):
+            with self.assertRaises(Refused) as refused:
+                replica.apply(change)
+            self.assertEqual((refused.exception.status, type(refused.exception.__cause__)), (6, OverflowError))
         self.assertEqual((replica.apply_all([]), replica), (0, ours))
         last = Replica(next=(1 << 64) - 1)
         self.assertRaises(OverflowError, last.apply, told[0]._replace(number=last.next))

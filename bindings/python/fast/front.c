@@ -34,6 +34,8 @@ static Py_ssize_t front_length(Front *self) { return is_made(self) ? (Py_ssize_t
 static int front_contains(Front *self, PyObject *value) {
     if (!is_made(self))
         return -1;
+    if (!has_members(self) && length_of(self->order) == 0)
+        return 0;
     PyObject *asked = has_members(self) ? self->members : self->order;
     Py_INCREF(asked);
     int is_there = Py_TYPE(asked) == &NumbersType ? numbers_contains((Numbers *)asked, value) : PySequence_Contains(asked, value);

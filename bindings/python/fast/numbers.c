@@ -93,8 +93,6 @@ int numbers_contains(Numbers *self, PyObject *value) {
 
 int numbers_put(Numbers *self, uint64_t code, PyObject *given) {
     uint64_t before, ours;
-    if (self->kind == FLOAT64 && code == TOP) /* there is one zero */
-        given = NULL;
     uint32_t status = indexset_map_insert(&self->map, code, ADDRESS(given), &before);
     if (status == INDEXSET_NO) {
         indexset_map_insert(&self->map, code, before, &ours);

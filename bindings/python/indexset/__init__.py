@@ -9,7 +9,7 @@ The calls have the names and habits of `sortedcontainers`. Items and keys are of
 """
 from ._dict import SortedDict
 from ._library import PROVED, version
-from ._list import SortedKeyList, SortedList
+from ._list import SortedKeyList, SortedList, SortedListWithKey
 from ._log import LoggedDict
 from ._multi import SortedMultiDict
 from ._native import BACKEND
@@ -32,6 +32,7 @@ __all__ = [
     "SortedKeyList",
     "SortedKeysView",
     "SortedList",
+    "SortedListWithKey",
     "SortedMultiDict",
     "SortedSet",
     "SortedValuesView",

@@ -129,6 +129,8 @@ class Labels:
         return label
 
     def fits(self, value: Any, label: int) -> bool:
+        if self.name != OBJECT:
+            KINDS[self.name].framed(value)
         low, high = self._sides(self._names.bisect(value, True))
         return value not in self._labels and low < label < high
 

@@ -103,7 +103,7 @@ class SortedDict(DictFront[K, V], Generic[K, V]):
         """The value of a key, which becomes the default where the key is not there."""
         if key in self:
             return self[key]
-        self[key] = default
+        DictFront.__setitem__(self, key, default)
         return default
 
     @overload
@@ -227,6 +227,8 @@ class SortedDict(DictFront[K, V], Generic[K, V]):
 
     def _bisect_key(self, key: Any, right: bool) -> int:
         order = self._order
+        if not len(order):
+            return 0
         position: int = order.bisect(key, right) if self.key is None else order.place(key, right)
         return position
 
@@ -305,9 +307,20 @@ class SortedDict(DictFront[K, V], Generic[K, V]):
 
     def copy(self) -> Any:
         """A dictionary of the same keys and values, in a time that grows with their number."""
-        made = type(self).__new__(type(self))
-        made._named, made._order = self._named, self._order.clone()
+        made = self._empty()
+        made._order = self._order.clone()
         super(SortedDict, made).update(dict.items(self))
+        return made
+
+    def _empty(self) -> Any:
+        """Another of the same class, kind and key, without keys. What a class below does in `__init__` is done."""
+        cls: Any = type(self)
+        if cls.__init__ is SortedDict.__init__:
+            made = cls.__new__(cls)
+            made._begin(self._named, self.key)
+            return made
+        made = cls(*[] if self.key is None else [self.key], **{} if self._named is None else {"keys": self._named})
+        made.clear()
         return made
 
     def __copy__(self) -> Any:
@@ -326,7 +339,8 @@ class SortedDict(DictFront[K, V], Generic[K, V]):
     def __ror__(self, other: Any) -> Any:
         if not isinstance(other, Mapping):
             return NotImplemented
-        made = _restored(type(self), self.key, self._named, dict(other))
+        made = self._empty()
+        made.update(other)
         made.update(self)
         return made
 

@@ -26,7 +26,7 @@ class Front(Generic[T]):
     def __contains__(self, value: Any) -> bool:
         """Whether an item equals a value."""
         members = self._members
-        found: bool = self._order.holds(value) if members is None else value in members
+        found: bool = len(self._order) > 0 and self._order.holds(value) if members is None else value in members
         return found
 
     def __iter__(self) -> Iterator[T]:

@@ -207,14 +207,19 @@ def known(name: Optional[str]) -> None:
         raise ValueError(f"keys is one of {', '.join([*KINDS, OBJECT])}, not {name!r}")
 
 
+# What numpy names the kinds of items that no buffer of numbers has: texts, byte strings, objects, times.
+_ITEMS = frozenset("USOMm")
 _WHOLE, _REAL = frozenset("bBhHiIlLqQnN?"), frozenset("efd")
 
 
 def items_of(iterable: Iterable[Any]) -> list[Any]:
     """The items of an iterable. An array of numbers is read through its buffer; TypeError where an array has
-    no numbers, or more than one dimension."""
+    numbers without an order, characters of C, or more than one dimension."""
     if isinstance(iterable, (list, tuple, set, frozenset, dict, range)):
         return list(iterable)
+    kind = getattr(getattr(iterable, "dtype", None), "kind", None)
+    if kind in _ITEMS and getattr(iterable, "ndim", 1) == 1:
+        return iterable.tolist() if kind in "US" else list(iterable)  # type: ignore[attr-defined, no-any-return]
     try:
         view = memoryview(iterable)  # type: ignore[arg-type]
     except TypeError:

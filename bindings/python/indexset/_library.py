@@ -137,6 +137,10 @@ def handle(what: str) -> Handle:
 handle("set")
 
 
+class Spent(OverflowError):
+    """The numbers of a collection are used up."""
+
+
 def check(status: int) -> bool:
     """Whether a call did something. Raises what else a status says."""
     if status == YES:
@@ -146,7 +150,7 @@ def check(status: int) -> bool:
     if status == MEMORY:
         raise MemoryError
     if status == NUMBERS:
-        raise OverflowError("too few numbers are left")
+        raise Spent("too few numbers are left")
     raise RuntimeError(f"the library answered with the status {status}")
 
 

@@ -8,7 +8,7 @@ from typing import Any, Callable, Generic, Iterable, Literal, Optional, TypeVar,
 from ._kinds import items_of
 from ._native import Numbers
 from ._orders import order_of, repeating
-from ._sorted import Sorted
+from ._sorted import OWN_INITS, Sorted
 
 T = TypeVar("T")
 
@@ -86,7 +86,7 @@ class SortedList(Sorted[T], MutableSequence[T], Generic[T]):
         self._become(order)
 
     def _discard(self, value: Any) -> bool:
-        found: bool = self._order.discard(value)
+        found: bool = len(self._order) > 0 and self._order.discard(value)
         return found
 
     def remove(self, value: Any) -> None:
@@ -106,6 +106,8 @@ class SortedList(Sorted[T], MutableSequence[T], Generic[T]):
         2
         """
         order = self._order
+        if not len(order):
+            return 0
         count: int = int(value in order) if isinstance(order, Numbers) else order.count(value)
         return count
 
@@ -137,18 +139,6 @@ class SortedList(Sorted[T], MutableSequence[T], Generic[T]):
         """Whether some of the items are equal, or are there already."""
         found = set(items)
         return len(found) < len(items) or (len(order) > 0 and any(item in order for item in found))
-
-    def copy(self) -> Any:
-        """A list of the same items, in a time that grows with their number."""
-        made = type(self).__new__(type(self))
-        made._named, made._order, made._members = self._named, self._order.clone(), None
-        return made
-
-    def __copy__(self) -> Any:
-        made = self.copy()
-        if hasattr(self, "__dict__"):
-            made.__dict__.update(self.__dict__)
-        return made
 
     def __add__(self, other: Iterable[T]) -> Any:
         """A list of the items of both."""
@@ -242,3 +232,9 @@ class SortedKeyList(SortedList[T], Generic[T]):
 
 def _itself(value: T) -> T:
     return value
+
+
+OWN_INITS.update((SortedList.__init__, SortedKeyList.__init__))
+
+# The name that `sortedcontainers` had for it before its version 2.
+SortedListWithKey = SortedKeyList

@@ -2,7 +2,6 @@
 from __future__ import annotations
 
 from itertools import product
-from numbers import Integral, Rational, Real
 from typing import Any, Callable, Iterable, Iterator, Optional, TypeVar, Union
 
 from ._kinds import ALL, BYTES, NUMBERS, OBJECT, TOP, real, whole
@@ -64,12 +63,18 @@ class Keyed(Held[T]):
     def find(self, value: Any) -> int:
         """The first position of an item that equals a value, or -1."""
         try:
-            for position in self.matches(value):
+            return self.find_from(value, 0)
+        except _UNFIT:
+            hash(value) if self.key is None else None
+        return -1
+
+    def find_from(self, value: Any, first: int) -> int:
+        """The same, from a position on."""
+        for position in self.matches(value):
+            if position >= first:
                 item = self[position]
                 if item is value or item == value:
                     return position
-        except _UNFIT:
-            hash(value) if self.key is None else None
         return -1
 
     def _contains(self, value: Any) -> bool:
@@ -309,20 +314,13 @@ def repeating(order: Numbers) -> Order:
     return made
 
 
-_EXACT: dict[Any, str] = {int: "int64", bool: OBJECT, float: "float64", str: "str", bytes: "bytes"}
-
-
-def _kind_of_type(found: Any) -> str:
-    if found in _EXACT:
-        return _EXACT[found]
-    if issubclass(found, Integral):
-        return "int64"
-    return "float64" if issubclass(found, Real) and not issubclass(found, Rational) else OBJECT
+_EXACT: dict[Any, str] = {int: "int64", float: "float64", str: "str", bytes: "bytes"}
 
 
 def kind_of(keys: list[Any]) -> str:
-    """The kind that is found for sort keys: it orders them as Python does, and gives back what equals them."""
-    kinds = {_kind_of_type(found) for found in set(map(type, keys))}
+    """The kind that is found for sort keys: it orders them as Python does. Those of a class below int, float, str or
+    bytes may have another order, and come back as they are."""
+    kinds = {_EXACT.get(found, OBJECT) for found in set(map(type, keys))}
     kind = kinds.pop() if len(kinds) == 1 else OBJECT
     if kind == "int64" and not (-TOP <= min(keys) and max(keys) < TOP):
         return OBJECT

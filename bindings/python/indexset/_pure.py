@@ -85,6 +85,11 @@ class Ordered(Generic[T]):
         return at
 
 
+def _decode_negative(code: int) -> float:
+    number: float = NUMBERS["float64"].decode(code)
+    return number or -0.0
+
+
 class Numbers(Ordered[Any]):
     """Distinct numbers of a kind, in order, in a set of the library."""
 
@@ -110,6 +115,7 @@ class Numbers(Ordered[Any]):
         """The same numbers again."""
         made = Numbers.__new__(Numbers)
         made._begin(self._kind)
+        made._decode = self._decode
         made._handle = library.handle("set")
         check(lib.indexset_set_clone(self._handle, made._handle))
         return made
@@ -134,7 +140,14 @@ class Numbers(Ordered[Any]):
 
     def add(self, value: Any) -> bool:
         """Adds a key, and tells whether it was not there."""
-        return self._put(self._code(value))
+        return self._put(self._code(value)) and self._noted(value)
+
+    def _noted(self, value: Any) -> bool:
+        """Has -0.0 be handed out where it was added, though its code is that of 0.0."""
+        if self._own is float and value == 0:
+            negative = type(value) is float and str(value) == "-0.0"
+            self._decode = _decode_negative if negative else self._kind.decode
+        return True
 
     def _put(self, code: int) -> bool:
         status = lib.indexset_set_insert(self._handle, code)
@@ -148,7 +161,7 @@ class Numbers(Ordered[Any]):
         if type(value) is not self._own:
             return None
         code = self._find(value)
-        return None if code is None else self._put(code)
+        return None if code is None else self._put(code) and self._noted(value)
 
     def discard(self, value: Any) -> bool:
         """Removes a key, and tells whether it was there."""
@@ -199,6 +212,7 @@ class Numbers(Ordered[Any]):
 
     def take(self, values: Iterable[Any]) -> None:
         """Adds keys that are not there, or none where one does not fit or memory is refused."""
+        values = list(values) if self._own is float else values
         codes = self._codes(values)
         if codes:
             taken = Count()
@@ -208,6 +222,8 @@ class Numbers(Ordered[Any]):
                 for code in codes[: taken.value]:
                     lib.indexset_set_remove(self._handle, code)
             check(status)
+            if self._own is float:
+                any(map(self._noted, (value for value in values if value == 0)))
 
     def _codes(self, values: Iterable[Any]) -> array[int]:
         if isinstance(values, (list, tuple, set, frozenset, range)) and self.kind != "float64":

@@ -14,6 +14,7 @@ K = TypeVar("K")
 V = TypeVar("V")
 
 _REASONS = {
+    library.UNFIT: "a key, a value or a number in it is of another kind",
     library.GAP: "changes before it are missing",
     12: "no node has the last key that it names",
     13: "its index is outside the node",
@@ -23,6 +24,7 @@ _REASONS = {
     17: "it would split off an empty part",
     18: "the second node that it names does not follow the first",
 }
+_OF_ANOTHER_KIND = (TypeError, OverflowError, ValueError)
 NO_SUCH_NODE, VALUE_DIFFERS, OUT_OF_ORDER, NOT_NEIGHBOURS = 12, 14, 16, 18
 
 
@@ -93,8 +95,8 @@ class Replica(Noded[K, V], Generic[K, V]):
 
     def apply(self, change: Change) -> bool:
         """Makes a change. True, or False where its number is below the one that is awaited, so that it was
-        made before. `Gap` where the number is above it, `Refused` where the change does not fit the nodes,
-        and then nothing is changed."""
+        made before. `Gap` where the number is above it, `Refused` where the change does not fit the nodes or
+        the kinds, and then nothing is changed."""
         return self._apply(change, 0)
 
     def apply_all(self, changes: Iterable[Change]) -> int:
@@ -114,11 +116,21 @@ class Replica(Noded[K, V], Generic[K, V]):
 
     def _apply_numbers(self, every: list[Change]) -> None:
         events, taken = (Event * len(every))(), Count()
-        for at, change in enumerate(every):
-            self._write(change, events[at])
-        status = lib.indexset_replica_apply_all(self._handle, place(events), len(every), place(taken))
+        written, error = self._written(every, events)
+        status = lib.indexset_replica_apply_all(self._handle, place(events), written, place(taken))
         if status not in (library.NO, library.YES):
             self._refuse(status, taken.value, every[min(taken.value, len(every) - 1)])
+        if error is not None:
+            raise Refused(library.UNFIT, written, every[written]) from error
+
+    def _written(self, every: list[Change], events: Any) -> tuple[int, Optional[Exception]]:
+        """How many changes become the library's records, with the error of the first that does not."""
+        for at, change in enumerate(every):
+            try:
+                self._write(change, events[at])
+            except _OF_ANOTHER_KIND as error:
+                return at, error
+        return len(every), None
 
     def _write(self, change: Change, event: Event) -> None:
         """Writes the library's record of a change of numbers. ValueError where its kind is none."""
@@ -142,6 +154,17 @@ class Replica(Noded[K, V], Generic[K, V]):
 
     def _apply(self, change: Change, taken: int) -> bool:
         """Makes a change, behind so many others of a call."""
+        begun = self._named, self._keys, self._values
+        try:
+            return self._applied(change, taken)
+        except (Refused, library.Spent):
+            raise
+        except _OF_ANOTHER_KIND as error:
+            self._named, self._keys, self._values = begun
+            raise Refused(library.UNFIT, taken, change) from error
+
+    def _applied(self, change: Change, taken: int) -> bool:
+        """The same, but for the errors of what is of another kind."""
         event = Event()
         self._begin_event(change, event)
         if change.number != self.next:

@@ -8,7 +8,7 @@ from typing import Any, Callable, Generic, Iterable, Literal, Optional, TypeVar,
 
 from ._kinds import items_of
 from ._native import Numbers
-from ._sorted import Sorted
+from ._sorted import OWN_INITS, Sorted
 
 T = TypeVar("T")
 S = TypeVar("S")
@@ -180,18 +180,6 @@ class SortedSet(Sorted[T], MutableSet[T], Generic[T]):
 
     # ---- sets of sets
 
-    def copy(self) -> Any:
-        """A set of the same items, in a time that grows with their number."""
-        made = type(self).__new__(type(self))
-        made._named, made._order, made._members = self._named, self._order.clone(), self._members.copy()
-        return made
-
-    def __copy__(self) -> Any:
-        made = self.copy()
-        if hasattr(self, "__dict__"):
-            made.__dict__.update(self.__dict__)
-        return made
-
     def _from_iterable(self, it: Iterable[S]) -> Any:
         return self._made(it)  # type: ignore[arg-type]
 
@@ -283,6 +271,9 @@ class SortedSet(Sorted[T], MutableSet[T], Generic[T]):
         if not isinstance(other, Set):
             return NotImplemented
         return len(self) == len(other) and self.issubset(other)
+
+
+OWN_INITS.add(SortedSet.__init__)
 
 
 def _asked(iterable: Iterable[Any]) -> Any:

@@ -6,10 +6,12 @@ from reprlib import recursive_repr
 from typing import Any, Callable, Generic, Iterable, Iterator, Optional, TypeVar
 
 from ._kinds import known
-from ._native import Front
+from ._native import Front, Numbers
 from ._orders import KeyFunction, Order, Repeated, fitted, order_of
 
 T = TypeVar("T")
+# The methods `__init__` of the package's own classes.
+OWN_INITS: set[Any] = set()
 
 
 class Sorted(Front[T], Sequence[T], Generic[T]):
@@ -93,12 +95,12 @@ class Sorted(Front[T], Sequence[T], Generic[T]):
     def _find(self, value: Any, first: int) -> int:
         """The first position of a value from a position on, or -1."""
         order = self._order
-        found: int = order.find(value)
-        if 0 <= found < first and isinstance(order, Repeated) and order.key is None:
-            past = order.bisect(value, True)
-            return first if first < past else -1
-        while 0 <= found < first:
-            found = found + 1 if found + 1 < len(order) and order[found + 1] == value else -1
+        found: int = order.find(value) if len(order) else -1
+        if not 0 <= found < first or isinstance(order, Numbers):
+            return found
+        if isinstance(order, Repeated) and order.key is None:
+            return first if first < order.bisect(value, True) else -1
+        found = order.find_from(value, first)
         return found
 
     def bisect_key_left(self, key: Any) -> int:
@@ -113,6 +115,8 @@ class Sorted(Front[T], Sequence[T], Generic[T]):
 
     def _bisect_key(self, key: Any, right: bool) -> int:
         order = self._order
+        if not len(order):
+            return 0
         position: int = order.bisect(key, right) if self.key is None else order.place(key, right)
         return position
 
@@ -160,11 +164,35 @@ class Sorted(Front[T], Sequence[T], Generic[T]):
 
     # ---- the object
 
+    def _empty(self) -> Any:
+        """Another of the same class, kind and key, without items. What a class below does in `__init__` is done."""
+        cls: Any = type(self)
+        if cls.__init__ in OWN_INITS:
+            made = cls.__new__(cls)
+            made._begin(self._named, self.key)
+            return made
+        words = {name: word for name, word in (("key", self.key), ("keys", self._named)) if word is not None}
+        made = cls((), **words)
+        made.clear()
+        return made
+
     def _made(self, items: Iterable[T]) -> Any:
-        """Another of the same class, kind and key, with other items."""
-        made = type(self).__new__(type(self))
-        made._begin(self._named, self.key)
+        """The same with other items."""
+        made = self._empty()
         made._fill(items)
+        return made
+
+    def copy(self) -> Any:
+        """Another with the same items, in a time that grows with their number."""
+        made = self._empty()
+        made._order = self._order.clone()
+        made._members = None if self._members is None else self._members.copy()
+        return made
+
+    def __copy__(self) -> Any:
+        made = self.copy()
+        if hasattr(self, "__dict__"):
+            made.__dict__.update(self.__dict__)
         return made
 
     def _fill(self, items: Iterable[T]) -> None:
