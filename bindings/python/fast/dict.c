@@ -31,7 +31,7 @@ static PyObject *order_of(DictFront *self) {
 static int add_key(PyObject *order, PyObject *key) {
     uint64_t code;
     if (Py_TYPE(order) != &NumbersType)
-        return held_add(order, key, NULL);
+        return is_fresh(order) ? NOT_OWN : held_add(order, key, NULL);
     return number_code(((Numbers *)order)->kind, key, &code) ? numbers_add((Numbers *)order, key) : NOT_OWN;
 }
 
@@ -39,7 +39,7 @@ static int add_key(PyObject *order, PyObject *key) {
 static int discard_key(PyObject *order, PyObject *key) {
     if (Py_TYPE(order) == &NumbersType)
         return numbers_discard((Numbers *)order, key);
-    int state = IS_MULTI(order) ? NOT_OWN : own_drop((Coded *)order, key);
+    int state = IS_MULTI(order) || IS_BLOCKS(order) ? NOT_OWN : own_drop((Coded *)order, key);
     return state == NOT_OWN ? held_discard(order, key) : state;
 }
 
@@ -63,10 +63,20 @@ static int add(DictFront *self, PyObject *key) {
     return state == NOT_OWN ? order_key(self, key) : state;
 }
 
+/* What orders the keys, which can change: what only reads becomes another order first. */
+static PyObject *changing_order(DictFront *self) {
+    PyObject *order = order_of(self);
+    if (order == NULL || Py_TYPE(order) == &NumbersType || !IS_BLOCKS(order) || ((Blocks *)order)->by == OTHER)
+        return order;
+    Py_DECREF(order);
+    return PyObject_CallMethodNoArgs((PyObject *)self, names.settled);
+}
+
 /* Takes a key out of the order; an error that there is stays. */
 static int discard(DictFront *self, PyObject *key) {
-    PyObject *type, *value, *trace, *order = order_of(self);
+    PyObject *type, *value, *trace, *order;
     PyErr_Fetch(&type, &value, &trace);
+    order = changing_order(self);
     int state = order ? discard_key(order, key) : -1;
     Py_XDECREF(order);
     if (type != NULL)

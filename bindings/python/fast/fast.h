@@ -24,7 +24,7 @@
 #define OBJECT(address) ((PyObject *)(uintptr_t)(address))
 #define ADDRESS(object) ((uint64_t)(uintptr_t)(object))
 
-enum kind { INT64, UINT64, FLOAT64, TEXT, BYTES, OTHER };
+enum kind { INT64, UINT64, FLOAT64, TEXT, BYTES, OTHER, COMPARED };
 
 /* Distinct numbers of a kind, in order. The map leads from the code of each to the object that was given, or
  * to 0 where none was: then one is made of the code. */
@@ -55,6 +55,32 @@ typedef struct {
 
 /* Of what is no Numbers. */
 #define IS_MULTI(order) (((Held *)(order))->kind <= FLOAT64)
+#define IS_BLOCKS(order) (((Held *)(order))->kind == COMPARED)
+
+/* Objects in a row, in the order of their sort keys, which are the objects themselves where no function makes them. */
+typedef struct {
+    PyObject **items, **keys;
+    PyObject *last; /* of the keys */
+    size_t count, room;
+} Block;
+
+/* Where an object stands among blocks. */
+typedef struct {
+    size_t block, index;
+} Place;
+
+/* Objects in the order of their sort keys and then in that in which they came, in blocks that none leaves empty.
+ *
+ * Sort keys are compared by `<`, and then `by` is OTHER; or all are of the own type of the kind `by`, and are compared
+ * as its codes are. The latter only read: what changes them is another order. */
+typedef struct {
+    HELD_HEAD
+    enum kind by;
+    Block *blocks;
+    size_t count, room, length;
+    size_t *tree; /* of the lengths of the blocks, where `is_indexed` */
+    int is_indexed;
+} Blocks;
 
 /* Objects at byte strings, in the order of these. The kind is none of numbers.
  *
@@ -89,12 +115,12 @@ typedef struct {
     PyObject *order;
 } DictFront;
 
-extern PyTypeObject NumbersType, CodedType, MultiType, FrontType, DictFrontType, WalkType;
+extern PyTypeObject NumbersType, CodedType, MultiType, BlocksType, FrontType, DictFrontType, WalkType;
 
 /* The module `_kinds`, and the names of the methods that are called. */
 extern PyObject *kinds;
 extern struct names {
-    PyObject *add, *bisect, *bound, *code, *codes_of, *contains, *discard, *find, *flipped, *order_keys, *slice;
+    PyObject *add, *bisect, *bound, *code, *codes_of, *contains, *discard, *find, *flipped, *order_keys, *placed, *settled, *slice;
 } names;
 
 /* ---- codes.c */
@@ -155,7 +181,61 @@ int multi_contains(Multi *self, PyObject *item);
 Py_ssize_t multi_bisect(Multi *self, PyObject *value, int right);
 int multi_places(Multi *self, PyObject *key, size_t *first, size_t *past);
 
-/* ---- held.c: the same of both */
+/* ---- blocks.c: where objects stand in blocks, with no comparison */
+/* How many objects stand before a block. */
+size_t blocks_before(Blocks *self, size_t block);
+/* Where the object at a position stands, which is there. */
+Place blocks_place(Blocks *self, size_t position);
+/* Puts an object with its key at a place: 1, or -1 with an error. */
+int blocks_insert(Blocks *self, Place at, PyObject *item, PyObject *key);
+/* Takes an object out, and its key where it has another one; the references are the caller's. */
+PyObject *blocks_remove(Blocks *self, Place at, PyObject **key);
+/* Lets all objects go. */
+void blocks_drop(Blocks *self);
+/* Has these objects in place of those before: 1, or -1 with an error. */
+int blocks_fill(Blocks *self, PyObject **items, PyObject **keys, size_t count);
+/* From empty, has the objects of another. */
+int blocks_copy(Blocks *self, Blocks *from);
+/* Takes out the objects at the positions from `first` and before `past`; the caller holds them and their keys. */
+void blocks_cut(Blocks *self, size_t first, size_t past);
+/* Reads objects, or their keys, from a position on. */
+size_t blocks_read(Blocks *self, size_t from, int of_keys, PyObject **read, size_t size);
+/* The objects or keys at positions that are there, as a list. */
+PyObject *blocks_list(Blocks *self, size_t first, size_t past, int of_keys);
+
+/* ---- compare.c: objects in blocks by comparisons */
+/* The sort key of an item, as a new reference. */
+PyObject *blocks_key(Blocks *self, PyObject *item);
+/* Where a sort key has its place, before its equals or behind them: 1, or NOT_OWN where it is none of the kind's own
+ * type, or -1 with an error. */
+int blocks_bound(Blocks *self, PyObject *key, int right, Place *place);
+/* The same of a code, where `by` is a kind of numbers. */
+void blocks_bound_code(Blocks *self, uint64_t code, Place *place);
+/* Where the first object that equals a value stands, from a position on: 1, or 0 where there is none, or NOT_OWN, or -1
+ * with an error. */
+int blocks_find(Blocks *self, PyObject *value, size_t from, Place *place);
+/* Whether one stands before another in the order, or both are equal; of kinds with own types. */
+int blocks_are_equal(Blocks *self, PyObject *one, PyObject *other);
+
+/* ---- sort.c */
+/* Sorts a list, and that of its sort keys, if one is given, in the same way: 1, or 0 where `by` is a kind and a key is
+ * not of its own type, or -1 with an error. What is equal stays in its order. */
+int blocks_sort(enum kind by, PyObject *items, PyObject *keys);
+
+/* ---- compared.c: what front.c and held.c ask of blocks */
+int blocks_add(Blocks *self, PyObject *item, PyObject *members);
+int blocks_discard(Blocks *self, PyObject *item);
+int blocks_contains(Blocks *self, PyObject *item);
+Py_ssize_t blocks_bisect(Blocks *self, PyObject *value, int right);
+int blocks_places(Blocks *self, PyObject *key, size_t *first, size_t *past);
+PyObject *blocks_item(Blocks *self, Py_ssize_t position);
+
+/* ---- many.c: the methods `take`, `fill` and `cut` of blocks */
+PyObject *blocks_take_method(Blocks *self, PyObject *values);
+PyObject *blocks_fill_method(Blocks *self, PyObject *values);
+PyObject *blocks_cut_method(Blocks *self, PyObject *const *given, Py_ssize_t count);
+
+/* ---- held.c: the same of all */
 int held_add(PyObject *self, PyObject *item, PyObject *members);
 Py_ssize_t held_bisect(PyObject *self, PyObject *value, int right);
 PyObject *held_item(PyObject *self, Py_ssize_t position);
@@ -194,12 +274,16 @@ void read_part(PyObject *owner, size_t from, size_t size, Part *part);
 PyObject *walk_new(PyObject *owner, size_t first, size_t past, int reverse);
 /* The items at the positions from `first` and before `past`, as a list. */
 PyObject *chunk_of(PyObject *owner, size_t first, size_t past);
-/* The methods `walk` and `chunk` of both. */
+/* Reads two positions, `first` and `past`, that are not negative; 0 with an error. */
+int two_positions(PyObject *const *given, Py_ssize_t count, size_t *first, size_t *past);
+/* The methods `walk` and `chunk` of all. */
 PyObject *walk_method(PyObject *self, PyObject *const *given, Py_ssize_t count);
 PyObject *chunk_method(PyObject *self, PyObject *const *given, Py_ssize_t count);
 
 /* ---- front.c */
 /* Whether an object can be what orders items; else an error says so. */
 int is_order(PyObject *order);
+/* Whether it has no items and takes any: then the class finds their kind. */
+int is_fresh(PyObject *order);
 
 #endif

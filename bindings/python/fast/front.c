@@ -88,6 +88,8 @@ static int add_number(Numbers *order, PyObject *members, PyObject *value) {
     return state == 1 ? joined(members, value, numbers_add(order, value)) : state;
 }
 
+int is_fresh(PyObject *order) { return Py_TYPE(order) != &NumbersType && IS_BLOCKS(order) && ((Blocks *)order)->length == 0; }
+
 /* `_add` of the class finds the kind, and keeps apart what is equal. */
 static PyObject *add(Front *self, PyObject *value) {
     if (!is_made(self))
@@ -97,7 +99,7 @@ static PyObject *add(Front *self, PyObject *value) {
     Py_INCREF(order);
     Py_XINCREF(members);
     int is_numbers = Py_TYPE(order) == &NumbersType, may_repeat = members == NULL;
-    int state = is_numbers ? add_number((Numbers *)order, members, value) : held_add(order, value, members);
+    int state = is_fresh(order) ? NOT_OWN : is_numbers ? add_number((Numbers *)order, members, value) : held_add(order, value, members);
     Py_DECREF(order);
     Py_XDECREF(members);
     if (state == NOT_OWN || (state == 0 && may_repeat))
@@ -135,9 +137,10 @@ static PyObject *bisect_left(Front *self, PyObject *value) { return bisect(self,
 static PyObject *bisect_right(Front *self, PyObject *value) { return bisect(self, value, 1); }
 
 int is_order(PyObject *order) {
-    if (order != NULL && (Py_TYPE(order) == &NumbersType || PyObject_TypeCheck(order, &CodedType) || PyObject_TypeCheck(order, &MultiType)))
+    if (order != NULL && (Py_TYPE(order) == &NumbersType || PyObject_TypeCheck(order, &CodedType) || PyObject_TypeCheck(order, &MultiType) ||
+                          PyObject_TypeCheck(order, &BlocksType)))
         return 1;
-    PyErr_SetString(PyExc_TypeError, "an order is Numbers, a Coded or a Multi");
+    PyErr_SetString(PyExc_TypeError, "an order is Numbers, a Coded, a Multi or Blocks");
     return 0;
 }
 

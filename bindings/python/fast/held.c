@@ -1,18 +1,24 @@
-/* What both collections of objects share: calls on one item, by the kind's own type here, and else by a method of
+/* What the collections of objects share: calls on one item, by the kind's own type here, and else by a method of
  * the class. */
 #include "fast.h"
 
 /* ---- one item, where its sort key is of the kind's own type */
 
 int held_add(PyObject *self, PyObject *item, PyObject *members) {
+    if (IS_BLOCKS(self))
+        return blocks_add((Blocks *)self, item, members);
     return IS_MULTI(self) ? multi_add((Multi *)self, item, members) : own_add((Coded *)self, item, members);
 }
 
 Py_ssize_t held_bisect(PyObject *self, PyObject *value, int right) {
+    if (IS_BLOCKS(self))
+        return blocks_bisect((Blocks *)self, value, right);
     return IS_MULTI(self) ? multi_bisect((Multi *)self, value, right) : own_bisect((Coded *)self, value, right);
 }
 
 PyObject *held_item(PyObject *self, Py_ssize_t position) {
+    if (IS_BLOCKS(self))
+        return blocks_item((Blocks *)self, position);
     return IS_MULTI(self) ? multi_item((Multi *)self, position) : coded_item((Coded *)self, position);
 }
 
@@ -33,14 +39,18 @@ static PyObject *truth(int state) { return state < 0 ? NULL : PyBool_FromLong(st
 PyObject *add_method(PyObject *self, PyObject *item) { return truth(asked(self, names.add, item, held_add(self, item, NULL))); }
 
 int held_discard(PyObject *self, PyObject *value) {
-    int state = IS_MULTI(self) ? multi_discard((Multi *)self, value) : own_discard((Coded *)self, value);
+    int state = IS_BLOCKS(self)  ? blocks_discard((Blocks *)self, value)
+                : IS_MULTI(self) ? multi_discard((Multi *)self, value)
+                                 : own_discard((Coded *)self, value);
     return asked(self, names.discard, value, state);
 }
 
 PyObject *discard_method(PyObject *self, PyObject *value) { return truth(held_discard(self, value)); }
 
 int held_contains(PyObject *self, PyObject *value) {
-    int state = IS_MULTI(self) ? multi_contains((Multi *)self, value) : own_contains((Coded *)self, value);
+    int state = IS_BLOCKS(self)  ? blocks_contains((Blocks *)self, value)
+                : IS_MULTI(self) ? multi_contains((Multi *)self, value)
+                                 : own_contains((Coded *)self, value);
     return asked(self, names.contains, value, state);
 }
 
@@ -58,7 +68,9 @@ PyObject *bisect_method(PyObject *self, PyObject *const *given, Py_ssize_t count
 
 PyObject *own_span_method(PyObject *self, PyObject *key) {
     size_t first, past;
-    int state = IS_MULTI(self) ? multi_places((Multi *)self, key, &first, &past) : own_places((Coded *)self, key, &first, &past);
+    int state = IS_BLOCKS(self)  ? blocks_places((Blocks *)self, key, &first, &past)
+                : IS_MULTI(self) ? multi_places((Multi *)self, key, &first, &past)
+                                 : own_places((Coded *)self, key, &first, &past);
     if (state == NOT_OWN)
         Py_RETURN_NONE;
     return state == -1 ? NULL : Py_BuildValue("nn", (Py_ssize_t)first, (Py_ssize_t)past);

@@ -12,7 +12,7 @@ static struct PyModuleDef module = {
 };
 
 static int make_names(void) {
-    const char *texts[] = {"_add", "_bisect", "bound", "code", "codes_of", "_contains", "_discard", "find", "flipped", "_order_keys", "_slice"};
+    const char *texts[] = {"_add", "_bisect", "bound", "code", "codes_of", "_contains", "_discard", "find", "flipped", "_order_keys", "_placed", "_settled", "_slice"};
     PyObject **places = (PyObject **)&names;
     for (size_t i = 0; i < sizeof names / sizeof *places; i++)
         if ((places[i] = PyUnicode_InternFromString(texts[i])) == NULL)
@@ -21,8 +21,8 @@ static int make_names(void) {
 }
 
 static int add_types(PyObject *made) {
-    PyTypeObject *types[] = {&NumbersType, &CodedType, &MultiType, &FrontType, &DictFrontType};
-    const char *names[] = {"Numbers", "Coded", "Multi", "Front", "DictFront"};
+    PyTypeObject *types[] = {&NumbersType, &CodedType, &MultiType, &BlocksType, &FrontType, &DictFrontType};
+    const char *names[] = {"Numbers", "Coded", "Multi", "Blocks", "Front", "DictFront"};
     DictFrontType.tp_base = &PyDict_Type;
     DictFrontType.tp_as_mapping->mp_subscript = PyDict_Type.tp_as_mapping->mp_subscript;
     if (PyType_Ready(&WalkType) < 0)

@@ -1,4 +1,4 @@
-/* Walks over positions, and what the methods of both collections share. */
+/* Walks over positions, and what the methods of the collections share. */
 #include "fast.h"
 
 /* How many objects are fetched before they are handed out. */
@@ -12,16 +12,22 @@
 size_t length_of(PyObject *owner) {
     if (Py_TYPE(owner) == &NumbersType)
         return indexset_map_len(&((Numbers *)owner)->map);
+    if (IS_BLOCKS(owner))
+        return ((Blocks *)owner)->length;
     return (size_t)(IS_MULTI(owner) ? multi_length((Multi *)owner) : coded_length((Coded *)owner));
 }
 
 /* Makes the changes that are noted; 0 with an error. */
 static int is_ready(PyObject *owner) {
-    return Py_TYPE(owner) == &NumbersType || IS_MULTI(owner) || coded_map((Coded *)owner) != NULL;
+    return Py_TYPE(owner) == &NumbersType || IS_MULTI(owner) || IS_BLOCKS(owner) || coded_map((Coded *)owner) != NULL;
 }
 
 /* Where the objects lie is known by then, so that some of them are fetched side by side, and each later one as one so
  * many before it is handed out. */
+static size_t read_blocks(PyObject *owner, size_t from, size_t size, Part *part) {
+    return blocks_read((Blocks *)owner, from, 0, (PyObject **)part->objects, size);
+}
+
 static inline void fetch(const Part *part, size_t i) {
     if (i < part->count)
         __builtin_prefetch(OBJECT(part->objects[i]), 1);
@@ -36,6 +42,8 @@ static inline void fetch_first(const Part *part) {
 void read_part(PyObject *owner, size_t from, size_t size, Part *part) {
     if (Py_TYPE(owner) == &NumbersType)
         part->count = indexset_map_range_by_position(&((Numbers *)owner)->map, from, part->codes, size, part->objects, size);
+    else if (IS_BLOCKS(owner))
+        part->count = read_blocks(owner, from, size, part);
     else if (IS_MULTI(owner))
         part->count = indexset_multi_range_by_position(&((Multi *)owner)->pairs, from, part->codes, size, part->objects, size);
     else
@@ -58,6 +66,8 @@ static indexset_cursor cursor_at(PyObject *owner, size_t position) {
 static void read_on(PyObject *owner, indexset_cursor *cursor, size_t from, size_t size, Part *part) {
     if (Py_TYPE(owner) == &NumbersType)
         part->count = indexset_map_cursor_next(&((Numbers *)owner)->map, cursor, part->codes, size, part->objects, size);
+    else if (IS_BLOCKS(owner))
+        part->count = read_blocks(owner, from, size, part);
     else if (IS_MULTI(owner))
         part->count = indexset_multi_cursor_next(&((Multi *)owner)->pairs, cursor, part->codes, size, part->objects, size);
     else
@@ -114,8 +124,7 @@ PyObject *chunk_of(PyObject *owner, size_t first, size_t past) {
     return made;
 }
 
-/* Reads two positions, `first` and `past`, that are not negative. */
-static int two_positions(PyObject *const *given, Py_ssize_t count, size_t *first, size_t *past) {
+int two_positions(PyObject *const *given, Py_ssize_t count, size_t *first, size_t *past) {
     if (count < 2) {
         PyErr_SetString(PyExc_TypeError, "two positions are needed");
         return 0;
@@ -148,7 +157,7 @@ PyObject *walk_method(PyObject *self, PyObject *const *given, Py_ssize_t count) 
 
 typedef struct {
     PyObject_HEAD
-    PyObject *owner; /* Numbers, Coded or Multi; NULL at the end */
+    PyObject *owner; /* Numbers, Coded, Multi or Blocks; NULL at the end */
     size_t first, past;
     unsigned long long *counter, changes; /* of the owner, now and at the start */
     int reverse;

@@ -3,12 +3,13 @@ from __future__ import annotations
 
 import warnings
 from collections.abc import Mapping
+from itertools import filterfalse
 from reprlib import recursive_repr
 from typing import Any, Callable, Generic, Iterable, Iterator, Literal, Optional, TypeVar, Union, overload
 
 from ._kinds import known
 from ._native import DictFront
-from ._orders import KeyFunction, fitted, order_of
+from ._orders import KeyFunction, Run, fitted, gathered, order_of, settled
 from ._views import SortedItemsView, SortedKeysView, SortedValuesView
 
 K = TypeVar("K")
@@ -118,7 +119,7 @@ class SortedDict(DictFront[K, V], Generic[K, V]):
         """
         if key in self:
             pop = super().pop  # (from here on no memory is asked for once the order has changed)
-            self._order.discard(key)
+            self._settled().discard(key)
             return pop(key)
         if default is _NOT_GIVEN:
             raise KeyError(key)
@@ -126,14 +127,26 @@ class SortedDict(DictFront[K, V], Generic[K, V]):
 
     def _order_keys(self, keys: list[Any]) -> None:
         """Orders keys that come, by a kind that takes them; none where one does not fit."""
-        order = self._order if self._named else fitted(self._order, keys, self.key, False)
-        if len(keys) == 1:
-            order.add(keys[0])
-        else:
-            order.take(keys)
+        order = gathered(self._order, keys, self._named, self.key, False)
+        if order is None:
+            order = settled(self._order if self._named else fitted(self._order, keys, self.key, False))
+            if len(keys) == 1:
+                order.add(keys[0])
+            else:
+                order.take(keys)
+        self._become(order)
+
+    def _become(self, order: Any) -> None:
+        """Has another order, which has the keys of the one before and maybe more."""
         if order is not self._order:
             self._order.changed()
             self._order = order
+
+    def _settled(self) -> Any:
+        """What orders the keys, and can be changed."""
+        if isinstance(self._order, Run):
+            self._become(self._order.settled())
+        return self._order
 
     # ---- many keys
 
@@ -144,7 +157,7 @@ class SortedDict(DictFront[K, V], Generic[K, V]):
         SortedDict({1: 'b', 2: 'c'})
         """
         entries = dict(*given, **words)
-        fresh = [key for key in entries if key not in self]
+        fresh = list(filterfalse(self.__contains__, entries) if dict.__len__(self) else entries)
         if fresh:
             self._order_keys(fresh)
         try:
@@ -152,7 +165,7 @@ class SortedDict(DictFront[K, V], Generic[K, V]):
         except BaseException:
             for key in fresh:
                 if key not in self:
-                    self._order.discard(key)
+                    self._settled().discard(key)
             raise
 
     def get_all(self, keys: Iterable[Any], default: Any = None) -> list[Any]:
@@ -190,7 +203,7 @@ class SortedDict(DictFront[K, V], Generic[K, V]):
             raise KeyError("popitem(): dictionary is empty")
         key = self._order[index]
         pair, pop = (key, self[key]), super().pop
-        self._order.pop(index)
+        self._settled().pop(index)
         pop(key)
         return pair
 
@@ -309,7 +322,7 @@ class SortedDict(DictFront[K, V], Generic[K, V]):
         """A dictionary of the same keys and values, in a time that grows with their number."""
         made = self._empty()
         made._order = self._order.clone()
-        super(SortedDict, made).update(dict.items(self))
+        super(SortedDict, made).update(dict.copy(self))
         return made
 
     def _empty(self) -> Any:

@@ -7,7 +7,7 @@ from typing import Any, Callable, Generic, Iterable, Literal, Optional, TypeVar,
 
 from ._kinds import items_of
 from ._native import Numbers
-from ._orders import order_of, repeating
+from ._orders import Run, order_of, repeating
 from ._sorted import OWN_INITS, Sorted
 
 T = TypeVar("T")
@@ -86,7 +86,10 @@ class SortedList(Sorted[T], MutableSequence[T], Generic[T]):
         self._become(order)
 
     def _discard(self, value: Any) -> bool:
-        found: bool = len(self._order) > 0 and self._order.discard(value)
+        order = self._order
+        if not len(order) or (isinstance(order, Run) and order.find(value) < 0):
+            return False
+        found: bool = self._settled().discard(value)
         return found
 
     def remove(self, value: Any) -> None:
@@ -128,6 +131,10 @@ class SortedList(Sorted[T], MutableSequence[T], Generic[T]):
 
     def _fill(self, items: Iterable[T]) -> None:
         given = items_of(items)
+        gathered = self._gathered(self._order, given)
+        if gathered is not None:
+            self._become(gathered)
+            return
         order = self._fitting(given)
         if isinstance(order, Numbers) and self._repeat(given, order):
             order = repeating(order)
@@ -142,9 +149,7 @@ class SortedList(Sorted[T], MutableSequence[T], Generic[T]):
 
     def __add__(self, other: Iterable[T]) -> Any:
         """A list of the items of both."""
-        made = self.copy()
-        made.update(list(other))
-        return made
+        return self._made(list(self) + items_of(other))
 
     __radd__ = __add__
 
@@ -159,9 +164,9 @@ class SortedList(Sorted[T], MutableSequence[T], Generic[T]):
     __rmul__ = __mul__
 
     def __imul__(self, count: int) -> Any:
-        items = list(self) * count
+        made = list(self) * count
         self.clear()
-        self.update(items)
+        self.update(made)
         return self
 
     # ---- what a sorted list cannot do

@@ -5,6 +5,7 @@ import os
 from typing import TYPE_CHECKING, Generic, TypeVar
 
 if TYPE_CHECKING:
+    from ._blocks import Blocks
     from ._front import DictFront, Front
     from ._held import Coded, Held, Multi
     from ._pure import BACKEND, Numbers
@@ -12,16 +13,17 @@ else:
     try:
         if os.environ.get("INDEXSET_BACKEND") == "ctypes":
             raise ImportError
-        from ._fast import BACKEND, Coded, DictFront, Front, Multi, Numbers
+        from ._fast import BACKEND, Blocks, Coded, DictFront, Front, Multi, Numbers
 
         class Held(Generic[TypeVar("T")]):
-            """What Coded and Multi share, which each has in C."""
+            """What Blocks, Coded and Multi share, which each has in C."""
 
             __slots__ = ()
 
     except ImportError:
+        from ._blocks import Blocks
         from ._front import DictFront, Front
         from ._held import Coded, Held, Multi
         from ._pure import BACKEND, Numbers
 
-__all__ = ["BACKEND", "Coded", "DictFront", "Front", "Held", "Multi", "Numbers"]
+__all__ = ["BACKEND", "Blocks", "Coded", "DictFront", "Front", "Held", "Multi", "Numbers"]

@@ -2,10 +2,10 @@
 from __future__ import annotations
 
 from itertools import product
-from typing import Any, Callable, Iterable, Iterator, Optional, TypeVar, Union
+from typing import TYPE_CHECKING, Any, Callable, Iterable, Iterator, Optional, TypeVar, Union
 
 from ._kinds import ALL, BYTES, NUMBERS, OBJECT, TOP, real, whole
-from ._native import Coded, Held, Multi, Numbers
+from ._native import BACKEND, Blocks, Coded, Held, Multi, Numbers
 
 T = TypeVar("T")
 KeyFunction = Optional[Callable[[Any], Any]]
@@ -110,8 +110,6 @@ class Keyed(Held[T]):
 
     def _sorted(self, items: Iterable[T]) -> list[T]:
         """Items in order, where they can be sorted so: they come in the quicker for it."""
-        if self.kind == OBJECT:
-            return sorted(items, key=self.sort_key)
         found = list(items)
         try:
             return found if self.kind == "any" else sorted(found, key=self.sort_key)
@@ -126,7 +124,35 @@ class Keyed(Held[T]):
                 return
 
 
-class Repeated(Keyed[T], Multi[T]):
+class Spanned(Keyed[T]):
+    """Objects whose sort keys are all of the own type of a kind."""
+
+    __slots__ = ()
+
+    def _span(self, key: Any) -> tuple[int, int]:
+        """The positions of a sort key."""
+        raise NotImplementedError
+
+    def place(self, key: Any, right: bool) -> int:
+        return self._span(key)[right]
+
+    def _placed(self, key: Any, right: bool) -> int:
+        return self._span(key)[right]
+
+    def matches(self, item: Any) -> Iterator[int]:
+        return iter(range(*self._span(self.sort_key(item))))
+
+    def count(self, value: Any) -> int:
+        if self.key is not None:
+            return super().count(value)
+        try:
+            first, past = self._span(value)
+        except _UNFIT:
+            return 0
+        return past - first if first < past and self[first] == value else 0
+
+
+class Repeated(Spanned[T], Multi[T]):
     """Objects whose sort keys are numbers of a kind. Those of one sort key are told apart by their positions alone,
     so that no call is the dearer for them but one that compares the objects."""
 
@@ -146,31 +172,8 @@ class Repeated(Keyed[T], Multi[T]):
         return True
 
     def _span(self, key: Any) -> tuple[int, int]:
-        """The positions of a sort key."""
         span = self.own_span(key)
-        if span is not None:
-            return span
-        code, exact = self._kind.bound(key)
-        first = self._below(code)
-        return first, self._below(code + 1) if exact else first
-
-    def _below(self, code: int) -> int:
-        return self.rank(code) if code <= ALL else len(self)
-
-    def place(self, key: Any, right: bool) -> int:
-        return self._span(key)[right]
-
-    def matches(self, item: Any) -> Iterator[int]:
-        return iter(range(*self._span(self.sort_key(item))))
-
-    def count(self, value: Any) -> int:
-        if self.key is not None:
-            return super().count(value)
-        try:
-            first, past = self._span(value)
-        except _UNFIT:
-            return 0
-        return past - first if first < past and self[first] == value else 0
+        return _number_span(self, self.rank, key) if span is None else span
 
     def _drop(self, item: T) -> None:
         """It is the last of its sort key, or near it."""
@@ -179,6 +182,63 @@ class Repeated(Keyed[T], Multi[T]):
             if self[position] is item:
                 self.pop(position)
                 return
+
+
+def _number_span(order: Union[Repeated[Any], Run[Any]], below: Callable[[int], int], key: Any) -> tuple[int, int]:
+    """The positions of a sort key that is a number of another type, by how many have codes below one."""
+    code, exact = NUMBERS[order.kind].bound(key)
+    first = below(code) if code <= ALL else len(order)
+    if not exact:
+        return first, first
+    return first, below(code + 1) if code < ALL else len(order)
+
+
+class Run(Blocks[T], Spanned[T]):
+    """Objects that came at once, whose sort keys are of the own type of a kind. They are only read: another order has
+    them once there is a change."""
+
+    __slots__ = ("kind", "_repeats")
+
+    if TYPE_CHECKING:  # (of the compiled module alone)
+
+        def are_distinct(self) -> bool: ...
+        def below(self, code: int) -> int: ...
+        def fill(self, items: list[Any]) -> bool: ...
+
+    # Of `Blocks` what goes by the kind's own type, and else what `Keyed` has.
+    find = Keyed.find
+    find_from = Keyed.find_from
+    count = Spanned.count
+
+    def __init__(self, kind: str, key: KeyFunction, repeats: bool) -> None:
+        super().__init__(kind, key)
+        self.kind, self._repeats = kind, repeats
+
+    def clone(self) -> Run[T]:
+        made = Run[T](self.kind, self.key, self._repeats)
+        made.copied(self)
+        return made
+
+    def _span(self, key: Any) -> tuple[int, int]:
+        span = self.own_span(key)
+        if span is not None:
+            return span
+        if self.kind in NUMBERS:
+            return _number_span(self, self.below, key)
+        raw: bytes = BYTES[self.kind].raw(key)
+        return self.own_span(raw if self.kind == "bytes" else raw.decode("utf-8", "surrogatepass"))
+
+    def settled(self) -> Order:
+        """What has the same items and takes others."""
+        items = self.chunk(0, len(self))
+        if self.kind not in NUMBERS:
+            made: Order = Encoded[Any](self.kind, self.key, self._repeats or self.key is not None)
+        elif self.key is None and self.are_distinct():
+            made = Numbers(self.kind)
+        else:
+            made = Repeated[Any](self.kind, self.key)
+        made.take(items)
+        return made
 
 
 class Encoded(Keyed[T], Coded[T]):
@@ -234,14 +294,13 @@ class Encoded(Keyed[T], Coded[T]):
             yield from range(first, past)
 
 
-class Compared(Keyed[T], Coded[T]):
-    """Objects whose sort keys are compared by `<`. A label of 64 bits keeps the place of each: a new one is
-    between those of its neighbours, and where there is none, labels around it are spread out."""
+class Compared(Blocks[T], Keyed[T]):
+    """Objects whose sort keys are compared by `<`."""
 
     __slots__ = ("kind",)
 
     def __init__(self, key: KeyFunction) -> None:
-        super().__init__(OBJECT, key, True)
+        super().__init__(OBJECT, key)
         self.kind = OBJECT
 
     def clone(self) -> Compared[T]:
@@ -249,53 +308,8 @@ class Compared(Keyed[T], Coded[T]):
         made.copied(self)
         return made
 
-    def place(self, key: Any, right: bool) -> int:
-        low, high, changes = 0, len(self), self.changes
-        while low < high:
-            middle = (low + high) // 2
-            other = self.sort_key(self[middle])
-            if (key < other) if right else not (other < key):
-                high = middle
-            else:
-                low = middle + 1
-            if self.changes != changes:
-                raise RuntimeError("it changed during a comparison")
-        return low
-
     def matches(self, item: Any) -> Iterator[int]:
-        key = self.sort_key(item)
-        for position in range(self.place(key, False), len(self)):
-            if key < self.sort_key(self[position]):
-                return
-            yield position
-
-    def _add(self, item: T) -> bool:
-        position = self.bisect(item, True)
-        low, high = self._labels(position)
-        if high - low < 2:
-            self._spread(low)
-            low, high = self._labels(position)
-        last = position == len(self)
-        self.insert((min(low + (1 << 32), (low + high) // 2) if last else (low + high) // 2).to_bytes(8, "big"), item)
-        return True
-
-    def _labels(self, position: int) -> tuple[int, int]:
-        """The labels on both sides of a position."""
-        low = int.from_bytes(self.code(position - 1), "big") if position else 0
-        return low, int.from_bytes(self.code(position), "big") if position < len(self) else ALL + 1
-
-    def _spread(self, label: int) -> None:
-        """Spreads the labels of the least range around a label that has few for its size."""
-        bits, low, first, past = 3, 0, 0, len(self)
-        while bits < 64 and (bits == 3 or past - first >= (2 / 1.3) ** bits):
-            bits += 1
-            low, high = label >> bits << bits, (label >> bits) + 1 << bits
-            first = self.rank(low.to_bytes(8, "big"))
-            past = self.rank(high.to_bytes(8, "big")) if high <= ALL else len(self)
-        items = [self.pop(first) for _ in range(first, past)]
-        step = (1 << bits) // (len(items) + 1)
-        for at, item in enumerate(items, 1):
-            self.insert((low + step * at).to_bytes(8, "big"), item)
+        return iter(range(*self.own_span(self.sort_key(item))))
 
 
 def order_of(kind: str, key: KeyFunction, repeats: bool) -> Order:
@@ -315,16 +329,25 @@ def repeating(order: Numbers) -> Order:
 
 
 _EXACT: dict[Any, str] = {int: "int64", float: "float64", str: "str", bytes: "bytes"}
+_OWN = frozenset([*NUMBERS, "str", "bytes"])
+# From how many that come on, beside so many, all are sorted at once.
+_PART = 4
 
 
 def kind_of(keys: list[Any]) -> str:
     """The kind that is found for sort keys: it orders them as Python does. Those of a class below int, float, str or
     bytes may have another order, and come back as they are."""
-    kinds = {_EXACT.get(found, OBJECT) for found in set(map(type, keys))}
-    kind = kinds.pop() if len(kinds) == 1 else OBJECT
+    kind = _EXACT.get(type(keys[0]), OBJECT)
+    if kind == OBJECT or len(set(map(type, keys))) > 1:
+        return OBJECT
     if kind == "int64" and not (-TOP <= min(keys) and max(keys) < TOP):
         return OBJECT
     return kind
+
+
+def settled(order: Order) -> Order:
+    """An order that takes other items: another one where there was a run."""
+    return order.settled() if isinstance(order, Run) else order
 
 
 def fitted(order: Order, items: list[Any], key: KeyFunction, repeats: bool) -> Order:
@@ -334,9 +357,20 @@ def fitted(order: Order, items: list[Any], key: KeyFunction, repeats: bool) -> O
         return order
     kind = kind_of(items if key is None else [key(item) for item in items])
     if kind == order.kind:
-        return order
+        return settled(order)
     if not len(order):
         return order_of(kind, key, repeats)
     made = order_of(OBJECT, key, repeats)
     made.take(order.chunk(0, len(order)))
     return made
+
+
+def gathered(order: Order, items: list[Any], named: Optional[str], key: KeyFunction, repeats: bool) -> Optional[Order]:
+    """A run of the items of an order and of others that come, where these are many, and all are of a kind's own type."""
+    if BACKEND != "extension" or not items or len(items) * _PART < len(order):
+        return None
+    kind = named or _EXACT.get(type(items[0] if key is None else key(items[0])), OBJECT)
+    if kind not in _OWN or (len(order) and order.kind != kind):
+        return None
+    made = Run[Any](kind, key, repeats)
+    return made if made.fill(order.chunk(0, len(order)) + items) else None

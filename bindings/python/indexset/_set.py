@@ -3,7 +3,7 @@ from __future__ import annotations
 
 from array import array
 from collections.abc import MutableSet, Set
-from itertools import chain
+from itertools import chain, filterfalse
 from typing import Any, Callable, Generic, Iterable, Literal, Optional, TypeVar, overload
 
 from ._kinds import items_of
@@ -92,7 +92,7 @@ class SortedSet(Sorted[T], MutableSet[T], Generic[T]):
     def _discard(self, value: Any) -> bool:
         if value not in self._members:
             return False
-        self._order.discard(value)
+        self._settled().discard(value)
         self._members.discard(value)
         return True
 
@@ -112,7 +112,7 @@ class SortedSet(Sorted[T], MutableSet[T], Generic[T]):
         >>> numbers = SortedSet([1, 2, 3]); numbers.pop(), numbers.pop(0)
         (3, 1)
         """
-        value: T = self._order.pop(index)
+        value = super().pop(index)
         self._members.discard(value)
         return value
 
@@ -137,20 +137,26 @@ class SortedSet(Sorted[T], MutableSet[T], Generic[T]):
     def _fill(self, items: Iterable[T]) -> None:
         given, members = items_of(items), self._members
         if members:
-            given = [item for item in given if item not in members]
-        order = self._fitting(given)
-        given = order.own(given)
+            given = list(filterfalse(members.__contains__, given))
         found = set(given)
         fresh = given if len(found) == len(given) else list(dict.fromkeys(given))
+        order = self._gathered(self._order, fresh)
+        if order is None:
+            order = self._fitting(fresh)
+            fresh = order.own(fresh)
+            found = set(fresh)
+            take = order.take
+        else:
+            take = list  # (they are there)
         if members:
             try:
                 members.update(found)
-                order.take(fresh)
+                take(fresh)
             except BaseException:
                 members.difference_update(found)
                 raise
         else:
-            order.take(fresh)
+            take(fresh)
             self._members = found
         self._become(order)
 
@@ -197,8 +203,10 @@ class SortedSet(Sorted[T], MutableSet[T], Generic[T]):
         >>> SortedSet([1, 2, 3]) & [3, 4, 1]
         SortedSet([1, 3])
         """
-        others = [_asked(iterable) for iterable in iterables]
-        return self._made([item for item in self if all(item in other for other in others)])
+        kept = list(self)
+        for iterable in iterables:
+            kept = list(filter(_asked(iterable).__contains__, kept))
+        return self._made(kept)
 
     def intersection_update(self, *iterables: Iterable[Any]) -> SortedSet[T]:
         """Keeps the items that each iterable has too."""
@@ -210,14 +218,16 @@ class SortedSet(Sorted[T], MutableSet[T], Generic[T]):
         >>> SortedSet([1, 2, 3]) - [2]
         SortedSet([1, 3])
         """
-        others = set(chain.from_iterable(iterables))
-        return self._made([item for item in self if item not in others])
+        kept = list(self)
+        for iterable in iterables:
+            kept = list(filterfalse(_asked(iterable).__contains__, kept))
+        return self._made(kept)
 
     def difference_update(self, *iterables: Iterable[Any]) -> SortedSet[T]:
         """Removes the items that an iterable has."""
         others = set(chain.from_iterable(iterables))
         if len(others) * 4 > len(self):
-            return self._take_over(self._made([item for item in self if item not in others]))
+            return self._take_over(self._made(list(filterfalse(others.__contains__, self))))
         for value in others:
             self._discard(value)
         return self
@@ -229,8 +239,8 @@ class SortedSet(Sorted[T], MutableSet[T], Generic[T]):
         SortedSet([1, 3])
         """
         others = dict.fromkeys(iterable)
-        made = self._made([item for item in self if item not in others])
-        return made.update([item for item in others if item not in self])
+        kept = list(filterfalse(others.__contains__, self))
+        return self._made(kept + list(filterfalse(self._members.__contains__, others)))
 
     def symmetric_difference_update(self, iterable: Iterable[Any]) -> SortedSet[T]:
         """Keeps what stands in one of the two alone."""
@@ -245,15 +255,15 @@ class SortedSet(Sorted[T], MutableSet[T], Generic[T]):
     def issubset(self, iterable: Iterable[Any]) -> bool:
         """Whether an iterable has each item."""
         other = _asked(iterable)
-        return len(self) <= len(other) and all(value in other for value in self)
+        return len(self) <= len(other) and all(map(other.__contains__, self._members))
 
     def issuperset(self, iterable: Iterable[Any]) -> bool:
         """Whether each item of an iterable is here."""
-        return all(value in self for value in iterable)
+        return all(map(self.__contains__, iterable))
 
     def isdisjoint(self, iterable: Iterable[Any]) -> bool:
         """Whether no item of an iterable is here."""
-        return not any(value in self for value in iterable)
+        return not any(map(self.__contains__, iterable))
 
     __or__ = __ror__ = union
     __ior__ = update
@@ -265,7 +275,7 @@ class SortedSet(Sorted[T], MutableSet[T], Generic[T]):
     __ixor__ = symmetric_difference_update
 
     def __rsub__(self, other: Iterable[Any]) -> Any:
-        return self._made([item for item in other if item not in self])
+        return self._made(list(filterfalse(self._members.__contains__, other)))
 
     def __eq__(self, other: Any) -> bool:
         if not isinstance(other, Set):
@@ -278,4 +288,6 @@ OWN_INITS.add(SortedSet.__init__)
 
 def _asked(iterable: Iterable[Any]) -> Any:
     """What can be asked for items quickly."""
+    if isinstance(iterable, SortedSet):
+        return iterable._members
     return iterable if isinstance(iterable, (Set, dict)) else set(iterable)

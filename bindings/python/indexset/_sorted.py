@@ -7,11 +7,13 @@ from typing import Any, Callable, Generic, Iterable, Iterator, Optional, TypeVar
 
 from ._kinds import known
 from ._native import Front, Numbers
-from ._orders import KeyFunction, Order, Repeated, fitted, order_of
+from ._orders import Compared, KeyFunction, Order, Repeated, Run, fitted, gathered, order_of, settled
 
 T = TypeVar("T")
 # The methods `__init__` of the package's own classes.
 OWN_INITS: set[Any] = set()
+# From how many items that go on, beside so many, the others are gathered anew.
+_PART = 8
 
 
 class Sorted(Front[T], Sequence[T], Generic[T]):
@@ -43,7 +45,18 @@ class Sorted(Front[T], Sequence[T], Generic[T]):
 
     def _fitting(self, items: list[Any]) -> Any:
         """What orders the items here once others come: where no kind was named, it may be another than now."""
-        return self._order if self._named else fitted(self._order, items, self.key, self._repeats)
+        return settled(self._order if self._named else fitted(self._order, items, self.key, self._repeats))
+
+    def _gathered(self, order: Order, items: list[Any]) -> Optional[Order]:
+        """A run of the items of an order and of others, where these are many and fit."""
+        return gathered(order, items, self._named, self.key, self._repeats)
+
+    def _settled(self) -> Any:
+        """What orders the items, and can be changed."""
+        order = self._order
+        if isinstance(order, Run):
+            self._become(order.settled())
+        return self._order
 
     def _become(self, order: Order) -> None:
         """Has another order, which has the items of the one before and maybe more."""
@@ -69,8 +82,39 @@ class Sorted(Front[T], Sequence[T], Generic[T]):
         if not isinstance(position, slice):
             self.pop(position)
             return
-        for at in sorted(range(*position.indices(len(self))), reverse=True):
-            self.pop(at)
+        at = range(*position.indices(len(self)))
+        if at and abs(at.step) == 1:
+            self._cut(min(at[0], at[-1]), max(at[0], at[-1]) + 1)
+            return
+        for one in sorted(at, reverse=True):
+            self.pop(one)
+
+    def _cut(self, first: int, past: int) -> None:
+        """Removes the items at the positions from `first` and before `past`, at once where they are many."""
+        if past - first == len(self):
+            self.clear()
+            return
+        order, left = self._order, None
+        if not isinstance(order, (Compared, Run)) and (past - first) * _PART >= len(self):
+            rest = order.chunk(0, first) + order.chunk(past, len(self))
+            left = self._gathered(order_of(order.kind, self.key, self._repeats), rest)
+        if left is None and not isinstance(order, (Compared, Run)):
+            for at in range(past - 1, first - 1, -1):
+                self.pop(at)
+            return
+        self._forget(first, past)
+        if left is None:
+            order.cut(first, past)
+        else:
+            self._become(left)
+
+    def _forget(self, first: int, past: int) -> None:
+        """Takes the items at positions out of the set of them, where there is one."""
+        members = self._members
+        if members is not None and 2 * (past - first) < len(self):
+            members.difference_update(self._order.chunk(first, past))
+        elif members is not None:
+            self._members = set(self._order.chunk(0, first) + self._order.chunk(past, len(self)))
 
     def pop(self, index: int = -1) -> T:
         """Removes the item at a position, the last one if none is given, and returns it. IndexError where
@@ -80,7 +124,9 @@ class Sorted(Front[T], Sequence[T], Generic[T]):
         >>> numbers = SortedList([3, 1, 2]); numbers.pop(), numbers.pop(0)
         (3, 1)
         """
-        item: T = self._order.pop(index)
+        if isinstance(self._order, Run):
+            self._order[index]
+        item: T = self._settled().pop(index)
         return item
 
     def index(self, value: Any, start: Optional[int] = None, stop: Optional[int] = None) -> int:
@@ -197,6 +243,10 @@ class Sorted(Front[T], Sequence[T], Generic[T]):
 
     def _fill(self, items: Iterable[T]) -> None:
         """Adds items to what is empty."""
+        raise NotImplementedError
+
+    def clear(self) -> None:
+        """Removes all items."""
         raise NotImplementedError
 
     @recursive_repr("...")

@@ -1,0 +1,153 @@
+/* Many objects that come to blocks or go at once: they are compared first, and then all come, or none with an error. */
+#include "fast.h"
+
+/* From how many that come on, beside so many, all are sorted: the others are put in one by one. */
+#define PART 4
+
+/* The sort keys of the items of a list, as a list; NULL with an error. */
+static PyObject *keys_of(Blocks *self, PyObject *items) {
+    PyObject *made = PyList_New(0);
+    for (Py_ssize_t i = 0; made != NULL && i < PyList_GET_SIZE(items); i++) {
+        PyObject *item = PyList_GET_ITEM(items, i);
+        Py_INCREF(item);
+        PyObject *key = PyObject_CallOneArg(self->key, item);
+        Py_DECREF(item);
+        if (key == NULL || PyList_Append(made, key) < 0)
+            Py_CLEAR(made);
+        Py_XDECREF(key);
+    }
+    return made;
+}
+
+/* The objects here, or their keys, with those of a list behind them. */
+static PyObject *joined_list(Blocks *self, PyObject *more, int of_keys) {
+    PyObject *made = more ? blocks_list(self, 0, self->length, of_keys) : NULL;
+    if (made != NULL && PyList_SetSlice(made, PY_SSIZE_T_MAX, PY_SSIZE_T_MAX, more) < 0)
+        Py_CLEAR(made);
+    return made;
+}
+
+/* Whether the blocks are as they were; else an error says so. */
+static int is_same(Blocks *self, unsigned long long changes) {
+    if (self->changes != changes)
+        PyErr_SetString(PyExc_RuntimeError, "it changed meanwhile");
+    return self->changes == changes;
+}
+
+/* All objects here and those of a list become the objects: 1, or 0 where a key is not of the kind's own type, or -1 with an
+ * error. */
+static int fill(Blocks *self, PyObject *values, PyObject *more_keys) {
+    unsigned long long changes = self->changes;
+    int has_keys = self->key != NULL;
+    PyObject *items = joined_list(self, values, 0), *keys = has_keys && items ? joined_list(self, more_keys, 1) : NULL;
+    int state = items && (keys || !has_keys) ? blocks_sort(self->by, items, keys) : -1;
+    if (state == 1)
+        state = is_same(self, changes)
+                    ? blocks_fill(self, PySequence_Fast_ITEMS(items), keys ? PySequence_Fast_ITEMS(keys) : NULL, (size_t)PyList_GET_SIZE(items))
+                    : -1;
+    Py_XDECREF(items);
+    Py_XDECREF(keys);
+    return state;
+}
+
+/* ---- a few beside many */
+
+/* Writes the positions at which sorted keys have their places: 1, or -1 with an error. */
+static int places_of(Blocks *self, PyObject *keys, size_t *positions) {
+    unsigned long long changes = self->changes;
+    int state = 1;
+    for (Py_ssize_t i = 0; state == 1 && i < PyList_GET_SIZE(keys); i++) {
+        Place place;
+        state = blocks_bound(self, PyList_GET_ITEM(keys, i), 1, &place);
+        if (state == 1)
+            positions[i] = blocks_before(self, place.block) + place.index;
+    }
+    return state == 1 && !is_same(self, changes) ? -1 : state;
+}
+
+static int insert_at(Blocks *self, size_t position, PyObject *item, PyObject *key) {
+    Place place = {0, 0};
+    if (position < self->length)
+        place = blocks_place(self, position);
+    else if (self->count > 0)
+        place = (Place){self->count - 1, self->blocks[self->count - 1].count};
+    return blocks_insert(self, place, item, key);
+}
+
+/* Puts sorted objects at their positions, from the last to the first; where memory is refused, those put go again. */
+static int insert_all(Blocks *self, PyObject *items, PyObject *keys, const size_t *positions) {
+    Py_ssize_t count = PyList_GET_SIZE(items), left = count;
+    while (left > 0 && insert_at(self, positions[left - 1], PyList_GET_ITEM(items, left - 1), PyList_GET_ITEM(keys, left - 1)) == 1)
+        left--;
+    if (left == 0)
+        return 1;
+    for (Py_ssize_t i = count - 1; i >= left; i--) {
+        PyObject *key, *item = blocks_remove(self, blocks_place(self, positions[i] + (size_t)(i - left)), &key);
+        Py_XDECREF(key); /* the lists hold both */
+        Py_DECREF(item);
+    }
+    return -1;
+}
+
+static int insert_list(Blocks *self, PyObject *items, PyObject *keys) {
+    int state = blocks_sort(self->by, items, keys == items ? NULL : keys);
+    size_t *positions = PyMem_Malloc(((size_t)PyList_GET_SIZE(items) + 1) * sizeof *positions);
+    if (positions == NULL) {
+        PyErr_NoMemory();
+        return -1;
+    }
+    if (state == 1)
+        state = places_of(self, keys, positions);
+    if (state == 1)
+        state = insert_all(self, items, keys, positions);
+    PyMem_Free(positions);
+    return state;
+}
+
+static int take(Blocks *self, PyObject *values) {
+    PyObject *items = PySequence_List(values), *keys = items;
+    if (items != NULL && self->key != NULL)
+        keys = keys_of(self, items);
+    else
+        Py_XINCREF(keys);
+    int state = keys == NULL ? -1 : (size_t)PyList_GET_SIZE(items) * PART >= self->length ? fill(self, items, keys) : insert_list(self, items, keys);
+    Py_XDECREF(items);
+    Py_XDECREF(keys);
+    return state;
+}
+
+/* ---- methods */
+
+PyObject *blocks_take_method(Blocks *self, PyObject *values) {
+    if (self->by != OTHER)
+        return PyErr_Format(PyExc_TypeError, "a run takes nothing");
+    if (take(self, values) < 0)
+        return NULL;
+    Py_RETURN_NONE;
+}
+
+PyObject *blocks_fill_method(Blocks *self, PyObject *values) {
+    if (!PyList_CheckExact(values))
+        return PyErr_Format(PyExc_TypeError, "a list is needed");
+    PyObject *keys = self->key ? keys_of(self, values) : NULL;
+    int state = self->key && keys == NULL ? -1 : fill(self, values, keys);
+    Py_XDECREF(keys);
+    return state < 0 ? NULL : PyBool_FromLong(state);
+}
+
+PyObject *blocks_cut_method(Blocks *self, PyObject *const *given, Py_ssize_t count) {
+    size_t first, past;
+    if (!two_positions(given, count, &first, &past))
+        return NULL;
+    unsigned long long changes = self->changes;
+    past = past < self->length ? past : self->length;
+    first = first < past ? first : past;
+    PyObject *items = blocks_list(self, first, past, 0);
+    PyObject *keys = items && self->key ? blocks_list(self, first, past, 1) : NULL;
+    if (items != NULL && (self->key == NULL || keys != NULL) && is_same(self, changes) && first < past)
+        blocks_cut(self, first, past);
+    Py_XDECREF(keys);
+    if (PyErr_Occurred())
+        Py_CLEAR(items);
+    return items;
+}

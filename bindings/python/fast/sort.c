@@ -1,0 +1,144 @@
+/* Many objects in the order of their sort keys: numbers by their codes, others as `list.sort` does it. */
+#include "fast.h"
+
+/* A number that is sorted: its code, and which one it is. */
+typedef struct {
+    uint64_t code;
+    uint64_t at;
+} Ranked;
+
+/* Sorts by one byte of the codes into other room, where not all are the same; tells whether it did. */
+static int pass(const Ranked *from, Ranked *to, size_t count, unsigned shift) {
+    size_t places[256] = {0}, sum = 0;
+    for (size_t i = 0; i < count; i++)
+        places[from[i].code >> shift & 255]++;
+    if (places[from[0].code >> shift & 255] == count)
+        return 0;
+    for (size_t i = 0; i < 256; i++) {
+        size_t size = places[i];
+        places[i] = sum;
+        sum += size;
+    }
+    for (size_t i = 0; i < count; i++)
+        to[places[from[i].code >> shift & 255]++] = from[i];
+    return 1;
+}
+
+/* So many are moved one by one. */
+#define SOME 48
+
+static Ranked *insertion_sort(Ranked *items, size_t count) {
+    for (size_t i = 1; i < count; i++) {
+        Ranked item = items[i];
+        size_t at = i;
+        for (; at > 0 && items[at - 1].code > item.code; at--)
+            items[at] = items[at - 1];
+        items[at] = item;
+    }
+    return items;
+}
+
+/* The same by all bytes, from the last to the first: what is equal stays in its order. */
+static Ranked *radix_sort(Ranked *items, Ranked *room, size_t count) {
+    if (count <= SOME)
+        return insertion_sort(items, count);
+    for (unsigned shift = 0; shift < 64; shift += 8)
+        if (pass(items, room, count, shift)) {
+            Ranked *sorted = room;
+            room = items;
+            items = sorted;
+        }
+    return items;
+}
+
+/* Has the objects of a list in the order of some numbers. */
+static void arrange(PyObject *list, const Ranked *order, size_t count, PyObject **room) {
+    PyObject **items = PySequence_Fast_ITEMS(list);
+    memcpy(room, items, count * sizeof *room);
+    for (size_t i = 0; i < count; i++)
+        items[i] = room[order[i].at];
+}
+
+/* Writes the codes of keys: 2 where they ascend, 1 where they do not, or 0 where one is not of the kind's own type. */
+static int codes_of(enum kind by, PyObject *keys, Ranked *codes, size_t count) {
+    int ascends = 1;
+    for (size_t i = 0; i < count; i++) {
+        codes[i].at = i;
+        if (!number_code(by, PyList_GET_ITEM(keys, i), &codes[i].code))
+            return 0;
+        ascends &= i == 0 || codes[i - 1].code <= codes[i].code;
+    }
+    return 1 + ascends;
+}
+
+static int sort_numbers(enum kind by, PyObject *items, PyObject *keys) {
+    size_t count = (size_t)PyList_GET_SIZE(items);
+    Ranked *codes = PyMem_Malloc((2 * count + 1) * sizeof *codes);
+    if (codes == NULL) {
+        PyErr_NoMemory();
+        return -1;
+    }
+    int state = codes_of(by, keys ? keys : items, codes, count);
+    if (state == 1) {
+        Ranked *order = radix_sort(codes, codes + count, count), *room = order == codes ? codes + count : codes;
+        arrange(items, order, count, (PyObject **)room);
+        if (keys != NULL)
+            arrange(keys, order, count, (PyObject **)room);
+    }
+    PyMem_Free(codes);
+    return state > 0;
+}
+
+/* Has a list sorted by another one, whose items the first has the positions of; both are of Python's own. */
+static int sort_positions(PyObject *positions, PyObject *keys) {
+    PyObject *sort = PyObject_GetAttrString(positions, "sort"), *get = PyObject_GetAttrString(keys, "__getitem__");
+    PyObject *words = sort && get ? Py_BuildValue("{sO}", "key", get) : NULL, *none = words ? PyTuple_New(0) : NULL;
+    PyObject *done = none ? PyObject_Call(sort, none, words) : NULL;
+    Py_XDECREF(sort);
+    Py_XDECREF(get);
+    Py_XDECREF(words);
+    Py_XDECREF(none);
+    Py_XDECREF(done);
+    return done ? 1 : -1;
+}
+
+/* Sorts both lists in the order of the keys, by `<`. */
+static int sort_by_keys(PyObject *items, PyObject *keys) {
+    size_t count = (size_t)PyList_GET_SIZE(items);
+    Ranked *order = PyMem_Malloc((2 * count + 1) * sizeof *order);
+    PyObject *positions = order ? PyList_New((Py_ssize_t)count) : PyErr_NoMemory();
+    for (size_t i = 0; positions != NULL && i < count; i++) {
+        PyObject *position = PyLong_FromSize_t(i);
+        if (position == NULL)
+            Py_CLEAR(positions);
+        else
+            PyList_SET_ITEM(positions, i, position);
+    }
+    int state = positions ? sort_positions(positions, keys) : -1;
+    for (size_t i = 0; state == 1 && i < count; i++)
+        order[i].at = PyLong_AsSize_t(PyList_GET_ITEM(positions, i));
+    if (state == 1) {
+        arrange(items, order, count, (PyObject **)(order + count));
+        arrange(keys, order, count, (PyObject **)(order + count));
+    }
+    Py_XDECREF(positions);
+    PyMem_Free(order);
+    return state;
+}
+
+/* Whether all keys of a list are of the own type of a kind of texts or byte strings. */
+static int are_own(enum kind by, PyObject *keys) {
+    PyTypeObject *type = by == TEXT ? &PyUnicode_Type : &PyBytes_Type;
+    for (Py_ssize_t i = 0; i < PyList_GET_SIZE(keys); i++)
+        if (Py_TYPE(PyList_GET_ITEM(keys, i)) != type)
+            return 0;
+    return 1;
+}
+
+int blocks_sort(enum kind by, PyObject *items, PyObject *keys) {
+    if (by <= FLOAT64)
+        return sort_numbers(by, items, keys);
+    if (by != OTHER && !are_own(by, keys ? keys : items))
+        return 0;
+    return keys ? sort_by_keys(items, keys) : PyList_Sort(items) < 0 ? -1 : 1;
+}
