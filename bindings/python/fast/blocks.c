@@ -2,9 +2,8 @@
  * anything changes. */
 #include "fast.h"
 
-/* The most objects of a block, how many it has where many come at once, and below how many two become one. */
+/* The most objects of a block, and below how many two become one. */
 #define MOST 512
-#define FILLED 384
 #define FEW 96
 
 /* ---- positions: a Fenwick tree over the lengths of the blocks, made anew once their number has changed */
@@ -28,6 +27,8 @@ static void count_in(Blocks *self, size_t block, size_t more) {
 
 size_t blocks_before(Blocks *self, size_t block) {
     size_t sum = 0;
+    if (self->is_even)
+        return block * FILLED;
     if (!self->is_indexed)
         index_blocks(self);
     for (size_t i = block; i > 0; i &= i - 1)
@@ -37,6 +38,8 @@ size_t blocks_before(Blocks *self, size_t block) {
 
 Place blocks_place(Blocks *self, size_t position) {
     size_t block = 0, step = 1;
+    if (self->is_even)
+        return (Place){position / FILLED, position % FILLED};
     if (!self->is_indexed)
         index_blocks(self);
     while (2 * step <= self->count)
@@ -128,6 +131,7 @@ static int split(Blocks *self, size_t at) {
 }
 
 int blocks_insert(Blocks *self, Place at, PyObject *item, PyObject *key) {
+    self->is_even = 0;
     if (self->count == 0) {
         Block made = {0};
         if (!has_blocks(self, 1) || !has_room(&made, 8, self->key != NULL)) {
@@ -185,6 +189,7 @@ static void merge(Blocks *self, size_t at) {
 PyObject *blocks_remove(Blocks *self, Place at, PyObject **key) {
     Block *block = self->blocks + at.block;
     PyObject *item = block->items[at.index];
+    self->is_even = 0;
     size_t after = --block->count - at.index;
     *key = block->keys != block->items ? block->keys[at.index] : NULL;
     memmove(block->items + at.index, block->items + at.index + 1, after * sizeof *block->items);
@@ -203,7 +208,7 @@ PyObject *blocks_remove(Blocks *self, Place at, PyObject **key) {
 
 /* ---- many objects */
 
-/* A block of objects in a row, with a reference to each; 0 with an error. */
+/* A block of objects in a row; 0 with an error. */
 static int block_of(Block *block, PyObject **items, PyObject **keys, size_t count) {
     Block from = {.items = items, .keys = keys ? keys : items};
     if (!has_room(block, count, keys != NULL)) {
@@ -211,20 +216,27 @@ static int block_of(Block *block, PyObject **items, PyObject **keys, size_t coun
         return 0;
     }
     copy(block, &from, 0, count);
-    for (size_t i = 0; i < count; i++) {
-        Py_INCREF(items[i]);
-        if (keys != NULL)
-            Py_INCREF(keys[i]);
-    }
     return 1;
+}
+
+/* Has no blocks any more, which are left as they are. */
+static void forget(Blocks *self) {
+    self->blocks = NULL;
+    self->tree = NULL;
+    self->codes = NULL;
+    self->count = self->room = self->length = 0;
+    self->is_indexed = self->is_even = 0;
+}
+
+static void free_blocks(Blocks *self) {
+    PyMem_Free(self->blocks);
+    PyMem_Free(self->tree);
+    PyMem_Free(self->codes);
 }
 
 void blocks_drop(Blocks *self) {
     Blocks before = *self;
-    self->blocks = NULL;
-    self->tree = NULL;
-    self->count = self->room = self->length = 0;
-    self->is_indexed = 0;
+    forget(self);
     self->changes++;
     for (size_t b = 0; b < before.count; b++) {
         Block *block = before.blocks + b;
@@ -235,45 +247,67 @@ void blocks_drop(Blocks *self) {
         }
         free_block(block);
     }
-    PyMem_Free(before.blocks);
-    PyMem_Free(before.tree);
+    free_blocks(&before);
 }
 
-int blocks_fill(Blocks *self, PyObject **items, PyObject **keys, size_t count) {
-    Blocks made = {.key = self->key};
-    int is_done = count == 0 || has_blocks(&made, (count + FILLED - 1) / FILLED);
+/* Has room for the codes of so many keys, where these are numbers; 0 with an error. */
+static int has_codes(Blocks *self, size_t count) {
+    self->codes = self->by <= FLOAT64 ? PyMem_Malloc((count / GROUP + 1) * sizeof *self->codes) : NULL;
+    if (self->codes == NULL && self->by <= FLOAT64)
+        PyErr_NoMemory();
+    return self->codes != NULL || self->by > FLOAT64;
+}
+
+/* From empty, has objects that lie in a row, whose references it takes over: 0 with an error, and then it has none. */
+static int lay(Blocks *self, PyObject **items, PyObject **keys, size_t count) {
+    int is_done = has_blocks(self, (count + FILLED - 1) / FILLED) && has_codes(self, count);
     for (size_t at = 0; is_done && at < count; at += FILLED) {
         size_t left = count - at, size = left < FILLED ? left : FILLED;
-        made.blocks[made.count] = (Block){0};
-        is_done = block_of(made.blocks + made.count, items + at, keys ? keys + at : NULL, size);
-        made.count += (size_t)is_done;
-        made.length += is_done ? size : 0;
+        self->blocks[self->count] = (Block){0};
+        is_done = block_of(self->blocks + self->count, items + at, keys ? keys + at : NULL, size);
+        self->count += (size_t)is_done;
     }
-    if (is_done) { /* they change places */
-        Blocks before = *self;
-        self->blocks = made.blocks, self->tree = made.tree;
-        self->count = made.count, self->room = made.room, self->length = made.length;
-        self->is_indexed = 0;
-        self->changes++;
-        made.blocks = before.blocks, made.tree = before.tree;
-        made.count = before.count, made.room = before.room, made.length = before.length;
+    if (is_done && self->codes != NULL)
+        codes_of_groups(self->by, keys ? keys : items, count, self->codes);
+    for (size_t b = 0; !is_done && b < self->count; b++)
+        free_block(self->blocks + b);
+    if (!is_done) {
+        free_blocks(self);
+        forget(self);
     }
+    self->length = is_done ? count : 0;
+    self->is_even = is_done;
+    return is_done;
+}
+
+/* They change places. */
+static void swap(Blocks *self, Blocks *other) {
+    Blocks before = *self;
+    size_t from = offsetof(Blocks, blocks), size = sizeof *self - from;
+    memcpy((char *)self + from, (char *)other + from, size);
+    memcpy((char *)other + from, (char *)&before + from, size);
+    self->changes++;
+}
+
+int blocks_fill(Blocks *self, PyObject *items, PyObject *keys) {
+    Blocks made = {.key = self->key, .by = self->by};
+    if (!lay(&made, PySequence_Fast_ITEMS(items), keys ? PySequence_Fast_ITEMS(keys) : NULL, (size_t)PyList_GET_SIZE(items)))
+        return -1;
+    /* The references are those of the lists, which let none go. */
+    Py_SET_SIZE(items, 0);
+    if (keys != NULL)
+        Py_SET_SIZE(keys, 0);
+    swap(self, &made);
     blocks_drop(&made);
-    return is_done ? 1 : -1;
+    return 1;
 }
 
 int blocks_copy(Blocks *self, Blocks *from) {
-    int is_done = has_blocks(self, from->count);
-    for (size_t b = 0; is_done && b < from->count; b++) {
-        Block *block = from->blocks + b;
-        self->blocks[b] = (Block){0};
-        is_done = block_of(self->blocks + b, block->items, from->key ? block->keys : NULL, block->count);
-        self->count += (size_t)is_done;
-        self->length += is_done ? block->count : 0;
-    }
-    if (!is_done)
-        blocks_drop(self);
-    return is_done ? 1 : -1;
+    PyObject *items = blocks_list(from, 0, from->length, 0), *keys = items && from->key ? blocks_list(from, 0, from->length, 1) : NULL;
+    int state = items && (keys || !from->key) ? blocks_fill(self, items, keys) : -1;
+    Py_XDECREF(items);
+    Py_XDECREF(keys);
+    return state;
 }
 
 /* Takes the objects of a block from one on and before another out; the caller holds them and their keys. */
@@ -295,7 +329,7 @@ void blocks_cut(Blocks *self, size_t first, size_t past) {
     Place from = blocks_place(self, first);
     size_t left = past - first, kept = from.block, at = from.block;
     self->changes++;
-    self->is_indexed = 0;
+    self->is_indexed = self->is_even = 0;
     self->length -= left;
     for (size_t index = from.index; left > 0; index = 0, at++) {
         Block *block = self->blocks + at;

@@ -93,7 +93,27 @@ static Py_ssize_t block_of(Blocks *self, const Probe *probe, int right) {
     return (Py_ssize_t)low;
 }
 
+/* The same among numbers of a kind: by the codes that are kept, without a branch on one, and then by those between two. */
+static int bound_number(Blocks *self, uint64_t code, int right, Place *place) {
+    size_t at = 0, left = self->length / GROUP;
+    for (; left > 1; left -= left / 2)
+        at += (self->codes[at + left / 2 - 1] < code || (right && self->codes[at + left / 2 - 1] == code)) ? left / 2 : 0;
+    if (left == 1 && (self->codes[at] < code || (right && self->codes[at] == code)))
+        at++;
+    size_t position = at * GROUP;
+    for (uint64_t other; position < self->length; position++) {
+        number_code(self->by, self->blocks[position / FILLED].keys[position % FILLED], &other);
+        if (other > code || (other == code && !right))
+            break;
+    }
+    *place = position == self->length && self->count > 0 ? (Place){self->count - 1, self->blocks[self->count - 1].count}
+                                                         : (Place){position / FILLED, position % FILLED};
+    return 1;
+}
+
 static int bound(Blocks *self, const Probe *probe, int right, Place *place) {
+    if (self->by <= FLOAT64)
+        return bound_number(self, probe->code, right, place);
     Py_ssize_t at = block_of(self, probe, right);
     if (at < 0)
         return -1;

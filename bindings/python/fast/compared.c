@@ -187,9 +187,11 @@ static PyObject *position_found(Blocks *self, int state, Place place) {
     return state < 0 ? NULL : PyLong_FromSsize_t(state == 1 ? (Py_ssize_t)position_at(self, place) : -1);
 }
 
+/* `_found` and `_found_from` of the class know of sort keys of another type than the kind's own. */
 static PyObject *find(Blocks *self, PyObject *value) {
     Place place;
-    return position_found(self, unfit(self, value, blocks_find(self, value, 0, &place)), place);
+    int state = unfit(self, value, blocks_find(self, value, 0, &place));
+    return state == NOT_OWN ? PyObject_CallMethodOneArg((PyObject *)self, names.found, value) : position_found(self, state, place);
 }
 
 static PyObject *find_from(Blocks *self, PyObject *const *given, Py_ssize_t count) {
@@ -197,7 +199,10 @@ static PyObject *find_from(Blocks *self, PyObject *const *given, Py_ssize_t coun
     Py_ssize_t from = count == 2 ? PyNumber_AsSsize_t(given[1], PyExc_OverflowError) : 0;
     if (from < 0 || count != 2)
         return PyErr_Occurred() ? NULL : PyErr_Format(PyExc_TypeError, "a value and a position are needed");
-    return position_found(self, blocks_find(self, given[0], (size_t)from, &place), place);
+    int state = blocks_find(self, given[0], (size_t)from, &place);
+    if (state == NOT_OWN)
+        return PyObject_CallMethodObjArgs((PyObject *)self, names.found_from, given[0], given[1], NULL);
+    return position_found(self, state, place);
 }
 
 /* How many objects from a position on equal a value. */
@@ -259,7 +264,8 @@ static PyMethodDef methods[] = {
     {"own_span", (PyCFunction)own_span_method, METH_O, "The positions of a sort key of the kind's own type, or None."},
     {"place", (PyCFunction)(void (*)(void))place, METH_FASTCALL, "How many sort keys are below a key, or not above it."},
     {"pop", (PyCFunction)pop, METH_O, "Removes the object at a position and returns it."},
-    {"take", (PyCFunction)blocks_take_method, METH_O, "Adds objects, or none where one does not fit."},
+    {"settle", (PyCFunction)blocks_settle_method, METH_O, "Has an order of the library, which is empty, take all objects; whether it could."},
+    {"take", (PyCFunction)blocks_take_method, METH_O, "Adds the objects of a list, or none where one does not fit."},
     {"walk", (PyCFunction)(void (*)(void))walk_method, METH_FASTCALL, "The objects at positions one by one."},
     {"__class_getitem__", Py_GenericAlias, METH_O | METH_CLASS, NULL},
     {0},

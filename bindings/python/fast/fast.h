@@ -79,8 +79,13 @@ typedef struct {
     Block *blocks;
     size_t count, room, length;
     size_t *tree; /* of the lengths of the blocks, where `is_indexed` */
-    int is_indexed;
+    int is_indexed, is_even; /* all blocks but the last have FILLED objects */
+    uint64_t *codes; /* of the last of each GROUP sort keys, where these are numbers of a kind */
 } Blocks;
+
+/* How many objects a block has where many come at once, and of how many sort keys in a row one code is kept. */
+#define FILLED 384
+#define GROUP 4
 
 /* Objects at byte strings, in the order of these. The kind is none of numbers.
  *
@@ -120,7 +125,7 @@ extern PyTypeObject NumbersType, CodedType, MultiType, BlocksType, FrontType, Di
 /* The module `_kinds`, and the names of the methods that are called. */
 extern PyObject *kinds;
 extern struct names {
-    PyObject *add, *bisect, *bound, *code, *codes_of, *contains, *discard, *find, *flipped, *order_keys, *placed, *settled, *slice;
+    PyObject *add, *bisect, *bound, *code, *codes_of, *contains, *discard, *find, *flipped, *found, *found_from, *order_keys, *placed, *settled, *slice;
 } names;
 
 /* ---- codes.c */
@@ -164,6 +169,7 @@ int coded_remove(Coded *self, const void *data, size_t size, PyObject **item);
  * done nothing, where that of an item is not. */
 #define NOT_OWN (-2)
 int own_add(Coded *self, PyObject *item, PyObject *members);
+int own_add_keyed(Coded *self, PyObject *item, PyObject *key);
 int own_discard(Coded *self, PyObject *item);
 /* Removes an item that is there. */
 int own_drop(Coded *self, PyObject *item);
@@ -176,6 +182,7 @@ int own_places(Coded *self, PyObject *key, size_t *first, size_t *past);
 Py_ssize_t multi_length(Multi *self);
 PyObject *multi_item(Multi *self, Py_ssize_t position);
 int multi_add(Multi *self, PyObject *item, PyObject *members);
+int multi_add_keyed(Multi *self, PyObject *item, PyObject *key);
 int multi_discard(Multi *self, PyObject *item);
 int multi_contains(Multi *self, PyObject *item);
 Py_ssize_t multi_bisect(Multi *self, PyObject *value, int right);
@@ -192,8 +199,9 @@ int blocks_insert(Blocks *self, Place at, PyObject *item, PyObject *key);
 PyObject *blocks_remove(Blocks *self, Place at, PyObject **key);
 /* Lets all objects go. */
 void blocks_drop(Blocks *self);
-/* Has these objects in place of those before: 1, or -1 with an error. */
-int blocks_fill(Blocks *self, PyObject **items, PyObject **keys, size_t count);
+/* Has the objects of a list, whose sort keys are those of the second, if one is given, in place of those before; the lists
+ * are empty then: 1, or -1 with an error. */
+int blocks_fill(Blocks *self, PyObject *items, PyObject *keys);
 /* From empty, has the objects of another. */
 int blocks_copy(Blocks *self, Blocks *from);
 /* Takes out the objects at the positions from `first` and before `past`; the caller holds them and their keys. */
@@ -221,6 +229,8 @@ int blocks_are_equal(Blocks *self, PyObject *one, PyObject *other);
 /* Sorts a list, and that of its sort keys, if one is given, in the same way: 1, or 0 where `by` is a kind and a key is
  * not of its own type, or -1 with an error. What is equal stays in its order. */
 int blocks_sort(enum kind by, PyObject *items, PyObject *keys);
+/* Writes the codes of sorted keys that are numbers of a kind, one of each GROUP. */
+void codes_of_groups(enum kind by, PyObject *const *keys, size_t count, uint64_t *codes);
 
 /* ---- compared.c: what front.c and held.c ask of blocks */
 int blocks_add(Blocks *self, PyObject *item, PyObject *members);
@@ -230,13 +240,16 @@ Py_ssize_t blocks_bisect(Blocks *self, PyObject *value, int right);
 int blocks_places(Blocks *self, PyObject *key, size_t *first, size_t *past);
 PyObject *blocks_item(Blocks *self, Py_ssize_t position);
 
-/* ---- many.c: the methods `take`, `fill` and `cut` of blocks */
+/* ---- many.c: the methods `take`, `fill`, `cut` and `settle` of blocks */
+PyObject *blocks_settle_method(Blocks *self, PyObject *order);
 PyObject *blocks_take_method(Blocks *self, PyObject *values);
 PyObject *blocks_fill_method(Blocks *self, PyObject *values);
 PyObject *blocks_cut_method(Blocks *self, PyObject *const *given, Py_ssize_t count);
 
 /* ---- held.c: the same of all */
 int held_add(PyObject *self, PyObject *item, PyObject *members);
+/* The same of an item with a sort key of the kind's own type: 1, or -1 with an error. */
+int held_add_keyed(PyObject *self, PyObject *item, PyObject *key);
 Py_ssize_t held_bisect(PyObject *self, PyObject *value, int right);
 PyObject *held_item(PyObject *self, Py_ssize_t position);
 /* Removes the first object that equals a value: 1, or 0 where there is none, or -1 with an error. */

@@ -38,7 +38,9 @@ static int front_contains(Front *self, PyObject *value) {
         return 0;
     PyObject *asked = has_members(self) ? self->members : self->order;
     Py_INCREF(asked);
-    int is_there = Py_TYPE(asked) == &NumbersType ? numbers_contains((Numbers *)asked, value) : PySequence_Contains(asked, value);
+    int is_there = asked == self->members                ? PySequence_Contains(asked, value)
+                   : Py_TYPE(asked) == &NumbersType ? numbers_contains((Numbers *)asked, value)
+                                                    : held_contains(asked, value);
     Py_DECREF(asked);
     return is_there;
 }

@@ -10,6 +10,10 @@ int held_add(PyObject *self, PyObject *item, PyObject *members) {
     return IS_MULTI(self) ? multi_add((Multi *)self, item, members) : own_add((Coded *)self, item, members);
 }
 
+int held_add_keyed(PyObject *self, PyObject *item, PyObject *key) {
+    return IS_MULTI(self) ? multi_add_keyed((Multi *)self, item, key) : own_add_keyed((Coded *)self, item, key);
+}
+
 Py_ssize_t held_bisect(PyObject *self, PyObject *value, int right) {
     if (IS_BLOCKS(self))
         return blocks_bisect((Blocks *)self, value, right);

@@ -1,4 +1,4 @@
-/* Many objects that come to blocks or go at once: they are compared first, and then all come, or none with an error. */
+/* Many objects that come to blocks or go at once: those that come are compared first, and then all come, or none with an error. */
 #include "fast.h"
 
 /* From how many that come on, beside so many, all are sorted: the others are put in one by one. */
@@ -19,9 +19,13 @@ static PyObject *keys_of(Blocks *self, PyObject *items) {
     return made;
 }
 
-/* The objects here, or their keys, with those of a list behind them. */
+/* The objects here, or their keys, with those of a list behind them; the list itself where there are none here. */
 static PyObject *joined_list(Blocks *self, PyObject *more, int of_keys) {
-    PyObject *made = more ? blocks_list(self, 0, self->length, of_keys) : NULL;
+    if (self->length == 0) {
+        Py_INCREF(more);
+        return more;
+    }
+    PyObject *made = blocks_list(self, 0, self->length, of_keys);
     if (made != NULL && PyList_SetSlice(made, PY_SSIZE_T_MAX, PY_SSIZE_T_MAX, more) < 0)
         Py_CLEAR(made);
     return made;
@@ -42,9 +46,7 @@ static int fill(Blocks *self, PyObject *values, PyObject *more_keys) {
     PyObject *items = joined_list(self, values, 0), *keys = has_keys && items ? joined_list(self, more_keys, 1) : NULL;
     int state = items && (keys || !has_keys) ? blocks_sort(self->by, items, keys) : -1;
     if (state == 1)
-        state = is_same(self, changes)
-                    ? blocks_fill(self, PySequence_Fast_ITEMS(items), keys ? PySequence_Fast_ITEMS(keys) : NULL, (size_t)PyList_GET_SIZE(items))
-                    : -1;
+        state = is_same(self, changes) ? blocks_fill(self, items, keys) : -1;
     Py_XDECREF(items);
     Py_XDECREF(keys);
     return state;
@@ -105,22 +107,21 @@ static int insert_list(Blocks *self, PyObject *items, PyObject *keys) {
 }
 
 static int take(Blocks *self, PyObject *values) {
-    PyObject *items = PySequence_List(values), *keys = items;
-    if (items != NULL && self->key != NULL)
-        keys = keys_of(self, items);
-    else
-        Py_XINCREF(keys);
-    int state = keys == NULL ? -1 : (size_t)PyList_GET_SIZE(items) * PART >= self->length ? fill(self, items, keys) : insert_list(self, items, keys);
-    Py_XDECREF(items);
-    Py_XDECREF(keys);
+    PyObject *keys = self->key ? keys_of(self, values) : values;
+    if (keys == NULL)
+        return -1;
+    int is_part = (size_t)PyList_GET_SIZE(values) * PART < self->length;
+    int state = is_part ? insert_list(self, values, keys) : fill(self, values, keys);
+    if (keys != values)
+        Py_DECREF(keys);
     return state;
 }
 
 /* ---- methods */
 
 PyObject *blocks_take_method(Blocks *self, PyObject *values) {
-    if (self->by != OTHER)
-        return PyErr_Format(PyExc_TypeError, "a run takes nothing");
+    if (self->by != OTHER || !PyList_CheckExact(values))
+        return PyErr_Format(PyExc_TypeError, "a list is needed, and objects that are compared");
     if (take(self, values) < 0)
         return NULL;
     Py_RETURN_NONE;
@@ -135,6 +136,45 @@ PyObject *blocks_fill_method(Blocks *self, PyObject *values) {
     return state < 0 ? NULL : PyBool_FromLong(state);
 }
 
+/* Takes out positions where places go by them: what is left lies anew. */
+static int cut_run(Blocks *self, size_t first, size_t past, int has_keys) {
+    PyObject *left[2] = {NULL, NULL};
+    int state = 1;
+    for (int i = 0; state == 1 && i <= has_keys; i++) {
+        PyObject *behind = blocks_list(self, past, self->length, i);
+        left[i] = behind ? blocks_list(self, 0, first, i) : NULL;
+        state = left[i] ? PyList_SetSlice(left[i], PY_SSIZE_T_MAX, PY_SSIZE_T_MAX, behind) + 1 : -1;
+        Py_XDECREF(behind);
+    }
+    if (state == 1)
+        state = blocks_fill(self, left[0], left[1]);
+    Py_XDECREF(left[0]);
+    Py_XDECREF(left[1]);
+    return state;
+}
+
+/* Has an order take all that is here, which is empty. */
+static int settle(Blocks *self, PyObject *order) {
+    uint64_t code;
+    int state = 1;
+    for (size_t b = 0; b < self->count; b++) {
+        const Block *block = self->blocks + b;
+        for (size_t i = 0; state == 1 && i < block->count; i++)
+            if (Py_TYPE(order) != &NumbersType)
+                state = held_add_keyed(order, block->items[i], block->keys[i]);
+            else
+                state = number_code(self->by, block->items[i], &code) ? numbers_put((Numbers *)order, code, block->items[i]) : NOT_OWN;
+    }
+    return state;
+}
+
+PyObject *blocks_settle_method(Blocks *self, PyObject *order) {
+    if (!is_order(order) || (Py_TYPE(order) != &NumbersType && IS_BLOCKS(order)))
+        return PyErr_Occurred() ? NULL : PyErr_Format(PyExc_TypeError, "an order of the library is needed");
+    int state = settle(self, order);
+    return state == -1 ? NULL : PyBool_FromLong(state == 1);
+}
+
 PyObject *blocks_cut_method(Blocks *self, PyObject *const *given, Py_ssize_t count) {
     size_t first, past;
     if (!two_positions(given, count, &first, &past))
@@ -144,8 +184,12 @@ PyObject *blocks_cut_method(Blocks *self, PyObject *const *given, Py_ssize_t cou
     first = first < past ? first : past;
     PyObject *items = blocks_list(self, first, past, 0);
     PyObject *keys = items && self->key ? blocks_list(self, first, past, 1) : NULL;
-    if (items != NULL && (self->key == NULL || keys != NULL) && is_same(self, changes) && first < past)
-        blocks_cut(self, first, past);
+    if (items != NULL && (self->key == NULL || keys != NULL) && is_same(self, changes) && first < past) {
+        if (self->by == OTHER)
+            blocks_cut(self, first, past);
+        else
+            cut_run(self, first, past, self->key != NULL);
+    }
     Py_XDECREF(keys);
     if (PyErr_Occurred())
         Py_CLEAR(items);

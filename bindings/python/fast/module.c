@@ -12,7 +12,7 @@ static struct PyModuleDef module = {
 };
 
 static int make_names(void) {
-    const char *texts[] = {"_add", "_bisect", "bound", "code", "codes_of", "_contains", "_discard", "find", "flipped", "_order_keys", "_placed", "_settled", "_slice"};
+    const char *texts[] = {"_add", "_bisect", "bound", "code", "codes_of", "_contains", "_discard", "find", "flipped", "_found", "_found_from", "_order_keys", "_placed", "_settled", "_slice"};
     PyObject **places = (PyObject **)&names;
     for (size_t i = 0; i < sizeof names / sizeof *places; i++)
         if ((places[i] = PyUnicode_InternFromString(texts[i])) == NULL)

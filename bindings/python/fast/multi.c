@@ -254,6 +254,11 @@ int multi_add(Multi *self, PyObject *item, PyObject *members) {
     return state == 1 ? joined(members, item, insert_at(self, code, item)) : state;
 }
 
+int multi_add_keyed(Multi *self, PyObject *item, PyObject *key) {
+    uint64_t code;
+    return code_of(self, key, &code) == 1 ? insert_at(self, code, item) : NOT_OWN;
+}
+
 /* ---- the type */
 
 static PyMethodDef methods[] = {

@@ -220,3 +220,13 @@ int own_add(Coded *self, PyObject *item, PyObject *members) {
     drop(&code);
     return state;
 }
+
+int own_add_keyed(Coded *self, PyObject *item, PyObject *key) {
+    Code code;
+    int state = encode(self, key, &code);
+    if (state != 1)
+        return state;
+    state = add_code(self, item, NULL, &code);
+    drop(&code);
+    return state;
+}

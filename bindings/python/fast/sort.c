@@ -59,34 +59,71 @@ static void arrange(PyObject *list, const Ranked *order, size_t count, PyObject 
         items[i] = room[order[i].at];
 }
 
-/* Writes the codes of keys: 2 where they ascend, 1 where they do not, or 0 where one is not of the kind's own type. */
-static int codes_of(enum kind by, PyObject *keys, Ranked *codes, size_t count) {
-    int ascends = 1;
+void codes_of_groups(enum kind by, PyObject *const *keys, size_t count, uint64_t *codes) {
+    for (size_t i = 0; i < count / GROUP; i++)
+        number_code(by, keys[i * GROUP + GROUP - 1], codes + i);
+}
+
+/* Merges two runs in a row into other room. */
+static void merge(const Ranked *from, size_t half, size_t count, Ranked *to) {
+    size_t left = 0, right = half;
+    for (size_t at = 0; at < count; at++) {
+        int is_right = left == half || (right < count && from[right].code < from[left].code);
+        to[at] = is_right ? from[right++] : from[left++];
+    }
+}
+
+/* Up to so many runs are merged, where each ascends. */
+#define RUNS 8
+
+/* Sorts what is some runs in a row, which end at these places. */
+static Ranked *merge_runs(Ranked *items, Ranked *room, size_t *ends, size_t runs) {
+    for (; runs > 1; runs = (runs + 1) / 2) {
+        for (size_t i = 0; i < runs; i += 2) {
+            size_t first = i ? ends[i - 1] : 0, past = i + 1 < runs ? ends[i + 1] : ends[i];
+            merge(items + first, ends[i] - first, past - first, room + first);
+        }
+        for (size_t i = 0; i < runs; i += 2) /* (of ends that are read no more) */
+            ends[i / 2] = i + 1 < runs ? ends[i + 1] : ends[i];
+        Ranked *merged = room;
+        room = items;
+        items = merged;
+    }
+    return items;
+}
+
+/* Writes the codes of keys, and where each of the first runs ends; how many runs there are, RUNS + 1 where they are more, or
+ * 0 where a key is not of the kind's own type. */
+static size_t codes_of(enum kind by, PyObject *keys, Ranked *codes, size_t count, size_t *ends) {
+    size_t runs = 1;
     for (size_t i = 0; i < count; i++) {
         codes[i].at = i;
         if (!number_code(by, PyList_GET_ITEM(keys, i), &codes[i].code))
             return 0;
-        ascends &= i == 0 || codes[i - 1].code <= codes[i].code;
+        if (i > 0 && codes[i].code < codes[i - 1].code && runs <= RUNS)
+            ends[runs++ - 1] = i;
     }
-    return 1 + ascends;
+    ends[runs - 1] = count;
+    return runs;
 }
 
 static int sort_numbers(enum kind by, PyObject *items, PyObject *keys) {
-    size_t count = (size_t)PyList_GET_SIZE(items);
+    size_t ends[RUNS + 1], count = (size_t)PyList_GET_SIZE(items);
     Ranked *codes = PyMem_Malloc((2 * count + 1) * sizeof *codes);
     if (codes == NULL) {
         PyErr_NoMemory();
         return -1;
     }
-    int state = codes_of(by, keys ? keys : items, codes, count);
-    if (state == 1) {
-        Ranked *order = radix_sort(codes, codes + count, count), *room = order == codes ? codes + count : codes;
+    size_t runs = codes_of(by, keys ? keys : items, codes, count, ends);
+    if (runs > 1) {
+        Ranked *room = codes + count, *order = runs <= RUNS ? merge_runs(codes, room, ends, runs) : radix_sort(codes, room, count);
+        room = order == codes ? codes + count : codes;
         arrange(items, order, count, (PyObject **)room);
         if (keys != NULL)
             arrange(keys, order, count, (PyObject **)room);
     }
     PyMem_Free(codes);
-    return state > 0;
+    return runs > 0;
 }
 
 /* Has a list sorted by another one, whose items the first has the positions of; both are of Python's own. */

@@ -9,7 +9,7 @@ from typing import Any, Callable, Generic, Iterable, Iterator, Literal, Optional
 
 from ._kinds import known
 from ._native import DictFront
-from ._orders import KeyFunction, Run, fitted, gathered, order_of, settled
+from ._orders import KeyFunction, Run, duplicate, fitted, gathered, order_of, settled
 from ._views import SortedItemsView, SortedKeysView, SortedValuesView
 
 K = TypeVar("K")
@@ -159,7 +159,7 @@ class SortedDict(DictFront[K, V], Generic[K, V]):
         entries = dict(*given, **words)
         fresh = list(filterfalse(self.__contains__, entries) if dict.__len__(self) else entries)
         if fresh:
-            self._order_keys(fresh)
+            self._order_keys(fresh.copy())
         try:
             super().update(entries)
         except BaseException:
@@ -321,7 +321,7 @@ class SortedDict(DictFront[K, V], Generic[K, V]):
     def copy(self) -> Any:
         """A dictionary of the same keys and values, in a time that grows with their number."""
         made = self._empty()
-        made._order = self._order.clone()
+        made._order = duplicate(self._order, False)
         super(SortedDict, made).update(dict.copy(self))
         return made
 

@@ -129,8 +129,7 @@ class SortedList(Sorted[T], MutableSequence[T], Generic[T]):
         """
         self._fill(iterable)
 
-    def _fill(self, items: Iterable[T]) -> None:
-        given = items_of(items)
+    def _filled(self, given: list[T]) -> None:
         gathered = self._gathered(self._order, given)
         if gathered is not None:
             self._become(gathered)

@@ -204,10 +204,11 @@ class Run(Blocks[T], Spanned[T]):
         def are_distinct(self) -> bool: ...
         def below(self, code: int) -> int: ...
         def fill(self, items: list[Any]) -> bool: ...
+        def settle(self, order: Order) -> bool: ...
 
-    # Of `Blocks` what goes by the kind's own type, and else what `Keyed` has.
-    find = Keyed.find
-    find_from = Keyed.find_from
+    # What `Blocks` asks of sort keys that are not of the kind's own type.
+    _found = Keyed.find
+    _found_from = Keyed.find_from
     count = Spanned.count
 
     def __init__(self, kind: str, key: KeyFunction, repeats: bool) -> None:
@@ -230,14 +231,15 @@ class Run(Blocks[T], Spanned[T]):
 
     def settled(self) -> Order:
         """What has the same items and takes others."""
-        items = self.chunk(0, len(self))
         if self.kind not in NUMBERS:
             made: Order = Encoded[Any](self.kind, self.key, self._repeats or self.key is not None)
         elif self.key is None and self.are_distinct():
             made = Numbers(self.kind)
         else:
             made = Repeated[Any](self.kind, self.key)
-        made.take(items)
+        if not self.settle(made):
+            made = order_of(self.kind, self.key, self._repeats)
+            made.take(self.chunk(0, len(self)))
         return made
 
 
@@ -366,11 +368,21 @@ def fitted(order: Order, items: list[Any], key: KeyFunction, repeats: bool) -> O
 
 
 def gathered(order: Order, items: list[Any], named: Optional[str], key: KeyFunction, repeats: bool) -> Optional[Order]:
-    """A run of the items of an order and of others that come, where these are many, and all are of a kind's own type."""
+    """A run of the items of an order and of others that come, where these are many, and all are of a kind's own type. Then
+    their list may be empty afterwards."""
     if BACKEND != "extension" or not items or len(items) * _PART < len(order):
         return None
     kind = named or _EXACT.get(type(items[0] if key is None else key(items[0])), OBJECT)
     if kind not in _OWN or (len(order) and order.kind != kind):
         return None
-    made = Run[Any](kind, key, repeats)
-    return made if made.fill(order.chunk(0, len(order)) + items) else None
+    made, before = Run[Any](kind, key, repeats), len(order)
+    return made if made.fill(order.chunk(0, before) + items if before else items) else None
+
+
+def duplicate(order: Order, repeats: bool) -> Order:
+    """The same items again: a run of them where that is made sooner than a clone."""
+    if BACKEND == "extension" and isinstance(order, (Repeated, Encoded)) and order.key is None and order.kind in _OWN:
+        made = Run[Any](order.kind, None, repeats)
+        if made.fill(order.chunk(0, len(order))):
+            return made
+    return order.clone()

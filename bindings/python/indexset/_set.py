@@ -134,8 +134,8 @@ class SortedSet(Sorted[T], MutableSet[T], Generic[T]):
             self._fill(iterable)
         return self
 
-    def _fill(self, items: Iterable[T]) -> None:
-        given, members = items_of(items), self._members
+    def _filled(self, given: list[T]) -> None:
+        members = self._members
         if members:
             given = list(filterfalse(members.__contains__, given))
         found = set(given)
@@ -147,7 +147,7 @@ class SortedSet(Sorted[T], MutableSet[T], Generic[T]):
             found = set(fresh)
             take = order.take
         else:
-            take = list  # (they are there)
+            take = len  # (they are there)
         if members:
             try:
                 members.update(found)

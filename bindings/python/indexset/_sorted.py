@@ -5,9 +5,9 @@ from collections.abc import Sequence
 from reprlib import recursive_repr
 from typing import Any, Callable, Generic, Iterable, Iterator, Optional, TypeVar
 
-from ._kinds import known
+from ._kinds import items_of, known
 from ._native import Front, Numbers
-from ._orders import Compared, KeyFunction, Order, Repeated, Run, fitted, gathered, order_of, settled
+from ._orders import Compared, KeyFunction, Order, Repeated, Run, duplicate, fitted, gathered, order_of, settled
 
 T = TypeVar("T")
 # The methods `__init__` of the package's own classes.
@@ -132,7 +132,9 @@ class Sorted(Front[T], Sequence[T], Generic[T]):
     def index(self, value: Any, start: Optional[int] = None, stop: Optional[int] = None) -> int:
         """The first position of a value, from `start` and before `stop`. ValueError where it is not there. It
         takes a time that grows as log n, and with the number of items that have its sort key."""
-        first, past, _ = slice(start, stop).indices(len(self))
+        first, past = 0, len(self)
+        if start is not None or stop is not None:
+            first, past, _ = slice(start, stop).indices(past)
         position = self._find(value, first)
         if not first <= position < past:
             raise ValueError(f"{value!r} is not there")
@@ -225,13 +227,13 @@ class Sorted(Front[T], Sequence[T], Generic[T]):
     def _made(self, items: Iterable[T]) -> Any:
         """The same with other items."""
         made = self._empty()
-        made._fill(items)
+        made._filled(list(items))
         return made
 
     def copy(self) -> Any:
         """Another with the same items, in a time that grows with their number."""
         made = self._empty()
-        made._order = self._order.clone()
+        made._order = duplicate(self._order, self._repeats)
         made._members = None if self._members is None else self._members.copy()
         return made
 
@@ -242,7 +244,11 @@ class Sorted(Front[T], Sequence[T], Generic[T]):
         return made
 
     def _fill(self, items: Iterable[T]) -> None:
-        """Adds items to what is empty."""
+        """Adds items."""
+        self._filled(items_of(items))
+
+    def _filled(self, given: list[T]) -> None:
+        """The same of a list that is used no further."""
         raise NotImplementedError
 
     def clear(self) -> None:
