@@ -252,7 +252,11 @@ int coded_remove(Coded *self, const void *data, size_t size, PyObject **item) {
 
 static PyObject *pop(Coded *self, PyObject *index) {
     Py_ssize_t position = position_of((PyObject *)self, index);
-    PyObject *item = NULL, *code = position < 0 ? NULL : code_at(self, (size_t)position);
+    return position < 0 ? NULL : coded_pop(self, (size_t)position);
+}
+
+PyObject *coded_pop(Coded *self, size_t position) {
+    PyObject *item = NULL, *code = code_at(self, position);
     if (code != NULL && coded_remove(self, PyBytes_AS_STRING(code), (size_t)PyBytes_GET_SIZE(code), &item) == 0)
         PyErr_SetString(PyExc_RuntimeError, "it changed meanwhile");
     Py_XDECREF(code);
@@ -265,6 +269,8 @@ static PyMethodDef methods[] = {
     {"add", (PyCFunction)add_method, METH_O, "Adds an object behind its equals."},
     {"bisect", (PyCFunction)(void (*)(void))bisect_method, METH_FASTCALL, "How many objects are below a value, or not above it."},
     {"discard", (PyCFunction)discard_method, METH_O, "Removes the first object that equals a value, and tells whether there was one."},
+    {"find", (PyCFunction)find_method, METH_O, "The position of the first object that equals a value, or -1."},
+    {"place", (PyCFunction)(void (*)(void))place_method, METH_FASTCALL, "How many sort keys are below a key, or not above it."},
     {"own_span", (PyCFunction)own_span_method, METH_O, "The positions of a sort key of the kind's own type, or None."},
     {"chunk", (PyCFunction)(void (*)(void))chunk_method, METH_FASTCALL, "The objects at the positions from the first and before the second."},
     {"changed", (PyCFunction)changed_method, METH_NOARGS, "Counts a change."},

@@ -93,19 +93,28 @@ static Py_ssize_t block_of(Blocks *self, const Probe *probe, int right) {
     return (Py_ssize_t)low;
 }
 
-/* The same among numbers of a kind: by the codes that are kept, without a branch on one, and then by those between two. */
-static int bound_number(Blocks *self, uint64_t code, int right, Place *place) {
-    size_t at = 0, left = self->length / GROUP;
-    for (; left > 1; left -= left / 2)
-        at += (self->codes[at + left / 2 - 1] < code || (right && self->codes[at + left / 2 - 1] == code)) ? left / 2 : 0;
-    if (left == 1 && (self->codes[at] < code || (right && self->codes[at] == code)))
-        at++;
-    size_t position = at * GROUP;
-    for (uint64_t other; position < self->length; position++) {
-        number_code(self->by, self->blocks[position / FILLED].keys[position % FILLED], &other);
-        if (other > code || (other == code && !right))
-            break;
+/* Among numbers of a kind, how many sort keys have codes below a limit: by the codes that are kept, without a branch on one,
+ * and then by those of the group. */
+static size_t count_below(Blocks *self, uint64_t limit) {
+    const uint64_t *codes = self->codes;
+    size_t left = self->length / GROUP;
+    for (size_t half; left > 1; left -= half) {
+        half = left / 2;
+        codes += codes[half - 1] < limit ? half : 0;
     }
+    codes += left == 1 && codes[0] < limit;
+    size_t position = (size_t)(codes - self->codes) * GROUP, below = 0;
+    PyObject **keys = position < self->length ? self->blocks[position / FILLED].keys + position % FILLED : NULL;
+    for (size_t i = 0; i < GROUP - 1 && position + i < self->length; i++) {
+        uint64_t code = 0;
+        number_code(self->by, keys[i], &code);
+        below += code < limit;
+    }
+    return position + below;
+}
+
+static int bound_number(Blocks *self, uint64_t code, int right, Place *place) {
+    size_t position = right && code == UINT64_MAX ? self->length : count_below(self, code + (uint64_t)right);
     *place = position == self->length && self->count > 0 ? (Place){self->count - 1, self->blocks[self->count - 1].count}
                                                          : (Place){position / FILLED, position % FILLED};
     return 1;

@@ -172,17 +172,6 @@ static PyObject *pop(Blocks *self, PyObject *index) {
     return item;
 }
 
-static PyObject *place(Blocks *self, PyObject *const *given, Py_ssize_t count) {
-    Place place;
-    int right = count == 2 ? PyObject_IsTrue(given[1]) : -1;
-    if (right < 0)
-        return PyErr_Format(PyExc_TypeError, "place takes a sort key and a bool");
-    int state = blocks_bound(self, given[0], right, &place);
-    if (state == NOT_OWN)
-        return PyObject_CallMethodObjArgs((PyObject *)self, names.placed, given[0], given[1], NULL);
-    return state < 0 ? NULL : PyLong_FromSize_t(self->length ? position_at(self, place) : 0);
-}
-
 static PyObject *position_found(Blocks *self, int state, Place place) {
     return state < 0 ? NULL : PyLong_FromSsize_t(state == 1 ? (Py_ssize_t)position_at(self, place) : -1);
 }
@@ -262,7 +251,7 @@ static PyMethodDef methods[] = {
     {"find", (PyCFunction)find, METH_O, "The position of the first object that equals a value, or -1."},
     {"find_from", (PyCFunction)(void (*)(void))find_from, METH_FASTCALL, "The same from a position on; what cannot be compared is an error."},
     {"own_span", (PyCFunction)own_span_method, METH_O, "The positions of a sort key of the kind's own type, or None."},
-    {"place", (PyCFunction)(void (*)(void))place, METH_FASTCALL, "How many sort keys are below a key, or not above it."},
+    {"place", (PyCFunction)(void (*)(void))place_method, METH_FASTCALL, "How many sort keys are below a key, or not above it."},
     {"pop", (PyCFunction)pop, METH_O, "Removes the object at a position and returns it."},
     {"settle", (PyCFunction)blocks_settle_method, METH_O, "Has an order of the library, which is empty, take all objects; whether it could."},
     {"take", (PyCFunction)blocks_take_method, METH_O, "Adds the objects of a list, or none where one does not fit."},

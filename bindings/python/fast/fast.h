@@ -162,6 +162,8 @@ int coded_insert(Coded *self, const void *data, size_t size, PyObject *item);
 Py_ssize_t coded_length(Coded *self);
 /* The map, once the changes that were noted are made; NULL with an error. */
 indexset_text_map *coded_map(Coded *self);
+/* Takes out the object at a position that is there. */
+PyObject *coded_pop(Coded *self, size_t position);
 /* Takes out the object at a byte string: 1, or 0 where there is none, or -1 with an error. */
 int coded_remove(Coded *self, const void *data, size_t size, PyObject **item);
 
@@ -186,6 +188,8 @@ int multi_add_keyed(Multi *self, PyObject *item, PyObject *key);
 int multi_discard(Multi *self, PyObject *item);
 int multi_contains(Multi *self, PyObject *item);
 Py_ssize_t multi_bisect(Multi *self, PyObject *value, int right);
+/* Takes out the object at a position that is there. */
+PyObject *multi_pop(Multi *self, size_t position);
 int multi_places(Multi *self, PyObject *key, size_t *first, size_t *past);
 
 /* ---- blocks.c: where objects stand in blocks, with no comparison */
@@ -264,6 +268,11 @@ PyObject *changed_method(PyObject *self, PyObject *nothing);
 PyObject *discard_method(PyObject *self, PyObject *value);
 PyObject *item_method(PyObject *self, PyObject *index);
 PyObject *own_span_method(PyObject *self, PyObject *key);
+PyObject *place_method(PyObject *self, PyObject *const *given, Py_ssize_t count);
+PyObject *find_method(PyObject *self, PyObject *value);
+/* Where the first object that equals a value stands, from a position on, by a sort key that a function makes: 1, or 0 where
+ * there is none, or NOT_OWN, or -1 with an error. */
+int held_find(PyObject *self, PyObject *value, size_t from, size_t *position);
 /* Takes an item out of a set; an error that there is stays. */
 void discard_quietly(PyObject *members, PyObject *item);
 /* Adds an item to a set of those that there are, if one is given: 1, or 0 where it is there, or -1 with an error. */

@@ -26,6 +26,50 @@ PyObject *held_item(PyObject *self, Py_ssize_t position) {
     return IS_MULTI(self) ? multi_item((Multi *)self, position) : coded_item((Coded *)self, position);
 }
 
+/* The positions of a sort key of the kind's own type. */
+static int places_of(PyObject *self, PyObject *key, size_t *first, size_t *past) {
+    if (IS_BLOCKS(self))
+        return blocks_places((Blocks *)self, key, first, past);
+    return IS_MULTI(self) ? multi_places((Multi *)self, key, first, past) : own_places((Coded *)self, key, first, past);
+}
+
+/* Whether the object at a position equals a value: 1, or 0, or -1 with an error, also where there was a change. */
+static int is_equal(PyObject *self, size_t position, PyObject *value) {
+    unsigned long long changes = ((Held *)self)->changes;
+    PyObject *item = held_item(self, (Py_ssize_t)position);
+    int state = item ? PyObject_RichCompareBool(item, value, Py_EQ) : -1;
+    Py_XDECREF(item);
+    if (state >= 0 && changes != ((Held *)self)->changes) {
+        PyErr_SetString(PyExc_RuntimeError, "it changed during a comparison");
+        return -1;
+    }
+    return state;
+}
+
+int held_find(PyObject *self, PyObject *value, size_t from, size_t *position) {
+    size_t first = 0, past = 0;
+    if (((Held *)self)->key == NULL)
+        return NOT_OWN;
+    PyObject *key = PyObject_CallOneArg(((Held *)self)->key, value);
+    int state = key ? places_of(self, key, &first, &past) : -1;
+    Py_XDECREF(key);
+    if (state != 1)
+        return state;
+    state = 0;
+    for (*position = first > from ? first : from; state == 0 && *position < past; *position += state == 0)
+        state = is_equal(self, *position, value);
+    return state;
+}
+
+/* A value that makes no sort key that can be compared with the others equals none. */
+static int unfit(int state) {
+    if (state != -1 || !(PyErr_ExceptionMatches(PyExc_TypeError) || PyErr_ExceptionMatches(PyExc_OverflowError) ||
+                         PyErr_ExceptionMatches(PyExc_ValueError)))
+        return state;
+    PyErr_Clear();
+    return 0;
+}
+
 /* ---- or else */
 
 /* A state, or, where it is NOT_OWN, whether a method of the class answers so of a value. */
@@ -42,19 +86,35 @@ static PyObject *truth(int state) { return state < 0 ? NULL : PyBool_FromLong(st
 
 PyObject *add_method(PyObject *self, PyObject *item) { return truth(asked(self, names.add, item, held_add(self, item, NULL))); }
 
+/* Takes out the object that equals a value, where a function makes the sort keys. */
+static int discard_found(PyObject *self, PyObject *value) {
+    size_t position;
+    int state = unfit(held_find(self, value, 0, &position));
+    if (state != 1)
+        return state;
+    PyObject *item = IS_MULTI(self) ? multi_pop((Multi *)self, position) : coded_pop((Coded *)self, position);
+    Py_XDECREF(item);
+    return item ? 1 : -1;
+}
+
 int held_discard(PyObject *self, PyObject *value) {
     int state = IS_BLOCKS(self)  ? blocks_discard((Blocks *)self, value)
                 : IS_MULTI(self) ? multi_discard((Multi *)self, value)
                                  : own_discard((Coded *)self, value);
+    if (state == NOT_OWN && !IS_BLOCKS(self))
+        state = discard_found(self, value);
     return asked(self, names.discard, value, state);
 }
 
 PyObject *discard_method(PyObject *self, PyObject *value) { return truth(held_discard(self, value)); }
 
 int held_contains(PyObject *self, PyObject *value) {
+    size_t position;
     int state = IS_BLOCKS(self)  ? blocks_contains((Blocks *)self, value)
                 : IS_MULTI(self) ? multi_contains((Multi *)self, value)
                                  : own_contains((Coded *)self, value);
+    if (state == NOT_OWN)
+        state = unfit(held_find(self, value, 0, &position));
     return asked(self, names.contains, value, state);
 }
 
@@ -70,11 +130,35 @@ PyObject *bisect_method(PyObject *self, PyObject *const *given, Py_ssize_t count
     return position == -1 ? NULL : PyLong_FromSsize_t(position);
 }
 
+PyObject *place_method(PyObject *self, PyObject *const *given, Py_ssize_t count) {
+    size_t first, past;
+    Place place;
+    int right = count == 2 ? PyObject_IsTrue(given[1]) : -1;
+    if (right < 0)
+        return PyErr_Format(PyExc_TypeError, "place takes a sort key and a bool");
+    if (IS_BLOCKS(self)) {
+        int state = blocks_bound((Blocks *)self, given[0], right, &place);
+        if (state == 1)
+            return PyLong_FromSize_t(blocks_before((Blocks *)self, place.block) + place.index);
+        return state == NOT_OWN ? PyObject_CallMethodObjArgs(self, names.placed, given[0], given[1], NULL) : NULL;
+    }
+    int state = places_of(self, given[0], &first, &past);
+    if (state == NOT_OWN)
+        return PyObject_CallMethodObjArgs(self, names.placed, given[0], given[1], NULL);
+    return state < 0 ? NULL : PyLong_FromSize_t(right ? past : first);
+}
+
+PyObject *find_method(PyObject *self, PyObject *value) {
+    size_t position;
+    int state = unfit(held_find(self, value, 0, &position));
+    if (state == NOT_OWN)
+        return PyObject_CallMethodOneArg(self, names.found, value);
+    return state < 0 ? NULL : PyLong_FromSsize_t(state ? (Py_ssize_t)position : -1);
+}
+
 PyObject *own_span_method(PyObject *self, PyObject *key) {
     size_t first, past;
-    int state = IS_BLOCKS(self)  ? blocks_places((Blocks *)self, key, &first, &past)
-                : IS_MULTI(self) ? multi_places((Multi *)self, key, &first, &past)
-                                 : own_places((Coded *)self, key, &first, &past);
+    int state = places_of(self, key, &first, &past);
     if (state == NOT_OWN)
         Py_RETURN_NONE;
     return state == -1 ? NULL : Py_BuildValue("nn", (Py_ssize_t)first, (Py_ssize_t)past);

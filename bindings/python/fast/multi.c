@@ -178,11 +178,13 @@ PyObject *multi_item(Multi *self, Py_ssize_t position) {
 }
 
 static PyObject *pop(Multi *self, PyObject *index) {
-    uint64_t code, object;
     Py_ssize_t position = position_of((PyObject *)self, index);
-    if (position < 0)
-        return NULL;
-    uint32_t status = indexset_multi_remove_at(&self->pairs, (size_t)position, &code, &object);
+    return position < 0 ? NULL : multi_pop(self, (size_t)position);
+}
+
+PyObject *multi_pop(Multi *self, size_t position) {
+    uint64_t code, object;
+    uint32_t status = indexset_multi_remove_at(&self->pairs, position, &code, &object);
     if (status != INDEXSET_YES) {
         refused(status);
         return NULL;
@@ -265,6 +267,8 @@ static PyMethodDef methods[] = {
     {"add", (PyCFunction)add_method, METH_O, "Adds an object behind its equals."},
     {"bisect", (PyCFunction)(void (*)(void))bisect_method, METH_FASTCALL, "How many objects are below a value, or not above it."},
     {"discard", (PyCFunction)discard_method, METH_O, "Removes the first object that equals a value, and tells whether there was one."},
+    {"find", (PyCFunction)find_method, METH_O, "The position of the first object that equals a value, or -1."},
+    {"place", (PyCFunction)(void (*)(void))place_method, METH_FASTCALL, "How many sort keys are below a key, or not above it."},
     {"own_span", (PyCFunction)own_span_method, METH_O, "The positions of a sort key of the kind's own type, or None."},
     {"chunk", (PyCFunction)(void (*)(void))chunk_method, METH_FASTCALL, "The objects at the positions from the first and before the second."},
     {"changed", (PyCFunction)changed_method, METH_NOARGS, "Counts a change."},

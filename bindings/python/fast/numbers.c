@@ -244,6 +244,7 @@ static PyMethodDef methods[] = {
     {"discard", (PyCFunction)discard, METH_O, "Removes a key, and tells whether it was there."},
     {"find", (PyCFunction)find, METH_O, "The position of the key that a value equals, or -1."},
     {"own", (PyCFunction)numbers_own, METH_O, "The keys that values become, as a list."},
+    {"place", (PyCFunction)(void (*)(void))bisect, METH_FASTCALL, "The same."},
     {"pop", (PyCFunction)pop, METH_O, "Removes the key at a position and returns it."},
     {"ranks", (PyCFunction)numbers_ranks, METH_O, "How many keys are below each key, in one call."},
     {"take", (PyCFunction)numbers_take, METH_O, "Adds keys that are not there, or none where one does not fit."},

@@ -107,9 +107,20 @@ static size_t codes_of(enum kind by, PyObject *keys, Ranked *codes, size_t count
     return runs;
 }
 
+/* Whether keys ascend: 1, or 0, also where one is not of the kind's own type. */
+static int ascends(enum kind by, PyObject *keys) {
+    uint64_t code, before = 0;
+    for (Py_ssize_t i = 0; i < PyList_GET_SIZE(keys); i++, before = code)
+        if (!number_code(by, PyList_GET_ITEM(keys, i), &code) || code < before)
+            return 0;
+    return 1;
+}
+
 static int sort_numbers(enum kind by, PyObject *items, PyObject *keys) {
     size_t ends[RUNS + 1], count = (size_t)PyList_GET_SIZE(items);
-    Ranked *codes = PyMem_Malloc((2 * count + 1) * sizeof *codes);
+    if (ascends(by, keys ? keys : items))
+        return 1;
+    Ranked *codes = PyMem_Malloc(2 * count * sizeof *codes);
     if (codes == NULL) {
         PyErr_NoMemory();
         return -1;
@@ -126,13 +137,22 @@ static int sort_numbers(enum kind by, PyObject *items, PyObject *keys) {
     return runs > 0;
 }
 
-/* Has a list sorted by another one, whose items the first has the positions of; both are of Python's own. */
+/* What `list.sort` asks for the key of each of its items: the next one of an iterator. */
+static PyObject *next_key(PyObject *iterator, PyObject *item) {
+    (void)item;
+    return PyIter_Next(iterator);
+}
+
+static PyMethodDef next_key_method = {"next_key", next_key, METH_O, NULL};
+
+/* Has the positions of some keys sorted by these. */
 static int sort_positions(PyObject *positions, PyObject *keys) {
-    PyObject *sort = PyObject_GetAttrString(positions, "sort"), *get = PyObject_GetAttrString(keys, "__getitem__");
-    PyObject *words = sort && get ? Py_BuildValue("{sO}", "key", get) : NULL, *none = words ? PyTuple_New(0) : NULL;
-    PyObject *done = none ? PyObject_Call(sort, none, words) : NULL;
+    PyObject *iterator = PyObject_GetIter(keys), *next = iterator ? PyCFunction_New(&next_key_method, iterator) : NULL;
+    PyObject *sort = next ? PyObject_GetAttrString(positions, "sort") : NULL, *words = sort ? Py_BuildValue("{sO}", "key", next) : NULL;
+    PyObject *none = words ? PyTuple_New(0) : NULL, *done = none ? PyObject_Call(sort, none, words) : NULL;
+    Py_XDECREF(iterator);
+    Py_XDECREF(next);
     Py_XDECREF(sort);
-    Py_XDECREF(get);
     Py_XDECREF(words);
     Py_XDECREF(none);
     Py_XDECREF(done);

@@ -159,11 +159,11 @@ class SortedDict(DictFront[K, V], Generic[K, V]):
         entries = dict(*given, **words)
         fresh = list(filterfalse(self.__contains__, entries) if dict.__len__(self) else entries)
         if fresh:
-            self._order_keys(fresh.copy())
+            self._order_keys(fresh)
         try:
             super().update(entries)
         except BaseException:
-            for key in fresh:
+            for key in entries:
                 if key not in self:
                     self._settled().discard(key)
             raise
@@ -230,20 +230,17 @@ class SortedDict(DictFront[K, V], Generic[K, V]):
 
     def bisect_key_left(self, key: Any) -> int:
         """How many keys have a sort key below one."""
-        return self._bisect_key(key, False)
+        order = self._order
+        position: int = order.place(key, False) if len(order) else 0
+        return position
 
     def bisect_key_right(self, key: Any) -> int:
         """How many keys have a sort key that is not above one."""
-        return self._bisect_key(key, True)
+        order = self._order
+        position: int = order.place(key, True) if len(order) else 0
+        return position
 
     bisect_key = bisect_key_right
-
-    def _bisect_key(self, key: Any, right: bool) -> int:
-        order = self._order
-        if not len(order):
-            return 0
-        position: int = order.bisect(key, right) if self.key is None else order.place(key, right)
-        return position
 
     # ---- walks
 
@@ -281,8 +278,11 @@ class SortedDict(DictFront[K, V], Generic[K, V]):
         reverse: bool = False,
     ) -> Iterator[K]:
         """Walks over the keys whose sort keys are between two, each included or not."""
-        first = 0 if min_key is None else self._bisect_key(min_key, not inclusive[0])
-        past = len(self) if max_key is None else self._bisect_key(max_key, inclusive[1])
+        first, past = 0, len(self)
+        if min_key is not None:
+            first = self.bisect_key_right(min_key) if not inclusive[0] else self.bisect_key_left(min_key)
+        if max_key is not None:
+            past = self.bisect_key_right(max_key) if inclusive[1] else self.bisect_key_left(max_key)
         walk: Iterator[K] = self._order.walk(first, past, reverse)
         return walk
 

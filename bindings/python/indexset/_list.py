@@ -79,7 +79,11 @@ class SortedList(Sorted[T], MutableSequence[T], Generic[T]):
     # ---- one item
 
     def _add(self, value: T) -> None:
-        order = self._fitting([value])
+        order = self._order
+        if isinstance(order, Run) and order.find(value) >= 0:
+            order = order.settled(True)
+        else:
+            order = self._fitting([value])
         if isinstance(order, Numbers) and value in order:
             order = repeating(order)
         order.add(value)
@@ -87,9 +91,11 @@ class SortedList(Sorted[T], MutableSequence[T], Generic[T]):
 
     def _discard(self, value: Any) -> bool:
         order = self._order
-        if not len(order) or (isinstance(order, Run) and order.find(value) < 0):
-            return False
-        found: bool = self._settled().discard(value)
+        if isinstance(order, Run):
+            if order.find(value) < 0:
+                return False
+            order = self._settled()
+        found: bool = len(order) > 0 and order.discard(value)
         return found
 
     def remove(self, value: Any) -> None:
@@ -148,7 +154,9 @@ class SortedList(Sorted[T], MutableSequence[T], Generic[T]):
 
     def __add__(self, other: Iterable[T]) -> Any:
         """A list of the items of both."""
-        return self._made(list(self) + items_of(other))
+        items = self._order.chunk(0, len(self))
+        items.extend(other)
+        return self._made(items)
 
     __radd__ = __add__
 
@@ -158,7 +166,7 @@ class SortedList(Sorted[T], MutableSequence[T], Generic[T]):
 
     def __mul__(self, count: int) -> Any:
         """A list of each item so many times."""
-        return self._made(list(self) * count)
+        return self._made(self._order.chunk(0, len(self)) * count)
 
     __rmul__ = __mul__
 

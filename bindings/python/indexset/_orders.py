@@ -43,6 +43,9 @@ class Keyed(Held[T]):
 
     def place(self, key: Any, right: bool) -> int:
         """How many sort keys are below a key, or not above it."""
+        return self._placed(key, right)
+
+    def _placed(self, key: Any, right: bool) -> int:
         raise NotImplementedError
 
     def matches(self, item: Any) -> Iterator[int]:
@@ -76,6 +79,9 @@ class Keyed(Held[T]):
                 if item is value or item == value:
                     return position
         return -1
+
+    # What the compiled module asks of sort keys that are not of the kind's own type.
+    _found, _found_from = find, find_from
 
     def _contains(self, value: Any) -> bool:
         return self.find(value) >= 0
@@ -133,9 +139,6 @@ class Spanned(Keyed[T]):
         """The positions of a sort key."""
         raise NotImplementedError
 
-    def place(self, key: Any, right: bool) -> int:
-        return self._span(key)[right]
-
     def _placed(self, key: Any, right: bool) -> int:
         return self._span(key)[right]
 
@@ -152,7 +155,7 @@ class Spanned(Keyed[T]):
         return past - first if first < past and self[first] == value else 0
 
 
-class Repeated(Spanned[T], Multi[T]):
+class Repeated(Multi[T], Spanned[T]):
     """Objects whose sort keys are numbers of a kind. Those of one sort key are told apart by their positions alone,
     so that no call is the dearer for them but one that compares the objects."""
 
@@ -206,9 +209,6 @@ class Run(Blocks[T], Spanned[T]):
         def fill(self, items: list[Any]) -> bool: ...
         def settle(self, order: Order) -> bool: ...
 
-    # What `Blocks` asks of sort keys that are not of the kind's own type.
-    _found = Keyed.find
-    _found_from = Keyed.find_from
     count = Spanned.count
 
     def __init__(self, kind: str, key: KeyFunction, repeats: bool) -> None:
@@ -229,11 +229,11 @@ class Run(Blocks[T], Spanned[T]):
         raw: bytes = BYTES[self.kind].raw(key)
         return self.own_span(raw if self.kind == "bytes" else raw.decode("utf-8", "surrogatepass"))
 
-    def settled(self) -> Order:
-        """What has the same items and takes others."""
+    def settled(self, repeats: bool = False) -> Order:
+        """What has the same items and takes others, also equal ones."""
         if self.kind not in NUMBERS:
             made: Order = Encoded[Any](self.kind, self.key, self._repeats or self.key is not None)
-        elif self.key is None and self.are_distinct():
+        elif self.key is None and not repeats and self.are_distinct():
             made = Numbers(self.kind)
         else:
             made = Repeated[Any](self.kind, self.key)
@@ -243,7 +243,7 @@ class Run(Blocks[T], Spanned[T]):
         return made
 
 
-class Encoded(Keyed[T], Coded[T]):
+class Encoded(Coded[T], Keyed[T]):
     """Objects whose sort keys have another kind: their codes are ordered by the library. Where sort keys may
     repeat, a number that tells them apart follows the code."""
 
@@ -284,7 +284,7 @@ class Encoded(Keyed[T], Coded[T]):
         """Those of each key that equals a key."""
         return [self._span(form) for form in (forms(key) if self.kind == "any" else (key,))]
 
-    def place(self, key: Any, right: bool) -> int:
+    def _placed(self, key: Any, right: bool) -> int:
         first, past = self._span(key)
         if first == past and self.kind == "any":
             first, past = next((span for span in self._spans(key) if span[0] < span[1]), (first, past))

@@ -190,6 +190,8 @@ class Numbers(Ordered[Any]):
             rank += lib.indexset_set_contains(self._handle, code)
         return rank
 
+    place = bisect
+
     def find(self, value: Any) -> int:
         """The position of the key that a value equals, or -1."""
         code = self._find(value)

@@ -187,7 +187,7 @@ class SortedSet(Sorted[T], MutableSet[T], Generic[T]):
     # ---- sets of sets
 
     def _from_iterable(self, it: Iterable[S]) -> Any:
-        return self._made(it)  # type: ignore[arg-type]
+        return self._made(items_of(it))
 
     def union(self, *iterables: Iterable[Any]) -> Any:
         """A set of the items here and of each iterable.

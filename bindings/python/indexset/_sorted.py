@@ -153,20 +153,17 @@ class Sorted(Front[T], Sequence[T], Generic[T]):
 
     def bisect_key_left(self, key: Any) -> int:
         """How many items have a sort key below a key."""
-        return self._bisect_key(key, False)
+        order = self._order
+        position: int = order.place(key, False) if len(order) else 0
+        return position
 
     def bisect_key_right(self, key: Any) -> int:
         """How many items have a sort key that is not above a key."""
-        return self._bisect_key(key, True)
+        order = self._order
+        position: int = order.place(key, True) if len(order) else 0
+        return position
 
     bisect_key = bisect_key_right
-
-    def _bisect_key(self, key: Any, right: bool) -> int:
-        order = self._order
-        if not len(order):
-            return 0
-        position: int = order.bisect(key, right) if self.key is None else order.place(key, right)
-        return position
 
     # ---- walks
 
@@ -205,8 +202,11 @@ class Sorted(Front[T], Sequence[T], Generic[T]):
         reverse: bool = False,
     ) -> Iterator[T]:
         """Walks over the items whose sort keys are between two keys, each included or not."""
-        first = 0 if min_key is None else self._bisect_key(min_key, not inclusive[0])
-        past = len(self) if max_key is None else self._bisect_key(max_key, inclusive[1])
+        first, past = 0, len(self)
+        if min_key is not None:
+            first = self.bisect_key_right(min_key) if not inclusive[0] else self.bisect_key_left(min_key)
+        if max_key is not None:
+            past = self.bisect_key_right(max_key) if inclusive[1] else self.bisect_key_left(max_key)
         walk: Iterator[T] = self._order.walk(first, past, reverse)
         return walk
 
@@ -224,10 +224,10 @@ class Sorted(Front[T], Sequence[T], Generic[T]):
         made.clear()
         return made
 
-    def _made(self, items: Iterable[T]) -> Any:
-        """The same with other items."""
+    def _made(self, items: list[T]) -> Any:
+        """The same with the items of a list that is used no further."""
         made = self._empty()
-        made._filled(list(items))
+        made._filled(items)
         return made
 
     def copy(self) -> Any:
