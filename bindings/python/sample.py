@@ -1,7 +1,8 @@
 """What the types say: `mypy --strict` takes this program, and each `reveal` would be an error if it did not."""
 from __future__ import annotations
 
-from typing import Optional
+from array import array
+from typing import Optional, Union
 
 from indexset import Change, LoggedDict, Replica, SortedDict, SortedKeyList, SortedList, SortedMultiDict, SortedSet
 
@@ -21,6 +22,32 @@ def sets() -> int:
     for number in numbers.irange(1, 2):
         least += number
     return least + len(part) + len(first) + int(floats[0]) + union.bisect_left(4) + len(longest)
+
+
+def first(names: SortedSet[str]) -> str:
+    return names[0]
+
+
+def texts(names: SortedSet[str], others: SortedList[str], ages: SortedDict[str, int]) -> list[str]:
+    """Each is of a type that says what it has."""
+    both: SortedSet[str] = names | ["x"]
+    mixed: SortedSet[Union[str, int]] = names | [1]
+    rest: SortedSet[str] = (names & {1, "a"}) - [None]
+    more: SortedList[str] = others + ["y"]
+    twice: SortedList[str] = more * 2
+    part: list[str] = names[1:]
+    age: int = ages.setdefault("a", 1)
+    name: str = ages.keys()[0]
+    pair: tuple[str, int] = ages.items()[-1]
+    some: list[int] = ages.values()[:2]
+    copied: SortedDict[str, int] = ages.copy()
+    widened: SortedDict[Union[str, int], Union[int, float]] = copied | {1: 0.5}
+    zeros: SortedDict[str, int] = SortedDict.fromkeys(names, 0)
+    gone: Union[int, None] = zeros.pop("a", None)
+    last: str = twice.copy().pop()
+    numbers: array[int] = SortedSet([age, *some]).to_array()
+    found = [first(both), name, pair[0], last, f"{len(mixed)} {len(rest)} {len(widened)} {gone} {numbers[0]}"]
+    return [*found, *part]
 
 
 def lists() -> float:
@@ -68,3 +95,4 @@ def pairs() -> int:
 
 if __name__ == "__main__":
     print(sets(), lists(), dictionaries(), pairs())
+    print(texts(SortedSet(["b", "a"]), SortedList(["c"]), SortedDict({"a": 1})))

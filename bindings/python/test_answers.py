@@ -3,6 +3,7 @@ import enum
 import pickle
 import sys
 import unittest
+from array import array
 
 import indexset
 from indexset import Change, LoggedDict, Refused, Replica, SortedDict, SortedKeyList, SortedList, SortedListWithKey, SortedSet
@@ -102,6 +103,41 @@ class Given(unittest.TestCase):
             self.assertEqual(SortedList(days)[0], days[1])
         spans = numpy.array([3, 1], dtype="m8[s]")
         self.assertEqual(list(SortedSet(spans)), sorted(spans))
+
+
+class Buffers(unittest.TestCase):
+    """The items as numbers in memory."""
+
+    def test_each_kind(self):
+        top = 1 << 63
+        cases = [("int64", "q", [-top, -1, 0, 5, top - 1]), ("uint64", "Q", [0, 7, top, 2 * top - 1]), ("float64", "d", [float("-inf"), -0.5, 0.0, 2.5])]
+        for kind, code, items in cases:
+            for make in (SortedSet, SortedList):
+                ours = make(items, keys=kind)
+                self.assertEqual(ours.to_array(), array(code, items))
+                ours.discard(items[1])  # (the library has them from here on)
+                self.assertEqual(ours.to_array(), array(code, items[:1] + items[2:]))
+            repeated = SortedList(items * 2, keys=kind)
+            repeated.add(items[0])
+            self.assertEqual(repeated.to_array(), array(code, sorted(items * 2 + items[:1])))
+        self.assertEqual(SortedSet(range(5000)).to_array(), array("q", range(5000)))
+        self.assertEqual(SortedSet().to_array(), array("q"))
+        for ours in (SortedSet([-0.0, 1.0]), SortedList([-0.0, 1.0])):
+            self.assertEqual(str(ours.to_array()[0]), "-0.0")
+            ours.add(2.0)
+            self.assertEqual(str(ours.to_array()[0]), "-0.0")
+
+    def test_refused(self):
+        for ours in (SortedSet(["a"]), SortedList([(1,)]), SortedSet([1], key=abs), SortedList([1, 0.5])):
+            self.assertRaises(TypeError, ours.to_array)
+
+    @unittest.skipUnless(numpy, "numpy is not installed")
+    def test_numpy(self):
+        ours = SortedList([3, 1, 2, 1])
+        self.assertEqual((numpy.asarray(ours).tolist(), numpy.asarray(ours).dtype), ([1, 1, 2, 3], numpy.int64))
+        self.assertEqual(numpy.asarray(ours.to_array()).tolist(), [1, 1, 2, 3])
+        self.assertEqual(numpy.array(ours, dtype="float32").dtype, numpy.float32)
+        self.assertEqual((numpy.asarray(SortedSet([0.5])).dtype, numpy.asarray(SortedSet(["b", "a"])).tolist()), (numpy.float64, ["a", "b"]))
 
 
 class Empty(unittest.TestCase):

@@ -2,6 +2,7 @@
 import copy
 import doctest
 import importlib
+import inspect
 import math
 import pickle
 import random
@@ -96,6 +97,17 @@ DRAWN = {
     "object": lambda rng: Version(f"{rng.randrange(12)}.{rng.randrange(9)}"),
     "int64": lambda rng: rng.randrange(-60, 60),
     "float64": lambda rng: rng.randrange(-60, 60) / 4,
+}
+
+
+# The errors of each call that raises some, but for those of memory.
+RAISED = {
+    "add": "TypeError", "apply": "Gap Refused", "apply_all": "Gap Refused", "append": "NotImplementedError", "at_all": "IndexError",
+    "bisect": "TypeError", "bisect_key": "TypeError", "bisect_key_left": "TypeError", "bisect_key_right": "TypeError",
+    "bisect_right": "TypeError", "extend": "NotImplementedError", "first": "IndexError", "fromkeys": "TypeError", "index": "ValueError",
+    "insert": "NotImplementedError", "irange_key": "RuntimeError TypeError", "last": "IndexError", "peekitem": "IndexError",
+    "pop": "Error", "popitem": "KeyError", "remove": "Error", "reverse": "NotImplementedError", "setdefault": "TypeError",
+    "to_array": "TypeError", "update": "TypeError",
 }
 
 
@@ -219,14 +231,30 @@ class Kinds(unittest.TestCase):
             self.assertGreater(result.attempted, 0, name)
 
     def test_help(self):
-        """Each public class says what it costs and has an example, and each public call has a text."""
+        """Each public class says what it costs and has an example; so has each public call, which also says what it raises."""
         for name in ("LoggedDict", "Replica", "SortedDict", "SortedKeyList", "SortedList", "SortedMultiDict", "SortedSet"):
             found = getattr(indexset, name)
             self.assertRegex(found.__doc__, "(?i)cost", name)
             self.assertIn(">>>", found.__doc__, name)
             for call in dir(found):
-                if not call.startswith("_") and not hasattr(dict, call):
-                    self.assertTrue(getattr(found, call).__doc__, (name, call))
+                own = any(call in vars(base) for base in found.__mro__ if base.__module__.startswith("indexset"))
+                if not call.startswith("_") and own:
+                    text = getattr(found, call).__doc__ or ""
+                    self.assertIn(">>>", text, (name, call))
+                    for error in RAISED.get(call, "").split():
+                        self.assertIn(error, text, (name, call))
+
+    def test_signatures(self):
+        """No signature of a public class has a type that says nothing."""
+        for name in indexset.__all__:
+            found = getattr(indexset, name)
+            for call in vars(found) if isinstance(found, type) and name != "Change" else ():
+                try:
+                    shown = str(inspect.signature(getattr(found, call)))
+                except (TypeError, ValueError):
+                    continue
+                public = not call.startswith("_") or call.startswith("__")
+                self.assertFalse(public and "Any" in shown, (name, call, shown))
 
 
 class Multi(unittest.TestCase):

@@ -250,6 +250,7 @@ static PyMethodDef methods[] = {
     {"fill", (PyCFunction)blocks_fill_method, METH_O, "Adds the objects of a list at once; False where one is not of the kind's own type."},
     {"find", (PyCFunction)find, METH_O, "The position of the first object that equals a value, or -1."},
     {"find_from", (PyCFunction)(void (*)(void))find_from, METH_FASTCALL, "The same from a position on; what cannot be compared is an error."},
+    {"numbers", (PyCFunction)numbers_method, METH_NOARGS, "All numbers, one by one in memory."},
     {"own_span", (PyCFunction)own_span_method, METH_O, "The positions of a sort key of the kind's own type, or None."},
     {"place", (PyCFunction)(void (*)(void))place_method, METH_FASTCALL, "How many sort keys are below a key, or not above it."},
     {"pop", (PyCFunction)pop, METH_O, "Removes the object at a position and returns it."},

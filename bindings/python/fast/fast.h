@@ -302,6 +302,9 @@ int two_positions(PyObject *const *given, Py_ssize_t count, size_t *first, size_
 PyObject *walk_method(PyObject *self, PyObject *const *given, Py_ssize_t count);
 PyObject *chunk_method(PyObject *self, PyObject *const *given, Py_ssize_t count);
 
+/* ---- array.c: the method `numbers` of Numbers, Multi and Blocks */
+PyObject *numbers_method(PyObject *owner, PyObject *nothing);
+
 /* ---- front.c */
 /* Whether an object can be what orders items; else an error says so. */
 int is_order(PyObject *order);

@@ -163,12 +163,38 @@ static PyObject *get_order(Front *self, void *nothing) {
     return self->order;
 }
 
-static const char left_text[] = "bisect_left($self, value, /)\n--\n\nHow many items are below a value.";
-static const char right_text[] = "bisect_right($self, value, /)\n--\n\nHow many items are not above a value.";
+static const char add_text[] =
+    "add($self, value, /)\n--\n\n"
+    "Adds an item. One that is there stays, of a set. It takes a time that grows as log n. TypeError,\n"
+    "OverflowError or ValueError where it does not fit, and then nothing changes.\n\n"
+    ">>> from indexset import SortedSet\n"
+    ">>> numbers = SortedSet([3, 1]); numbers.add(2); numbers\n"
+    "SortedSet([1, 2, 3])";
+static const char discard_text[] =
+    "discard($self, value, /)\n--\n\n"
+    "Removes an item that equals a value, where there is one. TypeError where it has no hash and the items\n"
+    "are a set.\n\n"
+    ">>> from indexset import SortedSet\n"
+    ">>> numbers = SortedSet([1, 2]); numbers.discard(2); numbers.discard(5); numbers\n"
+    "SortedSet([1])";
+static const char left_text[] =
+    "bisect_left($self, value, /)\n--\n\n"
+    "How many items are below a value. TypeError where it cannot be compared with them, ValueError where it\n"
+    "is NaN.\n\n"
+    ">>> from indexset import SortedSet\n"
+    ">>> SortedSet([10, 20]).bisect_left(20)\n"
+    "1";
+static const char right_text[] =
+    "bisect_right($self, value, /)\n--\n\n"
+    "How many items are not above a value. TypeError where it cannot be compared with them, ValueError where\n"
+    "it is NaN.\n\n"
+    ">>> from indexset import SortedSet\n"
+    ">>> SortedSet([10, 20]).bisect_right(20)\n"
+    "2";
 
 static PyMethodDef methods[] = {
-    {"add", (PyCFunction)add, METH_O, "add($self, value, /)\n--\n\nAdds an item. One that is there stays, of a set. It takes a time that grows as log n."},
-    {"discard", (PyCFunction)discard, METH_O, "discard($self, value, /)\n--\n\nRemoves an item that equals a value, where there is one."},
+    {"add", (PyCFunction)add, METH_O, add_text},
+    {"discard", (PyCFunction)discard, METH_O, discard_text},
     {"bisect_left", (PyCFunction)bisect_left, METH_O, left_text},
     {"bisect_right", (PyCFunction)bisect_right, METH_O, right_text},
     {"bisect", (PyCFunction)bisect_right, METH_O, right_text},

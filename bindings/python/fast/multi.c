@@ -269,6 +269,7 @@ static PyMethodDef methods[] = {
     {"discard", (PyCFunction)discard_method, METH_O, "Removes the first object that equals a value, and tells whether there was one."},
     {"find", (PyCFunction)find_method, METH_O, "The position of the first object that equals a value, or -1."},
     {"place", (PyCFunction)(void (*)(void))place_method, METH_FASTCALL, "How many sort keys are below a key, or not above it."},
+    {"numbers", (PyCFunction)numbers_method, METH_NOARGS, "All numbers, one by one in memory."},
     {"own_span", (PyCFunction)own_span_method, METH_O, "The positions of a sort key of the kind's own type, or None."},
     {"chunk", (PyCFunction)(void (*)(void))chunk_method, METH_FASTCALL, "The objects at the positions from the first and before the second."},
     {"changed", (PyCFunction)changed_method, METH_NOARGS, "Counts a change."},

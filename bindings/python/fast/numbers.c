@@ -243,6 +243,7 @@ static PyMethodDef methods[] = {
     {"clone", (PyCFunction)numbers_clone, METH_NOARGS, "The same numbers again."},
     {"discard", (PyCFunction)discard, METH_O, "Removes a key, and tells whether it was there."},
     {"find", (PyCFunction)find, METH_O, "The position of the key that a value equals, or -1."},
+    {"numbers", (PyCFunction)numbers_method, METH_NOARGS, "All numbers, one by one in memory."},
     {"own", (PyCFunction)numbers_own, METH_O, "The keys that values become, as a list."},
     {"place", (PyCFunction)(void (*)(void))bisect, METH_FASTCALL, "The same."},
     {"pop", (PyCFunction)pop, METH_O, "Removes the key at a position and returns it."},

@@ -5,7 +5,7 @@ import warnings
 from collections.abc import Mapping
 from itertools import filterfalse
 from reprlib import recursive_repr
-from typing import Any, Callable, Generic, Iterable, Iterator, Literal, Optional, TypeVar, Union, overload
+from typing import Any, Callable, Generic, Iterable, Iterator, Literal, Optional, SupportsIndex, TypeVar, Union, overload
 
 from ._kinds import known
 from ._native import DictFront
@@ -14,6 +14,10 @@ from ._views import SortedItemsView, SortedKeysView, SortedValuesView
 
 K = TypeVar("K")
 V = TypeVar("V")
+S = TypeVar("S")
+U = TypeVar("U")
+D = TypeVar("D", bound="SortedDict[Any, Any]")
+Entries = Union[Mapping[K, V], Iterable[tuple[K, V]]]
 
 
 _NOT_GIVEN: Any = object()
@@ -45,13 +49,13 @@ class SortedDict(DictFront[K, V], Generic[K, V]):
     _named: Optional[str]
 
     @overload
-    def __init__(self: SortedDict[int, V], entries: Any = ..., *, keys: Literal["int64", "uint64"]) -> None: ...
+    def __init__(self: SortedDict[int, V], entries: Entries[int, V] = ..., *, keys: Literal["int64", "uint64"]) -> None: ...
     @overload
-    def __init__(self: SortedDict[float, V], entries: Any = ..., *, keys: Literal["float64"]) -> None: ...
+    def __init__(self: SortedDict[float, V], entries: Entries[float, V] = ..., *, keys: Literal["float64"]) -> None: ...
     @overload
-    def __init__(self: SortedDict[str, V], entries: Any = ..., *, keys: Literal["str"]) -> None: ...
+    def __init__(self: SortedDict[str, V], entries: Entries[str, V] = ..., *, keys: Literal["str"]) -> None: ...
     @overload
-    def __init__(self: SortedDict[bytes, V], entries: Any = ..., *, keys: Literal["bytes"]) -> None: ...
+    def __init__(self: SortedDict[bytes, V], entries: Entries[bytes, V] = ..., *, keys: Literal["bytes"]) -> None: ...
     @overload
     def __init__(self: SortedDict[str, V], *, keys: None = ..., **words: V) -> None: ...
     @overload
@@ -61,16 +65,18 @@ class SortedDict(DictFront[K, V], Generic[K, V]):
     @overload
     def __init__(
         self,
-        key: Optional[Callable[[K], Any]],
+        key: Optional[Callable[[K], object]],
         entries: Union[Mapping[K, V], Iterable[tuple[K, V]]] = ...,
         /,
         *,
         keys: Optional[str] = ...,
     ) -> None: ...
-    def __init__(self, *given: Any, keys: Any = None, **words: Any) -> None:
+    def __init__(self, *given: object, keys: object = None, **words: object) -> None:
         is_key = bool(given) and (given[0] is None or callable(given[0]))
-        self._begin(keys, given[0] if is_key else None)
-        self.update(*given[is_key:], **words)
+        named: Any = keys
+        others: Any = (given[0] if is_key else None, *given[is_key:])
+        self._begin(named, others[0])
+        self.update(*others[1:], **words)
 
     def _begin(self, kind: Optional[str], key: KeyFunction) -> None:
         """Becomes empty."""
@@ -80,39 +86,65 @@ class SortedDict(DictFront[K, V], Generic[K, V]):
 
     @property
     def kind(self) -> str:
-        """The name of the kind of the keys, as `SortedSet.kind` has it."""
+        """The name of the kind of the keys, as `SortedSet.kind` has it.
+
+        >>> SortedDict({"a": 1}).kind
+        'str'
+        """
         kind: str = self._order.kind
         return kind
 
     @property
-    def key(self) -> Optional[Callable[[K], Any]]:
-        """The function whose results order the keys, or None where they order themselves."""
+    def key(self) -> Optional[Callable[[K], object]]:
+        """The function whose results order the keys, or None where they order themselves.
+
+        >>> SortedDict(len, {"a": 1}).key
+        <built-in function len>
+        """
         return getattr(self._order, "key", None)
 
     @classmethod
-    def fromkeys(cls, iterable: Iterable[Any], value: Any = None, /) -> Any:
-        """A dictionary from each key to a value.
+    @overload
+    def fromkeys(cls, iterable: Iterable[S], value: None = None, /) -> SortedDict[S, None]: ...
+    @classmethod
+    @overload
+    def fromkeys(cls, iterable: Iterable[S], value: U, /) -> SortedDict[S, U]: ...
+    @classmethod
+    def fromkeys(cls, iterable: Iterable[object], value: object = None, /) -> object:
+        """A dictionary from each key to a value. TypeError, OverflowError or ValueError where a key does not fit.
 
         >>> SortedDict.fromkeys([2, 1], 0)
         SortedDict({1: 0, 2: 0})
         """
-        return cls((key, value) for key in iterable)
+        entries: Any = dict.fromkeys(iterable, value)
+        return cls(entries)
 
     # ---- one key
 
-    def setdefault(self, key: K, default: Any = None) -> Any:
-        """The value of a key, which becomes the default where the key is not there."""
+    @overload
+    def setdefault(self: SortedDict[K, Optional[U]], key: K, default: None = None) -> Optional[U]: ...
+    @overload
+    def setdefault(self, key: K, default: V) -> V: ...
+    def setdefault(self, key: K, default: object = None) -> object:
+        """The value of a key, which becomes the default where the key is not there. TypeError, OverflowError or
+        ValueError where the key does not fit.
+
+        >>> ages = SortedDict({1: "a"}); ages.setdefault(1, "b"), ages.setdefault(2, "c"), ages
+        ('a', 'c', SortedDict({1: 'a', 2: 'c'}))
+        """
         if key in self:
             return self[key]
-        DictFront.__setitem__(self, key, default)
+        value: Any = default
+        DictFront.__setitem__(self, key, value)
         return default
 
     @overload
-    def pop(self, key: Any) -> V: ...
+    def pop(self, key: K) -> V: ...
     @overload
-    def pop(self, key: Any, default: Any) -> Any: ...
-    def pop(self, key: Any, default: Any = _NOT_GIVEN) -> Any:
-        """Removes a key and returns its value, or the default where it is not there.
+    def pop(self, key: K, default: Union[V, U]) -> Union[V, U]: ...
+    def pop(self, key: K, default: object = _NOT_GIVEN) -> object:
+        """Removes a key and returns its value, or the default where it is not there. KeyError where there is none of
+        the two.
 
         >>> ages = SortedDict({1: "a"}); ages.pop(1), ages.pop(1, None)
         ('a', None)
@@ -150,13 +182,21 @@ class SortedDict(DictFront[K, V], Generic[K, V]):
 
     # ---- many keys
 
-    def update(self, *given: Any, **words: Any) -> None:
-        """Makes each value that of its key. A key that does not fit leaves the dictionary as it was.
+    @overload  # type: ignore[override]
+    def update(self, entries: Entries[K, V], /) -> None: ...
+    @overload
+    def update(self: SortedDict[str, V], __entries: Entries[str, V], **words: V) -> None: ...
+    @overload
+    def update(self: SortedDict[str, V], **words: V) -> None: ...
+    def update(self, *given: object, **words: object) -> None:
+        """Makes each value that of its key. TypeError, OverflowError or ValueError where a key does not fit: then the
+        dictionary is as it was.
 
         >>> ages = SortedDict({1: "a"}); ages.update({2: "c", 1: "b"}); ages
         SortedDict({1: 'b', 2: 'c'})
         """
-        entries = dict(*given, **words)
+        others: Any = given
+        entries: Any = dict(*others, **words)
         fresh = list(filterfalse(self.__contains__, entries) if dict.__len__(self) else entries)
         if fresh:
             self._order_keys(fresh)
@@ -168,22 +208,31 @@ class SortedDict(DictFront[K, V], Generic[K, V]):
                     self._settled().discard(key)
             raise
 
-    def get_all(self, keys: Iterable[Any], default: Any = None) -> list[Any]:
-        """The value of each key, or the default where it is not there.
+    @overload
+    def get_all(self, keys: Iterable[object], default: None = None) -> list[Optional[V]]: ...
+    @overload
+    def get_all(self, keys: Iterable[object], default: U) -> list[Union[V, U]]: ...
+    def get_all(self, keys: Iterable[object], default: object = None) -> object:
+        """The value of each key, or the default where it is not there. TypeError where a key has no hash.
 
         >>> SortedDict({1: "a", 2: "b"}).get_all([2, 3, 1])
         ['b', None, 'a']
         """
-        return [self.get(key, default) for key in keys]
+        get: Any = self.get
+        return [get(key, default) for key in keys]
 
     def clear(self) -> None:
-        """Removes all keys."""
+        """Removes all keys.
+
+        >>> ages = SortedDict({1: "a"}); ages.clear(); ages
+        SortedDict({})
+        """
         self._order.clear()
         super().clear()
 
     # ---- positions
 
-    def peekitem(self, index: int = -1) -> tuple[K, V]:
+    def peekitem(self, index: SupportsIndex = -1) -> tuple[K, V]:
         """The key and the value at a position, the last one if none is given. IndexError where there is none.
 
         >>> SortedDict({1: "a", 2: "b"}).peekitem()
@@ -192,7 +241,7 @@ class SortedDict(DictFront[K, V], Generic[K, V]):
         key = self._order[index]
         return key, self[key]
 
-    def popitem(self, index: int = -1) -> tuple[K, V]:
+    def popitem(self, index: SupportsIndex = -1) -> tuple[K, V]:
         """Removes the key and the value at a position, the last one if none is given, and returns them.
         KeyError where the dictionary is empty.
 
@@ -207,8 +256,12 @@ class SortedDict(DictFront[K, V], Generic[K, V]):
         pop(key)
         return pair
 
-    def index(self, value: Any, start: Optional[int] = None, stop: Optional[int] = None) -> int:
-        """The position of a key, from `start` and before `stop`. ValueError where it is not there."""
+    def index(self, value: object, start: Optional[int] = None, stop: Optional[int] = None) -> int:
+        """The position of a key, from `start` and before `stop`. ValueError where it is not there.
+
+        >>> SortedDict({1: "a", 2: "b"}).index(2)
+        1
+        """
         first, past, _ = slice(start, stop).indices(len(self))
         if value in self:
             position: int = self._order.find(value)
@@ -216,26 +269,42 @@ class SortedDict(DictFront[K, V], Generic[K, V]):
                 return position
         raise ValueError(f"{value!r} is not there")
 
-    def bisect_left(self, value: Any) -> int:
-        """How many keys are below a value."""
+    def bisect_left(self, value: object) -> int:
+        """How many keys are below a value. TypeError where it cannot be compared with them, ValueError where it is NaN.
+
+        >>> SortedDict({10: "a", 20: "b"}).bisect_left(20)
+        1
+        """
         position: int = self._order.bisect(value, False)
         return position
 
-    def bisect_right(self, value: Any) -> int:
-        """How many keys are not above a value."""
+    def bisect_right(self, value: object) -> int:
+        """How many keys are not above a value. TypeError where it cannot be compared with them, ValueError where it is NaN.
+
+        >>> SortedDict({10: "a", 20: "b"}).bisect_right(20)
+        2
+        """
         position: int = self._order.bisect(value, True)
         return position
 
     bisect = bisect_right
 
-    def bisect_key_left(self, key: Any) -> int:
-        """How many keys have a sort key below one."""
+    def bisect_key_left(self, key: object) -> int:
+        """How many keys have a sort key below one. TypeError where it cannot be compared with them.
+
+        >>> SortedDict(len, {"a": 0, "bb": 1, "cc": 2}).bisect_key_left(2)
+        1
+        """
         order = self._order
         position: int = order.place(key, False) if len(order) else 0
         return position
 
-    def bisect_key_right(self, key: Any) -> int:
-        """How many keys have a sort key that is not above one."""
+    def bisect_key_right(self, key: object) -> int:
+        """How many keys have a sort key that is not above one. TypeError where it cannot be compared with them.
+
+        >>> SortedDict(len, {"a": 0, "bb": 1, "cc": 2}).bisect_key_right(2)
+        3
+        """
         order = self._order
         position: int = order.place(key, True) if len(order) else 0
         return position
@@ -252,19 +321,28 @@ class SortedDict(DictFront[K, V], Generic[K, V]):
     def islice(
         self, start: Optional[int] = None, stop: Optional[int] = None, reverse: bool = False
     ) -> Iterator[K]:
-        """Walks over the keys at the positions from `start` and before `stop`."""
+        """Walks over the keys at the positions from `start` and before `stop`. RuntimeError once keys came or went.
+
+        >>> list(SortedDict({1: "a", 2: "b", 3: "c"}).islice(1))
+        [2, 3]
+        """
         first, past, _ = slice(start, stop).indices(len(self))
         walk: Iterator[K] = self._order.walk(first, past, reverse)
         return walk
 
     def irange(
         self,
-        minimum: Any = None,
-        maximum: Any = None,
+        minimum: object = None,
+        maximum: object = None,
         inclusive: tuple[bool, bool] = (True, True),
         reverse: bool = False,
     ) -> Iterator[K]:
-        """Walks over the keys between two values, each included or not."""
+        """Walks over the keys between two values, each included or not; None is no bound. RuntimeError once keys came
+        or went, TypeError where a value cannot be compared with them.
+
+        >>> list(SortedDict({1: "a", 2: "b", 3: "c"}).irange(2))
+        [2, 3]
+        """
         first = 0 if minimum is None else self._order.bisect(minimum, not inclusive[0])
         past = len(self) if maximum is None else self._order.bisect(maximum, inclusive[1])
         walk: Iterator[K] = self._order.walk(first, past, reverse)
@@ -272,12 +350,17 @@ class SortedDict(DictFront[K, V], Generic[K, V]):
 
     def irange_key(
         self,
-        min_key: Any = None,
-        max_key: Any = None,
+        min_key: object = None,
+        max_key: object = None,
         inclusive: tuple[bool, bool] = (True, True),
         reverse: bool = False,
     ) -> Iterator[K]:
-        """Walks over the keys whose sort keys are between two, each included or not."""
+        """Walks over the keys whose sort keys are between two, each included or not; None is no bound. RuntimeError
+        once keys came or went, TypeError where one cannot be compared with the sort keys.
+
+        >>> list(SortedDict(len, {"a": 0, "bb": 1, "cc": 2}).irange_key(2))
+        ['bb', 'cc']
+        """
         first, past = 0, len(self)
         if min_key is not None:
             first = self.bisect_key_right(min_key) if not inclusive[0] else self.bisect_key_left(min_key)
@@ -312,15 +395,25 @@ class SortedDict(DictFront[K, V], Generic[K, V]):
 
     @property
     def iloc(self) -> SortedKeysView[K]:
-        """The view of the keys, under a name that `sortedcontainers` has given up."""
+        """The view of the keys, under a name that `sortedcontainers` has given up: a DeprecationWarning says so.
+
+        >>> with warnings.catch_warnings():
+        ...     warnings.simplefilter("ignore"); SortedDict({1: "a"}).iloc[0]
+        1
+        """
         warnings.warn("use SortedDict.keys()", DeprecationWarning, stacklevel=2)
         return self.keys()
 
     # ---- the object
 
-    def copy(self) -> Any:
-        """A dictionary of the same keys and values, in a time that grows with their number."""
-        made = self._empty()
+    def copy(self: D) -> D:
+        """A dictionary of the same class, keys and values, in a time that grows with their number. MemoryError where
+        memory is refused.
+
+        >>> ages = SortedDict({1: "a"}); other = ages.copy(); other[2] = "b"; ages, other
+        (SortedDict({1: 'a'}), SortedDict({1: 'a', 2: 'b'}))
+        """
+        made: D = self._empty()
         made._order = duplicate(self._order, False)
         super(SortedDict, made).update(dict.copy(self))
         return made
@@ -336,28 +429,28 @@ class SortedDict(DictFront[K, V], Generic[K, V]):
         made.clear()
         return made
 
-    def __copy__(self) -> Any:
+    def __copy__(self: D) -> D:
         made = self.copy()
         if hasattr(self, "__dict__"):
             made.__dict__.update(self.__dict__)
         return made
 
-    def __or__(self, other: Any) -> Any:
+    def __or__(self, other: Mapping[S, U]) -> SortedDict[Union[K, S], Union[V, U]]:
         if not isinstance(other, Mapping):
             return NotImplemented
-        made = self.copy()
+        made: SortedDict[Any, Any] = self.copy()
         made.update(other)
         return made
 
-    def __ror__(self, other: Any) -> Any:
+    def __ror__(self, other: Mapping[S, U]) -> SortedDict[Union[K, S], Union[V, U]]:
         if not isinstance(other, Mapping):
             return NotImplemented
-        made = self._empty()
+        made: SortedDict[Any, Any] = self._empty()
         made.update(other)
         made.update(self)
         return made
 
-    def __ior__(self, other: Any) -> Any:
+    def __ior__(self: D, other: Entries[K, V]) -> D:  # type: ignore[override, misc]
         self.update(other)
         return self
 
@@ -368,11 +461,11 @@ class SortedDict(DictFront[K, V], Generic[K, V]):
         entries = ", ".join(f"{key!r}: {value!r}" for key, value in self.items())
         return f"{type(self).__name__}({key}{{{entries}}}{kind})"
 
-    def __reduce__(self) -> Any:
+    def __reduce__(self) -> tuple[object, ...]:
         state = getattr(self, "__dict__", None) or None
         return _restored, (type(self), self.key, self._named, dict(self.items())), state
 
-    def __reduce_ex__(self, protocol: Any) -> Any:
+    def __reduce_ex__(self, protocol: SupportsIndex) -> tuple[object, ...]:
         return self.__reduce__()
 
 

@@ -1,13 +1,14 @@
 """What stands before what orders the items, by ctypes: the classes that the compiled module `_fast` has too."""
 from __future__ import annotations
 
-from typing import Any, Dict, Generic, Iterator, TypeVar
+from typing import Any, Dict, Generic, Iterator, SupportsIndex, TypeVar, overload
 
 K = TypeVar("K")
 V = TypeVar("V")
 T = TypeVar("T")
 
-_set, _delete = dict.__setitem__, dict.__delitem__
+_set: Any = dict.__setitem__
+_delete: Any = dict.__delitem__
 
 
 class Front(Generic[T]):
@@ -23,7 +24,7 @@ class Front(Generic[T]):
         members = self._members
         return len(self._order if members is None else members)
 
-    def __contains__(self, value: Any) -> bool:
+    def __contains__(self, value: object) -> bool:
         """Whether an item equals a value."""
         members = self._members
         found: bool = len(self._order) > 0 and self._order.holds(value) if members is None else value in members
@@ -34,15 +35,25 @@ class Front(Generic[T]):
         walk: Iterator[T] = self._order.walk(0, len(self), False)
         return walk
 
+    @overload
+    def __getitem__(self, position: SupportsIndex) -> T: ...
+    @overload
+    def __getitem__(self, position: slice) -> list[T]: ...
     def __getitem__(self, position: Any) -> Any:
-        """The item at a position, or the list of those at a slice."""
+        """The item at a position, or the list of those at a slice. IndexError where there is none."""
         return self._slice(position) if isinstance(position, slice) else self._order[position]
 
     def _slice(self, position: slice) -> list[T]:
         raise NotImplementedError
 
     def add(self, value: T) -> None:
-        """Adds an item. One that is there stays, of a set. It takes a time that grows as log n."""
+        """Adds an item. One that is there stays, of a set. It takes a time that grows as log n. TypeError,
+        OverflowError or ValueError where it does not fit, and then nothing changes.
+
+        >>> from indexset import SortedSet
+        >>> numbers = SortedSet([3, 1]); numbers.add(2); numbers
+        SortedSet([1, 2, 3])
+        """
         members = self._members
         if members is not None and value in members:
             return
@@ -54,20 +65,38 @@ class Front(Generic[T]):
     def _add(self, value: T) -> None:
         raise NotImplementedError
 
-    def discard(self, value: Any) -> None:
-        """Removes an item that equals a value, where there is one."""
+    def discard(self, value: object) -> None:
+        """Removes an item that equals a value, where there is one. TypeError where it has no hash and the items
+        are a set.
+
+        >>> from indexset import SortedSet
+        >>> numbers = SortedSet([1, 2]); numbers.discard(2); numbers.discard(5); numbers
+        SortedSet([1])
+        """
         self._discard(value)
 
-    def _discard(self, value: Any) -> bool:
+    def _discard(self, value: object) -> bool:
         raise NotImplementedError
 
-    def bisect_left(self, value: Any) -> int:
-        """How many items are below a value."""
+    def bisect_left(self, value: object) -> int:
+        """How many items are below a value. TypeError where it cannot be compared with them, ValueError where it
+        is NaN.
+
+        >>> from indexset import SortedSet
+        >>> SortedSet([10, 20]).bisect_left(20)
+        1
+        """
         position: int = self._order.bisect(value, False)
         return position
 
-    def bisect_right(self, value: Any) -> int:
-        """How many items are not above a value."""
+    def bisect_right(self, value: object) -> int:
+        """How many items are not above a value. TypeError where it cannot be compared with them, ValueError where
+        it is NaN.
+
+        >>> from indexset import SortedSet
+        >>> SortedSet([10, 20]).bisect_right(20)
+        2
+        """
         position: int = self._order.bisect(value, True)
         return position
 
@@ -89,7 +118,7 @@ class DictFront(Dict[K, V], Generic[K, V]):
     def _order_keys(self, keys: list[Any]) -> None:
         raise NotImplementedError
 
-    def __delitem__(self, key: Any) -> None:
+    def __delitem__(self, key: object) -> None:
         if key not in self:
             raise KeyError(key)
         self._order.discard(key)

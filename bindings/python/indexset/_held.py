@@ -2,12 +2,13 @@
 from __future__ import annotations
 
 import ctypes
+from array import array
 from typing import Any, Callable, Optional, TypeVar
 
 from . import _library as library
 from ._kinds import ALL, NUMBERS
 from ._library import Count, Number, check, lib, memory, place, zeros
-from ._pure import Ordered
+from ._pure import ARRAYS, Ordered
 
 T = TypeVar("T")
 _OWN: dict[str, type] = {"str": str, "bytes": bytes}
@@ -94,10 +95,11 @@ class Multi(Held[T]):
     """Objects at numbers of 64 bits, the codes of their sort keys, in the order of these and then in that in which
     they came, in a multimap of the library that leads to their places."""
 
-    __slots__ = ("_handle", "_find", "_own")
+    __slots__ = ("_handle", "_find", "_own", "_kind_name")
 
     def __init__(self, kind: str, key: Optional[Callable[[Any], Any]]) -> None:
         super().__init__(key)
+        self._kind_name = kind
         self._find, self._own = NUMBERS[kind].find, float if kind == "float64" else int
         self._handle = library.new("multi")
 
@@ -176,6 +178,11 @@ class Multi(Held[T]):
             self._vacate(at)
             raise
         self.changed()
+
+    def numbers(self) -> bytes:
+        """All numbers, one by one in memory."""
+        numbers: Any = self.chunk(0, len(self))
+        return array(ARRAYS[self._kind_name], map(float if self._own is float else int, numbers)).tobytes()
 
     def pop(self, index: int) -> T:
         code = Number()

@@ -11,6 +11,7 @@ from ._orders import Run, order_of, repeating
 from ._sorted import OWN_INITS, Sorted
 
 T = TypeVar("T")
+S = TypeVar("S", bound="SortedList[Any]")
 
 
 class SortedList(Sorted[T], MutableSequence[T], Generic[T]):
@@ -40,7 +41,13 @@ class SortedList(Sorted[T], MutableSequence[T], Generic[T]):
     __hash__ = None  # type: ignore[assignment]
     _repeats = True
 
-    def __new__(cls, iterable: Any = None, key: Any = None, *, keys: Optional[str] = None) -> Any:
+    def __new__(
+        cls,
+        iterable: Optional[Iterable[object]] = None,
+        key: Optional[Callable[..., object]] = None,
+        *,
+        keys: Optional[str] = None,
+    ) -> SortedList[T]:
         if key is None or issubclass(cls, SortedKeyList):
             return super().__new__(cls)
         if cls is not SortedList:
@@ -67,11 +74,17 @@ class SortedList(Sorted[T], MutableSequence[T], Generic[T]):
     def __init__(
         self,
         iterable: Optional[Iterable[T]] = ...,
-        key: Optional[Callable[[T], Any]] = ...,
+        key: Optional[Callable[[T], object]] = ...,
         *,
         keys: Optional[str] = ...,
     ) -> None: ...
-    def __init__(self, iterable: Any = None, key: Any = None, *, keys: Optional[str] = None) -> None:
+    def __init__(
+        self,
+        iterable: Optional[Iterable[object]] = None,
+        key: Optional[Callable[..., object]] = None,
+        *,
+        keys: Optional[str] = None,
+    ) -> None:
         self._begin(keys, key)
         if iterable is not None:
             self._fill(iterable)
@@ -89,7 +102,7 @@ class SortedList(Sorted[T], MutableSequence[T], Generic[T]):
         order.add(value)
         self._become(order)
 
-    def _discard(self, value: Any) -> bool:
+    def _discard(self, value: object) -> bool:
         order = self._order
         if isinstance(order, Run):
             if order.find(value) < 0:
@@ -98,7 +111,7 @@ class SortedList(Sorted[T], MutableSequence[T], Generic[T]):
         found: bool = len(order) > 0 and order.discard(value)
         return found
 
-    def remove(self, value: Any) -> None:
+    def remove(self, value: object) -> None:
         """Removes the first item that equals a value. ValueError where there is none.
 
         >>> numbers = SortedList([2, 1, 2]); numbers.remove(2); numbers
@@ -107,7 +120,7 @@ class SortedList(Sorted[T], MutableSequence[T], Generic[T]):
         if not self._discard(value):
             raise ValueError(f"{value!r} is not there")
 
-    def count(self, value: Any) -> int:
+    def count(self, value: object) -> int:
         """How many items equal a value, in a time that grows as log n, and, but for numbers without `key`, with
         the number of items that have its sort key.
 
@@ -121,14 +134,18 @@ class SortedList(Sorted[T], MutableSequence[T], Generic[T]):
         return count
 
     def clear(self) -> None:
-        """Removes all items."""
+        """Removes all items.
+
+        >>> numbers = SortedList([1]); numbers.clear(); numbers
+        SortedList([])
+        """
         self._order.clear()
         self._order = order_of(self.kind, self.key, True)
 
     # ---- many at once
 
     def update(self, iterable: Iterable[T]) -> None:
-        """Adds items. One that does not fit leaves the list as it was.
+        """Adds items. TypeError, OverflowError or ValueError where one does not fit: then the list is as it was.
 
         >>> numbers = SortedList([2]); numbers.update([3, 1]); numbers
         SortedList([1, 2, 3])
@@ -152,25 +169,27 @@ class SortedList(Sorted[T], MutableSequence[T], Generic[T]):
         found = set(items)
         return len(found) < len(items) or (len(order) > 0 and any(item in order for item in found))
 
-    def __add__(self, other: Iterable[T]) -> Any:
+    def __add__(self: S, other: Iterable[T]) -> S:
         """A list of the items of both."""
         items = self._order.chunk(0, len(self))
         items.extend(other)
-        return self._made(items)
+        made: S = self._made(items)
+        return made
 
     __radd__ = __add__
 
-    def __iadd__(self, other: Iterable[T]) -> Any:
+    def __iadd__(self: S, other: Iterable[T]) -> S:
         self.update(list(other))
         return self
 
-    def __mul__(self, count: int) -> Any:
+    def __mul__(self: S, count: int) -> S:
         """A list of each item so many times."""
-        return self._made(self._order.chunk(0, len(self)) * count)
+        made: S = self._made(self._order.chunk(0, len(self)) * count)
+        return made
 
     __rmul__ = __mul__
 
-    def __imul__(self, count: int) -> Any:
+    def __imul__(self: S, count: int) -> S:
         made = list(self) * count
         self.clear()
         self.update(made)
@@ -178,24 +197,44 @@ class SortedList(Sorted[T], MutableSequence[T], Generic[T]):
 
     # ---- what a sorted list cannot do
 
-    def __setitem__(self, index: Any, value: Any) -> None:
+    def __setitem__(self, index: object, value: object) -> None:
         """Raises NotImplementedError: the order tells where an item is."""
         raise NotImplementedError("use `del items[index]` and `items.add(value)`")
 
     def append(self, value: T) -> None:
-        """Raises NotImplementedError: use `add`."""
+        """Raises NotImplementedError: use `add`.
+
+        >>> SortedList().append(1)
+        Traceback (most recent call last):
+        NotImplementedError: use `items.add(value)`
+        """
         raise NotImplementedError("use `items.add(value)`")
 
     def extend(self, values: Iterable[T]) -> None:
-        """Raises NotImplementedError: use `update`."""
+        """Raises NotImplementedError: use `update`.
+
+        >>> SortedList().extend([1])
+        Traceback (most recent call last):
+        NotImplementedError: use `items.update(values)`
+        """
         raise NotImplementedError("use `items.update(values)`")
 
     def insert(self, index: int, value: T) -> None:
-        """Raises NotImplementedError: use `add`."""
+        """Raises NotImplementedError: use `add`.
+
+        >>> SortedList().insert(0, 1)
+        Traceback (most recent call last):
+        NotImplementedError: use `items.add(value)`
+        """
         raise NotImplementedError("use `items.add(value)`")
 
     def reverse(self) -> None:
-        """Raises NotImplementedError: use `reversed`."""
+        """Raises NotImplementedError: use `reversed`.
+
+        >>> SortedList().reverse()
+        Traceback (most recent call last):
+        NotImplementedError: use `reversed(items)`
+        """
         raise NotImplementedError("use `reversed(items)`")
 
     # ---- lists beside lists
@@ -207,22 +246,22 @@ class SortedList(Sorted[T], MutableSequence[T], Generic[T]):
             return compare is ne
         return compare(list(self), list(other))
 
-    def __eq__(self, other: Any) -> bool:
+    def __eq__(self, other: object) -> bool:
         return self._beside(other, eq)
 
-    def __ne__(self, other: Any) -> bool:
+    def __ne__(self, other: object) -> bool:
         return self._beside(other, ne)
 
-    def __lt__(self, other: Any) -> bool:
+    def __lt__(self, other: object) -> bool:
         return self._beside(other, lt)
 
-    def __le__(self, other: Any) -> bool:
+    def __le__(self, other: object) -> bool:
         return self._beside(other, le)
 
-    def __gt__(self, other: Any) -> bool:
+    def __gt__(self, other: object) -> bool:
         return self._beside(other, gt)
 
-    def __ge__(self, other: Any) -> bool:
+    def __ge__(self, other: object) -> bool:
         return self._beside(other, ge)
 
 
@@ -238,8 +277,15 @@ class SortedKeyList(SortedList[T], Generic[T]):
 
     __slots__ = ()
 
-    def __init__(self, iterable: Any = None, key: Any = None, *, keys: Optional[str] = None) -> None:
-        super().__init__(iterable, _itself if key is None else key, keys=keys)
+    def __init__(
+        self,
+        iterable: Optional[Iterable[object]] = None,
+        key: Optional[Callable[..., object]] = None,
+        *,
+        keys: Optional[str] = None,
+    ) -> None:
+        items: Any = iterable
+        super().__init__(items, _itself if key is None else key, keys=keys)
 
 
 def _itself(value: T) -> T:

@@ -53,7 +53,7 @@ class LoggedDict(Noded[K, V], MutableMapping[K, V], Generic[K, V]):
 
     def __init__(
         self,
-        tell: Optional[Callable[[Change], Any]] = None,
+        tell: Optional[Callable[[Change], object]] = None,
         entries: Union[Mapping[K, V], Iterable[tuple[K, V]]] = (),
         *,
         keys: Optional[str] = None,
@@ -92,7 +92,7 @@ class LoggedDict(Noded[K, V], MutableMapping[K, V], Generic[K, V]):
             self._values.drop(before)
         self._told(changes)
 
-    def __delitem__(self, key: Any) -> None:
+    def __delitem__(self, key: object) -> None:
         """Removes a key, and tells the changes. KeyError where it is not there."""
         code = self._keys.find(key)
         changes: list[Change] = []
@@ -149,7 +149,7 @@ class LoggedDict(Noded[K, V], MutableMapping[K, V], Generic[K, V]):
             for change in changes:
                 self._tell(change)
 
-    def __reduce__(self) -> Any:
+    def __reduce__(self) -> tuple[object, ...]:
         words = dict(self.irange()), *self._named, self._size, self.next
         return _restored, (type(self), *words), getattr(self, "__dict__", None) or None
 

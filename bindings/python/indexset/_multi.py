@@ -10,6 +10,7 @@ from ._pairs import NumberPairs, ObjectPairs
 
 K = TypeVar("K")
 V = TypeVar("V")
+C = TypeVar("C", bound="SortedMultiDict[Any, Any]")
 Whole = Literal["int64", "uint64"]
 
 
@@ -46,13 +47,14 @@ class SortedMultiDict(Generic[K, V]):
         self, pairs: Iterable[tuple[K, V]] = ..., *, keys: Optional[str] = ..., values: Optional[str] = ...
     ) -> None: ...
     def __init__(
-        self, pairs: Iterable[tuple[Any, Any]] = (), *, keys: Optional[str] = None, values: Optional[str] = None
+        self, pairs: Iterable[tuple[object, object]] = (), *, keys: Optional[str] = None, values: Optional[str] = None
     ) -> None:
         known(keys)
         known(values)
         self._named = keys, values
         self._pairs = self._of(keys or "int64", values or "int64")
-        self.update(pairs)
+        given: Any = pairs
+        self.update(given)
 
     @staticmethod
     def _of(keys: str, values: str) -> Union[NumberPairs, ObjectPairs]:
@@ -75,7 +77,11 @@ class SortedMultiDict(Generic[K, V]):
 
     @property
     def kinds(self) -> tuple[str, str]:
-        """The names of the kinds of the keys and of the values."""
+        """The names of the kinds of the keys and of the values.
+
+        >>> SortedMultiDict([("a", 1)]).kinds
+        ('str', 'int64')
+        """
         return self._pairs.kinds
 
     def __len__(self) -> int:
@@ -85,7 +91,8 @@ class SortedMultiDict(Generic[K, V]):
     # ---- pairs
 
     def add(self, key: K, value: V) -> bool:
-        """Adds a value to those of a key, as the last. False where the key has it.
+        """Adds a value to those of a key, as the last. False where the key has it. TypeError, OverflowError or
+        ValueError where one of the two does not fit.
 
         >>> tags = SortedMultiDict(); tags.add(1, 5), tags.add(1, 5)
         (True, False)
@@ -97,16 +104,24 @@ class SortedMultiDict(Generic[K, V]):
         return self._pairs.add(key, value)
 
     def update(self, pairs: Iterable[tuple[K, V]]) -> None:
-        """Adds each pair."""
+        """Adds each pair. TypeError, OverflowError or ValueError at one that does not fit; those before it are added.
+
+        >>> tags = SortedMultiDict([(1, 5)]); tags.update([(1, 4), (0, 3)]); tags
+        SortedMultiDict([(0, 3), (1, 5), (1, 4)])
+        """
         for key, value in pairs:
             self.add(key, value)
 
-    def remove(self, key: Any, value: Any) -> None:
-        """Removes a value of a key. KeyError where the key does not have it."""
+    def remove(self, key: object, value: object) -> None:
+        """Removes a value of a key. KeyError where the key does not have it.
+
+        >>> tags = SortedMultiDict([(1, 5), (1, 4)]); tags.remove(1, 5); tags
+        SortedMultiDict([(1, 4)])
+        """
         if not self.discard(key, value):
             raise KeyError((key, value))
 
-    def discard(self, key: Any, value: Any) -> bool:
+    def discard(self, key: object, value: object) -> bool:
         """Removes a value of a key, and tells whether the key had it.
 
         >>> SortedMultiDict([(1, 5)]).discard(1, 6)
@@ -114,7 +129,7 @@ class SortedMultiDict(Generic[K, V]):
         """
         return self._pairs.discard(key, value)
 
-    def pop(self, key: Any) -> V:
+    def pop(self, key: object) -> V:
         """Removes the first value of a key and returns it. KeyError where the key is not there.
 
         >>> SortedMultiDict([(1, 5), (1, 4)]).pop(1)
@@ -135,28 +150,44 @@ class SortedMultiDict(Generic[K, V]):
         return self._pairs.pop_at(position(index, len(self)))
 
     def clear(self) -> None:
-        """Removes all pairs."""
+        """Removes all pairs.
+
+        >>> tags = SortedMultiDict([(1, 5)]); tags.clear(); tags
+        SortedMultiDict([])
+        """
         self._pairs.clear()
 
     # ---- reads
 
-    def __contains__(self, pair: Any) -> bool:
+    def __contains__(self, pair: object) -> bool:
         """Whether a pair of a key and a value is there."""
         return isinstance(pair, tuple) and len(pair) == 2 and self._pairs.contains(*pair)
 
-    def has_key(self, key: Any) -> bool:
-        """Whether a key is there."""
+    def has_key(self, key: object) -> bool:
+        """Whether a key is there.
+
+        >>> SortedMultiDict([(1, 5)]).has_key(1), SortedMultiDict([(1, 5)]).has_key(2)
+        (True, False)
+        """
         return self._pairs.count(key) > 0
 
-    def count(self, key: Any) -> int:
-        """How many values a key has."""
+    def count(self, key: object) -> int:
+        """How many values a key has.
+
+        >>> SortedMultiDict([(1, 5), (1, 4)]).count(1)
+        2
+        """
         return self._pairs.count(key)
 
-    def get(self, key: Any) -> list[V]:
-        """The values of a key, in the order in which they came; none where the key is not there."""
+    def get(self, key: object) -> list[V]:
+        """The values of a key, in the order in which they came; none where the key is not there.
+
+        >>> SortedMultiDict([(1, 5), (1, 4)]).get(1), SortedMultiDict().get(1)
+        ([5, 4], [])
+        """
         return self._pairs.get(key)
 
-    def __getitem__(self, key: Any) -> list[V]:
+    def __getitem__(self, key: object) -> list[V]:
         """The values of a key. KeyError where the key is not there."""
         values = self.get(key)
         if not values:
@@ -164,11 +195,19 @@ class SortedMultiDict(Generic[K, V]):
         return values
 
     def first(self) -> tuple[K, V]:
-        """The least key with its first value. IndexError where there is none."""
+        """The least key with its first value. IndexError where there is none.
+
+        >>> SortedMultiDict([(1, 5), (2, 4)]).first()
+        (1, 5)
+        """
         return self._end(False)
 
     def last(self) -> tuple[K, V]:
-        """The greatest key with its last value. IndexError where there is none."""
+        """The greatest key with its last value. IndexError where there is none.
+
+        >>> SortedMultiDict([(1, 5), (2, 4)]).last()
+        (2, 4)
+        """
         return self._end(True)
 
     def _end(self, last: bool) -> tuple[K, V]:
@@ -188,7 +227,7 @@ class SortedMultiDict(Generic[K, V]):
         """
         return self._pairs.at(position(index, len(self)))
 
-    def bisect_left(self, key: Any) -> int:
+    def bisect_left(self, key: object) -> int:
         """How many pairs have a key below one: the position of the first value of a key that is there.
 
         >>> tags = SortedMultiDict([(1, 5), (3, 4), (3, 3)]); tags.bisect_left(3), tags.bisect_right(3)
@@ -196,8 +235,12 @@ class SortedMultiDict(Generic[K, V]):
         """
         return self._pairs.bisect(key, False)
 
-    def bisect_right(self, key: Any) -> int:
-        """How many pairs have a key that is not above one."""
+    def bisect_right(self, key: object) -> int:
+        """How many pairs have a key that is not above one. TypeError where it cannot be compared with the keys.
+
+        >>> SortedMultiDict([(1, 5), (1, 4), (2, 3)]).bisect_right(1)
+        2
+        """
         return self._pairs.bisect(key, True)
 
     bisect = bisect_right
@@ -215,7 +258,7 @@ class SortedMultiDict(Generic[K, V]):
         pairs = self._pairs.chunk(first, past)
         return reversed(list(pairs)) if reverse else pairs
 
-    def irange(self, minimum: Any = None, maximum: Any = None) -> Iterator[tuple[K, V]]:
+    def irange(self, minimum: object = None, maximum: object = None) -> Iterator[tuple[K, V]]:
         """The pairs of the keys between two values, both included, as they are at the call.
 
         >>> list(SortedMultiDict([(1, 10), (3, 30), (3, 31), (5, 50)]).irange(2, 4))
@@ -224,24 +267,33 @@ class SortedMultiDict(Generic[K, V]):
         return self._pairs.range(minimum, maximum)
 
     def items(self) -> Iterator[tuple[K, V]]:
-        """All pairs, in order, as they are at the call."""
+        """All pairs, in order, as they are at the call.
+
+        >>> list(SortedMultiDict([(2, 4), (1, 5)]).items())
+        [(1, 5), (2, 4)]
+        """
         return self.irange()
 
     __iter__ = items
 
     # ---- the object
 
-    def copy(self) -> Any:
-        """A dictionary of the same pairs, in a time that grows with their number."""
-        return _restored(type(self), list(self.items()), *self._named)
+    def copy(self: C) -> C:
+        """A dictionary of the same pairs, in a time that grows with their number.
 
-    def __copy__(self) -> Any:
+        >>> SortedMultiDict([(2, 4), (1, 5)]).copy()
+        SortedMultiDict([(1, 5), (2, 4)])
+        """
+        made: C = _restored(type(self), list(self.items()), *self._named)
+        return made
+
+    def __copy__(self: C) -> C:
         made = self.copy()
         if hasattr(self, "__dict__"):
             made.__dict__.update(self.__dict__)
         return made
 
-    def __eq__(self, other: Any) -> bool:
+    def __eq__(self, other: object) -> bool:
         if not isinstance(other, SortedMultiDict):
             return NotImplemented
         return len(self) == len(other) and list(self.items()) == list(other.items())
@@ -252,7 +304,7 @@ class SortedMultiDict(Generic[K, V]):
         )
         return f"{type(self).__name__}({list(self.items())}{kinds})"
 
-    def __reduce__(self) -> Any:
+    def __reduce__(self) -> tuple[object, ...]:
         state = getattr(self, "__dict__", None) or None
         return _restored, (type(self), list(self.items()), *self._named), state
 

@@ -13,6 +13,7 @@ from ._views import NodedItemsView, NodedKeysView, NodedValuesView
 
 K = TypeVar("K")
 V = TypeVar("V")
+C = TypeVar("C", bound="Noded[Any, Any]")
 
 KINDS = (None, "insert", "remove", "create", "drop", "split", "merge")
 PAIRED = ("insert", "remove", "merge")
@@ -77,19 +78,24 @@ class Noded(Mapping[K, V], Generic[K, V]):
 
     @property
     def kinds(self) -> tuple[str, str]:
-        """The names of the kinds of the keys and of the values, as `SortedSet.kind` has them."""
+        """The names of the kinds of the keys and of the values, as `SortedSet.kind` has them.
+
+        >>> from indexset import LoggedDict
+        >>> LoggedDict(entries={"a": 1}).kinds
+        ('str', 'int64')
+        """
         return self._keys.name, self._values.name
 
     # ---- reads
 
-    def __getitem__(self, key: Any) -> V:
+    def __getitem__(self, key: object) -> V:
         code, out = self._keys.find(key), Number()
         if code is None or not self._get(self._handle, code, place(out)):
             raise KeyError(key)
         value: V = self._values.decode(out.value)
         return value
 
-    def __contains__(self, key: Any) -> bool:
+    def __contains__(self, key: object) -> bool:
         """Whether a key is there."""
         code = self._keys.find(key)
         return code is not None and self._get(self._handle, code, place(Number()))
@@ -100,11 +106,16 @@ class Noded(Mapping[K, V], Generic[K, V]):
 
     @property
     def next(self) -> int:
-        """The number of the next change."""
+        """The number of the next change.
+
+        >>> from indexset import LoggedDict
+        >>> LoggedDict(next=7).next
+        7
+        """
         number: int = self._next(self._handle)
         return number
 
-    def irange(self, minimum: Any = None, maximum: Any = None) -> Iterator[tuple[K, V]]:
+    def irange(self, minimum: object = None, maximum: object = None) -> Iterator[tuple[K, V]]:
         """The keys between two values, both included, with their values, as they are at the call.
 
         >>> from indexset import LoggedDict
@@ -137,8 +148,13 @@ class Noded(Mapping[K, V], Generic[K, V]):
             raise IndexError("index out of range")
         return self._keys.decode(key.value), self._values.decode(value.value)
 
-    def index(self, value: Any, start: Optional[int] = None, stop: Optional[int] = None) -> int:
-        """The position of a key, from `start` and before `stop`. ValueError where it is not there."""
+    def index(self, value: object, start: Optional[int] = None, stop: Optional[int] = None) -> int:
+        """The position of a key, from `start` and before `stop`. ValueError where it is not there.
+
+        >>> from indexset import LoggedDict
+        >>> LoggedDict(entries={2: "b", 1: "a"}).index(2)
+        1
+        """
         first, past, _ = slice(start, stop).indices(len(self))
         if value in self:
             position: int = self._rank(self._handle, self._keys.find(value))
@@ -146,7 +162,7 @@ class Noded(Mapping[K, V], Generic[K, V]):
                 return position
         raise ValueError(f"{value!r} is not there")
 
-    def bisect_left(self, value: Any) -> int:
+    def bisect_left(self, value: object) -> int:
         """How many keys are below a value, in a time that grows as log n.
 
         >>> from indexset import LoggedDict
@@ -155,13 +171,18 @@ class Noded(Mapping[K, V], Generic[K, V]):
         """
         return self._bisect(value, False)
 
-    def bisect_right(self, value: Any) -> int:
-        """How many keys are not above a value."""
+    def bisect_right(self, value: object) -> int:
+        """How many keys are not above a value. TypeError where it cannot be compared with them.
+
+        >>> from indexset import LoggedDict
+        >>> LoggedDict(entries={10: "a", 30: "b"}).bisect_right(10)
+        1
+        """
         return self._bisect(value, True)
 
     bisect = bisect_right
 
-    def _bisect(self, value: Any, right: bool) -> int:
+    def _bisect(self, value: object, right: bool) -> int:
         size = len(self)
         code = self._keys.bound(value, right) if size else 0
         rank: int = size if code > ALL else self._rank(self._handle, code)
@@ -200,7 +221,12 @@ class Noded(Mapping[K, V], Generic[K, V]):
         return NodedKeysView(self)
 
     def values(self) -> NodedValuesView[V]:
-        """A view of the values in the order of their keys, which can be indexed."""
+        """A view of the values in the order of their keys, which can be indexed.
+
+        >>> from indexset import LoggedDict
+        >>> LoggedDict(entries={2: "b", 1: "a"}).values()[0]
+        'a'
+        """
         return NodedValuesView(self)
 
     def items(self) -> NodedItemsView[K, V]:
@@ -216,7 +242,12 @@ class Noded(Mapping[K, V], Generic[K, V]):
 
     def nodes(self) -> list[list[tuple[K, V]]]:
         """The nodes, each as a list of its keys with their values. It takes a time that grows with the
-        number of pairs."""
+        number of pairs.
+
+        >>> from indexset import LoggedDict
+        >>> LoggedDict(entries={1: "a", 2: "b", 3: "c"}, size=2).nodes()
+        [[(1, 'a')], [(2, 'b'), (3, 'c')]]
+        """
         pairs, count = self.irange(), self._node_count(self._handle)
         lengths = zeros(count)
         if count:
@@ -225,18 +256,24 @@ class Noded(Mapping[K, V], Generic[K, V]):
 
     # ---- the object
 
-    def copy(self) -> Any:
-        """The same pairs again, in a time that grows with their number."""
-        make, words = self.__reduce__()[:2]
-        return make(*words)
+    def copy(self: C) -> C:
+        """The same pairs again, in a time that grows with their number.
 
-    def __copy__(self) -> Any:
+        >>> from indexset import LoggedDict
+        >>> LoggedDict(entries={2: "b", 1: "a"}).copy()
+        LoggedDict({1: 'a', 2: 'b'})
+        """
+        reduced: Any = self.__reduce__()
+        made: C = reduced[0](*reduced[1])
+        return made
+
+    def __copy__(self: C) -> C:
         made = self.copy()
         if hasattr(self, "__dict__"):
             made.__dict__.update(self.__dict__)
         return made
 
-    def __reduce__(self) -> Any:
+    def __reduce__(self) -> tuple[object, ...]:
         raise NotImplementedError
 
     def __repr__(self) -> str:

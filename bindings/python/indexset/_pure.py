@@ -85,6 +85,10 @@ class Ordered(Generic[T]):
         return at
 
 
+# What `array` calls the numbers of each kind.
+ARRAYS = {"int64": "q", "uint64": "Q", "float64": "d"}
+
+
 def _decode_negative(code: int) -> float:
     number: float = NUMBERS["float64"].decode(code)
     return number or -0.0
@@ -247,6 +251,10 @@ class Numbers(Ordered[Any]):
         if name == "float64":
             return list(map(self._decode, codes))
         return codes.tolist() if name == "uint64" else memoryview(turned(codes)).cast("q").tolist()
+
+    def numbers(self) -> bytes:
+        """All numbers, one by one in memory."""
+        return array(ARRAYS[self.kind], self.chunk(0, len(self))).tobytes()
 
     def ranks(self, values: Iterable[Any]) -> array[int]:
         """How many keys are below each key, in one call."""

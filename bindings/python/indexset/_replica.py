@@ -36,7 +36,7 @@ class Refused(ValueError):
         super().__init__(f"change {change.number} is refused: {_REASONS[status]}")
         self.status, self.taken, self.change = status, taken, change
 
-    def __reduce__(self) -> Any:
+    def __reduce__(self) -> tuple[object, ...]:
         return type(self), (self.status, self.taken, self.change)
 
 
@@ -96,13 +96,23 @@ class Replica(Noded[K, V], Generic[K, V]):
     def apply(self, change: Change) -> bool:
         """Makes a change. True, or False where its number is below the one that is awaited, so that it was
         made before. `Gap` where the number is above it, `Refused` where the change does not fit the nodes or
-        the kinds, and then nothing is changed."""
+        the kinds, and then nothing is changed.
+
+        >>> told = []; ages = LoggedDict(told.append, {1: "a"}); replica = Replica()
+        >>> replica.apply(told[0]), replica.apply(told[0]), replica
+        (True, False, Replica({1: 'a'}))
+        """
         return self._apply(change, 0)
 
     def apply_all(self, changes: Iterable[Change]) -> int:
         """Makes changes, first to last, and passes over each that was made before. Returns how many there
         were. `Gap` or `Refused` at the first that is refused, whose `taken` tells how many came before; their
-        changes are made. Numbers go in by one call."""
+        changes are made. Numbers go in by one call.
+
+        >>> told = []; ages = LoggedDict(told.append, {1: "a", 2: "b"}); replica = Replica()
+        >>> replica.apply_all(told), replica
+        (2, Replica({1: 'a', 2: 'b'}))
+        """
         every = list(changes)
         if every and None not in self._named and self._is_numbered():
             self._apply_numbers(every)
@@ -235,7 +245,7 @@ class Replica(Noded[K, V], Generic[K, V]):
             raise Refused(status, taken, change)
         check(status)
 
-    def __reduce__(self) -> Any:
+    def __reduce__(self) -> tuple[object, ...]:
         label = self._keys.label
         nodes = [[(key, value, label(key)) for key, value in node] for node in self.nodes()]
         words = type(self), nodes, *self._named, self.next

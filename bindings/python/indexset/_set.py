@@ -4,7 +4,7 @@ from __future__ import annotations
 from array import array
 from collections.abc import MutableSet, Set
 from itertools import chain, filterfalse
-from typing import Any, Callable, Generic, Iterable, Literal, Optional, TypeVar, overload
+from typing import Any, Callable, Generic, Iterable, Literal, Optional, SupportsIndex, TypeVar, Union, overload
 
 from ._kinds import items_of
 from ._native import Numbers
@@ -64,11 +64,17 @@ class SortedSet(Sorted[T], MutableSet[T], Generic[T]):
     def __init__(
         self,
         iterable: Optional[Iterable[T]] = ...,
-        key: Optional[Callable[[T], Any]] = ...,
+        key: Optional[Callable[[T], object]] = ...,
         *,
         keys: Optional[str] = ...,
     ) -> None: ...
-    def __init__(self, iterable: Any = None, key: Any = None, *, keys: Optional[str] = None) -> None:
+    def __init__(
+        self,
+        iterable: Optional[Iterable[object]] = None,
+        key: Optional[Callable[..., object]] = None,
+        *,
+        keys: Optional[str] = None,
+    ) -> None:
         self._begin(keys, key)
         if iterable is not None:
             self._fill(iterable)
@@ -89,23 +95,31 @@ class SortedSet(Sorted[T], MutableSet[T], Generic[T]):
             raise
         self._become(order)
 
-    def _discard(self, value: Any) -> bool:
+    def _discard(self, value: object) -> bool:
         if value not in self._members:
             return False
         self._settled().discard(value)
         self._members.discard(value)
         return True
 
-    def remove(self, value: Any) -> None:
-        """Removes an item. KeyError where it is not there."""
+    def remove(self, value: object) -> None:
+        """Removes an item. KeyError where it is not there, TypeError where it has no hash.
+
+        >>> numbers = SortedSet([1, 2]); numbers.remove(2); numbers
+        SortedSet([1])
+        """
         if not self._discard(value):
             raise KeyError(value)
 
-    def count(self, value: Any) -> int:
-        """How often an item is there: 0 or 1."""
+    def count(self, value: object) -> int:
+        """How often an item is there: 0 or 1. TypeError where it has no hash.
+
+        >>> SortedSet([1, 2]).count(2), SortedSet([1, 2]).count(3)
+        (1, 0)
+        """
         return int(value in self)
 
-    def pop(self, index: int = -1) -> T:
+    def pop(self, index: SupportsIndex = -1) -> T:
         """Removes the item at a position, the last one if none is given, and returns it. IndexError where
         there is none.
 
@@ -117,15 +131,19 @@ class SortedSet(Sorted[T], MutableSet[T], Generic[T]):
         return value
 
     def clear(self) -> None:
-        """Removes all items."""
+        """Removes all items.
+
+        >>> numbers = SortedSet([1]); numbers.clear(); numbers
+        SortedSet([])
+        """
         self._order.clear()
         self._members.clear()
 
     # ---- many at once
 
     def update(self, *iterables: Iterable[T]) -> SortedSet[T]:
-        """Adds the items of each iterable, and returns the set; numbers go in by one call. An item that does
-        not fit leaves the set as it was before that iterable.
+        """Adds the items of each iterable, and returns the set; many go in by one call. TypeError, OverflowError or
+        ValueError where an item does not fit: then the set is as it was before that iterable.
 
         >>> SortedSet([1]).update([5, 3], [4])
         SortedSet([1, 3, 4, 5])
@@ -160,8 +178,9 @@ class SortedSet(Sorted[T], MutableSet[T], Generic[T]):
             self._members = found
         self._become(order)
 
-    def ranks(self, values: Iterable[Any]) -> array[int]:
-        """How many items are below each value; of numbers by one call.
+    def ranks(self, values: Iterable[object]) -> array[int]:
+        """How many items are below each value; of numbers by one call. TypeError where one cannot be compared with
+        the items.
 
         >>> SortedSet([10, 20, 30]).ranks([5, 25]).tolist()
         [0, 2]
@@ -186,19 +205,22 @@ class SortedSet(Sorted[T], MutableSet[T], Generic[T]):
 
     # ---- sets of sets
 
-    def _from_iterable(self, it: Iterable[S]) -> Any:
-        return self._made(items_of(it))
+    def _from_iterable(self, it: Iterable[S]) -> SortedSet[S]:
+        made: SortedSet[S] = self._made(items_of(it))
+        return made
 
-    def union(self, *iterables: Iterable[Any]) -> Any:
-        """A set of the items here and of each iterable.
+    def union(self, *iterables: Iterable[S]) -> SortedSet[Union[T, S]]:
+        """A set of the items here and of each iterable. TypeError, OverflowError or ValueError where an item does not
+        fit.
 
         >>> SortedSet([1, 2]) | [5]
         SortedSet([1, 2, 5])
         """
-        return self.copy().update(*iterables)
+        made: SortedSet[Any] = self.copy()
+        return made.update(*iterables)
 
-    def intersection(self, *iterables: Iterable[Any]) -> Any:
-        """A set of the items that each iterable has too.
+    def intersection(self, *iterables: Iterable[object]) -> SortedSet[T]:
+        """A set of the items that each iterable has too. TypeError where an item has no hash.
 
         >>> SortedSet([1, 2, 3]) & [3, 4, 1]
         SortedSet([1, 3])
@@ -206,14 +228,19 @@ class SortedSet(Sorted[T], MutableSet[T], Generic[T]):
         kept = list(self)
         for iterable in iterables:
             kept = list(filter(_asked(iterable).__contains__, kept))
-        return self._made(kept)
+        made: SortedSet[T] = self._made(kept)
+        return made
 
-    def intersection_update(self, *iterables: Iterable[Any]) -> SortedSet[T]:
-        """Keeps the items that each iterable has too."""
+    def intersection_update(self, *iterables: Iterable[object]) -> SortedSet[T]:
+        """Keeps the items that each iterable has too, and returns the set. TypeError where an item has no hash.
+
+        >>> SortedSet([1, 2, 3]).intersection_update([3, 4, 1])
+        SortedSet([1, 3])
+        """
         return self._take_over(self.intersection(*iterables))
 
-    def difference(self, *iterables: Iterable[Any]) -> Any:
-        """A set of the items that no iterable has.
+    def difference(self, *iterables: Iterable[object]) -> SortedSet[T]:
+        """A set of the items that no iterable has. TypeError where an item has no hash.
 
         >>> SortedSet([1, 2, 3]) - [2]
         SortedSet([1, 3])
@@ -221,10 +248,15 @@ class SortedSet(Sorted[T], MutableSet[T], Generic[T]):
         kept = list(self)
         for iterable in iterables:
             kept = list(filterfalse(_asked(iterable).__contains__, kept))
-        return self._made(kept)
+        made: SortedSet[T] = self._made(kept)
+        return made
 
-    def difference_update(self, *iterables: Iterable[Any]) -> SortedSet[T]:
-        """Removes the items that an iterable has."""
+    def difference_update(self, *iterables: Iterable[object]) -> SortedSet[T]:
+        """Removes the items that an iterable has, and returns the set. TypeError where an item has no hash.
+
+        >>> SortedSet([1, 2, 3]).difference_update([2], [5])
+        SortedSet([1, 3])
+        """
         others = set(chain.from_iterable(iterables))
         if len(others) * 4 > len(self):
             return self._take_over(self._made(list(filterfalse(others.__contains__, self))))
@@ -232,18 +264,25 @@ class SortedSet(Sorted[T], MutableSet[T], Generic[T]):
             self._discard(value)
         return self
 
-    def symmetric_difference(self, iterable: Iterable[Any]) -> Any:
-        """A set of what stands in one of the two alone.
+    def symmetric_difference(self, iterable: Iterable[S]) -> SortedSet[Union[T, S]]:
+        """A set of what stands in one of the two alone. TypeError, OverflowError or ValueError where an item does not
+        fit.
 
         >>> SortedSet([1, 2]) ^ [2, 3]
         SortedSet([1, 3])
         """
-        others = dict.fromkeys(iterable)
+        others: dict[Any, None] = dict.fromkeys(iterable)
         kept = list(filterfalse(others.__contains__, self))
-        return self._made(kept + list(filterfalse(self._members.__contains__, others)))
+        made: SortedSet[Any] = self._made(kept + list(filterfalse(self._members.__contains__, others)))
+        return made
 
-    def symmetric_difference_update(self, iterable: Iterable[Any]) -> SortedSet[T]:
-        """Keeps what stands in one of the two alone."""
+    def symmetric_difference_update(self, iterable: Iterable[T]) -> SortedSet[T]:
+        """Keeps what stands in one of the two alone, and returns the set. TypeError, OverflowError or ValueError where
+        an item does not fit: then the set is as it was.
+
+        >>> SortedSet([1, 2]).symmetric_difference_update([2, 3])
+        SortedSet([1, 3])
+        """
         return self._take_over(self.symmetric_difference(iterable))
 
     def _take_over(self, made: SortedSet[T]) -> SortedSet[T]:
@@ -252,17 +291,29 @@ class SortedSet(Sorted[T], MutableSet[T], Generic[T]):
         self._order, self._members = made._order, made._members
         return self
 
-    def issubset(self, iterable: Iterable[Any]) -> bool:
-        """Whether an iterable has each item."""
+    def issubset(self, iterable: Iterable[object]) -> bool:
+        """Whether an iterable has each item. TypeError where an item has no hash.
+
+        >>> SortedSet([1, 2]).issubset([3, 2, 1])
+        True
+        """
         other = _asked(iterable)
         return len(self) <= len(other) and all(map(other.__contains__, self._members))
 
-    def issuperset(self, iterable: Iterable[Any]) -> bool:
-        """Whether each item of an iterable is here."""
+    def issuperset(self, iterable: Iterable[object]) -> bool:
+        """Whether each item of an iterable is here. TypeError where an item has no hash.
+
+        >>> SortedSet([1, 2]).issuperset([2])
+        True
+        """
         return all(map(self.__contains__, iterable))
 
-    def isdisjoint(self, iterable: Iterable[Any]) -> bool:
-        """Whether no item of an iterable is here."""
+    def isdisjoint(self, iterable: Iterable[object]) -> bool:
+        """Whether no item of an iterable is here. TypeError where an item has no hash.
+
+        >>> SortedSet([1, 2]).isdisjoint([3])
+        True
+        """
         return not any(map(self.__contains__, iterable))
 
     __or__ = __ror__ = union
@@ -274,10 +325,11 @@ class SortedSet(Sorted[T], MutableSet[T], Generic[T]):
     __xor__ = __rxor__ = symmetric_difference
     __ixor__ = symmetric_difference_update
 
-    def __rsub__(self, other: Iterable[Any]) -> Any:
-        return self._made(list(filterfalse(self._members.__contains__, other)))
+    def __rsub__(self, other: Iterable[S]) -> SortedSet[S]:
+        made: SortedSet[S] = self._made(list(filterfalse(self._members.__contains__, other)))
+        return made
 
-    def __eq__(self, other: Any) -> bool:
+    def __eq__(self, other: object) -> bool:
         if not isinstance(other, Set):
             return NotImplemented
         return len(self) == len(other) and self.issubset(other)

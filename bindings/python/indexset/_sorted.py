@@ -1,15 +1,20 @@
 """What a sorted set and a sorted list share: items at positions, and walks over them."""
 from __future__ import annotations
 
+from array import array
 from collections.abc import Sequence
+from importlib import import_module
+from operator import index as as_index
 from reprlib import recursive_repr
-from typing import Any, Callable, Generic, Iterable, Iterator, Optional, TypeVar
+from typing import Any, Callable, Generic, Iterable, Iterator, Optional, SupportsIndex, TypeVar, Union, overload
 
 from ._kinds import items_of, known
 from ._native import Front, Numbers
 from ._orders import Compared, KeyFunction, Order, Repeated, Run, duplicate, fitted, gathered, order_of, settled
+from ._pure import ARRAYS
 
 T = TypeVar("T")
+S = TypeVar("S", bound="Sorted[Any]")
 # The methods `__init__` of the package's own classes.
 OWN_INITS: set[Any] = set()
 # From how many items that go on, beside so many, the others are gathered anew.
@@ -34,13 +39,23 @@ class Sorted(Front[T], Sequence[T], Generic[T]):
     @property
     def kind(self) -> str:
         """The name of the kind of the items, or of what `key` makes of them: "int64", "uint64", "float64",
-        "str", "bytes", "any", or "object" for those that Python's own `<` compares."""
+        "str", "bytes", "any", or "object" for those that Python's own `<` compares.
+
+        >>> from indexset import SortedSet
+        >>> SortedSet([1]).kind, SortedSet([(1,)]).kind, SortedSet(["ab"], key=len).kind
+        ('int64', 'object', 'int64')
+        """
         kind: str = self._order.kind
         return kind
 
     @property
-    def key(self) -> Optional[Callable[[T], Any]]:
-        """The function whose results order the items, or None where they order themselves."""
+    def key(self) -> Optional[Callable[[T], object]]:
+        """The function whose results order the items, or None where they order themselves.
+
+        >>> from indexset import SortedSet
+        >>> SortedSet(key=len).key, SortedSet().key
+        (<built-in function len>, None)
+        """
         return getattr(self._order, "key", None)
 
     def _fitting(self, items: list[Any]) -> Any:
@@ -77,8 +92,8 @@ class Sorted(Front[T], Sequence[T], Generic[T]):
         found: list[T] = self._order.chunk(min(at[0], at[-1]), max(at[0], at[-1]) + 1)
         return found[::step]
 
-    def __delitem__(self, position: Any) -> None:
-        """Removes the item at a position, or those at a slice."""
+    def __delitem__(self, position: Union[SupportsIndex, slice]) -> None:
+        """Removes the item at a position, or those at a slice. IndexError where there is none at a position."""
         if not isinstance(position, slice):
             self.pop(position)
             return
@@ -116,7 +131,7 @@ class Sorted(Front[T], Sequence[T], Generic[T]):
         elif members is not None:
             self._members = set(self._order.chunk(0, first) + self._order.chunk(past, len(self)))
 
-    def pop(self, index: int = -1) -> T:
+    def pop(self, index: SupportsIndex = -1) -> T:
         """Removes the item at a position, the last one if none is given, and returns it. IndexError where
         there is none. It takes a time that grows as log n.
 
@@ -125,13 +140,18 @@ class Sorted(Front[T], Sequence[T], Generic[T]):
         (3, 1)
         """
         if isinstance(self._order, Run):
-            self._order[index]
+            self._order[as_index(index)]
         item: T = self._settled().pop(index)
         return item
 
-    def index(self, value: Any, start: Optional[int] = None, stop: Optional[int] = None) -> int:
+    def index(self, value: object, start: Optional[int] = None, stop: Optional[int] = None) -> int:
         """The first position of a value, from `start` and before `stop`. ValueError where it is not there. It
-        takes a time that grows as log n, and with the number of items that have its sort key."""
+        takes a time that grows as log n, and with the number of items that have its sort key.
+
+        >>> from indexset import SortedList
+        >>> SortedList([3, 1, 3]).index(3), SortedList([3, 1, 3]).index(3, 2)
+        (1, 2)
+        """
         first, past = 0, len(self)
         if start is not None or stop is not None:
             first, past, _ = slice(start, stop).indices(past)
@@ -140,7 +160,7 @@ class Sorted(Front[T], Sequence[T], Generic[T]):
             raise ValueError(f"{value!r} is not there")
         return position
 
-    def _find(self, value: Any, first: int) -> int:
+    def _find(self, value: object, first: int) -> int:
         """The first position of a value from a position on, or -1."""
         order = self._order
         found: int = order.find(value) if len(order) else -1
@@ -151,14 +171,24 @@ class Sorted(Front[T], Sequence[T], Generic[T]):
         found = order.find_from(value, first)
         return found
 
-    def bisect_key_left(self, key: Any) -> int:
-        """How many items have a sort key below a key."""
+    def bisect_key_left(self, key: object) -> int:
+        """How many items have a sort key below a key. TypeError where it cannot be compared with them.
+
+        >>> from indexset import SortedKeyList
+        >>> SortedKeyList(["a", "bb", "cc"], key=len).bisect_key_left(2)
+        1
+        """
         order = self._order
         position: int = order.place(key, False) if len(order) else 0
         return position
 
-    def bisect_key_right(self, key: Any) -> int:
-        """How many items have a sort key that is not above a key."""
+    def bisect_key_right(self, key: object) -> int:
+        """How many items have a sort key that is not above a key. TypeError where it cannot be compared with them.
+
+        >>> from indexset import SortedKeyList
+        >>> SortedKeyList(["a", "bb", "cc"], key=len).bisect_key_right(2)
+        3
+        """
         order = self._order
         position: int = order.place(key, True) if len(order) else 0
         return position
@@ -175,20 +205,30 @@ class Sorted(Front[T], Sequence[T], Generic[T]):
         self, start: Optional[int] = None, stop: Optional[int] = None, reverse: bool = False
     ) -> Iterator[T]:
         """Walks over the items at the positions from `start` and before `stop`. RuntimeError once there was a
-        change."""
+        change.
+
+        >>> from indexset import SortedSet
+        >>> list(SortedSet([1, 2, 3]).islice(1)), list(SortedSet([1, 2, 3]).islice(0, 2, reverse=True))
+        ([2, 3], [2, 1])
+        """
         first, past, _ = slice(start, stop).indices(len(self))
         walk: Iterator[T] = self._order.walk(first, past, reverse)
         return walk
 
     def irange(
         self,
-        minimum: Any = None,
-        maximum: Any = None,
+        minimum: object = None,
+        maximum: object = None,
         inclusive: tuple[bool, bool] = (True, True),
         reverse: bool = False,
     ) -> Iterator[T]:
-        """Walks over the items between two values, each included or not. RuntimeError once there was a
-        change."""
+        """Walks over the items between two values, each included or not; None is no bound. RuntimeError once there
+        was a change, TypeError where a value cannot be compared with the items.
+
+        >>> from indexset import SortedSet
+        >>> list(SortedSet([1, 2, 3]).irange(2)), list(SortedSet([1, 2, 3]).irange(1, 3, (False, False)))
+        ([2, 3], [2])
+        """
         first = 0 if minimum is None else self._order.bisect(minimum, not inclusive[0])
         past = len(self) if maximum is None else self._order.bisect(maximum, inclusive[1])
         walk: Iterator[T] = self._order.walk(first, past, reverse)
@@ -196,12 +236,18 @@ class Sorted(Front[T], Sequence[T], Generic[T]):
 
     def irange_key(
         self,
-        min_key: Any = None,
-        max_key: Any = None,
+        min_key: object = None,
+        max_key: object = None,
         inclusive: tuple[bool, bool] = (True, True),
         reverse: bool = False,
     ) -> Iterator[T]:
-        """Walks over the items whose sort keys are between two keys, each included or not."""
+        """Walks over the items whose sort keys are between two keys, each included or not; None is no bound.
+        RuntimeError once there was a change, TypeError where a key cannot be compared with the sort keys.
+
+        >>> from indexset import SortedKeyList
+        >>> list(SortedKeyList(["a", "bb", "cc", "ddd"], key=len).irange_key(2, 2))
+        ['bb', 'cc']
+        """
         first, past = 0, len(self)
         if min_key is not None:
             first = self.bisect_key_right(min_key) if not inclusive[0] else self.bisect_key_left(min_key)
@@ -209,6 +255,34 @@ class Sorted(Front[T], Sequence[T], Generic[T]):
             past = self.bisect_key_right(max_key) if inclusive[1] else self.bisect_key_left(max_key)
         walk: Iterator[T] = self._order.walk(first, past, reverse)
         return walk
+
+    # ---- arrays
+
+    @overload
+    def to_array(self: Sorted[int]) -> array[int]: ...
+    @overload
+    def to_array(self: Sorted[float]) -> array[float]: ...
+    def to_array(self) -> Union[array[int], array[float]]:
+        """The items as an array of numbers of 64 bits, which has a buffer: `numpy.asarray(items.to_array())` copies
+        none, and `numpy.asarray(items)` goes by it. TypeError where their kind is none of numbers, or `key` is given.
+
+        >>> from indexset import SortedSet
+        >>> SortedSet([3, 1, 2]).to_array(), SortedSet([0.5]).to_array()
+        (array('q', [1, 2, 3]), array('d', [0.5]))
+        """
+        if self.kind not in ARRAYS or self.key is not None:
+            raise TypeError(f"items of a kind of numbers that order themselves are needed, not of {self.kind!r}")
+        made: Any = array(ARRAYS[self.kind])
+        made.frombytes(self._order.numbers())
+        return made  # type: ignore[no-any-return]
+
+    def __array__(self, dtype: object = None, copy: object = None) -> object:
+        """What numpy asks for an array."""
+        numpy: Any = import_module("numpy")
+        if self.kind in ARRAYS and self.key is None:
+            numbers: Any = self
+            return numpy.asarray(numbers.to_array(), dtype=dtype)
+        return numpy.array(self._order.chunk(0, len(self)), dtype=dtype)
 
     # ---- the object
 
@@ -224,26 +298,32 @@ class Sorted(Front[T], Sequence[T], Generic[T]):
         made.clear()
         return made
 
-    def _made(self, items: list[T]) -> Any:
+    def _made(self, items: list[Any]) -> Any:
         """The same with the items of a list that is used no further."""
         made = self._empty()
         made._filled(items)
         return made
 
-    def copy(self) -> Any:
-        """Another with the same items, in a time that grows with their number."""
-        made = self._empty()
+    def copy(self: S) -> S:
+        """Another of the same class with the same items, in a time that grows with their number. MemoryError where
+        memory is refused.
+
+        >>> from indexset import SortedList
+        >>> numbers = SortedList([2, 1]); other = numbers.copy(); other.add(0); numbers, other
+        (SortedList([1, 2]), SortedList([0, 1, 2]))
+        """
+        made: S = self._empty()
         made._order = duplicate(self._order, self._repeats)
         made._members = None if self._members is None else self._members.copy()
         return made
 
-    def __copy__(self) -> Any:
+    def __copy__(self: S) -> S:
         made = self.copy()
         if hasattr(self, "__dict__"):
             made.__dict__.update(self.__dict__)
         return made
 
-    def _fill(self, items: Iterable[T]) -> None:
+    def _fill(self, items: Iterable[Any]) -> None:
         """Adds items."""
         self._filled(items_of(items))
 
@@ -252,7 +332,12 @@ class Sorted(Front[T], Sequence[T], Generic[T]):
         raise NotImplementedError
 
     def clear(self) -> None:
-        """Removes all items."""
+        """Removes all items.
+
+        >>> from indexset import SortedSet
+        >>> numbers = SortedSet([1]); numbers.clear(); numbers
+        SortedSet([])
+        """
         raise NotImplementedError
 
     @recursive_repr("...")
@@ -261,7 +346,7 @@ class Sorted(Front[T], Sequence[T], Generic[T]):
         kind = "" if self._named is None else f", keys={self._named!r}"
         return f"{type(self).__name__}({list(self)!r}{key}{kind})"
 
-    def __reduce__(self) -> Any:
+    def __reduce__(self) -> tuple[object, ...]:
         return _restored, (type(self), list(self), self.key, self._named), getattr(self, "__dict__", None) or None
 
 

@@ -26,7 +26,7 @@ def framed_text(data: bytes) -> bytes:
     return b"\x02" + data.replace(b"\0", b"\0\xff") + b"\0"
 
 
-def pack(key: Any) -> bytes:
+def pack(key: object) -> bytes:
     """The bytes of a key: None, a bool, an integer of up to 255 bytes, a floating-point number other than
     NaN, a text, a byte string or a tuple of such. TypeError, OverflowError or ValueError for others.
 

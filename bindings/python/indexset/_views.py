@@ -3,12 +3,13 @@ from __future__ import annotations
 
 from collections.abc import ItemsView, KeysView, Sequence, ValuesView
 from operator import itemgetter
-from typing import Any, Iterable, Iterator, Tuple, TypeVar
+from typing import Any, Iterable, Iterator, Optional, SupportsIndex, Tuple, TypeVar, Union, overload
 
 from ._set import SortedSet
 
 K = TypeVar("K")
 V = TypeVar("V")
+T = TypeVar("T")
 
 
 class SortedKeysView(KeysView[K], Sequence[K]):
@@ -27,13 +28,19 @@ class SortedKeysView(KeysView[K], Sequence[K]):
     def _from_iterable(cls, it: Iterable[Any]) -> Any:
         return SortedSet(it)
 
-    def __getitem__(self, index: Any) -> Any:
+    @overload
+    def __getitem__(self, index: SupportsIndex) -> K: ...
+    @overload
+    def __getitem__(self, index: slice) -> list[K]: ...
+    def __getitem__(self, index: Union[SupportsIndex, slice]) -> Union[K, list[K]]:
         if isinstance(index, slice):
             first, past, step = index.indices(len(self))
-            return self._mapping._order.chunk(first, past) if step == 1 else list(self)[index]
-        return self._mapping._order[index]
+            keys: list[K] = self._mapping._order.chunk(first, past) if step == 1 else list(self)[index]
+            return keys
+        key: K = self._mapping._order[index]
+        return key
 
-    def __delitem__(self, index: Any) -> None:
+    def __delitem__(self, index: Union[SupportsIndex, slice]) -> None:
         for key in self[index] if isinstance(index, slice) else [self[index]]:
             del self._mapping[key]
 
@@ -41,12 +48,22 @@ class SortedKeysView(KeysView[K], Sequence[K]):
         walk: Iterator[K] = reversed(self._mapping)
         return walk
 
-    def count(self, value: Any) -> int:
-        """How often a key is there: 0 or 1."""
+    def count(self, value: object) -> int:
+        """How often a key is there: 0 or 1. TypeError where it has no hash.
+
+        >>> from indexset import SortedDict
+        >>> SortedDict({1: "a"}).keys().count(1)
+        1
+        """
         return int(value in self._mapping)
 
-    def index(self, value: Any, start: Any = None, stop: Any = None) -> int:
-        """The position of a key. ValueError where it is not there."""
+    def index(self, value: object, start: Optional[int] = None, stop: Optional[int] = None) -> int:
+        """The position of a key, from `start` and before `stop`. ValueError where it is not there.
+
+        >>> from indexset import SortedDict
+        >>> SortedDict({2: "b", 1: "a"}).keys().index(2)
+        1
+        """
         position: int = self._mapping.index(value, start, stop)
         return position
 
@@ -69,10 +86,15 @@ class SortedValuesView(ValuesView[V], Sequence[V]):
     def __reversed__(self) -> Iterator[V]:
         return map(self._mapping.__getitem__, reversed(self._mapping))
 
-    def __getitem__(self, index: Any) -> Any:
+    @overload
+    def __getitem__(self, index: SupportsIndex) -> V: ...
+    @overload
+    def __getitem__(self, index: slice) -> list[V]: ...
+    def __getitem__(self, index: Union[SupportsIndex, slice]) -> Union[V, list[V]]:
         if isinstance(index, slice):
             return list(map(self._mapping.__getitem__, self._mapping.keys()[index]))
-        return self._mapping.peekitem(index)[1]
+        value: V = self._mapping.peekitem(index)[1]
+        return value
 
 
 class SortedItemsView(ItemsView[K, V], Sequence[Tuple[K, V]]):
@@ -98,14 +120,19 @@ class SortedItemsView(ItemsView[K, V], Sequence[Tuple[K, V]]):
     def __reversed__(self) -> Iterator[tuple[K, V]]:
         return zip(reversed(self._mapping), map(self._mapping.__getitem__, reversed(self._mapping)))
 
-    def __getitem__(self, index: Any) -> Any:
+    @overload
+    def __getitem__(self, index: SupportsIndex) -> tuple[K, V]: ...
+    @overload
+    def __getitem__(self, index: slice) -> list[tuple[K, V]]: ...
+    def __getitem__(self, index: Union[SupportsIndex, slice]) -> Union[tuple[K, V], list[tuple[K, V]]]:
         if isinstance(index, slice):
             keys = self._mapping.keys()[index]
             return list(zip(keys, map(self._mapping.__getitem__, keys)))
-        return self._mapping.peekitem(index)
+        pair: tuple[K, V] = self._mapping.peekitem(index)
+        return pair
 
 
-class _Positions(Sequence[Any]):
+class _Positions(Sequence[T]):
     """What a view of a logged dictionary or a replica has by positions, as a part of the pair at each."""
 
     __slots__ = ()
@@ -116,19 +143,24 @@ class _Positions(Sequence[Any]):
     def _part(pair: tuple[Any, Any]) -> Any:
         raise NotImplementedError
 
-    def __getitem__(self, index: Any) -> Any:
+    @overload
+    def __getitem__(self, index: SupportsIndex) -> T: ...
+    @overload
+    def __getitem__(self, index: slice) -> list[T]: ...
+    def __getitem__(self, index: Union[SupportsIndex, slice]) -> Union[T, list[T]]:
         if isinstance(index, slice):
             return [self._part(pair) for pair in self._mapping._slice(index)]
-        return self._part(self._mapping.peekitem(index))
+        part: T = self._part(self._mapping.peekitem(index))
+        return part
 
-    def __iter__(self) -> Iterator[Any]:
+    def __iter__(self) -> Iterator[T]:
         return map(self._part, self._mapping.irange())
 
-    def __reversed__(self) -> Iterator[Any]:
+    def __reversed__(self) -> Iterator[T]:
         return map(self._part, self._mapping.islice(reverse=True))
 
 
-class NodedKeysView(_Positions, KeysView[K], Sequence[K]):
+class NodedKeysView(_Positions[K], KeysView[K], Sequence[K]):
     """The keys of a `LoggedDict` or a `Replica`, in order, as they are at each call. A position takes a time that
     grows as log n."""
 
@@ -136,17 +168,27 @@ class NodedKeysView(_Positions, KeysView[K], Sequence[K]):
 
     _part = staticmethod(itemgetter(0))
 
-    def count(self, value: Any) -> int:
-        """How often a key is there: 0 or 1."""
+    def count(self, value: object) -> int:
+        """How often a key is there: 0 or 1. TypeError where it has no hash.
+
+        >>> from indexset import SortedDict
+        >>> SortedDict({1: "a"}).keys().count(1)
+        1
+        """
         return int(value in self._mapping)
 
-    def index(self, value: Any, start: Any = None, stop: Any = None) -> int:
-        """The position of a key. ValueError where it is not there."""
+    def index(self, value: object, start: Optional[int] = None, stop: Optional[int] = None) -> int:
+        """The position of a key, from `start` and before `stop`. ValueError where it is not there.
+
+        >>> from indexset import SortedDict
+        >>> SortedDict({2: "b", 1: "a"}).keys().index(2)
+        1
+        """
         position: int = self._mapping.index(value, start, stop)
         return position
 
 
-class NodedValuesView(_Positions, ValuesView[V], Sequence[V]):
+class NodedValuesView(_Positions[V], ValuesView[V], Sequence[V]):
     """The values of a `LoggedDict` or a `Replica`, in the order of their keys, as they are at each call."""
 
     __slots__ = ()
@@ -154,7 +196,7 @@ class NodedValuesView(_Positions, ValuesView[V], Sequence[V]):
     _part = staticmethod(itemgetter(1))
 
 
-class NodedItemsView(_Positions, ItemsView[K, V], Sequence[Tuple[K, V]]):
+class NodedItemsView(_Positions[Tuple[K, V]], ItemsView[K, V], Sequence[Tuple[K, V]]):
     """The keys of a `LoggedDict` or a `Replica` in order, with their values, as they are at each call. A position
     takes a time that grows as log n."""
 
