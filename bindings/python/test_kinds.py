@@ -225,7 +225,7 @@ class Kinds(unittest.TestCase):
         self.assertEqual((list(ours), ours.kind), (["a"], "str"))
 
     def test_examples(self):
-        for name in ("", "._dict", "._list", "._log", "._multi", "._nodes", "._replica", "._set", "._sorted", "._tuple", "._views"):
+        for name in ("", "._dict", "._list", "._log", "._multi", "._nodes", "._placed", "._replica", "._set", "._sorted", "._tuple", "._views"):
             result = doctest.testmod(importlib.import_module(f"indexset{name}"))
             self.assertEqual((name, result.failed), (name, 0))
             self.assertGreater(result.attempted, 0, name)

@@ -23,8 +23,8 @@ class SortedList(Sorted[T], MutableSequence[T], Generic[T]):
 
     Cost: with n items, a call on one item or one position is O(log n), and, where a value is looked for that
     is no number or `key` is given, linear in the number of items that have its sort key. Iteration, a slice or
-    a batch is linear in its length. A removal where numbers repeat may raise MemoryError, and then has changed
-    nothing.
+    a batch is linear in its length. Where many items came at once, the first change of one is linear in their
+    number. A removal where numbers repeat may raise MemoryError, and then has changed nothing.
 
     Reads may go on in several threads at once. An iterator raises RuntimeError once there was a change;
     changes from several threads are kept apart by the caller.
@@ -267,7 +267,8 @@ class SortedList(Sorted[T], MutableSequence[T], Generic[T]):
 
 class SortedKeyList(SortedList[T], Generic[T]):
     """A `SortedList` whose items are ordered by what a function makes of each; without one, by themselves. The
-    cost is that of a `SortedList`; with the kind "object" the function is called at each comparison.
+    cost is that of a `SortedList`. `SortedListWithKey`, the name that `sortedcontainers` had for it before its
+    version 2, is the same class.
 
     >>> words = SortedKeyList(["pear", "fig", "apple"], key=len); words
     SortedKeyList(['fig', 'pear', 'apple'], key=<built-in function len>)
@@ -294,5 +295,4 @@ def _itself(value: T) -> T:
 
 OWN_INITS.update((SortedList.__init__, SortedKeyList.__init__))
 
-# The name that `sortedcontainers` had for it before its version 2.
 SortedListWithKey = SortedKeyList

@@ -21,11 +21,13 @@ class SortedSet(Sorted[T], MutableSet[T], Generic[T]):
     the kind: "int64", "uint64", "float64", "str", "bytes", "any" (None, bool, int, float, str, bytes and
     tuples of these, in the order of FoundationDB's tuples: integers before floats) or "object" (what Python's
     own `<` compares); an item that does not fit is refused with TypeError, OverflowError or, for NaN,
-    ValueError. Where none is named, it is found from the items, and numbers of 64 bits, texts and byte strings
-    are kept as such until others come. `key` is a function whose results order the items.
+    ValueError. Where none is named, it is found from the items: what is int of 64 bits, float, str or bytes,
+    of one of these types alone, is kept as such until others come; all others, of a class below these too, are
+    compared by `<`. `key` is a function whose results order the items.
 
     Cost: with n items, a call on one item or one position is O(log n), and with the kind "object" makes that
-    many comparisons; `in` asks a hash table. Iteration, a slice or a batch is linear in its length.
+    many comparisons; `in` asks a hash table. Iteration, a slice or a batch is linear in its length. Where many
+    items came at once, the first change of one is linear in their number.
 
     Reads may go on in several threads at once. An iterator raises RuntimeError once there was a change;
     changes from several threads are kept apart by the caller.

@@ -1,0 +1,169 @@
+"""A dictionary of keys in order, each at a position, and walks over them."""
+from __future__ import annotations
+
+from typing import Callable, Generic, Iterator, Optional, SupportsIndex, TypeVar
+
+from ._native import DictFront
+
+K = TypeVar("K")
+V = TypeVar("V")
+
+
+class Placed(DictFront[K, V], Generic[K, V]):
+    """What a sorted dictionary has by the positions of its keys."""
+
+    __slots__ = ()
+
+    @property
+    def kind(self) -> str:
+        """The name of the kind of the keys, as `SortedSet.kind` has it.
+
+        >>> from indexset import SortedDict
+        >>> SortedDict({"a": 1}).kind
+        'str'
+        """
+        kind: str = self._order.kind
+        return kind
+
+    @property
+    def key(self) -> Optional[Callable[[K], object]]:
+        """The function whose results order the keys, or None where they order themselves.
+
+        >>> from indexset import SortedDict
+        >>> SortedDict(len, {"a": 1}).key
+        <built-in function len>
+        """
+        return getattr(self._order, "key", None)
+
+    # ---- positions
+
+    def peekitem(self, index: SupportsIndex = -1) -> tuple[K, V]:
+        """The key and the value at a position, the last one if none is given. IndexError where there is none.
+
+        >>> from indexset import SortedDict
+        >>> SortedDict({1: "a", 2: "b"}).peekitem()
+        (2, 'b')
+        """
+        key = self._order[index]
+        return key, self[key]
+
+    def index(self, value: object, start: Optional[int] = None, stop: Optional[int] = None) -> int:
+        """The position of a key, from `start` and before `stop`. ValueError where it is not there.
+
+        >>> from indexset import SortedDict
+        >>> SortedDict({1: "a", 2: "b"}).index(2)
+        1
+        """
+        first, past, _ = slice(start, stop).indices(len(self))
+        if value in self:
+            position: int = self._order.find(value)
+            if first <= position < past:
+                return position
+        raise ValueError(f"{value!r} is not there")
+
+    def bisect_left(self, value: object) -> int:
+        """How many keys are below a value. TypeError where it cannot be compared with them, ValueError where it is NaN.
+
+        >>> from indexset import SortedDict
+        >>> SortedDict({10: "a", 20: "b"}).bisect_left(20)
+        1
+        """
+        position: int = self._order.bisect(value, False)
+        return position
+
+    def bisect_right(self, value: object) -> int:
+        """How many keys are not above a value. TypeError where it cannot be compared with them, ValueError where it is NaN.
+
+        >>> from indexset import SortedDict
+        >>> SortedDict({10: "a", 20: "b"}).bisect_right(20)
+        2
+        """
+        position: int = self._order.bisect(value, True)
+        return position
+
+    bisect = bisect_right
+
+    def bisect_key_left(self, key: object) -> int:
+        """How many keys have a sort key below one. TypeError where it cannot be compared with them.
+
+        >>> from indexset import SortedDict
+        >>> SortedDict(len, {"a": 0, "bb": 1, "cc": 2}).bisect_key_left(2)
+        1
+        """
+        order = self._order
+        position: int = order.place(key, False) if len(order) else 0
+        return position
+
+    def bisect_key_right(self, key: object) -> int:
+        """How many keys have a sort key that is not above one. TypeError where it cannot be compared with them.
+
+        >>> from indexset import SortedDict
+        >>> SortedDict(len, {"a": 0, "bb": 1, "cc": 2}).bisect_key_right(2)
+        3
+        """
+        order = self._order
+        position: int = order.place(key, True) if len(order) else 0
+        return position
+
+    bisect_key = bisect_key_right
+
+    # ---- walks
+
+    def __reversed__(self) -> Iterator[K]:
+        """Walks over the keys from the last to the first."""
+        walk: Iterator[K] = self._order.walk(0, len(self), True)
+        return walk
+
+    def islice(
+        self, start: Optional[int] = None, stop: Optional[int] = None, reverse: bool = False
+    ) -> Iterator[K]:
+        """Walks over the keys at the positions from `start` and before `stop`. RuntimeError once keys came or went.
+
+        >>> from indexset import SortedDict
+        >>> list(SortedDict({1: "a", 2: "b", 3: "c"}).islice(1))
+        [2, 3]
+        """
+        first, past, _ = slice(start, stop).indices(len(self))
+        walk: Iterator[K] = self._order.walk(first, past, reverse)
+        return walk
+
+    def irange(
+        self,
+        minimum: object = None,
+        maximum: object = None,
+        inclusive: tuple[bool, bool] = (True, True),
+        reverse: bool = False,
+    ) -> Iterator[K]:
+        """Walks over the keys between two values, each included or not; None is no bound. RuntimeError once keys came
+        or went, TypeError where a value cannot be compared with them.
+
+        >>> from indexset import SortedDict
+        >>> list(SortedDict({1: "a", 2: "b", 3: "c"}).irange(2))
+        [2, 3]
+        """
+        first = 0 if minimum is None else self._order.bisect(minimum, not inclusive[0])
+        past = len(self) if maximum is None else self._order.bisect(maximum, inclusive[1])
+        walk: Iterator[K] = self._order.walk(first, past, reverse)
+        return walk
+
+    def irange_key(
+        self,
+        min_key: object = None,
+        max_key: object = None,
+        inclusive: tuple[bool, bool] = (True, True),
+        reverse: bool = False,
+    ) -> Iterator[K]:
+        """Walks over the keys whose sort keys are between two, each included or not; None is no bound. RuntimeError
+        once keys came or went, TypeError where one cannot be compared with the sort keys.
+
+        >>> from indexset import SortedDict
+        >>> list(SortedDict(len, {"a": 0, "bb": 1, "cc": 2}).irange_key(2))
+        ['bb', 'cc']
+        """
+        first, past = 0, len(self)
+        if min_key is not None:
+            first = self.bisect_key_right(min_key) if not inclusive[0] else self.bisect_key_left(min_key)
+        if max_key is not None:
+            past = self.bisect_key_right(max_key) if inclusive[1] else self.bisect_key_left(max_key)
+        walk: Iterator[K] = self._order.walk(first, past, reverse)
+        return walk
