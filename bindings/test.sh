@@ -35,7 +35,7 @@ sanitized() {
     mkdir python/out/sanitized
     cp -r python/indexset python/test_*.py python/out/sanitized
     python3 python/build_fast.py --sanitize --library "c/$out/libindexset.a" python/out/sanitized || return 1
-    for test in test_answers test_defects test_equals test_indexset test_kinds test_list test_text; do
+    for test in test_answers test_blocks test_defects test_equals test_indexset test_kinds test_list test_text; do
         LD_PRELOAD="$preload" ASAN_OPTIONS=detect_leaks=0 python3 "python/out/sanitized/$test.py" || return 1
     done
 }
@@ -49,7 +49,7 @@ try c/test_install.sh
 try env PYTHONPATH=python/out python3 -m doctest python/README.md ../README.md
 python3 python/build_fast.py --library "c/$out/libindexset.a" python/out || exit 1
 for backend in ctypes extension; do
-    for test in test_answers test_defects test_equals test_indexset test_kinds test_list test_logged test_numbers test_text; do
+    for test in test_answers test_blocks test_defects test_equals test_indexset test_kinds test_list test_logged test_numbers test_text; do
         try env "INDEXSET_BACKEND=$backend" python3 "python/out/$test.py"
     done
     try env "INDEXSET_BACKEND=$backend" python3 python/out/peer_tests.py

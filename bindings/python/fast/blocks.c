@@ -9,6 +9,8 @@
 /* ---- positions: a Fenwick tree over the lengths of the blocks, made anew once their number has changed */
 
 static void index_blocks(Blocks *self) {
+    if (self->count == 0)
+        return;
     memset(self->tree, 0, (self->count + 1) * sizeof *self->tree);
     for (size_t i = 1; i <= self->count; i++) {
         size_t above = i + (i & (~i + 1));

@@ -56,7 +56,6 @@ static int fill(Blocks *self, PyObject *values, PyObject *more_keys) {
 
 /* Writes the positions at which sorted keys have their places: 1, or -1 with an error. */
 static int places_of(Blocks *self, PyObject *keys, size_t *positions) {
-    unsigned long long changes = self->changes;
     int state = 1;
     for (Py_ssize_t i = 0; state == 1 && i < PyList_GET_SIZE(keys); i++) {
         Place place;
@@ -64,7 +63,7 @@ static int places_of(Blocks *self, PyObject *keys, size_t *positions) {
         if (state == 1)
             positions[i] = blocks_before(self, place.block) + place.index;
     }
-    return state == 1 && !is_same(self, changes) ? -1 : state;
+    return state;
 }
 
 static int insert_at(Blocks *self, size_t position, PyObject *item, PyObject *key) {
@@ -92,6 +91,7 @@ static int insert_all(Blocks *self, PyObject *items, PyObject *keys, const size_
 }
 
 static int insert_list(Blocks *self, PyObject *items, PyObject *keys) {
+    unsigned long long changes = self->changes;
     int state = blocks_sort(self->by, items, keys == items ? NULL : keys);
     size_t *positions = PyMem_Malloc(((size_t)PyList_GET_SIZE(items) + 1) * sizeof *positions);
     if (positions == NULL) {
@@ -100,6 +100,8 @@ static int insert_list(Blocks *self, PyObject *items, PyObject *keys) {
     }
     if (state == 1)
         state = places_of(self, keys, positions);
+    if (state == 1 && !is_same(self, changes))
+        state = -1;
     if (state == 1)
         state = insert_all(self, items, keys, positions);
     PyMem_Free(positions);

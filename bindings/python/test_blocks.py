@@ -1,0 +1,302 @@
+"""Tests of many items at once: how they come, go, are joined and copied, beside plain lists that are sorted."""
+import copy
+import gc
+import itertools
+import pickle
+import random
+import sys
+import unittest
+import weakref
+from bisect import bisect_left, bisect_right, insort
+from datetime import datetime, timedelta
+from decimal import Decimal
+
+try:
+    import _testcapi
+except ImportError:
+    _testcapi = None
+
+import indexset
+from indexset import SortedDict, SortedKeyList, SortedList, SortedSet
+
+MADE = {
+    "int64": lambda number: number - 3000,
+    "float64": lambda number: number / 4 - 500,
+    "str": lambda number: f"{number * 7919 % 6007}\u00e9",
+    "bytes": lambda number: b"%d" % (number * 7919 % 6007),
+    "tuple": lambda number: (number // 7, str(number)),
+    "Decimal": lambda number: Decimal(number) / 8,
+    "datetime": lambda number: datetime(2020, 1, 1) + timedelta(hours=number),
+    "int and float": lambda number: number if number % 2 else number + 0.5,
+}
+
+
+class Counted:
+    """What is compared by `<` alone, and counts how often."""
+
+    compared = 0
+
+    def __init__(self, number):
+        self.number = number
+
+    def __lt__(self, other):
+        Counted.compared += 1
+        return self.number < other.number
+
+
+class Many(unittest.TestCase):
+    """Changes of many items and of one, in turn."""
+
+    def check(self, ours, wanted, rng):
+        self.assertEqual((len(ours), list(ours), list(reversed(ours))), (len(wanted), wanted, wanted[::-1]))
+        for _ in range(4):
+            first, past = rng.randrange(-900, 3000), rng.randrange(-900, 3000)
+            self.assertEqual((ours[first:past], list(ours.islice(first, past, True))), (wanted[first:past], wanted[first:past][::-1]))
+        for at in rng.sample(range(len(wanted)), min(20, len(wanted))):
+            item = wanted[at]
+            self.assertEqual((ours[at], ours[at - len(wanted)], item in ours), (item, item, True))
+            self.assertEqual((ours.bisect_left(item), ours.bisect_right(item)), (bisect_left(wanted, item), bisect_right(wanted, item)))
+            self.assertEqual((ours.index(item), ours.count(item)), (wanted.index(item), wanted.count(item)))
+
+    def change(self, ours, wanted, make, rng):
+        action = rng.randrange(8)
+        if action == 0:
+            items = [make(rng.randrange(6000)) for _ in range(rng.choice([3, 100, 2000]))]
+            ours.update(items)
+            wanted += items
+            wanted.sort()
+        elif action == 1:
+            part = slice(rng.randrange(-50, 3000), rng.randrange(-50, 3000), rng.choice([1, 1, 1, -1, 3]))
+            del ours[part], wanted[part]
+        elif action == 2 and len(wanted) < 4000:
+            ours += ours[:700]
+            wanted += wanted[:700]
+            wanted.sort()
+        elif action == 3:
+            ours = rng.choice([copy.copy, SortedList.copy, lambda it: pickle.loads(pickle.dumps(it)), lambda it: it + []])(ours)
+        else:
+            for _ in range(rng.choice([1, 40])):
+                item = make(rng.randrange(6000))
+                ours.add(item)
+                insort(wanted, item)
+                if rng.random() < 0.5:
+                    at = rng.randrange(len(wanted))
+                    ours.remove(wanted[at]) if rng.random() < 0.5 else ours.pop(at)
+                    wanted.pop(at)
+        return ours, wanted
+
+    def test_each_kind(self):
+        for kind, make in MADE.items():
+            rng = random.Random(kind)
+            wanted = sorted(make(rng.randrange(6000)) for _ in range(3000))
+            ours = SortedList(rng.sample(wanted, len(wanted)))
+            for _ in range(25):
+                self.check(ours, wanted, rng)
+                ours, wanted = self.change(ours, wanted, make, rng)
+            self.assertEqual(ours * 2, sorted(wanted * 2))
+
+    def test_sets_and_dictionaries(self):
+        for kind, make in MADE.items():
+            rng = random.Random(kind)
+            items = [make(rng.randrange(6000)) for _ in range(3000)]
+            ours, ages, peer = SortedSet(items), SortedDict.fromkeys(items, 0), set(items)
+            for _ in range(5):
+                others = {make(rng.randrange(6000)) for _ in range(rng.choice([5, 3000]))}
+                self.assertEqual((ours, list(ours), list(ages)), (peer, sorted(peer), sorted(peer)))
+                for mine, theirs in ((ours & others, peer & others), (ours | others, peer | others), (ours - others, peer - others), (ours ^ others, peer ^ others)):
+                    self.assertEqual((list(mine), len(mine._members)), (sorted(theirs), len(theirs)))
+                ours.update(others)
+                ages.update(dict.fromkeys(others, 1))
+                peer |= others
+                gone = ours[200:500]
+                del ours[200:500]
+                for item in gone:
+                    del ages[item]
+                peer -= set(gone)
+                item = make(rng.randrange(6000))
+                ours.add(item)
+                ages[item] = 2
+                peer.add(item)
+                self.assertEqual(ages.copy(), dict(ages))
+
+    def test_stable(self):
+        """What is equal stands in the order in which it came, whatever came at once."""
+        for order in (lambda it: it[0], lambda it: str(it[0]), lambda it: (it[0],), lambda it: it[0] / 2):
+            rng, number = random.Random(5), itertools.count()
+            ours, wanted = SortedKeyList(key=order), []
+            for _ in range(30):
+                items = [(rng.randrange(9), next(number)) for _ in range(rng.choice([1, 5, 600]))]
+                ours.update(items) if rng.random() < 0.7 or len(items) > 5 else [ours.add(item) for item in items]
+                wanted = sorted(wanted + items, key=order)
+                if rng.random() < 0.3:
+                    del ours[50:300], wanted[50:300]
+                if wanted and rng.random() < 0.5:
+                    item = rng.choice(wanted)
+                    self.assertEqual((ours.index(item), ours.count(item)), (wanted.index(item), 1))
+                    ours.remove(item)
+                    wanted.remove(item)
+                self.assertEqual((list(ours), list(ours.copy())), (wanted, wanted))
+                for sort_key in map(order, wanted[::97]):
+                    places = [ours.bisect_key_left(sort_key), ours.bisect_key_right(sort_key)]
+                    self.assertEqual(places, [bisect_left(list(map(order, wanted)), sort_key), bisect_right(list(map(order, wanted)), sort_key)])
+
+    @unittest.skipUnless(indexset.BACKEND == "extension", "by ctypes it is called again where many come")
+    def test_key_is_called_once(self):
+        """A function makes the sort key of each item that comes, and of none that is there, where they are compared by `<`."""
+        called = []
+
+        def order(item):
+            called.append(item)
+            return (item,)
+
+        ours = SortedKeyList(range(1000, 0, -1), key=order)
+        ours.update(range(5))
+        ours.update(range(2000, 3000))
+        ours.add(7)
+        self.assertEqual((ours.pop(0), ours[2], len(list(ours.irange_key((3,), (9,))))), (0, 2, 10))
+        self.assertLess(len(called), 2 * (1000 + 5 + 1000 + 1) + 5)
+
+    def test_comparisons(self):
+        """A search makes so many comparisons as a search by halves does."""
+        items = [Counted(number) for number in range(20000)]
+        ours = SortedList(random.Random(1).sample(items, len(items)))
+        for call, most in ((ours.bisect_left, 17), (ours.bisect_right, 17), (ours.add, 17), (ours.remove, 17), (ours.__contains__, 17)):
+            Counted.compared = 0
+            call(items[777])
+            self.assertLessEqual(Counted.compared, most, call)
+        Counted.compared = 0
+        ours[5], ours.pop(9), ours[4:900], list(ours), ours.copy(), len(ours)
+        del ours[50:19000]
+        self.assertEqual(Counted.compared, 0)
+
+
+class Changes(unittest.TestCase):
+    """What comes in the way of a change."""
+
+    def test_walks(self):
+        """A walk ends once there was a change, also the first one of what came at once."""
+        for items in (range(3000), list(map(str, range(3000))), [(number,) for number in range(3000)], [1, 1, 2] * 900):
+            for change in (
+                lambda it: it.add(it[0]), lambda it: it.remove(it[5]), lambda it: it.pop(), lambda it: it.clear(), lambda it: it.update(it[:5]),
+                lambda it: it.update(it[:]), lambda it: it.__delitem__(slice(5, 2000)), lambda it: it.__delitem__(3), lambda it: it.__imul__(2),
+            ):
+                ours = SortedList(items)
+                walk, back = iter(ours), reversed(ours)
+                next(walk), next(back)
+                change(ours)
+                self.assertRaises(RuntimeError, next, walk)
+                self.assertRaises(RuntimeError, next, back)
+                self.assertRaises(StopIteration, next, walk)
+            ours = SortedList(items)
+            walk = iter(ours)
+            ours.discard(None)
+            self.assertRaises(IndexError, ours.pop, 5000)
+            self.assertEqual(list(walk), sorted(items))
+
+    def test_refused(self):
+        """Where one cannot be compared with the others, none comes."""
+        for start, wrong in (([(number,) for number in range(2000)], ("a",)), (list(range(2000)), "a"), (list(map(str, range(2000))), 5)):
+            ours = SortedList(start)
+            for items in ([start[0], wrong], start + [wrong], [wrong] * 3):
+                self.assertRaises(TypeError, ours.update, items)
+                self.assertRaises(TypeError, ours.add, wrong)
+                self.assertEqual(list(ours), sorted(start))
+            ours, ages = SortedSet(start), SortedDict.fromkeys(start)
+            for items in ([start[0], wrong], start + [wrong]):
+                self.assertRaises(TypeError, ours.update, items)
+                self.assertRaises(TypeError, ages.update, dict.fromkeys(items))
+                self.assertEqual((list(ours), list(ages), len(ages)), (sorted(start), sorted(start), len(start)))
+            self.assertNotIn(wrong, ours)
+
+    def test_changed_in_a_comparison(self):
+        """A comparison that changes the list is an error, and no more."""
+
+        class Sly:
+            held, other = None, None
+
+            def __init__(self, number):
+                self.number = number
+
+            def __lt__(self, other):
+                if Sly.other is not None:
+                    change, Sly.other = Sly.other, None
+                    change(Sly.held)
+                return self.number < other.number
+
+        for change in (SortedList.clear, lambda it: it.__delitem__(slice(1, None)), lambda it: it.add(Sly(-1)), lambda it: it.pop(7)):
+            for call in (
+                lambda it: it.add(Sly(5)), lambda it: it.update([Sly(6), Sly(3)]), lambda it: it.update([Sly(number) for number in range(2000)]),
+                lambda it: it.bisect_left(Sly(3)), lambda it: it.remove(Sly(4)), lambda it: it.index(Sly(4)), lambda it: Sly(9) in it,
+            ):
+                Sly.held, Sly.other = SortedList(map(Sly, range(1000))), None
+                Sly.other = change
+                try:
+                    call(Sly.held)
+                except (RuntimeError, ValueError):
+                    pass
+                Sly.other = None
+                numbers = [it.number for it in Sly.held]
+                self.assertEqual((len(numbers), numbers), (len(Sly.held), sorted(numbers)))
+
+    def test_items_go(self):
+        """What goes is held no more, nor are sort keys."""
+
+        class Item:
+            def __init__(self, number):
+                self.number = number
+
+            def __lt__(self, other):
+                return self.number < other.number
+
+        for key in (None, lambda it: Item(it.number), lambda it: it.number, lambda it: str(it.number)):
+            items = list(map(Item, range(3000)))
+            seen = list(map(weakref.ref, items))
+            ours = SortedKeyList(items, key=key) if key else SortedList(items)
+            del items
+            other = ours.copy()
+            for one in (ours, other):
+                del one[100:2900]
+                one.pop(0)
+                one.remove(one[0])
+                one += [Item(5000)]
+                one.remove(next(it for it in one if it.number == 5000))
+            gc.collect()
+            self.assertEqual(sum(ref() is not None for ref in seen), 198)
+            del one, other
+            ours.clear()
+            gc.collect()
+            self.assertEqual(sum(ref() is not None for ref in seen), 0)
+
+    @unittest.skipUnless(_testcapi and indexset.BACKEND == "extension", "the interpreter cannot refuse memory")
+    def test_memory(self):
+        """Each request for memory fails in turn: all of a change is made, or nothing."""
+        kinds = ([(number,) for number in range(900)], list(range(10**12, 10**12 + 900)), list(map(str, range(900))), [number // 3 for number in range(900)])
+        changes = (
+            lambda it, more: it.update(more), lambda it, more: it.update(more[:9]), lambda it, more: it.__delitem__(slice(10, 800)),
+            lambda it, more: it.copy(), lambda it, more: it + more, lambda it, more: it.add(more[0]), lambda it, more: it.remove(it[3]),
+        )
+        for items, change, make in itertools.product(kinds, changes, (SortedList, lambda it: SortedKeyList(it, key=lambda item: item))):
+            for start in itertools.count(1):
+                ours, more = make(items), [items[0], *items[::3]]
+                before = list(ours)
+                _testcapi.set_nomemory(start, start + 1)
+                try:
+                    change(ours, more)
+                    done = True
+                except MemoryError:
+                    done = False
+                finally:
+                    _testcapi.remove_mem_hooks()
+                held = list(ours)
+                self.assertEqual((len(ours), held), (len(held), sorted(held)))
+                if not done:
+                    self.assertEqual(held, before)
+                if done or start > 60:
+                    break
+
+
+if __name__ == "__main__":
+    result = unittest.main(exit=False, verbosity=0).result
+    wrong = len(result.failures) + len(result.errors)
+    print(f"{indexset.BACKEND}: {result.testsRun - wrong} passed, {wrong} failed")
+    sys.exit(1 if wrong else 0)
