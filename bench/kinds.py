@@ -8,12 +8,11 @@ After `bindings/test.sh`:  PYTHONPATH=bindings/python/out python3 bench/kinds.py
 from __future__ import annotations
 
 import argparse
+import ctypes
 import gc
 import importlib
 import pickle
 import random
-import subprocess
-import sys
 import time
 from collections.abc import Callable, Iterator
 from datetime import datetime, timedelta
@@ -219,34 +218,36 @@ def compare(kind: str, count: int, parts: list[str]) -> None:
             print(f"{count}\t{kind}\t{both[0].name}\t{min(found[0]):.1f}\t{min(found[1]):.1f}", flush=True)
 
 
-def resident() -> int:
-    with open("/proc/self/statm", encoding="ascii") as pages:
-        return int(pages.read().split()[1]) * 4096
+class Heap(ctypes.Structure):
+    """What `mallinfo2` of glibc says: the bytes in use are `uordblks` and, of large pieces, `hblkhd`."""
+
+    _fields_ = [(name, ctypes.c_size_t) for name in "arena ordblks smblks hblks hblkhd usmblks fsmblks uordblks fordblks keepcost".split()]
 
 
-def weigh(kind: str, count: int, name: str, whose: str) -> float:
-    """The bytes an item of a collection, in this process, which does nothing else."""
-    it = Items(kind, count)
-    cls, of = MADE[name]
-    items: Any = getattr(it, of or "drawn")
-    items = dict.fromkeys(items) if cls == "SortedDict" else items
-    make = getattr(importlib.import_module(whose), cls)
-    make(items[:10] if cls != "SortedDict" else {})
-    gc.collect()
-    before = resident()
-    held = make() if not of else make(items)
-    if not of:
-        each("add", held, items)
-    gc.collect()
-    return (resident() - before) / len(held)
+def in_use() -> int:
+    ask = ctypes.CDLL(None).mallinfo2
+    ask.restype = Heap
+    heap = ask()
+    return int(heap.uordblks + heap.hblkhd)
+
+
+def weigh(lib: ModuleType, cls: str, items: Any, one_by_one: bool) -> float:
+    """The bytes of the heap that a collection takes, an item."""
+    make = getattr(lib, cls)
+    before = in_use()
+    held = make() if one_by_one else make(items)
+    each("add" if one_by_one else "__len__", held, items if one_by_one else [])
+    return (in_use() - before) / len(held)
 
 
 def weights(kind: str, count: int) -> None:
-    """Prints the bytes an item of both."""
-    for name in MADE:
-        words = [sys.executable, __file__, str(count), "--kinds", kind, "--weigh", name, "--whose"]
-        sizes = [float(subprocess.run([*words, whose], check=True, capture_output=True, text=True).stdout) for whose in ("indexset", "sortedcontainers")]
-        print(f"{count}\t{kind}\tbytes, {name}\t{sizes[0]:.1f}\t{sizes[1]:.1f}", flush=True)
+    """Prints the bytes an item of both, beside the items themselves."""
+    it = Items(kind, count)
+    for name, (cls, of) in MADE.items():
+        items: Any = getattr(it, of or "drawn")
+        items = dict.fromkeys(items) if cls == "SortedDict" else items
+        sizes = [weigh(lib, cls, items, not of) for lib in (indexset, sortedcontainers)]
+        print(f"{count}\t{kind}\t{name}, bytes\t{sizes[0]:.1f}\t{sizes[1]:.1f}", flush=True)
 
 
 def main() -> None:
@@ -254,13 +255,8 @@ def main() -> None:
     words.add_argument("counts", type=int, nargs="+")
     words.add_argument("--kinds", nargs="+", default=list(KINDS), choices=list(KINDS))
     words.add_argument("--parts", nargs="+", default=list(PARTS), choices=[*PARTS, "bytes"])
-    words.add_argument("--weigh", help=argparse.SUPPRESS)
-    words.add_argument("--whose", help=argparse.SUPPRESS)
     given = words.parse_args()
     gc.disable()
-    if given.weigh:
-        print(weigh(given.kinds[0], given.counts[0], given.weigh, given.whose))
-        return
     print(f"items\tkind\trow\t{indexset.BACKEND}\tsortedcontainers")
     for count in given.counts:
         for kind in given.kinds:

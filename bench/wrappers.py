@@ -15,6 +15,7 @@ TEXTS = {"text_insert": "insert", "text_get": "get", "text_remove": "remove"}
 OUT = build.TOP / "bindings"
 ABSL = ["-labsl_throw_delegate", "-labsl_raw_logging_internal"]
 BACKENDS = {"extension": "the compiled module", "ctypes": "ctypes"}
+KINDS = ["int", "str", "tuple", "datetime", "own class"]
 Cells = dict[tuple[int, str], str]  # by number of keys and row: our figure, the other's
 
 
@@ -47,16 +48,37 @@ def c_cells(keys: list[str]) -> Cells:
     return read(subprocess.run(["taskset", "-c", "0", made, *keys], check=True, capture_output=True, text=True).stdout)
 
 
-def python_cells(keys: list[str], backend: str) -> Cells | None:
-    """None where the package is not built so."""
+def is_built(backend: str) -> bool:
+    """Whether the package is built so, and `sortedcontainers` is here."""
     package, library = OUT / "python/out", OUT / "c/out/libindexset.so"
     has_module = any((package / "indexset").glob("_fast*")) or backend == "ctypes"
     if not (package / "indexset").is_dir() or not importlib.util.find_spec("sortedcontainers") or not has_module:
         print(f"Python by {BACKENDS[backend]} is left out: it needs `bindings/test.sh` and `sortedcontainers`")
-        return None
-    words = ["taskset", "-c", "0", sys.executable, str(build.HERE / "bindings.py"), *keys]
-    where = {**os.environ, "PYTHONPATH": str(package), "INDEXSET_LIBRARY": str(library), "INDEXSET_BACKEND": backend}
-    return read_python(subprocess.run(words, env=where, check=True, capture_output=True, text=True).stdout)
+        return False
+    return True
+
+
+def said(program: str, *words: str, backend: str) -> str:
+    """What a program of Python prints."""
+    where = {**os.environ, "PYTHONPATH": str(OUT / "python/out"), "INDEXSET_LIBRARY": str(OUT / "c/out/libindexset.so"), "INDEXSET_BACKEND": backend}
+    run = ["taskset", "-c", "0", sys.executable, str(build.HERE / program), *words]
+    return subprocess.run(run, env=where, check=True, capture_output=True, text=True).stdout
+
+
+def python_cells(keys: list[str], backend: str) -> Cells | None:
+    """None where the package is not built so."""
+    return read_python(said("bindings.py", *keys, backend=backend)) if is_built(backend) else None
+
+
+def of_kinds(count: int) -> str:
+    """The table of what is done with many items, with a column a kind."""
+    text = said("kinds.py", str(count), "--kinds", *KINDS, "--parts", "list", "set", "dict", "key", "bytes", backend="extension")
+    cells: dict[tuple[str, str], str] = {}
+    for line in text.splitlines()[1:]:
+        _, kind, row, ours, other = line.split("\t")
+        cells[kind, row] = f"{float(ours):.0f}/{float(other):.0f}"
+    rows = list(dict.fromkeys(row for _, row in cells))
+    return table([f"{count:,} items", *KINDS], [[f"`{row}`", *(cells.get((kind, row), "–") for kind in KINDS)] for row in rows])
 
 
 def of_python(found: dict[str, Cells], keys: list[int]) -> str:
@@ -80,4 +102,5 @@ def of_wrappers(keys: list[int]) -> str | None:
     }
     parts = [table([head, *(f"{k:,}" for k in keys)], lines) for head, lines in tables.items() if in_c]
     parts += [of_python(found, keys)] if found else []
+    parts += [of_kinds(keys[len(keys) // 2])] if "extension" in found else []
     return "\n".join(parts) or None

@@ -312,13 +312,11 @@ int blocks_copy(Blocks *self, Blocks *from) {
     return state;
 }
 
-/* Takes the objects of a block from one on and before another out; the caller holds them and their keys. */
-static void cut_block(Block *block, size_t first, size_t past) {
-    for (size_t i = first; i < past; i++) {
-        Py_DECREF(block->items[i]);
-        if (block->keys != block->items)
-            Py_DECREF(block->keys[i]);
-    }
+/* Moves the objects of a block from one on and before another to other places, and their keys where they have some. */
+static void cut_block(Block *block, size_t first, size_t past, PyObject **items, PyObject **keys) {
+    memcpy(items, block->items + first, (past - first) * sizeof *items);
+    if (block->keys != block->items)
+        memcpy(keys, block->keys + first, (past - first) * sizeof *keys);
     memmove(block->items + first, block->items + past, (block->count - past) * sizeof *block->items);
     if (block->keys != block->items)
         memmove(block->keys + first, block->keys + past, (block->count - past) * sizeof *block->keys);
@@ -327,17 +325,18 @@ static void cut_block(Block *block, size_t first, size_t past) {
         block->last = block->keys[block->count - 1];
 }
 
-void blocks_cut(Blocks *self, size_t first, size_t past) {
+void blocks_cut(Blocks *self, size_t first, size_t past, PyObject **items, PyObject **keys) {
     Place from = blocks_place(self, first);
-    size_t left = past - first, kept = from.block, at = from.block;
+    size_t left = past - first, kept = from.block, at = from.block, done = 0;
     self->changes++;
     self->is_indexed = self->is_even = 0;
     self->length -= left;
     for (size_t index = from.index; left > 0; index = 0, at++) {
         Block *block = self->blocks + at;
         size_t size = block->count - index < left ? block->count - index : left;
-        cut_block(block, index, index + size);
+        cut_block(block, index, index + size, items + done, keys ? keys + done : NULL);
         left -= size;
+        done += size;
         if (block->count == 0)
             free_block(block);
         else

@@ -245,7 +245,7 @@ static PyMethodDef methods[] = {
     {"clear", (PyCFunction)clear, METH_NOARGS, "Removes all objects."},
     {"copied", (PyCFunction)copied, METH_O, "Becomes a clone of another, from empty."},
     {"count", (PyCFunction)count, METH_O, "How many objects equal a value."},
-    {"cut", (PyCFunction)(void (*)(void))blocks_cut_method, METH_FASTCALL, "Removes the objects at positions, and returns them."},
+    {"cut", (PyCFunction)(void (*)(void))blocks_cut_method, METH_FASTCALL, "Removes the objects at the positions from the first and before the second."},
     {"discard", (PyCFunction)discard_method, METH_O, "Removes the first object that equals a value, and tells whether there was one."},
     {"fill", (PyCFunction)blocks_fill_method, METH_O, "Adds the objects of a list at once; False where one is not of the kind's own type."},
     {"find", (PyCFunction)find, METH_O, "The position of the first object that equals a value, or -1."},

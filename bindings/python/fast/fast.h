@@ -208,8 +208,9 @@ void blocks_drop(Blocks *self);
 int blocks_fill(Blocks *self, PyObject *items, PyObject *keys);
 /* From empty, has the objects of another. */
 int blocks_copy(Blocks *self, Blocks *from);
-/* Takes out the objects at the positions from `first` and before `past`; the caller holds them and their keys. */
-void blocks_cut(Blocks *self, size_t first, size_t past);
+/* Moves the objects at the positions from `first` and before `past` out, with the references, and their keys where a
+ * function makes them. */
+void blocks_cut(Blocks *self, size_t first, size_t past, PyObject **items, PyObject **keys);
 /* Reads objects, or their keys, from a position on. */
 size_t blocks_read(Blocks *self, size_t from, int of_keys, PyObject **read, size_t size);
 /* The objects or keys at positions that are there, as a list. */

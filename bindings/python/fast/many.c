@@ -138,18 +138,19 @@ PyObject *blocks_fill_method(Blocks *self, PyObject *values) {
     return state < 0 ? NULL : PyBool_FromLong(state);
 }
 
-/* Takes out positions where places go by them: what is left lies anew. */
+/* The same where what is left lies anew. */
 static int cut_run(Blocks *self, size_t first, size_t past, int has_keys) {
+    unsigned long long changes = self->changes;
     PyObject *left[2] = {NULL, NULL};
     int state = 1;
     for (int i = 0; state == 1 && i <= has_keys; i++) {
         PyObject *behind = blocks_list(self, past, self->length, i);
         left[i] = behind ? blocks_list(self, 0, first, i) : NULL;
-        state = left[i] ? PyList_SetSlice(left[i], PY_SSIZE_T_MAX, PY_SSIZE_T_MAX, behind) + 1 : -1;
+        state = left[i] && PyList_SetSlice(left[i], PY_SSIZE_T_MAX, PY_SSIZE_T_MAX, behind) == 0 ? 1 : -1;
         Py_XDECREF(behind);
     }
     if (state == 1)
-        state = blocks_fill(self, left[0], left[1]);
+        state = is_same(self, changes) ? blocks_fill(self, left[0], left[1]) : -1;
     Py_XDECREF(left[0]);
     Py_XDECREF(left[1]);
     return state;
@@ -177,23 +178,28 @@ PyObject *blocks_settle_method(Blocks *self, PyObject *order) {
     return state == -1 ? NULL : PyBool_FromLong(state == 1);
 }
 
+/* Takes out positions; the objects and keys go once they are out. */
+static int cut(Blocks *self, size_t first, size_t past) {
+    unsigned long long changes = self->changes;
+    Py_ssize_t count = (Py_ssize_t)(past - first);
+    PyObject *items = PyList_New(count), *keys = items && self->key ? PyList_New(count) : NULL;
+    int state = items && (keys || !self->key) && is_same(self, changes) ? 1 : -1;
+    if (state == 1)
+        blocks_cut(self, first, past, PySequence_Fast_ITEMS(items), keys ? PySequence_Fast_ITEMS(keys) : NULL);
+    Py_XDECREF(keys);
+    Py_XDECREF(items);
+    return state;
+}
+
 PyObject *blocks_cut_method(Blocks *self, PyObject *const *given, Py_ssize_t count) {
     size_t first, past;
     if (!two_positions(given, count, &first, &past))
         return NULL;
-    unsigned long long changes = self->changes;
     past = past < self->length ? past : self->length;
-    first = first < past ? first : past;
-    PyObject *items = blocks_list(self, first, past, 0);
-    PyObject *keys = items && self->key ? blocks_list(self, first, past, 1) : NULL;
-    if (items != NULL && (self->key == NULL || keys != NULL) && is_same(self, changes) && first < past) {
-        if (self->by == OTHER)
-            blocks_cut(self, first, past);
-        else
-            cut_run(self, first, past, self->key != NULL);
-    }
-    Py_XDECREF(keys);
-    if (PyErr_Occurred())
-        Py_CLEAR(items);
-    return items;
+    if (first >= past)
+        Py_RETURN_NONE;
+    int is_most = 2 * (past - first) > self->length;
+    if ((self->by != OTHER || is_most ? cut_run(self, first, past, self->key != NULL) : cut(self, first, past)) < 0)
+        return NULL;
+    Py_RETURN_NONE;
 }

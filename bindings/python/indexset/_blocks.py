@@ -216,9 +216,7 @@ class Blocks(Held[T]):
         self._same(changes)
         self._become(every, keys)
 
-    def cut(self, first: int, past: int) -> list[T]:
-        """Removes the objects at positions, and returns them."""
-        gone = self.chunk(first, past)
+    def cut(self, first: int, past: int) -> None:
+        """Removes the objects at the positions from `first` and before `past`."""
         items, keys = (list(chain.from_iterable(blocks)) for blocks in (self._blocks, self._keys))
         self._become(items[:first] + items[past:], keys[:first] + keys[past:])
-        return gone

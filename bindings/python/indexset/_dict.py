@@ -178,6 +178,8 @@ class SortedDict(Placed[K, V], Generic[K, V]):
         SortedDict({1: 'b', 2: 'c'})
         """
         others: Any = given
+        if len(others) == 1 and type(others[0]) is dict and not words and self._laid(others[0]):
+            return
         entries: Any = dict(*others, **words)
         fresh = list(filterfalse(self.__contains__, entries) if dict.__len__(self) else entries)
         if fresh:
@@ -189,6 +191,17 @@ class SortedDict(Placed[K, V], Generic[K, V]):
                 if key not in self:
                     self._settled().discard(key)
             raise
+
+    def _laid(self, entries: dict[K, V]) -> bool:
+        """Has the entries of a dict, where there are none and its keys are of a kind's own type; whether it has. No code but
+        of such a type runs meanwhile, so that the dict stays as it is."""
+        if dict.__len__(self) or self.key is not None:
+            return False
+        order = gathered(self._order, list(entries), self._named, None, False)
+        if order is not None:
+            super().update(entries)
+            self._become(order)
+        return order is not None
 
     @overload
     def get_all(self, keys: Iterable[object], default: None = None) -> list[Optional[V]]: ...

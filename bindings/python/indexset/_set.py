@@ -273,9 +273,10 @@ class SortedSet(Sorted[T], MutableSet[T], Generic[T]):
         >>> SortedSet([1, 2]) ^ [2, 3]
         SortedSet([1, 3])
         """
-        others: dict[Any, None] = dict.fromkeys(iterable)
-        kept = list(filterfalse(others.__contains__, self))
-        made: SortedSet[Any] = self._made(kept + list(filterfalse(self._members.__contains__, others)))
+        given: Any = iterable if isinstance(iterable, SortedSet) else dict.fromkeys(iterable)
+        kept: list[Any] = list(filterfalse(_asked(given).__contains__, self))
+        kept.extend(filterfalse(self._members.__contains__, given))
+        made: SortedSet[Any] = self._made(kept)
         return made
 
     def symmetric_difference_update(self, iterable: Iterable[T]) -> SortedSet[T]:
