@@ -49,7 +49,8 @@ try c/test_install.sh
 try env PYTHONPATH=python/out python3 -m doctest python/README.md ../README.md
 python3 python/build_fast.py --library "c/$out/libindexset.a" python/out || exit 1
 for backend in ctypes extension; do
-    for test in test_answers test_blocks test_defects test_equals test_indexset test_kinds test_list test_logged test_numbers test_text; do
+    for test in test_answers test_blocks test_defects test_equals test_indexset test_kinds test_list test_logged \
+        test_numbers test_text; do
         try env "INDEXSET_BACKEND=$backend" python3 "python/out/$test.py"
     done
     try env "INDEXSET_BACKEND=$backend" python3 python/out/peer_tests.py
