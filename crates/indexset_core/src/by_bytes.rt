@@ -16,9 +16,9 @@ use std::cmp::Ordering;
 /// `&[u8]`, and so are maps with such keys. A text key of your own needs this impl alone.
 ///
 /// ```
-/// # use indexset::base::ByBytes;
-/// let name = String::from_str(alloc, "pear")?;
-/// assert!(rt; name.bytes() == b"pear" && Text::copied(alloc, "pear")?.bytes() == b"pear");
+/// # use indexset::base::by_bytes::ByBytes;
+/// let name = Text::copied(alloc, "pear")?;
+/// assert!(rt; name.bytes() == b"pear".as_slice());
 /// ```
 pub trait ByBytes: Ord {
     /// The bytes.

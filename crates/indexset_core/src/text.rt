@@ -55,7 +55,7 @@ impl Text {
     ///
     /// ```
     /// let text = Text::from_vec(b"pear".to_vec(alloc)?);
-    /// assert_eq!(rt; text.as_bytes(), b"pear");
+    /// assert_eq!(rt; text.as_bytes(), b"pear".as_slice());
     /// ```
     pub fn from_vec(bytes: Vec<u8>) -> Text
         ensures { result ≡ bytes.items }
@@ -67,7 +67,7 @@ impl Text {
     ///
     /// ```
     /// let text = Text::from_string(String::from_str(alloc, "pear")?);
-    /// assert_eq!(rt; text.as_bytes(), b"pear");
+    /// assert_eq!(rt; text.as_bytes(), b"pear".as_slice());
     /// ```
     pub fn from_string(text: String) -> Text
         ensures { result ≡ string_bytes text }
@@ -111,7 +111,7 @@ impl Text {
     /// Returns the bytes.
     ///
     /// ```
-    /// assert_eq!(rt; Text::copied(alloc, "pear")?.as_bytes(), b"pear");
+    /// assert_eq!(rt; Text::copied(alloc, "pear")?.as_bytes(), b"pear".as_slice());
     /// ```
     #[inline]
     pub fn as_bytes(&self) -> &[u8]
