@@ -7,7 +7,7 @@
 CRATE is the folder of a program's crate, of this repository or of another one (the current folder). The program goes to
 CRATE/out/unproved/NAME, where it stays. It stops at an index out of bounds, an overflow or a bad access, as `rt try`
 does, but no `requires` or `ensures` is checked; with --unchecked it stops at none of them, and is as fast as a proved
-one. Where a check stops it, it ends with a report of addresses; `rt try` on the same input names the check. When it starts
+one. Where a check stops it, it prints a report of addresses; `rt try` on the same input names the check. At its start
 it writes a line to standard error that says that it is unproved, and the symbol `unproved` marks the file.
 
 The library goes to crates/indexset_c/out/unproved/libindexset_c.a, and its symbol `unproved` marks it. `make -C
