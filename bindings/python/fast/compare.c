@@ -77,6 +77,11 @@ static int probe_of(Blocks *self, PyObject *key, Probe *probe) {
     }
 }
 
+int blocks_is_own(Blocks *self, PyObject *key) {
+    Probe probe;
+    return probe_of(self, key, &probe) == 1;
+}
+
 /* ---- places */
 
 /* The first block whose last key is not before what is looked for, or -1 with an error. */

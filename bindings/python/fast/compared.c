@@ -91,10 +91,10 @@ static size_t position_at(Blocks *self, Place place) { return blocks_before(self
 
 int blocks_add(Blocks *self, PyObject *item, PyObject *members) {
     Place place;
-    if (self->by != OTHER)
+    if (self->by <= FLOAT64)
         return NOT_OWN;
     PyObject *key = blocks_key(self, item);
-    int state = key ? join(members, item) : -1;
+    int state = key == NULL ? -1 : blocks_is_own(self, key) ? join(members, item) : NOT_OWN;
     if (state == 1) {
         state = blocks_bound(self, key, 1, &place);
         state = joined(members, item, state == 1 ? blocks_insert(self, place, item, key) : state);
@@ -112,7 +112,7 @@ static void let_go(Blocks *self, Place place) {
 
 int blocks_discard(Blocks *self, PyObject *item) {
     Place place;
-    if (self->by != OTHER)
+    if (self->by <= FLOAT64)
         return NOT_OWN;
     int state = unfit(self, item, blocks_find(self, item, 0, &place));
     if (state == 1)

@@ -66,7 +66,7 @@ static int add(DictFront *self, PyObject *key) {
 /* What orders the keys, which can change: what only reads becomes another order first. */
 static PyObject *changing_order(DictFront *self) {
     PyObject *order = order_of(self);
-    if (order == NULL || Py_TYPE(order) == &NumbersType || !IS_BLOCKS(order) || ((Blocks *)order)->by == OTHER)
+    if (order == NULL || Py_TYPE(order) == &NumbersType || !IS_BLOCKS(order) || ((Blocks *)order)->by > FLOAT64)
         return order;
     Py_DECREF(order);
     return PyObject_CallMethodNoArgs((PyObject *)self, names.settled);

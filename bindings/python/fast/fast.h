@@ -72,7 +72,7 @@ typedef struct {
 /* Objects in the order of their sort keys and then in that in which they came, in blocks that none leaves empty.
  *
  * Sort keys are compared by `<`, and then `by` is OTHER; or all are of the own type of the kind `by`, and are compared
- * as its codes are. The latter only read: what changes them is another order. */
+ * as its codes are. Numbers are only read: what changes them is another order. */
 typedef struct {
     HELD_HEAD
     enum kind by;
@@ -217,6 +217,8 @@ size_t blocks_read(Blocks *self, size_t from, int of_keys, PyObject **read, size
 PyObject *blocks_list(Blocks *self, size_t first, size_t past, int of_keys);
 
 /* ---- compare.c: objects in blocks by comparisons */
+/* Whether a sort key is of the kind's own type, or is compared by `<`. */
+int blocks_is_own(Blocks *self, PyObject *key);
 /* The sort key of an item, as a new reference. */
 PyObject *blocks_key(Blocks *self, PyObject *item);
 /* Where a sort key has its place, before its equals or behind them: 1, or NOT_OWN where it is none of the kind's own

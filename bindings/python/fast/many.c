@@ -122,9 +122,12 @@ static int take(Blocks *self, PyObject *values) {
 /* ---- methods */
 
 PyObject *blocks_take_method(Blocks *self, PyObject *values) {
-    if (self->by != OTHER || !PyList_CheckExact(values))
-        return PyErr_Format(PyExc_TypeError, "a list is needed, and objects that are compared");
-    if (take(self, values) < 0)
+    if (self->by <= FLOAT64 || !PyList_CheckExact(values))
+        return PyErr_Format(PyExc_TypeError, "a list is needed, and no numbers");
+    int state = take(self, values);
+    if (state == 0)
+        return PyErr_Format(PyExc_TypeError, "a sort key of the kind's own type is needed");
+    if (state < 0)
         return NULL;
     Py_RETURN_NONE;
 }
@@ -199,7 +202,7 @@ PyObject *blocks_cut_method(Blocks *self, PyObject *const *given, Py_ssize_t cou
     if (first >= past)
         Py_RETURN_NONE;
     int is_most = 2 * (past - first) > self->length;
-    if ((self->by != OTHER || is_most ? cut_run(self, first, past, self->key != NULL) : cut(self, first, past)) < 0)
+    if ((self->by <= FLOAT64 || is_most ? cut_run(self, first, past, self->key != NULL) : cut(self, first, past)) < 0)
         return NULL;
     Py_RETURN_NONE;
 }

@@ -7,9 +7,9 @@ from itertools import filterfalse
 from reprlib import recursive_repr
 from typing import Any, Callable, Generic, Iterable, Iterator, Literal, Optional, SupportsIndex, TypeVar, Union, overload
 
-from ._kinds import known
+from ._kinds import OBJECT, known
 from ._native import DictFront
-from ._orders import KeyFunction, Run, duplicate, fitted, gathered, order_of, settled
+from ._orders import KeyFunction, Run, duplicate, fitted, gathered, order_of, own_kind, settled
 from ._placed import Placed
 from ._views import SortedItemsView, SortedKeysView, SortedValuesView
 
@@ -143,7 +143,7 @@ class SortedDict(Placed[K, V], Generic[K, V]):
         """Orders keys that come, by a kind that takes them; none where one does not fit."""
         order = gathered(self._order, keys, self._named, self.key, False)
         if order is None:
-            order = settled(self._order if self._named else fitted(self._order, keys, self.key, False))
+            order = settled(self._order if self._named else fitted(self._order, keys, self.key, False), keys)
             if len(keys) == 1:
                 order.add(keys[0])
             else:
@@ -158,8 +158,9 @@ class SortedDict(Placed[K, V], Generic[K, V]):
 
     def _settled(self) -> Any:
         """What orders the keys, and can be changed."""
-        if isinstance(self._order, Run):
-            self._become(self._order.settled())
+        order = self._order
+        if isinstance(order, Run) and order.is_fixed:
+            self._become(order.settled())
         return self._order
 
     # ---- many keys
@@ -195,7 +196,7 @@ class SortedDict(Placed[K, V], Generic[K, V]):
     def _laid(self, entries: dict[K, V]) -> bool:
         """Has the entries of a dict, where there are none and its keys are of a kind's own type; whether it has. No code but
         of such a type runs meanwhile, so that the dict stays as it is."""
-        if dict.__len__(self) or self.key is not None:
+        if dict.__len__(self) or self.key is not None or own_kind(entries) == OBJECT:
             return False
         order = gathered(self._order, list(entries), self._named, None, False)
         if order is not None:

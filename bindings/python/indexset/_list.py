@@ -93,7 +93,7 @@ class SortedList(Sorted[T], MutableSequence[T], Generic[T]):
 
     def _add(self, value: T) -> None:
         order = self._order
-        if isinstance(order, Run) and order.find(value) >= 0:
+        if isinstance(order, Run) and order.is_fixed and order.find(value) >= 0:
             order = order.settled(True)
         else:
             order = self._fitting([value])
@@ -104,11 +104,13 @@ class SortedList(Sorted[T], MutableSequence[T], Generic[T]):
 
     def _discard(self, value: object) -> bool:
         order = self._order
-        if isinstance(order, Run):
+        if not len(order):
+            return False
+        if isinstance(order, Run) and order.is_fixed:
             if order.find(value) < 0:
                 return False
             order = self._settled()
-        found: bool = len(order) > 0 and order.discard(value)
+        found: bool = order.discard(value)
         return found
 
     def remove(self, value: object) -> None:

@@ -197,10 +197,10 @@ def _number_span(order: Union[Repeated[Any], Run[Any]], below: Callable[[int], i
 
 
 class Run(Blocks[T], Spanned[T]):
-    """Objects that came at once, whose sort keys are of the own type of a kind. They are only read: another order has
+    """Objects that came at once, whose sort keys are of the own type of a kind. Numbers are only read: another order has
     them once there is a change."""
 
-    __slots__ = ("kind", "_repeats")
+    __slots__ = ("kind", "is_fixed", "_repeats")
 
     if TYPE_CHECKING:  # (of the compiled module alone)
 
@@ -214,6 +214,12 @@ class Run(Blocks[T], Spanned[T]):
     def __init__(self, kind: str, key: KeyFunction, repeats: bool) -> None:
         super().__init__(kind, key)
         self.kind, self._repeats = kind, repeats
+        self.is_fixed = kind in NUMBERS  # (only read)
+
+    def takes(self, items: list[Any]) -> bool:
+        """Whether items can come here, or go where there are none."""
+        own = str if self.kind == "str" else bytes
+        return not self.is_fixed and all(type(self.sort_key(item)) is own for item in items)
 
     def clone(self) -> Run[T]:
         made = Run[T](self.kind, self.key, self._repeats)
@@ -336,6 +342,11 @@ _OWN = frozenset([*NUMBERS, "str", "bytes"])
 _PART = 4
 
 
+def own_kind(keys: Iterable[Any]) -> str:
+    """The kind of the type of the first sort key."""
+    return _EXACT.get(type(next(iter(keys), None)), OBJECT)
+
+
 def kind_of(keys: list[Any]) -> str:
     """The kind that is found for sort keys: it orders them as Python does. Those of a class below int, float, str or
     bytes may have another order, and come back as they are."""
@@ -347,9 +358,10 @@ def kind_of(keys: list[Any]) -> str:
     return kind
 
 
-def settled(order: Order) -> Order:
-    """An order that takes other items: another one where there was a run."""
-    return order.settled() if isinstance(order, Run) else order
+def settled(order: Order, items: list[Any]) -> Order:
+    """An order that takes these items, or lets some go where there are none: another one where there was a run that does
+    not."""
+    return order.settled() if isinstance(order, Run) and not order.takes(items) else order
 
 
 def fitted(order: Order, items: list[Any], key: KeyFunction, repeats: bool) -> Order:
@@ -359,7 +371,7 @@ def fitted(order: Order, items: list[Any], key: KeyFunction, repeats: bool) -> O
         return order
     kind = kind_of(items if key is None else [key(item) for item in items])
     if kind == order.kind:
-        return settled(order)
+        return order
     if not len(order):
         return order_of(kind, key, repeats)
     made = order_of(OBJECT, key, repeats)

@@ -60,7 +60,7 @@ class Sorted(Front[T], Sequence[T], Generic[T]):
 
     def _fitting(self, items: list[Any]) -> Any:
         """What orders the items here once others come: where no kind was named, it may be another than now."""
-        return settled(self._order if self._named else fitted(self._order, items, self.key, self._repeats))
+        return settled(self._order if self._named else fitted(self._order, items, self.key, self._repeats), items)
 
     def _gathered(self, order: Order, items: list[Any]) -> Optional[Order]:
         """A run of the items of an order and of others, where these are many and fit."""
@@ -69,7 +69,7 @@ class Sorted(Front[T], Sequence[T], Generic[T]):
     def _settled(self) -> Any:
         """What orders the items, and can be changed."""
         order = self._order
-        if isinstance(order, Run):
+        if isinstance(order, Run) and order.is_fixed:
             self._become(order.settled())
         return self._order
 
