@@ -66,7 +66,7 @@ def library_crates() -> list[str]:
     """The crates of crates.txt that are neither programs nor tests nor what tests play on, in its order."""
     lines = (ROOT / "crates.txt").read_text(encoding="utf-8").splitlines()
     names = [line.split(":")[0].split()[0] for line in lines if line.strip() and not line.startswith("#")]
-    names = [it for it in names if not it.endswith(("_tests", "_drill", "_play"))]
+    names = [it for it in names if not it.startswith("test_")]
     return [it for it in names if (ROOT / "crates" / it / "src/lib.rt").exists()]
 
 

@@ -4,7 +4,7 @@
     tests/examples.py [PART..]      with no names: all
 
 Examples in Rust are built with the tests of a crate, and these run too, since each build takes a minute: the parts
-`indexset_tests` and, with what needs SQLite, `indexset_drill`. `shell` is the blocks of shell, and what is asked of
+`test_units` and, with what needs SQLite, `test_crashes`. `shell` is the blocks of shell, and what is asked of
 blocks without a run.
 
 Doc comments: an example stands between two lines ``` and is the body of a test, in which a line that
@@ -47,12 +47,12 @@ import lay  # noqa: E402
 
 # The crates of tests that examples are built with, and the crates whose doc comments they are from.
 HOSTS = {
-    "indexset_tests": ["core", "spine", "set", "map", "events", "log", "multi", "replica"],
-    "indexset_drill": ["journal"],
+    "test_units": ["core", "spine", "set", "map", "events", "log", "multi", "replica"],
+    "test_crashes": ["journal"],
 }
-WITH_PAGES = "indexset_tests"  # the one that the blocks of pages go with
+WITH_PAGES = "test_units"  # the one that the blocks of pages go with
 SHELL = "shell"
-PROGRAMS = ["indexset_leaderboard", "indexset_program", "indexset_store"]  # those that the blocks of shell run
+PROGRAMS = ["example_leaderboard", "indexset_program", "indexset_store"]  # those that the blocks of shell run
 UNPROVED = TOP / "out/unproved"  # where tests/run builds programs
 PROVED = "indexset_uses"
 SECONDS = "240"  # for one test, on a busy machine

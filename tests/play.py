@@ -3,7 +3,7 @@
 
     tests/play.py [--jobs N] [WORD..]      with words: the scripts whose paths have one of them
 
-Run it once `indexset_player` is built. A script that fails is named with its line and both answers. The last line is
+Run it once `test_script_runner` is built. A script that fails is named with its line and both answers. The last line is
 'N passed, M failed'.
 """
 
@@ -40,7 +40,7 @@ def main() -> int:
     ask.add_argument("words", nargs="*", metavar="WORD")
     ask.add_argument("--jobs", type=int, default=len(os.sched_getaffinity(0)))
     given = ask.parse_args()
-    player = built("indexset_player")
+    player = built("test_script_runner")
     scripts = sorted(SCRIPTS.rglob("*.script"))
     chosen = [it for it in scripts if not given.words or any(word in str(it) for word in given.words)]
     with ThreadPoolExecutor(given.jobs) as pool:

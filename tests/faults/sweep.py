@@ -3,7 +3,7 @@
 
     tests/faults/sweep.py [--player PATH] [--program PATH] [--linked] [--jobs N] [--write] [WORD..]
 
-`indexset_player` plays the scripts below tests/scripts, but those below `large`, with one request for memory
+`test_script_runner` plays the scripts below tests/scripts, but those below `large`, with one request for memory
 refused after another until none is left: a script must end with all its answers whichever it was (10: the library
 refused a call; 11: the player had none for words of its own). Some request must be refused within a call, or none
 where the script has the line `# No call asks for memory.` How many were refused within the calls of each stands in
@@ -94,14 +94,14 @@ def many(sweep: Sweep, program: pathlib.Path) -> None:
 def main() -> int:
     ask = argparse.ArgumentParser(description="Has each request of two programs fail in turn.")
     ask.add_argument("words", nargs="*", metavar="WORD")
-    ask.add_argument("--player", type=pathlib.Path, help="the program indexset_player")
+    ask.add_argument("--player", type=pathlib.Path, help="the program test_script_runner")
     ask.add_argument("--program", type=pathlib.Path, help="the program indexset_program")
     ask.add_argument("--linked", action="store_true", help="refuse.c stands in both programs")
     ask.add_argument("--jobs", type=int, default=len(os.sched_getaffinity(0)))
     ask.add_argument("--write", action="store_true", help="write requests.txt")
     given = ask.parse_args()
     with sweeping(given.linked) as sweep:
-        scripts(sweep, given.player or built("indexset_player"), given)
+        scripts(sweep, given.player or built("test_script_runner"), given)
         if not given.words:
             program = given.program or built("indexset_program")
             sweep.each_request(program, (HERE / "lines").read_bytes(), replies_to_first("replies"))

@@ -7,7 +7,7 @@ use Rattle.indexset_core.specs.declared.refusal.Refusal.{Refusal}
 use Rattle.indexset_core.specs.declared.refusal.Refusal.TheVariants as refusals
 use Rattle.std.below.core.specs.declared.int.u64.TheConstants.{MAX}
 use Rattle.indexset_log.specs.Tree.{refusal_for}
-use Rattle.indexset_handle.specs.declared.status.TheConstants.{NO, YES, MEMORY, NONE, HELD, NUMBERS, UNFIT}
+use Rattle.indexset_ffi.specs.declared.status.TheConstants.{NO, YES, MEMORY, NONE, HELD, NUMBERS, UNFIT}
 
 -- a status that is one number is no other
 pub not_at : {P : Type 0} (s m n : ℕ) → s ≡ m → eqb m n ≡ false → s ≡ n → P

@@ -3,7 +3,7 @@ use Rattle.std.proofs.Common.{◌≡◌, ◌≤◌, length, ap, ◌∙◌, arith
 use Rattle.indexset_events.proofs.CallerLemmas.{length-numbered}
 use Rattle.indexset_log.specs.Changed.{Change}
 use Rattle.indexset_log.specs.Tree.{Tree}
-use Rattle.indexset_handle.specs.TextLogs.{TextPair, ToldTree, after}
+use Rattle.indexset_ffi.specs.TextLogs.{TextPair, ToldTree, after}
 
 -- few where the change has few
 pub few_kept : (t : ToldTree) (before : Tree TextPair) (made : Change TextPair) → t ≡ after before made → length made.events ≤ 3 → length t.told ≤ 3

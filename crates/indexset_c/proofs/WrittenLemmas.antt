@@ -2,7 +2,7 @@
 use Rattle.std.proofs.Common.{◌≡◌, ℕ, List, [], ◌∷◌, length, map, replicate, refl, ap}
 use Rattle.std.specs.Ordering.{nat_cmp}
 use Rattle.indexset_core.specs.Order.{rank}
-use Rattle.indexset_handle.specs.Elements.{value_or}
+use Rattle.indexset_ffi.specs.Elements.{value_or}
 
 -- each key has rank 0, and none a value
 pub no_ranks : (keys : List ℕ) → replicate (length keys) 0 ≡ map (rank nat_cmp []) keys

@@ -2,7 +2,7 @@
 //!
 //! C holds a handle, which leads to a collection on the heap or to none. Each call takes a handle
 //! by its address; where there is no collection, it reads as an empty one and refuses to grow. No
-//! call aborts: one that can fail returns a status of [`indexset_handle::status`].
+//! call aborts: one that can fail returns a status of [`indexset_ffi::status`].
 #![tactic(auto)]
 
 ghost use Rattle.std.specs.Prelude.{◌≡◌};

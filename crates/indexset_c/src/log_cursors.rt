@@ -3,13 +3,13 @@ ghost use Rattle.std.specs.Prelude.{◌≡◌, ◌+◌, length, min};
 ghost use Rattle.std.specs.Ordering.{nat_cmp};
 ghost use Rattle.indexset_core.specs.Nodes.{node_lengths};
 ghost use Rattle.indexset_core.specs.Pairs.{key_rank, pair_keys, pair_values};
-ghost use Rattle.indexset_handle.specs.Cursors.{cursor_position, log_from};
-ghost use Rattle.indexset_handle.specs.Elements.{logged_nodes, logged_pairs, written};
+ghost use Rattle.indexset_ffi.specs.Cursors.{cursor_position, log_from};
+ghost use Rattle.indexset_ffi.specs.Elements.{logged_nodes, logged_pairs, written};
 
-use indexset_handle::cursor::{Cursor, START};
-use indexset_handle::log_calls::{cursor_at, cursor_from, nodes};
-use indexset_handle::log_handle::LogHandle;
-use indexset_handle::next::next_pairs;
+use indexset_ffi::cursor::{Cursor, START};
+use indexset_ffi::log_calls::{cursor_at, cursor_from, nodes};
+use indexset_ffi::log_handle::LogHandle;
+use indexset_ffi::next::next_pairs;
 use std::alloc::Global;
 
 /// Moves a cursor to a position, counted from 0, or to the end where there is none.

@@ -8,15 +8,15 @@ ghost use Rattle.indexset_events.specs.Keys.{key_removal_events};
 ghost use Rattle.indexset_events.specs.Replay.{numbered_from, replay};
 ghost use Rattle.indexset_events.specs.Table.{put_events};
 ghost use Rattle.indexset_log.specs.Tree.{refusal_for};
-ghost use Rattle.indexset_handle.specs.Elements.{logged_pairs};
-ghost use Rattle.indexset_handle.specs.Events.{IsWritten};
-ghost use Rattle.indexset_handle.specs.Statuses.{IsToldAs};
+ghost use Rattle.indexset_ffi.specs.Elements.{logged_pairs};
+ghost use Rattle.indexset_ffi.specs.Events.{IsWritten};
+ghost use Rattle.indexset_ffi.specs.Statuses.{IsToldAs};
 
-use indexset_handle::event::Event;
-use indexset_handle::log_calls::{insert_told, remove_told};
-use indexset_handle::log_handle::LogHandle;
-use indexset_handle::status::{HELD, MEMORY, NO, NONE, UNFIT, YES, of_refusal};
-use indexset_handle::write::write;
+use indexset_ffi::event::Event;
+use indexset_ffi::log_calls::{insert_told, remove_told};
+use indexset_ffi::log_handle::LogHandle;
+use indexset_ffi::status::{HELD, MEMORY, NO, NONE, UNFIT, YES, of_refusal};
+use indexset_ffi::write::write;
 use std::alloc::Global;
 
 /// Makes a value that of a key, and writes the changes and how many they are. Where the key is

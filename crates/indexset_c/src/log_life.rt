@@ -1,11 +1,11 @@
 //! Calls that make and free a logged map, and tell its length and its next number.
 ghost use Rattle.std.specs.Prelude.{◌≡◌, ◌≢◌, ◌<◌, ◌↔◌, [], Some, None, false, true, length, is_some, option_map};
 ghost use Rattle.std.specs.Option.{option_map_or};
-ghost use Rattle.indexset_handle.specs.Elements.{logged_pairs};
+ghost use Rattle.indexset_ffi.specs.Elements.{logged_pairs};
 
-use indexset_handle::log_handle::LogHandle;
-use indexset_handle::log_owner::LogOwner;
-use indexset_handle::status::{HELD, MEMORY, UNFIT, YES};
+use indexset_ffi::log_handle::LogHandle;
+use indexset_ffi::log_owner::LogOwner;
+use indexset_ffi::status::{HELD, MEMORY, UNFIT, YES};
 use indexset_log::map::BTreeMap;
 use std::alloc::Global;
 use std::mem::swap;

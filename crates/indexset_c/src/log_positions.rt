@@ -2,11 +2,11 @@
 ghost use Rattle.std.specs.Prelude.{◌≡◌, Some, None, true, false, drop, length, min};
 ghost use Rattle.std.specs.Ordering.{nat_cmp};
 ghost use Rattle.indexset_core.specs.Pairs.{key_rank, pair_keys, pair_values};
-ghost use Rattle.indexset_handle.specs.Elements.{entry_at, logged_pairs, written};
+ghost use Rattle.indexset_ffi.specs.Elements.{entry_at, logged_pairs, written};
 
-use indexset_handle::log_calls::write_logged;
-use indexset_handle::log_handle::LogHandle;
-use indexset_handle::write::write_pair;
+use indexset_ffi::log_calls::write_logged;
+use indexset_ffi::log_handle::LogHandle;
+use indexset_ffi::write::write_pair;
 use std::alloc::Global;
 use std::ops::Bound;
 

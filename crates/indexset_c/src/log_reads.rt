@@ -4,11 +4,11 @@ ghost use Rattle.std.specs.Ordering.{nat_cmp};
 ghost use Rattle.std.specs.declared.ops.Bound.TheVariants.{Included};
 ghost use Rattle.indexset_core.specs.Nodes.{node_lengths};
 ghost use Rattle.indexset_core.specs.Pairs.{has_key, pair_keys, pair_values, pairs_within, value_of};
-ghost use Rattle.indexset_handle.specs.Elements.{logged_nodes, logged_pairs, written};
+ghost use Rattle.indexset_ffi.specs.Elements.{logged_nodes, logged_pairs, written};
 
-use indexset_handle::log_calls::{write_lengths, write_logged};
-use indexset_handle::log_handle::LogHandle;
-use indexset_handle::write::write;
+use indexset_ffi::log_calls::{write_lengths, write_logged};
+use indexset_ffi::log_handle::LogHandle;
+use indexset_ffi::write::write;
 use std::alloc::Global;
 use std::ops::Bound;
 

@@ -1,17 +1,17 @@
 //! Calls of a map that take many keys at once.
 ghost use Rattle.std.specs.Prelude.{◌≡◌, ◌≢◌, ◌<◌, ◌≤◌, ◌↔◌, None, length, map, min, take, is_some};
-ghost use Rattle.indexset_handle.specs.Elements.{pairs, put_all, value_or, written};
+ghost use Rattle.indexset_ffi.specs.Elements.{pairs, put_all, value_or, written};
 
-use indexset_handle::map_calls::{put_each, value_each};
-use indexset_handle::map_handle::MapHandle;
-use indexset_handle::status::{MEMORY, NO, NONE, YES};
-use indexset_handle::write::write_same;
+use indexset_ffi::map_calls::{put_each, value_each};
+use indexset_ffi::map_handle::MapHandle;
+use indexset_ffi::status::{MEMORY, NO, NONE, YES};
+use indexset_ffi::write::write_same;
 use std::alloc::Global;
 
 /// Makes each value that of its key, first to last and as far as there are both. Writes how many
 /// were taken: all, or those before the one at which memory ran out.
 #[unsafe(no_mangle)]
-#[tactic(auto, unfolding(indexset_handle::specs::Elements::put_all))]
+#[tactic(auto, unfolding(indexset_ffi::specs::Elements::put_all))]
 pub extern "C" fn indexset_map_insert_all(
     alloc: Global,
     map: &mut MapHandle,

@@ -2,13 +2,13 @@
 ghost use Rattle.std.specs.Prelude.{◌≡◌, ◌+◌, length, min};
 ghost use Rattle.std.specs.Ordering.{nat_cmp};
 ghost use Rattle.indexset_core.specs.Pairs.{key_rank, pair_keys, pair_values};
-ghost use Rattle.indexset_handle.specs.Cursors.{cursor_position, map_from};
-ghost use Rattle.indexset_handle.specs.Elements.{map_lengths, pairs, written};
+ghost use Rattle.indexset_ffi.specs.Cursors.{cursor_position, map_from};
+ghost use Rattle.indexset_ffi.specs.Elements.{map_lengths, pairs, written};
 
-use indexset_handle::cursor::{Cursor, START};
-use indexset_handle::map_calls::{cursor_at, cursor_from};
-use indexset_handle::map_handle::MapHandle;
-use indexset_handle::next::next_pairs;
+use indexset_ffi::cursor::{Cursor, START};
+use indexset_ffi::map_calls::{cursor_at, cursor_from};
+use indexset_ffi::map_handle::MapHandle;
+use indexset_ffi::next::next_pairs;
 use std::alloc::Global;
 
 /// Moves a cursor to a position, counted from 0, or to the end where there is none.

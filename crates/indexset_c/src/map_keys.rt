@@ -2,12 +2,12 @@
 ghost use Rattle.std.specs.Prelude.{◌≡◌, ◌≢◌, ◌≤◌, ◌↔◌, Some, None, true, false, is_some};
 ghost use Rattle.std.specs.Ordering.{nat_cmp};
 ghost use Rattle.indexset_core.specs.Pairs.{has_key, key_rank, put_value, value_of, without_key};
-ghost use Rattle.indexset_handle.specs.Elements.{key_count_up_to, pairs};
+ghost use Rattle.indexset_ffi.specs.Elements.{key_count_up_to, pairs};
 
-use indexset_handle::map_calls::count_to;
-use indexset_handle::map_handle::MapHandle;
-use indexset_handle::status::{MEMORY, NO, NONE, YES};
-use indexset_handle::write::write;
+use indexset_ffi::map_calls::count_to;
+use indexset_ffi::map_handle::MapHandle;
+use indexset_ffi::status::{MEMORY, NO, NONE, YES};
+use indexset_ffi::write::write;
 use std::alloc::Global;
 
 /// Inserts a pair, or replaces the value of a present key and writes the old one.

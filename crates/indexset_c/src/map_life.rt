@@ -2,11 +2,11 @@
 ghost use Rattle.std.specs.Prelude.{◌≡◌, ◌≢◌, ◌↔◌, [], Some, None, true, length, is_some, IfSome, option_map};
 ghost use Rattle.indexset_core.specs.declared.constants.TheConstants.{DEFAULT_INNER_SIZE};
 ghost use Rattle.indexset_map.specs.Contents.{no_pairs};
-ghost use Rattle.indexset_handle.specs.Elements.{pairs};
+ghost use Rattle.indexset_ffi.specs.Elements.{pairs};
 
-use indexset_handle::map_handle::MapHandle;
-use indexset_handle::map_owner::MapOwner;
-use indexset_handle::status::{HELD, MEMORY, NONE, YES};
+use indexset_ffi::map_handle::MapHandle;
+use indexset_ffi::map_owner::MapOwner;
+use indexset_ffi::status::{HELD, MEMORY, NONE, YES};
 use indexset_map::BTreeMap;
 use std::alloc::Global;
 use std::mem::swap;

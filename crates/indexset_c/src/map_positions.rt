@@ -3,11 +3,11 @@ ghost use Rattle.std.specs.Prelude.{◌≡◌, ◌-◌, Some, None, true, false,
 ghost use Rattle.std.specs.Ordering.{nat_cmp};
 ghost use Rattle.std.specs.declared.ops.Bound.TheVariants.{Included, Excluded, Unbounded};
 ghost use Rattle.indexset_core.specs.Pairs.{pairs_within};
-ghost use Rattle.indexset_handle.specs.Elements.{entry_at, pairs};
+ghost use Rattle.indexset_ffi.specs.Elements.{entry_at, pairs};
 
-use indexset_handle::map_calls::{first_from, first_past, take_index};
-use indexset_handle::map_handle::MapHandle;
-use indexset_handle::write::write_pair;
+use indexset_ffi::map_calls::{first_from, first_past, take_index};
+use indexset_ffi::map_handle::MapHandle;
+use indexset_ffi::write::write_pair;
 use std::alloc::Global;
 
 /// Writes the pair at a position, counted from 0, where there is one.

@@ -3,10 +3,10 @@ ghost use Rattle.std.specs.Prelude.{◌≡◌, ◌≤◌, ◌<◌, drop, length,
 ghost use Rattle.std.specs.Ordering.{nat_cmp};
 ghost use Rattle.std.specs.declared.ops.Bound.TheVariants.{Included};
 ghost use Rattle.indexset_core.specs.Pairs.{pair_keys, pair_values, pairs_within};
-ghost use Rattle.indexset_handle.specs.Elements.{pairs, written};
+ghost use Rattle.indexset_ffi.specs.Elements.{pairs, written};
 
-use indexset_handle::map_calls::write_pairs;
-use indexset_handle::map_handle::MapHandle;
+use indexset_ffi::map_calls::write_pairs;
+use indexset_ffi::map_handle::MapHandle;
 use std::alloc::Global;
 use std::ops::Bound;
 

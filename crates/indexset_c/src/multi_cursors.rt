@@ -2,13 +2,13 @@
 ghost use Rattle.std.specs.Prelude.{◌≡◌, ◌+◌, length, map, min};
 ghost use Rattle.std.specs.List.{count_by};
 ghost use Rattle.std.specs.Ordering.{is_lt, nat_cmp};
-ghost use Rattle.indexset_handle.specs.Cursors.{cursor_position, multi_from};
-ghost use Rattle.indexset_handle.specs.Elements.{multi_lengths, numbered_pairs, written};
+ghost use Rattle.indexset_ffi.specs.Cursors.{cursor_position, multi_from};
+ghost use Rattle.indexset_ffi.specs.Elements.{multi_lengths, numbered_pairs, written};
 
-use indexset_handle::cursor::{Cursor, START};
-use indexset_handle::multi_calls::{cursor_at, cursor_from, nodes};
-use indexset_handle::multi_handle::MultiHandle;
-use indexset_handle::next::next_pairs;
+use indexset_ffi::cursor::{Cursor, START};
+use indexset_ffi::multi_calls::{cursor_at, cursor_from, nodes};
+use indexset_ffi::multi_handle::MultiHandle;
+use indexset_ffi::next::next_pairs;
 use std::alloc::Global;
 
 /// Moves a cursor to a position, counted from 0, or to the end where there is none.

@@ -9,12 +9,12 @@ ghost use Rattle.indexset_multi.specs.Changed.{addition, addition_refusal};
 ghost use Rattle.indexset_multi.specs.Keys.{equal_pair, first_pair, pairs_of, without_first, without_named};
 ghost use Rattle.indexset_multi.specs.Tree.{after_insertion, after_removal, insertion_refusal, pair_removal_events};
 ghost use Rattle.indexset_log.specs.Tree.{refusal_for};
-ghost use Rattle.indexset_handle.specs.Elements.{numbered_pairs, values_of};
-ghost use Rattle.indexset_handle.specs.Statuses.{IsToldAs};
+ghost use Rattle.indexset_ffi.specs.Elements.{numbered_pairs, values_of};
+ghost use Rattle.indexset_ffi.specs.Statuses.{IsToldAs};
 
-use indexset_handle::multi_calls::{has_pair, insert_new};
-use indexset_handle::multi_handle::MultiHandle;
-use indexset_handle::status::{HELD, NO, NONE, NUMBERS, YES, of_refusal};
+use indexset_ffi::multi_calls::{has_pair, insert_new};
+use indexset_ffi::multi_handle::MultiHandle;
+use indexset_ffi::status::{HELD, NO, NONE, NUMBERS, YES, of_refusal};
 use std::alloc::Global;
 
 /// Adds a value to those of a key, as the last. A value that the key has stays.

@@ -2,10 +2,10 @@
 ghost use Rattle.std.specs.Prelude.{◌≡◌, is_some, length, min, nat_eq};
 ghost use Rattle.std.specs.Ordering.{nat_cmp};
 ghost use Rattle.indexset_multi.specs.Keys.{equal_pair, has_pair_of};
-ghost use Rattle.indexset_handle.specs.Elements.{numbered_pairs, values_of, written};
+ghost use Rattle.indexset_ffi.specs.Elements.{numbered_pairs, values_of, written};
 
-use indexset_handle::multi_calls::{has_pair, write_values};
-use indexset_handle::multi_handle::MultiHandle;
+use indexset_ffi::multi_calls::{has_pair, write_values};
+use indexset_ffi::multi_handle::MultiHandle;
 use std::alloc::Global;
 
 /// Tells whether a key has a value.

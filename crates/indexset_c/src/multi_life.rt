@@ -1,10 +1,10 @@
 //! Calls that make, empty and free a multimap, and tell its length.
 ghost use Rattle.std.specs.Prelude.{◌≡◌, ◌≢◌, ◌↔◌, [], Some, None, true, length, is_some, option_map};
-ghost use Rattle.indexset_handle.specs.Elements.{fresh_multi, numbered_pairs};
+ghost use Rattle.indexset_ffi.specs.Elements.{fresh_multi, numbered_pairs};
 
-use indexset_handle::multi_handle::MultiHandle;
-use indexset_handle::multi_owner::MultiOwner;
-use indexset_handle::status::{HELD, MEMORY, YES};
+use indexset_ffi::multi_handle::MultiHandle;
+use indexset_ffi::multi_owner::MultiOwner;
+use indexset_ffi::status::{HELD, MEMORY, YES};
 use indexset_multi::multimap::BTreeMultiMap;
 use std::alloc::Global;
 use std::mem::swap;

@@ -4,11 +4,11 @@ ghost use Rattle.std.specs.Ordering.{nat_cmp};
 ghost use Rattle.std.specs.declared.ops.Bound.TheVariants.{Included};
 ghost use Rattle.indexset_core.specs.Pairs.{pair_keys, pair_values};
 ghost use Rattle.indexset_multi.specs.Keys.{entries, pairs_between};
-ghost use Rattle.indexset_handle.specs.Elements.{entry_at, numbered_pairs, written};
+ghost use Rattle.indexset_ffi.specs.Elements.{entry_at, numbered_pairs, written};
 
-use indexset_handle::multi_calls::write_entries;
-use indexset_handle::multi_handle::MultiHandle;
-use indexset_handle::write::write_pair;
+use indexset_ffi::multi_calls::write_entries;
+use indexset_ffi::multi_handle::MultiHandle;
+use indexset_ffi::write::write_pair;
 use std::alloc::Global;
 use std::ops::Bound;
 

@@ -8,13 +8,13 @@ ghost use Rattle.indexset_core.specs.Pairs.{pair_keys, pair_values};
 ghost use Rattle.indexset_log.specs.Tree.{refusal_for};
 ghost use Rattle.indexset_multi.specs.Keys.{entries, key_and_value, without_named};
 ghost use Rattle.indexset_multi.specs.Tree.{after_removal, pair_removal_events};
-ghost use Rattle.indexset_handle.specs.Elements.{numbered_pairs, written};
-ghost use Rattle.indexset_handle.specs.Statuses.{IsToldAs};
+ghost use Rattle.indexset_ffi.specs.Elements.{numbered_pairs, written};
+ghost use Rattle.indexset_ffi.specs.Statuses.{IsToldAs};
 
-use indexset_handle::multi_calls::write_entries;
-use indexset_handle::multi_handle::MultiHandle;
-use indexset_handle::status::{HELD, NO, NONE, NUMBERS, YES, of_refusal};
-use indexset_handle::write::write_pair;
+use indexset_ffi::multi_calls::write_entries;
+use indexset_ffi::multi_handle::MultiHandle;
+use indexset_ffi::status::{HELD, NO, NONE, NUMBERS, YES, of_refusal};
+use indexset_ffi::write::write_pair;
 use std::alloc::Global;
 use std::ops::Bound;
 

@@ -3,14 +3,14 @@ ghost use Rattle.std.specs.Prelude.{◌≡◌, ◌+◌, length, min};
 ghost use Rattle.std.specs.Ordering.{nat_cmp};
 ghost use Rattle.indexset_core.specs.Nodes.{node_lengths};
 ghost use Rattle.indexset_core.specs.Pairs.{key_rank, pair_keys, pair_values};
-ghost use Rattle.indexset_handle.specs.Cursors.{cursor_position, replica_from};
-ghost use Rattle.indexset_handle.specs.Elements.{written};
-ghost use Rattle.indexset_handle.specs.Replicas.{copied_nodes, copied_pairs};
+ghost use Rattle.indexset_ffi.specs.Cursors.{cursor_position, replica_from};
+ghost use Rattle.indexset_ffi.specs.Elements.{written};
+ghost use Rattle.indexset_ffi.specs.Replicas.{copied_nodes, copied_pairs};
 
-use indexset_handle::cursor::{Cursor, START};
-use indexset_handle::next::next_pairs;
-use indexset_handle::replica_calls::{cursor_at, cursor_from};
-use indexset_handle::replica_handle::ReplicaHandle;
+use indexset_ffi::cursor::{Cursor, START};
+use indexset_ffi::next::next_pairs;
+use indexset_ffi::replica_calls::{cursor_at, cursor_from};
+use indexset_ffi::replica_handle::ReplicaHandle;
 use std::alloc::Global;
 
 /// Moves a cursor to a position, counted from 0, or to the end where there is none.

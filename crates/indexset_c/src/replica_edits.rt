@@ -1,11 +1,11 @@
 //! Calls that make the changes of a logged map in a replica.
 ghost use Rattle.std.specs.Prelude.{◌≡◌, ◌≢◌, ◌<◌, ◌≤◌, ◌↔◌, length, take, unwrap_or, IfSome, None, Some, slice_get};
-ghost use Rattle.indexset_handle.specs.Replicas.{applied, applied_all, refused};
+ghost use Rattle.indexset_ffi.specs.Replicas.{applied, applied_all, refused};
 
-use indexset_handle::event::Event;
-use indexset_handle::replica_calls::{apply_each, apply_record};
-use indexset_handle::replica_handle::ReplicaHandle;
-use indexset_handle::status::{MEMORY, NO, NONE, YES};
+use indexset_ffi::event::Event;
+use indexset_ffi::replica_calls::{apply_each, apply_record};
+use indexset_ffi::replica_handle::ReplicaHandle;
+use indexset_ffi::status::{MEMORY, NO, NONE, YES};
 use std::alloc::Global;
 
 /// Makes a change of a logged map, where it is the one that is awaited and fits the nodes.

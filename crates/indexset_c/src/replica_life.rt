@@ -2,13 +2,13 @@
 //! awaits.
 ghost use Rattle.std.specs.Prelude.{◌≡◌, ◌≢◌, ◌↔◌, [], Some, None, length, is_some, option_map, true};
 ghost use Rattle.std.specs.Option.{option_map_or};
-ghost use Rattle.indexset_handle.specs.Replicas.{copied_nodes, copied_pairs, replica_of};
+ghost use Rattle.indexset_ffi.specs.Replicas.{copied_nodes, copied_pairs, replica_of};
 
-use indexset_handle::log_handle::LogHandle;
-use indexset_handle::replica_calls::replica_of;
-use indexset_handle::replica_handle::ReplicaHandle;
-use indexset_handle::replica_owner::ReplicaOwner;
-use indexset_handle::status::{HELD, MEMORY, NONE, YES};
+use indexset_ffi::log_handle::LogHandle;
+use indexset_ffi::replica_calls::replica_of;
+use indexset_ffi::replica_handle::ReplicaHandle;
+use indexset_ffi::replica_owner::ReplicaOwner;
+use indexset_ffi::status::{HELD, MEMORY, NONE, YES};
 use indexset_replica::Replica;
 use std::alloc::Global;
 use std::mem::swap;

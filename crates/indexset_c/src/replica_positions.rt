@@ -2,12 +2,12 @@
 ghost use Rattle.std.specs.Prelude.{◌≡◌, Some, None, true, false, drop, length, min};
 ghost use Rattle.std.specs.Ordering.{nat_cmp};
 ghost use Rattle.indexset_core.specs.Pairs.{key_rank, pair_keys, pair_values};
-ghost use Rattle.indexset_handle.specs.Elements.{entry_at, written};
-ghost use Rattle.indexset_handle.specs.Replicas.{copied_pairs};
+ghost use Rattle.indexset_ffi.specs.Elements.{entry_at, written};
+ghost use Rattle.indexset_ffi.specs.Replicas.{copied_pairs};
 
-use indexset_handle::replica_calls::write_copied;
-use indexset_handle::replica_handle::ReplicaHandle;
-use indexset_handle::write::write_pair;
+use indexset_ffi::replica_calls::write_copied;
+use indexset_ffi::replica_handle::ReplicaHandle;
+use indexset_ffi::write::write_pair;
 use std::alloc::Global;
 use std::ops::Bound;
 

@@ -4,12 +4,12 @@ ghost use Rattle.std.specs.Ordering.{nat_cmp};
 ghost use Rattle.std.specs.declared.ops.Bound.TheVariants.{Included};
 ghost use Rattle.indexset_core.specs.Nodes.{node_lengths};
 ghost use Rattle.indexset_core.specs.Pairs.{has_key, pair_keys, pair_values, pairs_within, value_of};
-ghost use Rattle.indexset_handle.specs.Elements.{entry_at, written};
-ghost use Rattle.indexset_handle.specs.Replicas.{copied_nodes, copied_pairs};
+ghost use Rattle.indexset_ffi.specs.Elements.{entry_at, written};
+ghost use Rattle.indexset_ffi.specs.Replicas.{copied_nodes, copied_pairs};
 
-use indexset_handle::replica_calls::{sought, write_copied, write_lengths};
-use indexset_handle::replica_handle::ReplicaHandle;
-use indexset_handle::write::{write, write_pair};
+use indexset_ffi::replica_calls::{sought, write_copied, write_lengths};
+use indexset_ffi::replica_handle::ReplicaHandle;
+use indexset_ffi::write::{write, write_pair};
 use std::alloc::Global;
 use std::ops::Bound;
 

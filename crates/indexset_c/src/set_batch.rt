@@ -3,12 +3,12 @@ ghost use Rattle.std.specs.Prelude.{◌≡◌, ◌≢◌, ◌<◌, ◌≤◌, �
 ghost use Rattle.std.specs.List.{AllWithin, fold};
 ghost use Rattle.std.specs.Ordering.{nat_cmp};
 ghost use Rattle.indexset_core.specs.Order.{has_equal, keep, rank};
-ghost use Rattle.indexset_handle.specs.Elements.{element_at, elements, written};
+ghost use Rattle.indexset_ffi.specs.Elements.{element_at, elements, written};
 
-use indexset_handle::set_calls::{element_each, insert_each, rank_each};
-use indexset_handle::set_handle::SetHandle;
-use indexset_handle::status::{MEMORY, NO, NONE, YES};
-use indexset_handle::write::write_same;
+use indexset_ffi::set_calls::{element_each, insert_each, rank_each};
+use indexset_ffi::set_handle::SetHandle;
+use indexset_ffi::status::{MEMORY, NO, NONE, YES};
+use indexset_ffi::write::write_same;
 use std::alloc::Global;
 
 /// Adds each key, first to last. Writes how many were taken: all, or those before the one at which

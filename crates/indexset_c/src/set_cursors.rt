@@ -2,13 +2,13 @@
 ghost use Rattle.std.specs.Prelude.{◌≡◌, ◌+◌, length, min};
 ghost use Rattle.std.specs.Ordering.{nat_cmp};
 ghost use Rattle.indexset_core.specs.Order.{rank};
-ghost use Rattle.indexset_handle.specs.Cursors.{cursor_position, set_from};
-ghost use Rattle.indexset_handle.specs.Elements.{elements, set_lengths, written};
+ghost use Rattle.indexset_ffi.specs.Cursors.{cursor_position, set_from};
+ghost use Rattle.indexset_ffi.specs.Elements.{elements, set_lengths, written};
 
-use indexset_handle::cursor::{Cursor, START};
-use indexset_handle::next::next_elements;
-use indexset_handle::set_calls::{cursor_at, cursor_from};
-use indexset_handle::set_handle::SetHandle;
+use indexset_ffi::cursor::{Cursor, START};
+use indexset_ffi::next::next_elements;
+use indexset_ffi::set_calls::{cursor_at, cursor_from};
+use indexset_ffi::set_handle::SetHandle;
 use std::alloc::Global;
 
 /// Moves a cursor to a position, counted from 0, or to the end where there is none.

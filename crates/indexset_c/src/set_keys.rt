@@ -4,12 +4,12 @@ ghost use Rattle.std.specs.Ordering.{nat_cmp};
 ghost use Rattle.indexset_core.specs.Order as order;
 ghost use Rattle.indexset_core.specs.Order.{has_equal, keep, lower_element, rank, without};
 ghost use Rattle.indexset_set.specs.SetRanges.{upper_element};
-ghost use Rattle.indexset_handle.specs.Elements.{count_up_to, elements};
+ghost use Rattle.indexset_ffi.specs.Elements.{count_up_to, elements};
 
-use indexset_handle::set_calls::count_to;
-use indexset_handle::set_handle::SetHandle;
-use indexset_handle::status::{MEMORY, NO, NONE, YES};
-use indexset_handle::write::write;
+use indexset_ffi::set_calls::count_to;
+use indexset_ffi::set_handle::SetHandle;
+use indexset_ffi::status::{MEMORY, NO, NONE, YES};
+use indexset_ffi::write::write;
 use std::alloc::Global;
 
 /// Inserts a key. A present one stays.

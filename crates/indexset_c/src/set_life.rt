@@ -2,11 +2,11 @@
 ghost use Rattle.std.specs.Prelude.{◌≡◌, ◌≢◌, ◌↔◌, [], Some, None, true, length, is_some, IfSome, ◌∷◌, option_map};
 ghost use Rattle.indexset_core.specs.declared.constants.TheConstants.{DEFAULT_INNER_SIZE};
 ghost use Rattle.indexset_spine.specs.Cut.{cut};
-ghost use Rattle.indexset_handle.specs.Elements.{elements};
+ghost use Rattle.indexset_ffi.specs.Elements.{elements};
 
-use indexset_handle::set_handle::SetHandle;
-use indexset_handle::set_owner::SetOwner;
-use indexset_handle::status::{HELD, MEMORY, NONE, YES};
+use indexset_ffi::set_handle::SetHandle;
+use indexset_ffi::set_owner::SetOwner;
+use indexset_ffi::status::{HELD, MEMORY, NONE, YES};
 use indexset_set::BTreeSet;
 use std::alloc::Global;
 use std::mem::swap;

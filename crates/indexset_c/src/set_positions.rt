@@ -1,10 +1,10 @@
 //! Calls of a set that go by a position, and those at its two ends.
 ghost use Rattle.std.specs.Prelude.{◌≡◌, ◌-◌, Some, None, true, false, drop, length, remove, slice_get, take, is_some};
-ghost use Rattle.indexset_handle.specs.Elements.{elements};
+ghost use Rattle.indexset_ffi.specs.Elements.{elements};
 
-use indexset_handle::set_calls::take_index;
-use indexset_handle::set_handle::SetHandle;
-use indexset_handle::write::write;
+use indexset_ffi::set_calls::take_index;
+use indexset_ffi::set_handle::SetHandle;
+use indexset_ffi::write::write;
 use std::alloc::Global;
 
 /// Writes the element at a position, counted from 0, where there is one.

@@ -3,10 +3,10 @@ ghost use Rattle.std.specs.Prelude.{◌≡◌, ◌≤◌, ◌<◌, drop, length,
 ghost use Rattle.std.specs.Ordering.{nat_cmp};
 ghost use Rattle.std.specs.declared.ops.Bound.TheVariants.{Included};
 ghost use Rattle.indexset_core.specs.Bounds.{in_range};
-ghost use Rattle.indexset_handle.specs.Elements.{elements, written};
+ghost use Rattle.indexset_ffi.specs.Elements.{elements, written};
 
-use indexset_handle::set_calls::write_each;
-use indexset_handle::set_handle::SetHandle;
+use indexset_ffi::set_calls::write_each;
+use indexset_ffi::set_handle::SetHandle;
 use std::alloc::Global;
 use std::ops::Bound;
 

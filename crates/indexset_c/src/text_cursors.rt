@@ -4,14 +4,14 @@ ghost use Rattle.std.specs.Cmp.Lexicographic.{slice_cmp};
 ghost use Rattle.std.specs.Ordering.{nat_cmp};
 ghost use Rattle.indexset_core.specs.Nodes.{joined};
 ghost use Rattle.indexset_core.specs.Pairs.{key_rank, pair_keys, pair_values};
-ghost use Rattle.indexset_handle.specs.Cursors.{cursor_position, text_from};
-ghost use Rattle.indexset_handle.specs.Elements.{written};
-ghost use Rattle.indexset_handle.specs.Text.{key_lengths, text_lengths, text_pairs, written_over};
+ghost use Rattle.indexset_ffi.specs.Cursors.{cursor_position, text_from};
+ghost use Rattle.indexset_ffi.specs.Elements.{written};
+ghost use Rattle.indexset_ffi.specs.Text.{key_lengths, text_lengths, text_pairs, written_over};
 
-use indexset_handle::cursor::{Cursor, START};
-use indexset_handle::next::next_texts;
-use indexset_handle::text_find::{cursor_at, cursor_from};
-use indexset_handle::text_handle::TextHandle;
+use indexset_ffi::cursor::{Cursor, START};
+use indexset_ffi::next::next_texts;
+use indexset_ffi::text_find::{cursor_at, cursor_from};
+use indexset_ffi::text_handle::TextHandle;
 use std::alloc::Global;
 
 /// Moves a cursor to a position, counted from 0, or to the end where there is none.

@@ -3,14 +3,14 @@ ghost use Rattle.std.specs.Prelude.{◌≡◌, ◌≢◌, ◌≤◌, ◌↔◌, 
 ghost use Rattle.std.specs.Cmp.Lexicographic.{slice_cmp};
 ghost use Rattle.std.specs.Ordering.{nat_cmp};
 ghost use Rattle.indexset_core.specs.Pairs.{has_key, key_rank, put_value, value_of, without_key};
-ghost use Rattle.indexset_handle.specs.Elements.{key_count_up_to};
-ghost use Rattle.indexset_handle.specs.Text.{text_pairs};
+ghost use Rattle.indexset_ffi.specs.Elements.{key_count_up_to};
+ghost use Rattle.indexset_ffi.specs.Text.{text_pairs};
 
-use indexset_handle::status::{MEMORY, NO, NONE, YES};
-use indexset_handle::text_edits::{put, take};
-use indexset_handle::text_find::{count_to, get, rank_of};
-use indexset_handle::text_handle::TextHandle;
-use indexset_handle::write::write;
+use indexset_ffi::status::{MEMORY, NO, NONE, YES};
+use indexset_ffi::text_edits::{put, take};
+use indexset_ffi::text_find::{count_to, get, rank_of};
+use indexset_ffi::text_handle::TextHandle;
+use indexset_ffi::write::write;
 use std::alloc::Global;
 
 /// Inserts a pair, or replaces the value of a present key and writes the old one. The bytes of a

@@ -1,12 +1,12 @@
 //! Calls that make, empty, clone and free a map from byte strings, and return its length.
 ghost use Rattle.std.specs.Prelude.{◌≡◌, ◌≢◌, ◌↔◌, [], Some, None, true, length, is_some, IfSome, option_map};
 ghost use Rattle.indexset_map.specs.Contents.{no_pairs};
-ghost use Rattle.indexset_handle.specs.Text.{text_pairs};
+ghost use Rattle.indexset_ffi.specs.Text.{text_pairs};
 
-use indexset_handle::status::{HELD, MEMORY, NONE, YES};
-use indexset_handle::text_handle::TextHandle;
-use indexset_handle::text_owner::TextOwner;
-use indexset_handle::text_slot::TEXT_NODE_SIZE;
+use indexset_ffi::status::{HELD, MEMORY, NONE, YES};
+use indexset_ffi::text_handle::TextHandle;
+use indexset_ffi::text_owner::TextOwner;
+use indexset_ffi::text_slot::TEXT_NODE_SIZE;
 use indexset_map::BTreeMap;
 use std::alloc::Global;
 use std::mem::swap;

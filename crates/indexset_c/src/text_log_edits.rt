@@ -6,13 +6,13 @@ ghost use Rattle.std.specs.Ordering.{nat_cmp};
 ghost use Rattle.indexset_core.specs.Pairs.{by_key, pair, value_of};
 ghost use Rattle.indexset_core.specs.declared.refusal.Refusal.TheVariants.{Numbers};
 ghost use Rattle.indexset_log.specs.Changed.{Changed, key_removal, put_change, refusal_of};
-ghost use Rattle.indexset_handle.specs.Text.{written_over};
-ghost use Rattle.indexset_handle.specs.TextLogs.{after, logged_texts, node_key, pair_key, record_of, told_changes};
+ghost use Rattle.indexset_ffi.specs.Text.{written_over};
+ghost use Rattle.indexset_ffi.specs.TextLogs.{after, logged_texts, node_key, pair_key, record_of, told_changes};
 
-use indexset_handle::status::{HELD, MEMORY, NO, NONE, NUMBERS, YES, of_refusal};
-use indexset_handle::text_event::{TextEvent, write_change};
-use indexset_handle::text_log_handle::TextLogHandle;
-use indexset_handle::write::write;
+use indexset_ffi::status::{HELD, MEMORY, NO, NONE, NUMBERS, YES, of_refusal};
+use indexset_ffi::text_event::{TextEvent, write_change};
+use indexset_ffi::text_log_handle::TextLogHandle;
+use indexset_ffi::write::write;
 use std::alloc::Global;
 
 /// Makes a value that of a key, keeps the changes and writes how many they are. Where the key is

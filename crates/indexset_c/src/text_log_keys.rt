@@ -3,11 +3,11 @@ ghost use Rattle.std.specs.Prelude.{◌≡◌, Some, None, true, false};
 ghost use Rattle.std.specs.Cmp.Lexicographic.{slice_cmp};
 ghost use Rattle.std.specs.Ordering.{nat_cmp};
 ghost use Rattle.indexset_core.specs.Pairs.{has_key, key_rank, value_of};
-ghost use Rattle.indexset_handle.specs.Elements.{key_count_up_to};
-ghost use Rattle.indexset_handle.specs.TextLogs.{logged_texts};
+ghost use Rattle.indexset_ffi.specs.Elements.{key_count_up_to};
+ghost use Rattle.indexset_ffi.specs.TextLogs.{logged_texts};
 
-use indexset_handle::text_log_handle::TextLogHandle;
-use indexset_handle::write::write;
+use indexset_ffi::text_log_handle::TextLogHandle;
+use indexset_ffi::write::write;
 use std::alloc::Global;
 
 /// Writes the value of a key, where there is one.

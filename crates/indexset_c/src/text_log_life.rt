@@ -1,12 +1,12 @@
 //! Calls that make and free a logged map from byte strings, and tell its size.
 ghost use Rattle.std.specs.Prelude.{◌≡◌, ◌≢◌, ◌<◌, ◌↔◌, [], Some, None, false, true, length, is_some, option_map};
 ghost use Rattle.std.specs.Option.{option_map_or};
-ghost use Rattle.indexset_handle.specs.TextLogs.{logged_texts, untold};
+ghost use Rattle.indexset_ffi.specs.TextLogs.{logged_texts, untold};
 
-use indexset_handle::status::{HELD, MEMORY, UNFIT, YES};
-use indexset_handle::text_log::TextLog;
-use indexset_handle::text_log_handle::TextLogHandle;
-use indexset_handle::text_log_owner::TextLogOwner;
+use indexset_ffi::status::{HELD, MEMORY, UNFIT, YES};
+use indexset_ffi::text_log::TextLog;
+use indexset_ffi::text_log_handle::TextLogHandle;
+use indexset_ffi::text_log_owner::TextLogOwner;
 use std::alloc::Global;
 use std::mem::swap;
 

@@ -2,13 +2,13 @@
 ghost use Rattle.std.specs.Prelude.{◌≡◌, Some, None, true, false, drop, length, min, take};
 ghost use Rattle.indexset_core.specs.Nodes.{joined};
 ghost use Rattle.indexset_core.specs.Pairs.{pair_keys, pair_values};
-ghost use Rattle.indexset_handle.specs.Elements.{written};
-ghost use Rattle.indexset_handle.specs.Text.{key_at, key_lengths, value_at, written_over};
-ghost use Rattle.indexset_handle.specs.TextLogs.{logged_texts};
+ghost use Rattle.indexset_ffi.specs.Elements.{written};
+ghost use Rattle.indexset_ffi.specs.Text.{key_at, key_lengths, value_at, written_over};
+ghost use Rattle.indexset_ffi.specs.TextLogs.{logged_texts};
 
-use indexset_handle::text_log_calls::{write_keys, write_values};
-use indexset_handle::text_log_handle::TextLogHandle;
-use indexset_handle::write::write_bytes;
+use indexset_ffi::text_log_calls::{write_keys, write_values};
+use indexset_ffi::text_log_handle::TextLogHandle;
+use indexset_ffi::write::write_bytes;
 use std::alloc::Global;
 
 /// Writes the pair at a position, counted from 0, where there is one: as many bytes of its key as

@@ -3,14 +3,14 @@ ghost use Rattle.std.specs.Prelude.{◌≡◌, ◌-◌, Some, None, true, false,
 ghost use Rattle.std.specs.Cmp.Lexicographic.{slice_cmp};
 ghost use Rattle.std.specs.Ordering.{nat_cmp};
 ghost use Rattle.indexset_core.specs.Pairs.{key_rank};
-ghost use Rattle.indexset_handle.specs.Elements.{key_count_up_to};
-ghost use Rattle.indexset_handle.specs.Text.{key_at, text_pairs, value_at, written_over};
+ghost use Rattle.indexset_ffi.specs.Elements.{key_count_up_to};
+ghost use Rattle.indexset_ffi.specs.Text.{key_at, text_pairs, value_at, written_over};
 
 use crate::text_keys::{indexset_text_map_count_up_to, indexset_text_map_rank};
 use crate::text_life::indexset_text_map_len;
-use indexset_handle::map_calls::take_index;
-use indexset_handle::text_handle::TextHandle;
-use indexset_handle::write::write_bytes;
+use indexset_ffi::map_calls::take_index;
+use indexset_ffi::text_handle::TextHandle;
+use indexset_ffi::write::write_bytes;
 use std::alloc::Global;
 
 /// Writes the pair at a position, counted from 0, where there is one: as many bytes of its key as

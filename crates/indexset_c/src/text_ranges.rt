@@ -2,11 +2,11 @@
 ghost use Rattle.std.specs.Prelude.{◌≡◌, drop, length, min, take};
 ghost use Rattle.indexset_core.specs.Nodes.{joined};
 ghost use Rattle.indexset_core.specs.Pairs.{pair_keys, pair_values};
-ghost use Rattle.indexset_handle.specs.Elements.{written};
-ghost use Rattle.indexset_handle.specs.Text.{key_lengths, text_pairs, written_over};
+ghost use Rattle.indexset_ffi.specs.Elements.{written};
+ghost use Rattle.indexset_ffi.specs.Text.{key_lengths, text_pairs, written_over};
 
-use indexset_handle::text_calls::{write_keys, write_values};
-use indexset_handle::text_handle::TextHandle;
+use indexset_ffi::text_calls::{write_keys, write_values};
+use indexset_ffi::text_handle::TextHandle;
 use std::alloc::Global;
 use std::ops::Bound;
 

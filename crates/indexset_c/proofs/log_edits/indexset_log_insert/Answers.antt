@@ -5,7 +5,7 @@ use Rattle.std.specs.Ordering.{nat_cmp}
 use Rattle.indexset_core.specs.Pairs.{by_key, pair}
 use Rattle.indexset_events.specs.Table.{put_events}
 use Rattle.indexset_log.specs.Tree.{refusal_for}
-use Rattle.indexset_handle.specs.declared.status.TheConstants.{NO, YES, MEMORY, NONE, HELD, NUMBERS, UNFIT}
+use Rattle.indexset_ffi.specs.declared.status.TheConstants.{NO, YES, MEMORY, NONE, HELD, NUMBERS, UNFIT}
 use Rattle.indexset_c.proofs.StatusLemmas.{IsRefused, for_events, is_refused, not_at, not_least, not_most, refused_not_done, refused_not_no, refused_not_none, refused_not_unfit, refused_not_yes, refused_status}
 use Rattle.indexset_c.proofs.log_edits.indexset_log_insert.Goals.{in-Ok+then-write, in-Ok+else-write, in-Err}
 use Rattle.indexset_c.proofs.log_edits.indexset_log_insert.Goals as goal

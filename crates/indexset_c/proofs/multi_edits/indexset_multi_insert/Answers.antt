@@ -5,8 +5,8 @@ use Rattle.std.specs.Ordering.{nat_cmp}
 use Rattle.indexset_core.specs.Nodes.{joined}
 use Rattle.indexset_multi.specs.Keys.{equal_pair, pairs_of}
 use Rattle.indexset_multi.specs.Tree.{MultiTree, insertion_refusal}
-use Rattle.indexset_handle.specs.declared.status.TheConstants.{NO, YES, MEMORY, NONE, HELD, NUMBERS}
-use Rattle.indexset_handle.specs.Elements.{numbered_pairs, values_of}
+use Rattle.indexset_ffi.specs.declared.status.TheConstants.{NO, YES, MEMORY, NONE, HELD, NUMBERS}
+use Rattle.indexset_ffi.specs.Elements.{numbered_pairs, values_of}
 use Rattle.indexset_c.proofs.MultiLemmas.{for_insertion}
 use Rattle.indexset_c.proofs.StatusLemmas.{IsRefused, is_refused, not_at, refused_not_no, refused_not_none, refused_not_yes}
 use Rattle.indexset_c.proofs.multi_edits.indexset_multi_insert.Goals.{in-Ok, in-Err}

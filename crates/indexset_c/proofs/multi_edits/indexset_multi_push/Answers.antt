@@ -8,8 +8,8 @@ use Rattle.indexset_core.specs.Pairs.{pair_values}
 use Rattle.indexset_multi.specs.Changed.{addition_refusal}
 use Rattle.indexset_multi.specs.Keys.{entries, pairs_of}
 use Rattle.indexset_multi.specs.Tree.{MultiTree}
-use Rattle.indexset_handle.specs.declared.status.TheConstants.{NO, YES, MEMORY, NONE, HELD, NUMBERS}
-use Rattle.indexset_handle.specs.Elements.{numbered_pairs, values_of}
+use Rattle.indexset_ffi.specs.declared.status.TheConstants.{NO, YES, MEMORY, NONE, HELD, NUMBERS}
+use Rattle.indexset_ffi.specs.Elements.{numbered_pairs, values_of}
 use Rattle.indexset_c.proofs.MultiLemmas.{for_insertion, value_last}
 use Rattle.indexset_c.proofs.StatusLemmas.{IsRefused, is_refused, not_at, refused_not_no, refused_not_none, refused_not_yes}
 use Rattle.indexset_c.proofs.multi_edits.indexset_multi_push.Goals.{in-Ok, in-Err}

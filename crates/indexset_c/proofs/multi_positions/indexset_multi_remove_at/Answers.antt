@@ -4,8 +4,8 @@ use Rattle.std.specs.Ordering.{nat_cmp}
 use Rattle.indexset_core.specs.Nodes.{joined}
 use Rattle.indexset_log.specs.Tree.{refusal_for}
 use Rattle.indexset_multi.specs.Tree.{pair_removal_events}
-use Rattle.indexset_handle.specs.declared.status.TheConstants.{NO, YES, MEMORY, NONE, HELD, NUMBERS}
-use Rattle.indexset_handle.specs.Elements.{numbered_pairs}
+use Rattle.indexset_ffi.specs.declared.status.TheConstants.{NO, YES, MEMORY, NONE, HELD, NUMBERS}
+use Rattle.indexset_ffi.specs.Elements.{numbered_pairs}
 use Rattle.indexset_c.proofs.MultiLemmas.{no_pair, none_removed, pair_there, past_end}
 use Rattle.indexset_c.proofs.StatusLemmas.{IsRefused, for_events, is_refused, not_at, refused_not_no, refused_not_yes}
 use Rattle.indexset_c.proofs.multi_positions.indexset_multi_remove_at.Goals.{in-Ok-Some, in-Ok-None, in-Err}

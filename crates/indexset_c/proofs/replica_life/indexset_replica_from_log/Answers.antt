@@ -2,8 +2,8 @@ use Rattle.std.proofs.Common.{◌≡◌, Some, None, is_some, refl, ap, sym, ◌
 use Rattle.std.proofs.lemmas.Bool.{false≢true}
 use Rattle.std.proofs.lemmas.Option.{none-some}
 use Rattle.std.specs.Option.{option_map}
-use Rattle.indexset_handle.specs.Replicas.{replica_of}
-use Rattle.indexset_handle.specs.declared.status.TheConstants.{YES, MEMORY, NONE, HELD}
+use Rattle.indexset_ffi.specs.Replicas.{replica_of}
+use Rattle.indexset_ffi.specs.declared.status.TheConstants.{YES, MEMORY, NONE, HELD}
 use Rattle.indexset_c.proofs.StatusLemmas.{not_at}
 use Rattle.indexset_c.proofs.replica_life.indexset_replica_from_log.Goals as goal
 

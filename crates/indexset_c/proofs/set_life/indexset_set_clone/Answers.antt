@@ -1,7 +1,7 @@
 use Rattle.std.proofs.Common.{◌≡◌, Some, None, is_some, refl, ap, sym, ◌∙◌}
 use Rattle.std.proofs.lemmas.Bool.{false≢true}
 use Rattle.std.proofs.lemmas.Option.{none-some}
-use Rattle.indexset_handle.specs.declared.status.TheConstants.{YES, MEMORY, NONE, HELD}
+use Rattle.indexset_ffi.specs.declared.status.TheConstants.{YES, MEMORY, NONE, HELD}
 use Rattle.indexset_c.proofs.StatusLemmas.{not_at}
 use Rattle.indexset_c.proofs.set_life.indexset_set_clone.Goals as goal
 

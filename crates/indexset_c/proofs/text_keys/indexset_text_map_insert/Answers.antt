@@ -3,8 +3,8 @@ use Rattle.std.proofs.lemmas.Bool.{false≢true, leb-true}
 use Rattle.std.proofs.lemmas.Option.{none-some}
 use Rattle.std.specs.Cmp.Lexicographic.{slice_cmp}
 use Rattle.std.specs.Ordering.{nat_cmp}
-use Rattle.indexset_handle.specs.declared.status.TheConstants.{NO, YES, MEMORY, NONE}
-use Rattle.indexset_handle.specs.Text.{text_pairs}
+use Rattle.indexset_ffi.specs.declared.status.TheConstants.{NO, YES, MEMORY, NONE}
+use Rattle.indexset_ffi.specs.Text.{text_pairs}
 use Rattle.indexset_c.proofs.PairLemmas.{no_value_no_key}
 use Rattle.indexset_c.proofs.StatusLemmas.{not_at, not_least, not_most}
 use Rattle.indexset_c.proofs.text_keys.indexset_text_map_insert.Goals.{in-Ok-None, in-Ok-Some, in-Err}

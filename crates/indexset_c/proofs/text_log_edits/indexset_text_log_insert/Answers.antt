@@ -3,7 +3,7 @@ use Rattle.std.specs.Cmp.Lexicographic.{slice_cmp}
 use Rattle.std.specs.Ordering.{nat_cmp}
 use Rattle.indexset_core.specs.Pairs.{by_key, pair}
 use Rattle.indexset_log.specs.Changed.{put_change}
-use Rattle.indexset_handle.specs.TextLogs.{ToldTree}
+use Rattle.indexset_ffi.specs.TextLogs.{ToldTree}
 use Rattle.indexset_c.proofs.TextLogLemmas.{few_kept}
 use Rattle.indexset_c.proofs.text_log_edits.indexset_text_log_insert.Goals.{in-Ok+then-write, in-Ok+else-write, in-Err}
 use Rattle.indexset_c.proofs.text_log_edits.indexset_text_log_insert.Goals as goal

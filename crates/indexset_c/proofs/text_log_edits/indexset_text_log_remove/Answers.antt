@@ -3,7 +3,7 @@ use Rattle.std.proofs.lemmas.Option.{none-some}
 use Rattle.std.specs.Cmp.Lexicographic.{slice_cmp}
 use Rattle.std.specs.Ordering.{nat_cmp}
 use Rattle.indexset_log.specs.Changed.{key_removal}
-use Rattle.indexset_handle.specs.TextLogs.{ToldTree}
+use Rattle.indexset_ffi.specs.TextLogs.{ToldTree}
 use Rattle.indexset_c.proofs.TextLogLemmas.{few_kept}
 use Rattle.indexset_c.proofs.text_log_edits.indexset_text_log_remove.Goals.{in-Ok-Some, in-Ok-None, in-Err}
 use Rattle.indexset_c.proofs.text_log_edits.indexset_text_log_remove.Goals as goal

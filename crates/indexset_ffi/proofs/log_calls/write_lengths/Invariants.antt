@@ -1,0 +1,14 @@
+use Rattle.std.proofs.Common.{◌≡◌, ◌≤◌, length, drop}
+use Rattle.indexset_core.specs.Nodes.{node_lengths, vec_items}
+use Rattle.indexset_ffi.specs.Elements.{written}
+use Rattle.indexset_ffi.proofs.log_calls.write_lengths.Given as goal
+
+-- the first places have the lengths of the nodes that were walked, and the walk goes on behind them
+abbrev pub invariant-loop-count : goal.invariant-loop-count
+invariant-loop-count l = record {
+  inside : l.count ≤ length l.fn.walk;
+  room : l.count ≤ length l.out;
+  long : length l.out ≡ length l.fn.out;
+  walked : l.walk ≡ drop l.count l.fn.walk;
+  done : l.out ≡ written l.count (node_lengths (vec_items l.fn.walk)) l.fn.out;
+}

@@ -1,0 +1,33 @@
+use Rattle.std.proofs.Common.{◌≡◌, ℕ, List, slice_set, slice_get, Some, ap, sym, ◌∙◌, arith}
+use Rattle.std.proofs.lemmas.List.{length-set}
+use Rattle.std.proofs.lemmas.Option.{slice_get-map}
+use Rattle.std.specs.Option.{option_map}
+use Rattle.indexset_core.specs.declared.pair.Pair.{Pair}
+use Rattle.indexset_core.specs.Pairs.{pair, pair_keys, pair_values}
+use Rattle.indexset_ffi.proofs.WrittenLemmas.{IsNext, written_more, next_is, none_left}
+use Rattle.indexset_ffi.proofs.multi_calls.write_entries.Goals as goal
+
+-- src/multi_pairs.rt:21:5
+pub loop-count-preserved : goal.loop-count-preserved
+loop-count-preserved c =
+    let i = c.loop-count.invariant in let n = c.loop-count.count in let k = c.in-Some.key.now in let v = c.in-Some.value.now in
+    let walk : List (Pair ℕ ℕ) = c.args.walk in let p : Pair ℕ ℕ = pair k v in
+    let next : IsNext walk n p c.next.new.self = next_is walk n p c.next.new.self (sym i.walked ∙ c.in-Some.ensures.steps) in
+    let inside = next.inside in let test = c.loop-count-test.true in let least = c.min-room.ensures in let many = i.many in let long = i.long in
+    let key_there : slice_get (pair_keys walk) n ≡ Some k = slice_get-map (λ q. q.key) walk n ∙ ap (option_map (λ q. q.key)) next.there in
+    let value_there : slice_get (pair_values walk) n ≡ Some v = slice_get-map (λ q. q.value) walk n ∙ ap (option_map (λ q. q.value)) next.there in
+    record {
+      inside = omega (arith, inside);
+      room = omega (arith, test);
+      many = length-set c.loop-count.keys n k ∙ many;
+      long = length-set c.loop-count.values n v ∙ long;
+      walked = next.left;
+      keyed = ap (λ l. slice_set l n k) i.keyed ∙ written_more (pair_keys walk) c.args.keys.now n k key_there (omega (arith, test, least));
+      valued = ap (λ l. slice_set l n v) i.valued ∙ written_more (pair_values walk) c.args.values.now n v value_there (omega (arith, test, least));
+    }
+
+-- src/multi_pairs.rt:14:1
+pub returns-in_default-clause-count : goal.returns-in_default-clause-count
+returns-in_default-clause-count c =
+    let i = c.loop-count.invariant in let few = none_left c.args.walk c.loop-count.count (sym i.walked ∙ c.in_default.ensures.steps.0) in
+    let inside = i.inside in let room = i.room in let least = c.min-room.ensures in omega (arith, few, inside, room, least)

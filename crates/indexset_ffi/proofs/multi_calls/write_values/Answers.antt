@@ -1,0 +1,28 @@
+use Rattle.std.proofs.Common.{◌≡◌, slice_set, slice_get, Some, ap, sym, ◌∙◌, arith}
+use Rattle.std.proofs.lemmas.List.{length-set}
+use Rattle.std.proofs.lemmas.Option.{slice_get-map}
+use Rattle.std.specs.Option.{option_map}
+use Rattle.indexset_core.specs.Pairs.{pair_values}
+use Rattle.indexset_ffi.proofs.WrittenLemmas.{written_more, next_is, none_left}
+use Rattle.indexset_ffi.proofs.multi_calls.write_values.Goals as goal
+
+-- src/multi_keys.rt:33:5
+pub loop-count-preserved : goal.loop-count-preserved
+loop-count-preserved c =
+    let i = c.loop-count.invariant in let n = c.loop-count.count in let v = c.in-Some.value.now in let walk = c.args.walk in
+    let next = next_is walk n _ c.next.new.self (sym i.walked ∙ c.in-Some.ensures.steps) in
+    let inside = next.inside in let test = c.loop-count-test.true in let long = i.long in let kept = length-set c.loop-count.out n v in
+    let there : slice_get (pair_values walk) n ≡ Some v = slice_get-map (λ q. q.value) walk n ∙ ap (option_map (λ q. q.value)) next.there in
+    record {
+      inside = omega (arith, inside);
+      room = omega (arith, test, kept);
+      long = kept ∙ long;
+      walked = next.left;
+      done = ap (λ l. slice_set l n v) i.done ∙ written_more (pair_values walk) c.args.out.now n v there (omega (arith, test, long));
+    }
+
+-- src/multi_keys.rt:28:1
+pub returns-in_default-clause-count : goal.returns-in_default-clause-count
+returns-in_default-clause-count c =
+    let i = c.loop-count.invariant in let few = none_left c.args.walk c.loop-count.count (sym i.walked ∙ c.in_default.ensures.steps.0) in
+    let inside = i.inside in let room = i.room in let long = i.long in omega (arith, few, inside, room, long)

@@ -1,0 +1,16 @@
+use Rattle.std.proofs.Common.{◌≡◌, ◌<◌, ◌≤◌, ◌-◌, length, drop}
+use Rattle.indexset_ffi.specs.Elements.{written}
+use Rattle.indexset_ffi.proofs.next.write_elements.Given as goal
+
+-- the first places have what was walked, and while there is room the walk goes on behind it
+abbrev pub invariant-loop-count : goal.invariant-loop-count
+invariant-loop-count l = record {
+  inside : l.count ≤ length l.fn.walk;
+  room : l.count ≤ length l.out;
+  long : length l.out ≡ length l.fn.out;
+  walked : l.count < length l.out → l.walk ≡ drop l.count l.fn.walk;
+  done : l.out ≡ written l.count l.fn.walk l.fn.out;
+}
+
+abbrev pub decreases-loop-count : goal.decreases-loop-count
+decreases-loop-count l = length l.out - l.count

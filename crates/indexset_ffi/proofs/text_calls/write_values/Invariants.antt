@@ -1,0 +1,14 @@
+use Rattle.std.proofs.Common.{◌≡◌, ◌≤◌, length, drop}
+use Rattle.indexset_core.specs.Pairs.{pair_values}
+use Rattle.indexset_ffi.specs.Elements.{written}
+use Rattle.indexset_ffi.proofs.text_calls.write_values.Given as goal
+
+-- the first places have what was walked, and the walk goes on behind it
+abbrev pub invariant-loop-count : goal.invariant-loop-count
+invariant-loop-count l = record {
+  inside : l.count ≤ length l.fn.walk;
+  room : l.count ≤ l.room;
+  long : length l.values ≡ length l.fn.values;
+  walked : l.walk ≡ drop l.count l.fn.walk;
+  valued : l.values ≡ written l.count (pair_values l.fn.walk) l.fn.values;
+}

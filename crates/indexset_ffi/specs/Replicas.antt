@@ -1,0 +1,59 @@
+-- A replica's pairs, and what it makes of records.
+use Rattle.std.specs.Prelude.{ℕ, List, [], ◌∷◌, Option, Some, None, if◌then◌else◌, nat_lt}
+use Rattle.std.specs.Option.{option_and_then, option_map, option_map_or}
+use Rattle.std.specs.Ordering.{nat_cmp}
+use Rattle.indexset_core.specs.declared.pair.Pair.{Pair}
+use Rattle.indexset_core.specs.declared.refusal.Refusal.{Refusal}
+use Rattle.indexset_core.specs.declared.refusal.Refusal.TheVariants as refusals
+use Rattle.indexset_core.specs.Nodes.{joined}
+use Rattle.indexset_core.specs.Pairs.{by_key}
+use Rattle.indexset_core.specs.Refusal.{number_of}
+use Rattle.indexset_events.specs.Replay.{event_number}
+use Rattle.indexset_log.specs.Tree.{Tree}
+use Rattle.indexset_replica.specs.Delivery.{delivered}
+use Rattle.indexset_replica.specs.Replica.{ReplicaState, apply_refusal}
+use Rattle.indexset_ffi.specs.declared.event.Event.{Event}
+use Rattle.indexset_ffi.specs.declared.status.TheConstants.{NO, MEMORY, NUMBERS, UNFIT}
+use Rattle.indexset_ffi.specs.Events.{event_of}
+
+-- the nodes of a replica, and its pairs in order: none where there is no replica
+abbrev pub copied_nodes : Option (ReplicaState (Pair ℕ ℕ)) → List (List (Pair ℕ ℕ))
+copied_nodes replica = option_map_or (λ r. r.nodes) replica []
+
+abbrev pub copied_pairs : Option (ReplicaState (Pair ℕ ℕ)) → List (Pair ℕ ℕ)
+copied_pairs replica = joined (copied_nodes replica)
+
+-- a replica with the nodes of a logged map, which awaits its next change
+abbrev pub replica_of : Tree (Pair ℕ ℕ) → ReplicaState (Pair ℕ ℕ)
+replica_of log = record { nodes = log.nodes; next = log.next }
+
+-- the status of a refusal: its own number, but for memory, numbers and nodes that do not fit
+abbrev pub status_of : Refusal → ℕ
+status_of refusals.Memory = MEMORY
+status_of refusals.Numbers = NUMBERS
+status_of refusals.Empty = UNFIT
+status_of refusals.TooLarge = UNFIT
+status_of refusals.Unsorted = UNFIT
+status_of refusals.Overlaps = UNFIT
+status_of refusals.PairNumber = UNFIT
+status_of refusals.Gap = number_of refusals.Gap
+status_of refusals.NoSuchNode = number_of refusals.NoSuchNode
+status_of refusals.IndexOutside = number_of refusals.IndexOutside
+status_of refusals.ValueDiffers = number_of refusals.ValueDiffers
+status_of refusals.WouldBeEmpty = number_of refusals.WouldBeEmpty
+status_of refusals.OutOfOrder = number_of refusals.OutOfOrder
+status_of refusals.BadSplit = number_of refusals.BadSplit
+status_of refusals.NotNeighbours = number_of refusals.NotNeighbours
+
+-- the status of a record whose change a replica does not make: none where it makes it, memory aside
+unfoldable pub refused : ReplicaState (Pair ℕ ℕ) → Event → Option ℕ
+refused r e = option_map_or (λ c. if nat_lt (event_number c) r.next then Some NO else option_map status_of (apply_refusal (by_key nat_cmp) r.nodes r.next c)) (event_of e) (Some UNFIT)
+
+-- the replica after a record: unchanged where the change came before, and none where it is refused
+unfoldable pub applied : ReplicaState (Pair ℕ ℕ) → Event → Option (ReplicaState (Pair ℕ ℕ))
+applied r e = option_and_then (λ c. if nat_lt r.next (event_number c) then None else delivered (by_key nat_cmp) r c) (event_of e)
+
+-- the replica after records, one after the other
+abbrev pub applied_all : ReplicaState (Pair ℕ ℕ) → List Event → Option (ReplicaState (Pair ℕ ℕ))
+applied_all r [] = Some r
+applied_all r (e ∷ es) = option_and_then (λ s. applied_all s es) (applied r e)

@@ -1,0 +1,95 @@
+-- Logged maps from byte strings, the changes that they tell, and the records of these.
+use Rattle.std.specs.Prelude.{ℕ, List, [], length, Option, Some, None}
+use Rattle.std.specs.Option.{option_map, option_map_or}
+use Rattle.indexset_core.specs.declared.pair.Pair.{Pair}
+use Rattle.indexset_core.specs.Nodes.{joined, node_lengths}
+use Rattle.indexset_events.specs.declared.change.ChangeEvent.{ChangeEvent}
+use Rattle.indexset_events.specs.declared.change.ChangeEvent.TheVariants.{InsertAt, RemoveAt, CreateNode, RemoveNode, SplitNode, MergeNodes}
+use Rattle.indexset_events.specs.Replay.{event_number, numbered_from}
+use Rattle.indexset_log.specs.Changed.{Change}
+use Rattle.indexset_log.specs.Tree.{Tree}
+use Rattle.indexset_ffi.specs.declared.event.TheConstants.{INSERT, REMOVE, CREATE, DROP, SPLIT, MERGE}
+use Rattle.indexset_ffi.specs.declared.text_event.TextEvent.{TextEvent}
+
+-- a pair of a byte string and a number
+abbrev pub TextPair : Type 0
+TextPair = Pair (List ℕ) ℕ
+
+-- the map, and the changes of the last call that made any
+pub record ToldTree : Type 0 where
+  pub tree : Tree TextPair
+  pub told : List (ChangeEvent TextPair)
+
+-- an empty map, which has told nothing
+abbrev pub untold : ℕ → ℕ → ToldTree
+untold size next = record { tree = record { nodes = []; size = size; next = next }; told = [] }
+
+-- after a change of the map
+abbrev pub after : Tree TextPair → Change TextPair → ToldTree
+after before made = record { tree = made.tree; told = numbered_from before.next made.events }
+
+-- the pairs in order, how many each node has, and the changes that were told: none where there is no map
+abbrev pub logged_texts : Option ToldTree → List TextPair
+logged_texts log = option_map_or (λ t. joined t.tree.nodes) log []
+
+abbrev pub logged_lengths : Option ToldTree → List ℕ
+logged_lengths log = option_map_or (λ t. node_lengths t.tree.nodes) log []
+
+abbrev pub told_changes : Option ToldTree → List (ChangeEvent TextPair)
+told_changes log = option_map_or (λ t. t.told) log []
+
+-- what a change does
+abbrev pub kind_of : ChangeEvent TextPair → ℕ
+kind_of (InsertAt id m v i) = INSERT
+kind_of (RemoveAt id m v i) = REMOVE
+kind_of (CreateNode id m) = CREATE
+kind_of (RemoveNode id m) = DROP
+kind_of (SplitNode id m k) = SPLIT
+kind_of (MergeNodes id m w) = MERGE
+
+-- the pair that names its node
+abbrev pub node_of : ChangeEvent TextPair → TextPair
+node_of (InsertAt id m v i) = m
+node_of (RemoveAt id m v i) = m
+node_of (CreateNode id m) = m
+node_of (RemoveNode id m) = m
+node_of (SplitNode id m k) = m
+node_of (MergeNodes id m w) = m
+
+-- its key
+abbrev pub node_key : ChangeEvent TextPair → List ℕ
+node_key e = (node_of e).key
+
+-- the pair that it puts or removes, or that names its second node
+abbrev pub pair_of : ChangeEvent TextPair → Option TextPair
+pair_of (InsertAt id m v i) = Some v
+pair_of (RemoveAt id m v i) = Some v
+pair_of (CreateNode id m) = None
+pair_of (RemoveNode id m) = None
+pair_of (SplitNode id m k) = None
+pair_of (MergeNodes id m w) = Some w
+
+-- where in the node
+abbrev pub index_of : ChangeEvent TextPair → ℕ
+index_of (InsertAt id m v i) = i
+index_of (RemoveAt id m v i) = i
+index_of (CreateNode id m) = 0
+index_of (RemoveNode id m) = 0
+index_of (SplitNode id m k) = k
+index_of (MergeNodes id m w) = 0
+
+-- the key of that pair: no byte where there is none
+abbrev pub pair_key : ChangeEvent TextPair → List ℕ
+pair_key e = option_map_or (λ p. p.key) (pair_of e) []
+
+-- the record of a change
+abbrev pub record_of : ChangeEvent TextPair → TextEvent
+record_of e = record {
+  number = event_number e;
+  node_len = length (node_key e);
+  node_value = (node_of e).value;
+  key_len = length (pair_key e);
+  value = option_map_or (λ p. p.value) (pair_of e) 0;
+  index = index_of e;
+  kind = kind_of e;
+}

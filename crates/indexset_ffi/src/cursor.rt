@@ -1,0 +1,107 @@
+//! Cursors: spots between the items of a collection, from which a walk goes on with no search.
+ghost use Rattle.std.specs.Prelude.{◌≡◌, ◌+◌, ◌≤◌, length, min};
+ghost use Rattle.std.specs.List.{All};
+ghost use Rattle.indexset_core.specs.Nodes.{joined, node_lengths, vec_items};
+ghost use Rattle.indexset_core.specs.Parted.{IsParted, less_count};
+ghost use Rattle.indexset_core.specs.Places.{IsPlace, items_before};
+ghost use Rattle.indexset_ffi.specs.Cursors.{cursor_position, items_from};
+
+use indexset_core::locate::{last_place, place_by};
+use indexset_core::probe::Probe;
+use indexset_core::walk::{ReadVec, Walk};
+
+/// A spot between items: a node, and how many of its items are before the spot. Any two numbers
+/// are a cursor: an offset past the end of its node is that end, and a node that is not there is
+/// the end of all.
+#[repr(C)]
+#[derive(Clone, Copy)]
+pub struct Cursor {
+    /// The index of the node.
+    pub node: usize,
+    /// How many items of that node are before the cursor.
+    pub offset: usize,
+}
+
+/// The cursor before all items.
+pub const START: Cursor = Cursor { node: 0, offset: 0 };
+
+/// Returns a cursor at the first item that the probe does not find Less, or at the end, by two
+/// binary searches.
+pub fn find<T, P: Probe<T> + Drop>(nodes: &[Vec<T>], mut probe: P) -> Cursor
+    requires filled { 2 ≤ length nodes.now → All (λ n. 1 ≤ n) (node_lengths (vec_items nodes.now)) }
+    requires parted { IsParted (P.answer probe) (joined (vec_items nodes.now)) }
+    ensures { cursor_position (node_lengths (vec_items nodes.now)) result
+        ≡ less_count (P.answer probe) (joined (vec_items nodes.now)) }
+{
+    let (node, offset) = place_by::<T, Vec<T>, ReadVec, P>(nodes, &mut probe);
+    Cursor { node, offset }
+}
+
+/// Returns a cursor at a position, or at the end, by the lengths of the nodes between it and
+/// another one, before which there are `start` items.
+pub fn near_to<T>(nodes: &[Vec<T>], near: Cursor, start: usize, position: usize) -> Cursor
+    requires { cursor_position (node_lengths (vec_items nodes.now)) near ≡ start }
+    ensures { cursor_position (node_lengths (vec_items nodes.now)) result
+        ≡ min position (length (joined (vec_items nodes.now))) }
+{
+    if position < start {
+        return moved(nodes, START, position);
+    }
+    moved(nodes, near, position - start)
+}
+
+/// Returns a cursor at the end.
+pub fn end<T>(nodes: &[Vec<T>]) -> Cursor
+    ensures { cursor_position (node_lengths (vec_items nodes.now)) result
+        ≡ length (joined (vec_items nodes.now)) }
+{
+    Cursor {
+        node: nodes.len(),
+        offset: 0,
+    }
+}
+
+/// Returns a cursor that stands so many items behind another one, or at the end, by the lengths of
+/// the nodes between.
+pub fn moved<T>(nodes: &[Vec<T>], from: Cursor, count: usize) -> Cursor
+    ensures { cursor_position (node_lengths (vec_items nodes.now)) result
+        ≡ min (cursor_position (node_lengths (vec_items nodes.now)) from + count)
+        (length (joined (vec_items nodes.now))) }
+{
+    let mut at = from;
+    let mut left = count;
+    while at.node < nodes.len() {
+        let len = nodes[at.node].len();
+        let offset = at.offset.min(len);
+        if left <= len - offset {
+            at.offset = offset + left;
+            return at;
+        }
+        left -= len - offset;
+        at.node += 1;
+        at.offset = 0;
+    }
+    at
+}
+
+/// Returns the items from a cursor on.
+pub fn rest<'a, T>(nodes: &'a [Vec<T>], cursor: Cursor) -> Walk<'a, T, Vec<T>, ReadVec>
+    ensures { result ≡ items_from (node_lengths (vec_items nodes.now)) cursor
+        (joined (vec_items nodes.now)) }
+{
+    let last = last_place::<T, Vec<T>, ReadVec>(nodes);
+    Walk::between(nodes, place(nodes, cursor), last)
+}
+
+// Returns the place between items where a cursor stands.
+fn place<T>(nodes: &[Vec<T>], cursor: Cursor) -> (usize, usize)
+    ensures place { IsPlace (vec_items nodes.now) result }
+    ensures before { items_before (vec_items nodes.now) result
+        ≡ cursor_position (node_lengths (vec_items nodes.now)) cursor }
+{
+    if cursor.node < nodes.len() {
+        let offset = cursor.offset.min(nodes[cursor.node].len());
+        return (cursor.node, offset);
+    }
+    last_place::<T, Vec<T>, ReadVec>(nodes)
+}

@@ -1,0 +1,97 @@
+//! What C holds, and what its calls do with it: the layer below the static library.
+//!
+//! C sees a pointer and knows nothing of a box. [`Parts`] is the step between the two: a box
+//! becomes its parts, a handle keeps them, and the parts become the box again. Each collection has
+//! a slot (as [`set_slot`]), which owns the parts, and a handle (as [`set_handle`]), which tells
+//! whether there are any. Modules such as [`set_calls`] hold what a call does with a collection
+//! once it is out of the handle, [`event`] the record of a change, and [`status`] what a call
+//! returns that can fail.
+#![tactic(auto)]
+
+ghost use Rattle.std.specs.Prelude.{◌≡◌, Option, Some, None, is_some, true};
+ghost use Rattle.indexset_ffi.specs.Holds.{holds};
+
+pub mod cursor;
+pub mod event;
+pub mod log_calls;
+pub mod log_handle;
+pub mod log_owner;
+pub mod log_slot;
+pub mod map_calls;
+pub mod map_handle;
+pub mod map_owner;
+pub mod map_slot;
+pub mod multi_calls;
+pub mod multi_handle;
+pub mod multi_owner;
+pub mod multi_slot;
+pub mod next;
+pub mod replica_calls;
+pub mod replica_handle;
+pub mod replica_owner;
+pub mod replica_slot;
+pub mod set_calls;
+pub mod set_handle;
+pub mod set_owner;
+pub mod set_slot;
+pub mod status;
+pub mod text_calls;
+pub mod text_edits;
+pub mod text_event;
+pub mod text_find;
+pub mod text_handle;
+pub mod text_log;
+pub mod text_log_calls;
+pub mod text_log_handle;
+pub mod text_log_owner;
+pub mod text_log_slot;
+pub mod text_owner;
+pub mod text_slot;
+pub mod write;
+
+use std::alloc::Allocator;
+use std::marker::Model;
+
+/// A boxed value taken apart, or no value. Dropping the parts frees nothing.
+#[derive(Drop)]
+pub struct Parts<T, A: Allocator> {
+    /// Where the value lies.
+    pub at: *mut T,
+    /// What the block goes back to.
+    pub alloc: A,
+    /// The value, if any.
+    pub ghost value: { Option T },
+}
+
+impl<T, A: Allocator> Model for Parts<T, A> {
+    ghost also_owns = { λ parts. holds (A.dealloc_token parts.alloc) T.row parts.at parts.value };
+}
+
+impl<T, A: Allocator> Parts<T, A> {
+    /// Returns parts that hold no value.
+    pub fn none(alloc: A) -> Parts<T, A>
+        ensures { result.value ≡ None }
+    {
+        let at = std::ptr::null_mut();
+        Parts { at, alloc }
+    }
+
+    /// Returns the parts of a box.
+    pub fn of(boxed: Box<T, A>) -> Parts<T, A>
+    where
+        T: Drop,
+        ensures { result.value ≡ Some boxed.value }
+    {
+        let (at, alloc) = Box::into_raw_with_allocator(boxed);
+        Parts { at, alloc }
+    }
+
+    /// Returns the box that these are the parts of.
+    pub fn into_box(self) -> Box<T, A>
+        requires { is_some self.value ≡ true }
+        ensures { self.value ≡ Some result.value }
+    {
+        let Parts { at, alloc } = self;
+        unsafe { Box::from_raw(alloc, at) }
+    }
+}

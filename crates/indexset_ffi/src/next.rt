@@ -1,0 +1,222 @@
+//! What stands behind a cursor, written where C points.
+ghost use Rattle.std.specs.Prelude.{◌≡◌, ◌+◌, ℕ, length, map, min, take};
+ghost use Rattle.indexset_core.specs.Nodes.{joined, node_lengths, vec_items};
+ghost use Rattle.indexset_core.specs.Pairs.{pair_keys, pair_values};
+ghost use Rattle.indexset_ffi.specs.Cursors.{cursor_position, items_from};
+ghost use Rattle.indexset_ffi.specs.Elements.{written};
+ghost use Rattle.indexset_ffi.specs.Text.{key_lengths, written_over};
+
+use crate::cursor::{Cursor, moved, rest};
+use crate::text_calls::write_behind;
+use indexset_core::multipair::MultiPair;
+use indexset_core::pair::Pair;
+use indexset_core::text::Text;
+use indexset_core::walk::{ReadVec, Walk};
+
+/// A pair of numbers, whatever else it holds.
+pub trait Numbers {
+    /// The key.
+    ghost key_of: { Self → ℕ };
+
+    /// The value.
+    ghost value_of: { Self → ℕ };
+
+    /// Returns the key.
+    fn key(&self) -> u64
+        ensures { result ≡ key_of self.now };
+
+    /// Returns the value.
+    fn value(&self) -> u64
+        ensures { result ≡ value_of self.now };
+}
+
+impl Numbers for Pair<u64, u64> {
+    ghost key_of = { λ p. p.key };
+
+    ghost value_of = { λ p. p.value };
+
+    fn key(&self) -> u64 {
+        self.key
+    }
+
+    fn value(&self) -> u64 {
+        self.value
+    }
+}
+
+impl Numbers for MultiPair<u64, u64> {
+    ghost key_of = { λ p. p.key };
+
+    ghost value_of = { λ p. p.value };
+
+    fn key(&self) -> u64 {
+        self.key
+    }
+
+    fn value(&self) -> u64 {
+        self.value
+    }
+}
+
+/// Writes the elements from a cursor on, in order and as far as there is room, moves the cursor
+/// past them, and returns how many they are.
+pub fn next_elements(nodes: &[Vec<u64>], cursor: &mut Cursor, out: &mut [u64]) -> usize
+    ensures count { result ≡ min (length (items_from (node_lengths (vec_items nodes.now)) cursor.old
+        (joined (vec_items nodes.now)))) (length out.old) }
+    ensures written { out.new ≡ written result (items_from (node_lengths (vec_items nodes.now))
+        cursor.old (joined (vec_items nodes.now))) out.old }
+    ensures moved { cursor_position (node_lengths (vec_items nodes.now)) cursor.new
+        ≡ cursor_position (node_lengths (vec_items nodes.now)) cursor.old + result }
+{
+    let count = write_elements(rest(nodes, *cursor), out);
+    *cursor = moved(nodes, *cursor, count);
+    count
+}
+
+/// Writes the pairs from a cursor on, in order and as far as there is room in both slices, moves
+/// the cursor past them, and returns how many they are.
+pub fn next_pairs<P: Numbers>(
+    nodes: &[Vec<P>],
+    cursor: &mut Cursor,
+    keys: &mut [u64],
+    values: &mut [u64],
+) -> usize
+    ensures count { result ≡ min (length (items_from (node_lengths (vec_items nodes.now)) cursor.old
+        (joined (vec_items nodes.now)))) (min (length keys.old) (length values.old)) }
+    ensures keys { keys.new ≡ written result (map P.key_of (items_from
+        (node_lengths (vec_items nodes.now)) cursor.old (joined (vec_items nodes.now)))) keys.old }
+    ensures values { values.new ≡ written result (map P.value_of (items_from
+        (node_lengths (vec_items nodes.now)) cursor.old (joined (vec_items nodes.now))))
+        values.old }
+    ensures moved { cursor_position (node_lengths (vec_items nodes.now)) cursor.new
+        ≡ cursor_position (node_lengths (vec_items nodes.now)) cursor.old + result }
+{
+    let count = write_numbers(rest(nodes, *cursor), keys, values);
+    *cursor = moved(nodes, *cursor, count);
+    count
+}
+
+/// Writes the lengths of the keys and the values of the pairs from a cursor on, in order and as far
+/// as there is room in both slices, and the bytes of these keys, one key behind another and as far
+/// as there is room. Moves the cursor past the pairs, and returns how many they are.
+pub fn next_texts(
+    nodes: &[Vec<Pair<Text, u64>>],
+    cursor: &mut Cursor,
+    bytes: &mut [u8],
+    lengths: &mut [usize],
+    values: &mut [u64],
+) -> usize
+    ensures count { result ≡ min (length (items_from (node_lengths (vec_items nodes.now)) cursor.old
+        (joined (vec_items nodes.now)))) (min (length lengths.old) (length values.old)) }
+    ensures bytes { bytes.new ≡ written_over (joined (take result (pair_keys (items_from
+        (node_lengths (vec_items nodes.now)) cursor.old (joined (vec_items nodes.now))))))
+        bytes.old }
+    ensures lengths { lengths.new ≡ written result (key_lengths (items_from
+        (node_lengths (vec_items nodes.now)) cursor.old (joined (vec_items nodes.now))))
+        lengths.old }
+    ensures values { values.new ≡ written result (pair_values (items_from
+        (node_lengths (vec_items nodes.now)) cursor.old (joined (vec_items nodes.now))))
+        values.old }
+    ensures moved { cursor_position (node_lengths (vec_items nodes.now)) cursor.new
+        ≡ cursor_position (node_lengths (vec_items nodes.now)) cursor.old + result }
+{
+    let count = write_texts(rest(nodes, *cursor), bytes, lengths, values);
+    *cursor = moved(nodes, *cursor, count);
+    count
+}
+
+// Writes the items of a walk, node by node and as far as there is room, and returns how many that
+// are.
+fn write_elements(mut walk: Walk<'_, u64, Vec<u64>, ReadVec>, out: &mut [u64]) -> usize
+    ensures count { result ≡ min (length walk.entry) (length out.old) }
+    ensures written { out.new ≡ written result walk.entry out.old }
+{
+    let mut count = 0;
+    while count < out.len() {
+        let run = walk.next_run();
+        if run.is_empty() {
+            break;
+        }
+        count += write_elements_of(run, &mut out[count..]);
+    }
+    count
+}
+
+// Writes items, as far as there is room, and returns how many that are.
+fn write_elements_of(run: &[u64], out: &mut [u64]) -> usize
+    ensures count { result ≡ min (length run.now) (length out.old) }
+    ensures written { out.new ≡ written result run.now out.old }
+{
+    let count = run.len().min(out.len());
+    out[..count].copy_from_slice(&run[..count]);
+    count
+}
+
+// Writes the keys and the values of a walk, node by node and as far as there is room in both
+// slices, and returns how many that are.
+fn write_numbers<P: Numbers>(
+    mut walk: Walk<'_, P, Vec<P>, ReadVec>,
+    keys: &mut [u64],
+    values: &mut [u64],
+) -> usize
+    ensures count { result ≡ min (length walk.entry) (min (length keys.old) (length values.old)) }
+    ensures keys { keys.new ≡ written result (map P.key_of walk.entry) keys.old }
+    ensures values { values.new ≡ written result (map P.value_of walk.entry) values.old }
+{
+    let room = keys.len().min(values.len());
+    let mut count = 0;
+    while count < room {
+        let run = walk.next_run();
+        if run.is_empty() {
+            break;
+        }
+        count += write_numbers_of(run, &mut keys[count..], &mut values[count..]);
+    }
+    count
+}
+
+// Writes the keys and the values of items, as far as there is room in both slices, and returns how
+// many that are.
+fn write_numbers_of<P: Numbers>(run: &[P], keys: &mut [u64], values: &mut [u64]) -> usize
+    ensures count { result ≡ min (length run.now) (min (length keys.old) (length values.old)) }
+    ensures keys { keys.new ≡ written result (map P.key_of run.now) keys.old }
+    ensures values { values.new ≡ written result (map P.value_of run.now) values.old }
+{
+    let count = run.len().min(keys.len()).min(values.len());
+    for i in 0..count {
+        keys[i] = run[i].key();
+        values[i] = run[i].value();
+    }
+    count
+}
+
+// Writes the lengths of the keys and the values of a walk, as far as there is room in both slices,
+// and the bytes of these keys, as far as there is room. Returns how many pairs that are.
+fn write_texts(
+    mut walk: Walk<'_, Pair<Text, u64>, Vec<Pair<Text, u64>>, ReadVec>,
+    bytes: &mut [u8],
+    lengths: &mut [usize],
+    values: &mut [u64],
+) -> usize
+    ensures count { result ≡ min (length walk.entry)
+        (min (length lengths.old) (length values.old)) }
+    ensures bytes { bytes.new ≡ written_over (joined (take result (pair_keys walk.entry)))
+        bytes.old }
+    ensures lengths { lengths.new ≡ written result (key_lengths walk.entry) lengths.old }
+    ensures values { values.new ≡ written result (pair_values walk.entry) values.old }
+{
+    let room = lengths.len().min(values.len());
+    let mut used = 0;
+    let mut count = 0;
+    while count < room {
+        let Some(pair) = walk.next() else {
+            break;
+        };
+        let stored = pair.key.as_bytes();
+        used = write_behind(stored, bytes, used);
+        lengths[count] = stored.len();
+        values[count] = pair.value;
+        count += 1;
+    }
+    count
+}

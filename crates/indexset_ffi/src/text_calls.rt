@@ -1,0 +1,62 @@
+//! What the calls of a map from byte strings write into a caller's slices.
+ghost use Rattle.std.specs.Prelude.{◌≡◌, ◌≤◌, ◌+◌, ◌++◌, drop, length, min, take};
+ghost use Rattle.indexset_core.specs.Nodes.{joined};
+ghost use Rattle.indexset_core.specs.Pairs.{pair_keys, pair_values};
+ghost use Rattle.indexset_ffi.specs.Elements.{written};
+ghost use Rattle.indexset_ffi.specs.Text.{key_lengths, written_over};
+
+use crate::text_slot::TextRange;
+use crate::write::write_bytes;
+
+/// Writes the values that an iterator gives, as far as there is room, and returns how many it
+/// wrote.
+pub fn write_values(mut walk: TextRange<'_>, values: &mut [u64]) -> usize
+    ensures count { result ≡ min (length walk.entry) (length values.old) }
+    ensures values { values.new ≡ written result (pair_values walk.entry) values.old }
+{
+    let room = values.len();
+    let mut count = 0;
+    while count < room {
+        let Some((_key, value)) = walk.next() else {
+            break;
+        };
+        values[count] = *value;
+        count += 1;
+    }
+    count
+}
+
+/// Writes bytes behind the first places, as far as there is room, and returns how many places then
+/// stand before the next.
+pub fn write_behind(bytes: &[u8], out: &mut [u8], used: usize) -> usize
+    requires { used ≤ length out.old }
+    ensures used { result ≡ min (length out.old) (used + length bytes.now) }
+    ensures bytes { out.new ≡ take used out.old ++ written_over bytes.now (drop used out.old) }
+{
+    let room = out.len() - used;
+    write_bytes(bytes, &mut out[used..]);
+    used + bytes.len().min(room)
+}
+
+/// Writes the lengths of the keys that an iterator gives, as far as there is room, and the bytes of
+/// these keys, as far as there is room. Returns how many lengths it wrote.
+pub fn write_keys(mut walk: TextRange<'_>, bytes: &mut [u8], lengths: &mut [usize]) -> usize
+    ensures count { result ≡ min (length walk.entry) (length lengths.old) }
+    ensures lengths { lengths.new ≡ written result (key_lengths walk.entry) lengths.old }
+    ensures bytes { bytes.new ≡ written_over (joined (take result (pair_keys walk.entry)))
+        bytes.old }
+{
+    let room = lengths.len();
+    let mut used = 0;
+    let mut count = 0;
+    while count < room {
+        let Some((key, _value)) = walk.next() else {
+            break;
+        };
+        let stored = key.as_bytes();
+        used = write_behind(stored, bytes, used);
+        lengths[count] = stored.len();
+        count += 1;
+    }
+    count
+}

@@ -1,0 +1,114 @@
+//! Changes of a logged map from byte strings, as C sees them.
+ghost use Rattle.std.specs.Prelude.{◌≡◌};
+ghost use Rattle.std.specs.Option.{option_copied};
+ghost use Rattle.indexset_ffi.specs.Text.{written_over};
+ghost use Rattle.indexset_ffi.specs.TextLogs.{index_of, kind_of, node_key, node_of, pair_key, pair_of, record_of};
+
+use crate::event::{CREATE, DROP, INSERT, MERGE, REMOVE, SPLIT};
+use crate::text_log::TextChange;
+use crate::write::write_bytes;
+use indexset_core::pair::Pair;
+use indexset_core::text::Text;
+use indexset_events::change::ChangeEvent;
+
+/// A change. A node is named by its last pair before the change, or where it is created by its only
+/// pair. The bytes of the two keys stand beside it. What a kind has no use for is 0.
+#[repr(C)]
+#[derive(Clone, Copy)]
+pub struct TextEvent {
+    /// The number.
+    pub number: u64,
+    /// How many bytes the key has by which the node is named.
+    pub node_len: usize,
+    /// The value that belongs to it.
+    pub node_value: u64,
+    /// How many bytes the pair's key has.
+    pub key_len: usize,
+    /// The pair's value.
+    pub value: u64,
+    /// Where in the node.
+    pub index: usize,
+    /// What is done.
+    pub kind: u32,
+}
+
+// Returns the kind of a change.
+fn kind_of(change: &TextChange) -> u32
+    ensures { result ≡ kind_of change.now }
+{
+    match change {
+        ChangeEvent::InsertAt { .. } => INSERT,
+        ChangeEvent::RemoveAt { .. } => REMOVE,
+        ChangeEvent::CreateNode { .. } => CREATE,
+        ChangeEvent::RemoveNode { .. } => DROP,
+        ChangeEvent::SplitNode { .. } => SPLIT,
+        ChangeEvent::MergeNodes { .. } => MERGE,
+    }
+}
+
+// Returns the pair by which a change names its node.
+fn node_of(change: &TextChange) -> &Pair<Text, u64>
+    ensures { result.now ≡ node_of change.now }
+{
+    match change {
+        ChangeEvent::InsertAt { max_value, .. } => max_value,
+        ChangeEvent::RemoveAt { max_value, .. } => max_value,
+        ChangeEvent::CreateNode { max_value, .. } => max_value,
+        ChangeEvent::RemoveNode { max_value, .. } => max_value,
+        ChangeEvent::SplitNode { max_value, .. } => max_value,
+        ChangeEvent::MergeNodes { max_value, .. } => max_value,
+    }
+}
+
+// Returns the pair that a change puts or removes, or that names its second node.
+fn pair_of(change: &TextChange) -> Option<&Pair<Text, u64>>
+    ensures { option_copied result ≡ pair_of change.now }
+{
+    match change {
+        ChangeEvent::InsertAt { value, .. } => Some(value),
+        ChangeEvent::RemoveAt { value, .. } => Some(value),
+        ChangeEvent::MergeNodes { next_max_value, .. } => Some(next_max_value),
+        _ => None,
+    }
+}
+
+// Returns the index of a change.
+fn index_of(change: &TextChange) -> usize
+    ensures { result ≡ index_of change.now }
+{
+    match change {
+        ChangeEvent::InsertAt { index, .. } => *index,
+        ChangeEvent::RemoveAt { index, .. } => *index,
+        ChangeEvent::SplitNode { split_index, .. } => *split_index,
+        _ => 0,
+    }
+}
+
+/// Writes the record of a change, and as many bytes of its two keys as there is room for.
+pub fn write_change(change: &TextChange, event: &mut TextEvent, node: &mut [u8], key: &mut [u8])
+    ensures record { event.new ≡ record_of change.now }
+    ensures node { node.new ≡ written_over (node_key change.now) node.old }
+    ensures key { key.new ≡ written_over (pair_key change.now) key.old }
+{
+    let number = change.id().inner();
+    let kind = kind_of(change);
+    let index = index_of(change);
+    let named = node_of(change);
+    let (key_len, value) = match pair_of(change) {
+        Some(pair) => {
+            write_bytes(pair.key.as_bytes(), key);
+            (pair.key.len(), pair.value)
+        }
+        None => (0, 0),
+    };
+    write_bytes(named.key.as_bytes(), node);
+    *event = TextEvent {
+        number,
+        node_len: named.key.len(),
+        node_value: named.value,
+        key_len,
+        value,
+        index,
+        kind,
+    };
+}

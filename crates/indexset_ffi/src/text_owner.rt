@@ -1,0 +1,66 @@
+//! The place of a map from byte strings's handle on the heap.
+ghost use Rattle.std.specs.Prelude.{◌≡◌, Option, Some, None, is_some, true};
+ghost use Rattle.indexset_ffi.specs.Owners.{text_handle_row};
+
+use crate::Parts;
+use crate::text_handle::TextHandle;
+use std::alloc::Global;
+use std::marker::Model;
+use std::mem::replace;
+
+/// A handle on the heap, or none.
+#[repr(C)]
+#[derive(Drop)]
+pub struct TextOwner {
+    at: *mut u8,
+    alloc: Global,
+    pub ghost value: { Option text_handle_row.Denot },
+}
+
+impl Model for TextOwner {
+    ghost use Rattle.indexset_ffi.specs.Owners.{holds_text_handle};
+
+    ghost also_owns = { λ owner. holds_text_handle owner.alloc owner.at owner.value };
+}
+
+impl TextOwner {
+    /// Returns the place that these are the parts of.
+    pub fn of_parts(parts: Parts<TextHandle, Global>) -> TextOwner
+        ensures { result.value ≡ parts.value }
+    {
+        let Parts { at, alloc } = parts;
+        TextOwner {
+            at: at as *mut u8,
+            alloc,
+        }
+    }
+
+    /// Returns the parts of this place.
+    pub fn into_parts(self) -> Parts<TextHandle, Global>
+        ensures { result.value ≡ self.value }
+    {
+        let TextOwner { at, alloc } = self;
+        Parts {
+            at: at as *mut TextHandle,
+            alloc,
+        }
+    }
+
+    /// Removes the handle and returns it.
+    pub fn take(&mut self, alloc: Global) -> Box<TextHandle, Global>
+        requires { is_some self.old.value ≡ true }
+        ensures taken { self.old.value ≡ Some result.value }
+        ensures left { self.new.value ≡ None }
+    {
+        replace(self, TextOwner::of_parts(Parts::none(alloc)))
+            .into_parts()
+            .into_box()
+    }
+
+    /// Puts a handle in. What was there before is not freed.
+    pub fn put(&mut self, handle: Box<TextHandle, Global>)
+        ensures { self.new.value ≡ Some handle.value }
+    {
+        *self = TextOwner::of_parts(Parts::of(handle));
+    }
+}

@@ -1,7 +1,0 @@
-use Rattle.std.proofs.Common.{length, ap, ◌∙◌}
-use Rattle.std.proofs.lemmas.List.Sums.{length-filter}
-use Rattle.std.specs.Ordering.{is_le, nat_cmp}
-use Rattle.indexset_handle.proofs.map_calls.count_to.Goals as goal
-
-pub returns : goal.returns
-returns c = c.len.ensures.value ∙ ap length c.range.ensures.rest ∙ length-filter (λ p. is_le (nat_cmp p.key c.args.key)) c.args.map.now.pairs

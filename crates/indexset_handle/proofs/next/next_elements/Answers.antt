@@ -1,9 +1,0 @@
-use Rattle.std.proofs.Common.{◌∙◌, ap, length, arith}
-use Rattle.indexset_core.specs.Nodes.{vec_items}
-use Rattle.indexset_handle.proofs.CursorLemmas.{few}
-use Rattle.indexset_handle.proofs.next.next_elements.Goals as goal
-
-pub returns-clause-moved : goal.returns-clause-moved
-returns-clause-moved c =
-    let told = c.write_elements-count.ensures.count in let long = ap (λ l. length l) c.rest.ensures in
-    c.moved.ensures ∙ few (vec_items c.args.nodes.now) c.args.cursor.now c.write_elements-count.result (omega (arith, told, long))

@@ -1,8 +1,0 @@
-use Rattle.std.proofs.Common.{sym, ◌∙◌}
-use Rattle.std.specs.Cmp.Lexicographic.{slice_cmp}
-use Rattle.std.specs.Ordering.{nat_cmp}
-use Rattle.indexset_handle.proofs.TextLemmas.{kept_entry}
-use Rattle.indexset_handle.proofs.text_edits.take.Goals as goal
-
-pub returns-clause-same : goal.returns-clause-same
-returns-clause-same c = λ none. c.remove.ensures.rest ∙ kept_entry (slice_cmp nat_cmp) c.args.map.now c.args.key.now (sym c.remove.ensures.value ∙ none)

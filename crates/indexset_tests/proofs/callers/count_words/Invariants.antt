@@ -1,8 +1,0 @@
--- The words before this one are counted.
-use Rattle.std.proofs.Common.{◌≡◌, take}
-use Rattle.std.specs.List.{fold}
-use Rattle.indexset_tests.specs.Callers.{counted}
-use Rattle.indexset_tests.proofs.callers.count_words.Given as goal
-
-abbrev pub invariant-loop-i : goal.invariant-loop-i
-invariant-loop-i l = l.counts.pairs ≡ fold counted l.initial.counts.pairs (take l.i l.words)

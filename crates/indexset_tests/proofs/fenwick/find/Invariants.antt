@@ -1,4 +1,0 @@
-use Rattle.indexset_tests.proofs.fenwick.find.Given as goal
-
-abbrev pub ghost-find_in : goal.ghost-find_in
-ghost-find_in a = a.cells.now.cells.0
