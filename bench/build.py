@@ -6,7 +6,7 @@ folder with its sources and a Cargo.toml.
 
     bench/build.py speed|rows
 
-proves and builds one of our own: that of bench/run, or the one that tests/journal/speed.py times beside SQLite, which
+proves and builds one of our own: that of bench/run, or the one that bench/durable.py times beside SQLite, which
 takes a file and lines of its own.
 """
 
@@ -22,16 +22,16 @@ import sys
 HERE = pathlib.Path(__file__).resolve().parent
 TOP, OUT = HERE.parent, HERE / "out"
 sys.dont_write_bytecode = True
-sys.path.insert(0, str(TOP / "tools"))
+sys.path.insert(0, str(TOP / "scripts"))
 import lay  # noqa: E402
 
 # Our programs: the folder of their sources, and the libraries that they use.
 OURS = {
     "speed": (
-        "ours",
+        "ours/speed",
         "indexset_core indexset_set indexset_map indexset_events indexset_log indexset_replica indexset_bench",
     ),
-    "rows": ("rows", "anyhow sqlite sqlite_trees indexset_journal"),
+    "rows": ("ours/rows", "anyhow sqlite sqlite_trees indexset_journal"),
 }
 
 
@@ -74,7 +74,11 @@ def std() -> pathlib.Path | str:
     if not shutil.which("rustc"):
         return "needs `rustc`"
     made = OUT / "std"
-    return made if ran("rustc", "-O", "--edition", "2021", "-o", str(made), str(HERE / "rust.rs")) else "did not build"
+    return (
+        made
+        if ran("rustc", "-O", "--edition", "2021", "-o", str(made), str(HERE / "rust/main.rs"))
+        else "did not build"
+    )
 
 
 def crate() -> pathlib.Path | str:
@@ -83,7 +87,7 @@ def crate() -> pathlib.Path | str:
         return "needs `cargo`, and INDEXSET_RS, the folder of the crate's sources"
     project = OUT / "rust"
     (project / "src").mkdir(parents=True, exist_ok=True)
-    shutil.copy(HERE / "rust.rs", project / "src/main.rs")
+    shutil.copy(HERE / "rust/main.rs", project / "src/main.rs")
     (project / "Cargo.toml").write_text(
         '[package]\nname = "indexset_rs"\nversion = "0.0.0"\nedition = "2021"\n\n'
         "[features]\nof_the_crate = []\n\n[workspace]\n\n"
@@ -100,7 +104,7 @@ def cpp(name: str, header: str, *words: str) -> pathlib.Path | str:
     if subprocess.run(["g++", "-E", "-x", "c++", "-include", header, os.devnull], capture_output=True).returncode:
         return f"needs `{header}`"
     made = OUT / name
-    is_built = ran("g++", "-O2", "-DNDEBUG", "-std=c++17", "-o", str(made), str(HERE / f"{name}.cpp"), *words)
+    is_built = ran("g++", "-O2", "-DNDEBUG", "-std=c++17", "-o", str(made), str(HERE / f"cpp/{name}.cpp"), *words)
     return made if is_built else "did not build"
 
 

@@ -17,7 +17,7 @@ import tempfile
 import build
 
 sys.dont_write_bytecode = True
-sys.path.insert(0, str(build.TOP / "tools"))
+sys.path.insert(0, str(build.TOP / "scripts"))
 import checked  # noqa: E402
 
 

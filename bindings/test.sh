@@ -1,7 +1,7 @@
 #!/usr/bin/env bash
 # Builds both bindings, each in its folder out/, and runs their tests side by side; a tool that is not installed fails
-# (tools/needs.py installs them). The last line counts them. With UNPROVED=1 in the environment, the library is one that
-# tools/unproved.py builds in minutes, and the wheel is left out.
+# (scripts/needs.py installs them). The last line counts them. With UNPROVED=1 in the environment, the library is one
+# that scripts/unproved.py builds in minutes, and the wheel is left out.
 #
 #     bindings/test.sh
 set -u
@@ -56,7 +56,7 @@ for backend in ctypes extension; do
     try env "INDEXSET_BACKEND=$backend" python3 python/out/peer_tests.py
 done
 try sanitized
-try mypy --strict --no-incremental --cache-dir=/dev/null python/indexset python/sample.py write.py
+try mypy --strict --no-incremental --cache-dir=/dev/null python/indexset python/sample.py
 # By Debian's Python, which has numpy.
 if ! python3 -c 'import numpy' 2> /dev/null; then
     for test in test_answers test_equals; do

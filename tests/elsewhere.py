@@ -1,5 +1,5 @@
 #!/usr/bin/env python3
-"""Tests tools/vendor.py and tools/unproved.py, in a repository with a program of its own.
+"""Tests scripts/vendor.py and scripts/unproved.py, in a repository with a program of its own.
 
 The program is built without proofs, and runs. The last line is 'N passed, M failed'.
 """
@@ -13,7 +13,7 @@ import tempfile
 
 TOP = pathlib.Path(__file__).resolve().parent.parent
 sys.dont_write_bytecode = True
-sys.path.insert(0, str(TOP / "tools"))
+sys.path.insert(0, str(TOP / "scripts"))
 import testing  # noqa: E402
 import vendor  # noqa: E402
 
@@ -62,7 +62,7 @@ def made(room: str) -> pathlib.Path:
 
 def called(tool: str, *words: str | pathlib.Path) -> subprocess.CompletedProcess[str]:
     """A run of a tool."""
-    return subprocess.run([TOP / "tools" / tool, *words], capture_output=True, text=True)
+    return subprocess.run([TOP / "scripts" / tool, *words], capture_output=True, text=True)
 
 
 def copies_beside_what_is_there() -> None:
@@ -110,4 +110,4 @@ TESTS = (copies_beside_what_is_there, names_what_it_cannot_copy, an_unproved_pro
 
 
 if __name__ == "__main__":
-    sys.exit(testing.run("Tests tools/vendor.py and tools/unproved.py.", {it.__name__: it for it in TESTS}))
+    sys.exit(testing.run("Tests scripts/vendor.py and scripts/unproved.py.", {it.__name__: it for it in TESTS}))

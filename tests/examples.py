@@ -41,7 +41,7 @@ from collections.abc import Iterator
 
 TOP = pathlib.Path(__file__).resolve().parent.parent
 sys.dont_write_bytecode = True
-sys.path.insert(0, str(TOP / "tools"))
+sys.path.insert(0, str(TOP / "scripts"))
 import checked  # noqa: E402
 import lay  # noqa: E402
 

@@ -16,8 +16,8 @@ from concurrent.futures import ThreadPoolExecutor
 
 TOP = pathlib.Path(__file__).resolve().parent.parent
 sys.dont_write_bytecode = True
-sys.path.insert(0, str(TOP / "tools"))
-import scripts  # noqa: E402
+sys.path.insert(0, str(TOP / "scripts"))
+import by_language  # noqa: E402
 
 SECONDS = 60
 UNKNOWN = "--no-such-argument"
@@ -26,14 +26,14 @@ BEGINS = {"python": ["python3"], "shell": ["bash"]}
 
 def runnable() -> list[pathlib.Path]:
     """The scripts that are run, and not only imported."""
-    python = [it for it in scripts.of("python") if '__name__ == "__main__"' in it.read_text(encoding="utf-8")]
+    python = [it for it in by_language.of("python") if '__name__ == "__main__"' in it.read_text(encoding="utf-8")]
     apart = TOP / "bindings/python"
-    return [it for it in [*scripts.of("shell"), *python] if it.parent != apart]
+    return [it for it in [*by_language.of("shell"), *python] if it.parent != apart]
 
 
 def ended(script: pathlib.Path, word: str) -> tuple[int | None, str]:
     """The status of a script that is given a word, and what it wrote; None where it had to be stopped."""
-    words = [*BEGINS[scripts.language(script)], str(script), word]
+    words = [*BEGINS[by_language.language(script)], str(script), word]
     ran = subprocess.Popen(
         words,
         cwd=TOP,

@@ -2,7 +2,7 @@
 """Holds the scripts and the sources in C and C++ to the rules that stand beside them.
 
 flake8 has its rules in setup.cfg, shellcheck in .shellcheckrc, clang-format and clang-tidy in files of their names. No
-line is longer than 120 characters. A tool that is not installed fails: tools/needs.py installs it. The last line is
+line is longer than 120 characters. A tool that is not installed fails: scripts/needs.py installs it. The last line is
 'N passed, M failed'.
 """
 
@@ -20,12 +20,12 @@ from concurrent.futures import ThreadPoolExecutor
 
 TOP = pathlib.Path(__file__).resolve().parent.parent
 sys.dont_write_bytecode = True
-sys.path.insert(0, str(TOP / "tools"))
-import scripts  # noqa: E402
+sys.path.insert(0, str(TOP / "scripts"))
+import by_language  # noqa: E402
 
 WIDEST = 120
 COMPLAINT = re.compile(r"\S+:\d+:\d+: ")
-FOLDERS = [TOP / "bindings/c", TOP / "bench", pathlib.Path(sysconfig.get_path("include"))]
+FOLDERS = [TOP / "bindings/c", TOP / "bench/cpp", pathlib.Path(sysconfig.get_path("include"))]
 # The analyzer takes a minute for a test of templates, which runs under the sanitizers; of C it takes seconds.
 TIDY = {".c": ("-std=c11", ()), ".cpp": ("-std=c++20", ("--checks=-clang-analyzer-*",))}
 
@@ -40,11 +40,11 @@ def tidied(file: pathlib.Path) -> Command:
 
 def commands() -> Iterator[Command]:
     """The commands, those that take long first."""
-    sources = [it for it in scripts.of("c", "c++") if it.suffix in TIDY]
+    sources = [it for it in by_language.of("c", "c++") if it.suffix in TIDY]
     yield from map(tidied, sorted(sources, key=lambda it: it.suffix, reverse=True))
-    yield ["flake8", *scripts.of("python")]
-    yield ["shellcheck", "--format=gcc", *scripts.of("shell")]
-    yield ["clang-format", "--dry-run", "-Werror", *scripts.of("c", "c++")]
+    yield ["flake8", *by_language.of("python")]
+    yield ["shellcheck", "--format=gcc", *by_language.of("shell")]
+    yield ["clang-format", "--dry-run", "-Werror", *by_language.of("c", "c++")]
 
 
 def ran(command: Command) -> str:
@@ -52,7 +52,7 @@ def ran(command: Command) -> str:
     try:
         done = subprocess.run(command, cwd=TOP, stdout=subprocess.PIPE, stderr=subprocess.STDOUT, text=True)
     except FileNotFoundError:
-        return f"{command[0]} is not installed: tools/needs.py installs it\n"
+        return f"{command[0]} is not installed: scripts/needs.py installs it\n"
     if done.returncode == 0:
         return ""
     said = [line for line in done.stdout.splitlines(keepends=True) if COMPLAINT.match(line)]
@@ -62,7 +62,7 @@ def ran(command: Command) -> str:
 def wide_lines() -> str:
     """The lines that are too long."""
     found = ""
-    for file in scripts.of("python", "shell", "javascript", "c", "c++"):
+    for file in by_language.of("python", "shell", "javascript", "c", "c++"):
         lines = file.read_text(encoding="utf-8").splitlines()
         wide = [number for number, line in enumerate(lines, 1) if len(line) > WIDEST]
         found += "".join(f"{file.relative_to(TOP)}:{it}: longer than {WIDEST} characters\n" for it in wide)

@@ -20,7 +20,7 @@ HERE = pathlib.Path(__file__).resolve().parent
 SCRIPTS = HERE / "scripts"
 SECONDS = 1200  # for one script, on a busy machine
 sys.dont_write_bytecode = True
-sys.path.insert(0, str(HERE.parent / "tools"))
+sys.path.insert(0, str(HERE.parent / "scripts"))
 from programs import built  # noqa: E402
 
 

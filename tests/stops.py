@@ -1,5 +1,5 @@
 #!/usr/bin/env python3
-"""Tests that what tools/checked.py builds stops at each fault.
+"""Tests that what scripts/checked.py builds stops at each fault.
 
 It builds a crate of tests, and says of each whether it came out as its name says. The last line is
 'N passed, M failed'.
@@ -15,7 +15,7 @@ import tempfile
 
 TOP = pathlib.Path(__file__).resolve().parent.parent
 sys.dont_write_bytecode = True
-sys.path.insert(0, str(TOP / "tools"))
+sys.path.insert(0, str(TOP / "scripts"))
 import checked  # noqa: E402
 
 CODE = """//! Tests that pass, or stop.
@@ -77,7 +77,7 @@ def written(room: pathlib.Path) -> pathlib.Path:
 
 
 def main() -> int:
-    argparse.ArgumentParser(description="Tests that what tools/checked.py builds stops at each fault.").parse_args()
+    argparse.ArgumentParser(description="Tests that what scripts/checked.py builds stops at each fault.").parse_args()
     with tempfile.TemporaryDirectory() as room:
         said = checked.tried(written(pathlib.Path(room)), ["--test"]).communicate()[0]
     found = {name: result == "ok" for name, result in re.findall(r"(?m)^test (\w+) \.\.\. (.*)$", said)}

@@ -1,5 +1,5 @@
 #!/usr/bin/env python3
-"""Runs the programs of one file, which tools/together.py lays as one, on what is stored beside each.
+"""Runs the programs of one file, which scripts/together.py lays as one, on what is stored beside each.
 
     tests/stored.py PROGRAM..
 
@@ -16,7 +16,7 @@ import tempfile
 
 TOP = pathlib.Path(__file__).resolve().parent.parent
 sys.dont_write_bytecode = True
-sys.path.insert(0, str(TOP / "tools"))
+sys.path.insert(0, str(TOP / "scripts"))
 import together  # noqa: E402
 
 SECONDS = 120

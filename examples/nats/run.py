@@ -19,7 +19,7 @@ import threading
 
 TOP = pathlib.Path(__file__).resolve().parent.parent.parent
 sys.dont_write_bytecode = True
-sys.path[:0] = [str(TOP / "tools"), str(TOP / "examples")]
+sys.path[:0] = [str(TOP / "scripts"), str(TOP / "examples/common")]
 from client import Nats, has_answered  # noqa: E402
 from followers import BATCH, answering, asked, drive, free_port, installed  # noqa: E402
 

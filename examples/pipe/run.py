@@ -20,7 +20,7 @@ import time
 
 TOP = pathlib.Path(__file__).resolve().parent.parent.parent
 sys.dont_write_bytecode = True
-sys.path[:0] = [str(TOP / "tools"), str(TOP / "examples")]
+sys.path[:0] = [str(TOP / "scripts"), str(TOP / "examples/common")]
 from followers import Run, asked, commands, drive, number  # noqa: E402
 
 

@@ -18,7 +18,7 @@ import tempfile
 
 TOP = pathlib.Path(__file__).resolve().parent.parent.parent
 sys.dont_write_bytecode = True
-sys.path[:0] = [str(TOP / "tools"), str(TOP / "examples")]
+sys.path[:0] = [str(TOP / "scripts"), str(TOP / "examples/common")]
 from followers import Run, answering, asked, drive, free_port, installed, number  # noqa: E402
 from resp import Entry, Redis, Refused, Word, has_answered, served  # noqa: E402
 

@@ -22,7 +22,7 @@ import time
 
 HERE = pathlib.Path(__file__).resolve().parent
 sys.dont_write_bytecode = True
-sys.path[:0] = [str(HERE.parent.parent / "tools"), str(HERE.parent)]
+sys.path[:0] = [str(HERE.parent.parent / "scripts"), str(HERE.parent / "common")]
 from engine import Engine, entry, nodes_of, snapshot_of  # noqa: E402
 from follower import Unfit  # noqa: E402
 from kept import Kept  # noqa: E402

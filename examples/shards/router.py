@@ -20,7 +20,7 @@ import sys
 from collections.abc import Iterator
 
 sys.dont_write_bytecode = True
-sys.path[:0] = [str(pathlib.Path(__file__).resolve().parent.parent)]
+sys.path[:0] = [str(pathlib.Path(__file__).resolve().parent.parent / "common")]
 from engine import Engine, Span, Table, entry, found, spans  # noqa: E402
 from resp import Word  # noqa: E402
 

@@ -17,7 +17,7 @@ import time
 
 HERE = pathlib.Path(__file__).resolve().parent
 sys.dont_write_bytecode = True
-sys.path[:0] = [str(HERE.parent.parent / "tools"), str(HERE.parent)]
+sys.path[:0] = [str(HERE.parent.parent / "scripts"), str(HERE.parent / "common")]
 from cluster import KEYS, Cluster, commands  # noqa: E402
 from followers import apply, installed  # noqa: E402
 from reader import Reader  # noqa: E402

@@ -23,7 +23,7 @@ from collections.abc import Callable
 
 HERE = pathlib.Path(__file__).resolve().parent
 sys.dont_write_bytecode = True
-sys.path[:0] = [str(HERE.parent.parent / "tools"), str(HERE.parent)]
+sys.path[:0] = [str(HERE.parent.parent / "scripts"), str(HERE.parent / "common")]
 from channel import Kept  # noqa: E402
 from watch import Watch  # noqa: E402
 

@@ -25,7 +25,7 @@ import time
 
 HERE = pathlib.Path(__file__).resolve().parent
 sys.dont_write_bytecode = True
-sys.path.insert(0, str(HERE.parent.parent / "tools"))
+sys.path.insert(0, str(HERE.parent.parent / "scripts"))
 from programs import built  # noqa: E402
 from refuse import MEMORY, WRITE, Sweep, replies_to_first, sweeping  # noqa: E402
 

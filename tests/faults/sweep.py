@@ -30,7 +30,7 @@ TABLE = HERE / "requests.txt"
 REFUSED, BEFORE = 10, 11
 ASKS_FOR_NONE = b"# No call asks for memory."
 sys.dont_write_bytecode = True
-sys.path.insert(0, str(HERE.parent.parent / "tools"))
+sys.path.insert(0, str(HERE.parent.parent / "scripts"))
 from programs import built  # noqa: E402
 from refuse import MEMORY, Run, Sweep, replies_to_first, sweeping  # noqa: E402
 

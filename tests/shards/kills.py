@@ -29,7 +29,7 @@ import time
 
 TOP = pathlib.Path(__file__).resolve().parent.parent.parent
 sys.dont_write_bytecode = True
-sys.path[:0] = [str(TOP / "tools"), str(TOP / "examples"), str(TOP / "examples/shards")]
+sys.path[:0] = [str(TOP / "scripts"), str(TOP / "examples/common"), str(TOP / "examples/shards")]
 from cluster import KEYS, Cluster, children, commands, end  # noqa: E402
 from files import FATES, Witness, befall  # noqa: E402
 from follower import Passed  # noqa: E402

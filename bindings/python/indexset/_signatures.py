@@ -1,4 +1,4 @@
-"""The library's calls, each with its result and its parameters. Written by `bindings/write.py`."""
+"""The library's calls, with their results and parameters. Written by `scripts/write_bindings.py`."""
 from __future__ import annotations
 
 from ctypes import c_bool, c_char_p, c_size_t, c_uint32, c_uint64, c_void_p

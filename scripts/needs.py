@@ -1,0 +1,81 @@
+#!/usr/bin/env python3
+"""Installs the packages of Debian that the gate needs and that are missing here, or says which they are and fails.
+
+    scripts/needs.py [--check]      `--check` installs nothing
+
+It asks `apt-get` once, and only where something is missing. The last line names what is missing, or says that all is
+there.
+"""
+
+from __future__ import annotations
+
+import argparse
+import importlib.util
+import os
+import shutil
+import subprocess
+import sys
+import sysconfig
+
+# What each command is for is said by the script that runs it; each comes with its package.
+COMMANDS = {
+    "c++": "g++",
+    "cc": "gcc",
+    "clang++": "clang",
+    "clang-format": "clang-format",
+    "clang-tidy": "clang-tidy",
+    "cmake": "cmake",
+    "flake8": "flake8",
+    "g++": "g++",
+    "gcc": "gcc",
+    "make": "make",
+    "mount": "mount",
+    "mypy": "mypy",
+    "objcopy": "binutils",
+    "pkg-config": "pkg-config",
+    "shellcheck": "shellcheck",
+}
+# Files of packages without a command.
+FILES = {
+    "/usr/include/absl/container/btree_map.h": "libabsl-dev",
+    "/usr/lib/python3/dist-packages/numpy/__init__.py": "python3-numpy",
+}
+HEADER = os.path.join(sysconfig.get_path("include"), "Python.h")
+MODULES = {"ensurepip": "python3-venv"}
+
+
+def missing() -> list[str]:
+    """The packages whose commands or files are missing."""
+    lacking = {package for command, package in COMMANDS.items() if not shutil.which(command)}
+    lacking |= {package for file, package in FILES.items() if not os.path.exists(file)}
+    lacking |= {package for module, package in MODULES.items() if not importlib.util.find_spec(module)}
+    lacking |= set() if os.path.exists(HEADER) else {"python3-dev"}
+    return sorted(lacking)
+
+
+def install(packages: list[str]) -> None:
+    """Has `apt-get` install packages; what comes of it is seen by what is missing then."""
+    if os.geteuid() != 0 or not shutil.which("apt-get"):
+        return
+    quiet = {**os.environ, "DEBIAN_FRONTEND": "noninteractive"}
+    subprocess.run(["apt-get", "update", "-qq"], env=quiet)
+    subprocess.run(["apt-get", "install", "-y", "-qq", "--no-install-recommends", *packages], env=quiet)
+
+
+def main() -> int:
+    ask = argparse.ArgumentParser(description="Installs the packages of Debian that the gate needs.")
+    ask.add_argument("--check", action="store_true", help="install nothing")
+    given = ask.parse_args()
+    lacking = missing()
+    if lacking and not given.check:
+        install(lacking)
+        lacking = missing()
+    if lacking:
+        print(f"the gate needs what is missing here: apt-get install {' '.join(lacking)}")
+        return 1
+    print("all that the gate needs is installed")
+    return 0
+
+
+if __name__ == "__main__":
+    sys.exit(main())
