@@ -38,7 +38,7 @@ def c_cells(keys: list[str]) -> Cells:
     build.OUT.mkdir(exist_ok=True)
     made, library = build.OUT / "beside", OUT / "c/out/libindexset.a"
     built = library.exists() and build.ran(
-        "g++", "-O2", "-I", str(OUT / "c"), str(build.HERE / "cpp/beside.cpp"), str(library), *ABSL, "-o", str(made)
+        "g++", "-O2", "-I", str(OUT / "c/include"), str(build.HERE / "cpp/beside.cpp"), str(library), *ABSL, "-o", str(made)
     )
     if not built:
         print(

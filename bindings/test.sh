@@ -15,7 +15,7 @@ out=out${UNPROVED:+/unproved}
 make -s -C c all "$out/examples.cpp" || exit 1
 rm -rf python/out
 mkdir -p python/out/logs
-cp -r python/indexset python/test_*.py python/peer_tests.py python/out
+cp -r python/src/indexset python/tests/test_*.py python/tests/peer_tests.py python/out
 export INDEXSET_LIBRARY="$PWD/c/$out/libindexset.so" PYTHONDONTWRITEBYTECODE=1
 
 names=()
@@ -33,7 +33,7 @@ sanitized() {
     local preload
     preload="$(gcc -print-file-name=libasan.so) $(gcc -print-file-name=libubsan.so)"
     mkdir python/out/sanitized
-    cp -r python/indexset python/test_*.py python/out/sanitized
+    cp -r python/src/indexset python/tests/test_*.py python/out/sanitized
     python3 python/build_fast.py --sanitize --library "c/$out/libindexset.a" python/out/sanitized || return 1
     for test in test_answers test_blocks test_defects test_equals test_indexset test_kinds test_list test_text; do
         LD_PRELOAD="$preload" ASAN_OPTIONS=detect_leaks=0 python3 "python/out/sanitized/$test.py" || return 1
@@ -44,8 +44,8 @@ try make -s -j "$(nproc)" -C c check
 for compiler in g++ clang++; do
     try make -s -j "$(nproc)" -C c "check-$compiler"
 done
-try c/test_install.sh
-[ -n "${UNPROVED-}" ] || try python3 python/test_package.py
+try c/tests/test_install.sh
+[ -n "${UNPROVED-}" ] || try python3 python/tests/test_package.py
 try env PYTHONPATH=python/out python3 -m doctest python/README.md ../README.md
 python3 python/build_fast.py --library "c/$out/libindexset.a" python/out || exit 1
 for backend in ctypes extension; do
@@ -56,7 +56,7 @@ for backend in ctypes extension; do
     try env "INDEXSET_BACKEND=$backend" python3 python/out/peer_tests.py
 done
 try sanitized
-try mypy --strict --no-incremental --cache-dir=/dev/null python/indexset python/sample.py
+try mypy --strict --no-incremental --cache-dir=/dev/null python/src/indexset python/tests/sample.py
 # By Debian's Python, which has numpy.
 if ! python3 -c 'import numpy' 2> /dev/null; then
     for test in test_answers test_equals; do

@@ -18,8 +18,8 @@ import sys
 
 HERE = pathlib.Path(__file__).resolve().parent.parent / "bindings"
 EXPORTS = HERE.parent / "crates/indexset_c/src"
-HEADER = HERE / "c/indexset.h"
-TABLE = HERE / "python/indexset/_signatures.py"
+HEADER = HERE / "c/include/indexset.h"
+TABLE = HERE / "python/src/indexset/_signatures.py"
 HANDLES = {
     "Set": "set", "Map": "map", "Text": "text_map", "TextLog": "text_log", "Multi": "multi", "Log": "log",
     "Replica": "replica",

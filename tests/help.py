@@ -28,7 +28,7 @@ def runnable() -> list[pathlib.Path]:
     """The scripts that are run, and not only imported."""
     python = [it for it in by_language.of("python") if '__name__ == "__main__"' in it.read_text(encoding="utf-8")]
     apart = TOP / "bindings/python"
-    return [it for it in [*by_language.of("shell"), *python] if it.parent != apart]
+    return [it for it in [*by_language.of("shell"), *python] if apart not in it.parents]
 
 
 def ended(script: pathlib.Path, word: str) -> tuple[int | None, str]:

@@ -25,7 +25,14 @@ import by_language  # noqa: E402
 
 WIDEST = 120
 COMPLAINT = re.compile(r"\S+:\d+:\d+: ")
-FOLDERS = [TOP / "bindings/c", TOP / "bench/cpp", pathlib.Path(sysconfig.get_path("include"))]
+FOLDERS = [
+    TOP / "bindings/c/include",
+    TOP / "bindings/c/tests",
+    TOP / "bindings/cpp/include",
+    TOP / "bindings/cpp/tests",
+    TOP / "bench/cpp",
+    pathlib.Path(sysconfig.get_path("include")),
+]
 # The analyzer takes a minute for a test of templates, which runs under the sanitizers; of C it takes seconds.
 TIDY = {".c": ("-std=c11", ()), ".cpp": ("-std=c++20", ("--checks=-clang-analyzer-*",))}
 

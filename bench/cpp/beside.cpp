@@ -3,7 +3,7 @@
 //
 // After `make -C bindings/c`:
 //   mkdir -p bench/out
-//   g++ -O2 -I bindings/c bench/cpp/beside.cpp bindings/c/out/libindexset.a -labsl_throw_delegate \
+//   g++ -O2 -I bindings/c/include bench/cpp/beside.cpp bindings/c/out/libindexset.a -labsl_throw_delegate \
 //       -labsl_raw_logging_internal -o bench/out/beside
 //   bench/out/beside 1000 100000 1000000
 #include "indexset.h"

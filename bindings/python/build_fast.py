@@ -44,7 +44,7 @@ def main():
         sys.exit("a C compiler and Python's headers are needed")
     flags = ["-Wall", "-Wextra", "-Werror", "-Wno-missing-field-initializers", "-Wno-cast-function-type"]
     flags += ["-g", "-fsanitize=address,undefined"] if given.sanitize else []
-    build(given.folder / "indexset", HERE / "fast", HERE.parent / "c", given.library, *flags)
+    build(given.folder / "indexset", HERE / "src/speedups", HERE.parent / "c/include", given.library, *flags)
 
 
 if __name__ == "__main__":

@@ -27,7 +27,7 @@ TEXTS = {"README.md": HERE / "README.md", "LICENSE": TOP / "LICENSE"}
 NATIVE = {
     "libindexset.so": HERE.parent / "c/out/libindexset.so",
     "libindexset.a": HERE.parent / "c/out/libindexset.a",
-    "indexset.h": HERE.parent / "c/indexset.h",
+    "indexset.h": HERE.parent / "c/include/indexset.h",
 }
 
 
@@ -76,7 +76,7 @@ def compiled():
         return None
     with tempfile.TemporaryDirectory() as folder:
         try:
-            made = build(folder, HERE / "fast", native("indexset.h").parent, native("libindexset.a"))
+            made = build(folder, HERE / "src/speedups", native("indexset.h").parent, native("libindexset.a"))
         except (OSError, subprocess.CalledProcessError) as error:
             print(f"indexset: the compiled module was not made ({error}): the package goes by ctypes")
             return None
@@ -108,7 +108,7 @@ def write_wheel(folder, files, is_pure, has_module):
 
 def sources():
     """The files of the package."""
-    return [it for it in sorted((HERE / "indexset").iterdir()) if it.suffix in (".py", ".typed")]
+    return [it for it in sorted((HERE / "src/indexset").iterdir()) if it.suffix in (".py", ".typed")]
 
 
 def build_wheel(wheel_directory, config_settings=None, metadata_directory=None):
@@ -124,7 +124,7 @@ def build_wheel(wheel_directory, config_settings=None, metadata_directory=None):
 def build_editable(wheel_directory, config_settings=None, metadata_directory=None):
     """The package where it is. It goes by ctypes, unless `build_fast.py` has made the module beside it."""
     check_library()
-    return write_wheel(wheel_directory, [("indexset.pth", f"{HERE}\n".encode())], True, False)
+    return write_wheel(wheel_directory, [("indexset.pth", f"{HERE / 'src'}\n".encode())], True, False)
 
 
 def build_sdist(sdist_directory, config_settings=None):
@@ -132,8 +132,8 @@ def build_sdist(sdist_directory, config_settings=None):
     folder = f"{project('name')}-{project('version')}"
     names = ["pyproject.toml", "wheel_backend.py", "build_fast.py"]
     files = [(name, (HERE / name).read_bytes()) for name in names]
-    files += [(f"indexset/{path.name}", path.read_bytes()) for path in sources()]
-    files += [(f"fast/{path.name}", path.read_bytes()) for path in sorted((HERE / "fast").iterdir())]
+    files += [(f"src/indexset/{path.name}", path.read_bytes()) for path in sources()]
+    files += [(f"src/speedups/{path.name}", path.read_bytes()) for path in sorted((HERE / "src/speedups").iterdir())]
     files += [(f"native/{name}", native(name).read_bytes()) for name in NATIVE]
     files += [(name, text(name).encode()) for name in TEXTS]
     files.append(("PKG-INFO", about().encode()))

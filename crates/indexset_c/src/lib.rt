@@ -1,4 +1,4 @@
-//! The collections for C: a static library whose header is `bindings/c/indexset.h`.
+//! The collections for C: a static library whose header is `bindings/c/include/indexset.h`.
 //!
 //! C holds a handle, which leads to a collection on the heap or to none. Each call takes a handle
 //! by its address; where there is no collection, it reads as an empty one and refuses to grow. No

@@ -2,14 +2,14 @@
 # Installs the library in a folder, builds programs in C and C++ outside the repository on it, by pkg-config and by
 # CMake, and looks at the names that the libraries export. A tool that is not installed fails. The last line counts.
 #
-#     bindings/c/test_install.sh
+#     bindings/c/tests/test_install.sh
 set -u
 case "${1-}" in
     "") ;;
     --help) sed -n '2,/^set/s/^# \{0,1\}//p' "$0" && exit ;;
     *) echo "$0 takes no argument but --help" >&2 && exit 2 ;;
 esac
-cd "$(dirname "$0")" || exit
+cd "$(dirname "$0")/.." || exit
 room=$(mktemp -d)
 trap 'rm -rf "$room"' EXIT
 passed=0

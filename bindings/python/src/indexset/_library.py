@@ -40,7 +40,7 @@ class _Slot(ctypes.Structure):
 def _load() -> Any:
     folder = pathlib.Path(__file__).resolve().parent
     named = os.environ.get("INDEXSET_LIBRARY")
-    built = folder.parent.parent / "c" / "out" / "libindexset.so"
+    built = folder.parent.parent.parent / "c" / "out" / "libindexset.so"
     beside = folder / "libindexset.so"
     path = named or str(beside if beside.exists() else built)
     # PyDLL keeps the interpreter's lock, where CDLL lets it go.

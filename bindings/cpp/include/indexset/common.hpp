@@ -2,7 +2,7 @@
 #ifndef INDEXSET_COMMON_HPP
 #define INDEXSET_COMMON_HPP
 
-#include "../indexset.h"
+#include "indexset.h"
 #include "keys.hpp"
 
 #include <cstddef>

@@ -9,7 +9,7 @@ import tempfile
 import unittest
 import zipfile
 
-HERE = pathlib.Path(__file__).resolve().parent
+HERE = pathlib.Path(__file__).resolve().parent.parent
 SAYS = "import indexset; print(indexset.BACKEND, indexset.SortedSet([2, 1]), len(indexset.LoggedDict(None, {'a': 1})))"
 sys.path.insert(0, str(HERE))
 
@@ -83,7 +83,7 @@ class Package(unittest.TestCase):
         self.assertNotEqual(status, 0)
         self.assertNotIn("Traceback", said)
         self.assertRegex(said, "libindexset.so is missing; `make -C bindings/c` makes it")
-        status, said = ran(sys.executable, "-c", "import indexset", PYTHONPATH=str(self.folder / "bare/bindings/python"))
+        status, said = ran(sys.executable, "-c", "import indexset", PYTHONPATH=str(self.folder / "bare/bindings/python/src"))
         self.assertRegex(said.splitlines()[-1], "^ImportError: indexset lacks its library")
 
 
