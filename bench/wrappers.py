@@ -38,7 +38,15 @@ def c_cells(keys: list[str]) -> Cells:
     build.OUT.mkdir(exist_ok=True)
     made, library = build.OUT / "beside", OUT / "c/out/libindexset.a"
     built = library.exists() and build.ran(
-        "g++", "-O2", "-I", str(OUT / "c/include"), str(build.HERE / "cpp/beside.cpp"), str(library), *ABSL, "-o", str(made)
+        "g++",
+        "-O2",
+        "-I",
+        str(OUT / "c/include"),
+        str(build.HERE / "cpp/beside.cpp"),
+        str(library),
+        *ABSL,
+        "-o",
+        str(made),
     )
     if not built:
         print(
@@ -60,8 +68,13 @@ def is_built(backend: str) -> bool:
 
 def said(program: str, *words: str, backend: str) -> str:
     """What a program of Python prints."""
-    where = {**os.environ, "PYTHONPATH": str(OUT / "python/out"), "INDEXSET_LIBRARY": str(OUT / "c/out/libindexset.so"), "INDEXSET_BACKEND": backend}
-    run = ["taskset", "-c", "0", sys.executable, str(build.HERE / program), *words]
+    where = {
+        **os.environ,
+        "PYTHONPATH": str(OUT / "python/out"),
+        "INDEXSET_LIBRARY": str(OUT / "c/out/libindexset.so"),
+        "INDEXSET_BACKEND": backend,
+    }
+    run = ["taskset", "-c", "0", sys.executable, str(build.HERE / "python" / program), *words]
     return subprocess.run(run, env=where, check=True, capture_output=True, text=True).stdout
 
 
@@ -72,13 +85,17 @@ def python_cells(keys: list[str], backend: str) -> Cells | None:
 
 def of_kinds(count: int) -> str:
     """The table of what is done with many items, with a column a kind."""
-    text = said("kinds.py", str(count), "--kinds", *KINDS, "--parts", "list", "set", "dict", "key", "bytes", backend="extension")
+    text = said(
+        "kinds.py", str(count), "--kinds", *KINDS, "--parts", "list", "set", "dict", "key", "bytes", backend="extension"
+    )
     cells: dict[tuple[str, str], str] = {}
     for line in text.splitlines()[1:]:
         _, kind, row, ours, other = line.split("\t")
         cells[kind, row] = f"{float(ours):.0f}/{float(other):.0f}"
     rows = list(dict.fromkeys(row for _, row in cells))
-    return table([f"{count:,} items", *KINDS], [[f"`{row}`", *(cells.get((kind, row), "–") for kind in KINDS)] for row in rows])
+    return table(
+        [f"{count:,} items", *KINDS], [[f"`{row}`", *(cells.get((kind, row), "–") for kind in KINDS)] for row in rows]
+    )
 
 
 def of_python(found: dict[str, Cells], keys: list[int]) -> str:

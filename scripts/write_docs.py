@@ -387,7 +387,10 @@ def index(pages: dict[str, Page]) -> str:
 def index_of_internals(pages: dict[str, Page]) -> str:
     """The text of the index of the inner crates."""
     shown = [page for name, page in pages.items() if name.startswith(INTERNALS)]
-    about = "The calls of the inner crates, written by `scripts/write_docs.py` from the sources. A program needs none of them."
+    about = (
+        "The calls of the inner crates, written by `scripts/write_docs.py` from the sources."
+        " A program needs none of them."
+    )
     return "\n".join(["# Internals", "", f"{about} {ABOUT.format(up='../../')}", "", *listed(shown, True)])
 
 
