@@ -301,7 +301,7 @@ class SortedSet(Sorted[T], MutableSet[T], Generic[T]):
         True
         """
         other = _asked(iterable)
-        return len(self) <= len(other) and all(map(other.__contains__, self._members))
+        return len(self) <= len(other) and all(map(other.__contains__, self))
 
     def issuperset(self, iterable: Iterable[object]) -> bool:
         """Whether each item of an iterable is here. TypeError where an item has no hash.
