@@ -23,7 +23,7 @@ class SortedList(Sorted[T], MutableSequence[T], Generic[T]):
 
     Cost: with n items, a call on one item or one position is O(log n), and, where a value is looked for that
     is no number or `key` is given, linear in the number of items that have its sort key. Iteration, a slice or
-    a batch is linear in its length. Where many items came at once, the first change of one is linear in their
+    a batch is linear in its length. Where many numbers came at once, the first change of one is linear in their
     number. A removal where numbers repeat may raise MemoryError, and then has changed nothing.
 
     Reads may go on in several threads at once. An iterator raises RuntimeError once there was a change;

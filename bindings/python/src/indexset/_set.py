@@ -27,7 +27,7 @@ class SortedSet(Sorted[T], MutableSet[T], Generic[T]):
 
     Cost: with n items, a call on one item or one position is O(log n), and with the kind "object" makes that
     many comparisons; `in` asks a hash table. Iteration, a slice or a batch is linear in its length. Where many
-    items came at once, the first change of one is linear in their number.
+    numbers came at once, the first change of one is linear in their number.
 
     Reads may go on in several threads at once. An iterator raises RuntimeError once there was a change;
     changes from several threads are kept apart by the caller.
