@@ -58,7 +58,7 @@ def c_cells(keys: list[str]) -> Cells:
 
 def is_built(backend: str) -> bool:
     """Whether the package is built so, and `sortedcontainers` is here."""
-    package, library = OUT / "python/out", OUT / "c/out/libindexset.so"
+    package = OUT / "python/out"
     has_module = any((package / "indexset").glob("_fast*")) or backend == "ctypes"
     if not (package / "indexset").is_dir() or not importlib.util.find_spec("sortedcontainers") or not has_module:
         print(f"Python by {BACKENDS[backend]} is left out: it needs `bindings/test.sh` and `sortedcontainers`")

@@ -124,7 +124,9 @@ def of_list(lib: ModuleType, it: Items) -> Iterator[Row]:
     yield Row("list: of sorted, then add", lambda: None, lambda _: make(it.ordered).add(it.drawn[0]), count)
     yield Row("list: of random", lambda: None, lambda _: make(it.drawn), count)
     yield Row("list: of repeats", lambda: None, lambda _: make(it.repeated), len(it.repeated))
-    yield Row("list: update", lambda: make(it.half), lambda made: made.update(it.drawn[len(it.half) :]), count - len(it.half))
+    yield Row(
+        "list: update", lambda: make(it.half), lambda made: made.update(it.drawn[len(it.half) :]), count - len(it.half)
+    )
     yield Row("list: add", lambda: make(it.half), lambda made: each("add", made, it.some), some)
     yield Row("list: in", same, partial(contains, it.some), some)
     yield Row("list: [i]", same, partial(at, it.positions), some)
@@ -145,7 +147,9 @@ def of_set(lib: ModuleType, it: Items) -> Iterator[Row]:
     same = lambda: held  # noqa: E731
     yield Row("set: of sorted", lambda: None, lambda _: make(it.ordered), count)
     yield Row("set: of random", lambda: None, lambda _: make(it.drawn), count)
-    yield Row("set: update", lambda: make(it.half), lambda made: made.update(it.drawn[len(it.half) :]), count - len(it.half))
+    yield Row(
+        "set: update", lambda: make(it.half), lambda made: made.update(it.drawn[len(it.half) :]), count - len(it.half)
+    )
     yield Row("set: add", lambda: make(it.half), lambda made: each("add", made, it.some), some)
     yield Row("set: discard", lambda: make(it.drawn), lambda made: each("discard", made, it.some), some)
     yield Row("set: &", same, lambda made: made & other, count)
@@ -221,7 +225,10 @@ def compare(kind: str, count: int, parts: list[str]) -> None:
 class Heap(ctypes.Structure):
     """What `mallinfo2` of glibc says: the bytes in use are `uordblks` and, of large pieces, `hblkhd`."""
 
-    _fields_ = [(name, ctypes.c_size_t) for name in "arena ordblks smblks hblks hblkhd usmblks fsmblks uordblks fordblks keepcost".split()]
+    _fields_ = [
+        (name, ctypes.c_size_t)
+        for name in "arena ordblks smblks hblks hblkhd usmblks fsmblks uordblks fordblks keepcost".split()
+    ]
 
 
 def in_use() -> int:

@@ -12,8 +12,26 @@ import sys
 import sysconfig
 
 HERE = pathlib.Path(__file__).resolve().parent
-SOURCES = ("module.c", "codes.c", "numbers.c", "batch.c", "held.c", "multi.c", "coded.c", "own.c", "late.c", "blocks.c", "compare.c", "sort.c", "compared.c", "many.c",
-           "array.c", "walk.c", "front.c", "dict.c")
+SOURCES = (
+    "module.c",
+    "codes.c",
+    "numbers.c",
+    "batch.c",
+    "held.c",
+    "multi.c",
+    "coded.c",
+    "own.c",
+    "late.c",
+    "blocks.c",
+    "compare.c",
+    "sort.c",
+    "compared.c",
+    "many.c",
+    "array.c",
+    "walk.c",
+    "front.c",
+    "dict.c",
+)
 
 
 def compiler():

@@ -20,7 +20,7 @@ import zipfile
 HERE = pathlib.Path(__file__).resolve().parent
 sys.path.insert(0, str(HERE))
 
-from build_fast import build, compiler
+from build_fast import build, compiler  # noqa: E402
 
 TOP = HERE.parent.parent
 TEXTS = {"README.md": HERE / "README.md", "LICENSE": TOP / "LICENSE"}
@@ -97,7 +97,12 @@ def write_wheel(folder, files, is_pure, has_module):
     tag = "py3-none-any" if is_pure else f"{python}-{python}-{platform}" if has_module else f"py3-none-{platform}"
     wheel = f"Wheel-Version: 1.0\nGenerator: {name}\nRoot-Is-Purelib: {str(is_pure).lower()}\nTag: {tag}\n"
     info = f"{name}-{version}.dist-info"
-    files = [*files, (f"{info}/METADATA", about().encode()), (f"{info}/WHEEL", wheel.encode()), (f"{info}/LICENSE", text("LICENSE").encode())]
+    files = [
+        *files,
+        (f"{info}/METADATA", about().encode()),
+        (f"{info}/WHEEL", wheel.encode()),
+        (f"{info}/LICENSE", text("LICENSE").encode()),
+    ]
     lines = [record(*file) for file in files] + [f"{info}/RECORD,,\n"]
     made = f"{name}-{version}-{tag}.whl"
     with zipfile.ZipFile(pathlib.Path(folder) / made, "w", zipfile.ZIP_DEFLATED) as out:

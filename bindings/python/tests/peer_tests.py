@@ -29,8 +29,17 @@ PLACE = "/pool/main/s/sortedcontainers/"
 MIRROR = os.environ.get("INDEXSET_DEBIAN", "http://deb.debian.org/debian")
 FOLDER = pathlib.Path(tempfile.gettempdir()) / f"indexset-peer-{os.getuid()}"
 
-KINDS = ("coverage_sortedset", "stress_sortedset", "coverage_sorteddict", "stress_sorteddict", "coverage_sortedlist",
-         "stress_sortedlist", "coverage_sortedkeylist_modulo", "coverage_sortedkeylist_negate", "stress_sortedkeylist")
+KINDS = (
+    "coverage_sortedset",
+    "stress_sortedset",
+    "coverage_sorteddict",
+    "stress_sorteddict",
+    "coverage_sortedlist",
+    "stress_sortedlist",
+    "coverage_sortedkeylist_modulo",
+    "coverage_sortedkeylist_negate",
+    "stress_sortedkeylist",
+)
 
 # What each test that is left out looks at, of what `sortedcontainers` keeps inside.
 LISTS, LOAD, LENGTH = "_lists, _maxes", "_load", "sets _len"
@@ -38,15 +47,25 @@ INSIDE = {
     "stress_sortedset": {"test_init": "_list._load"},
     "coverage_sorteddict": {"test_notgiven": "__not_given"},
     "coverage_sortedlist": {
-        "test_init": LOAD, "test_delete": LISTS, "test_repr_recursion": LISTS, "test_pickle": LOAD,
-        "test_build_index": "_build_index", "test_check": LENGTH,
+        "test_init": LOAD,
+        "test_delete": LISTS,
+        "test_repr_recursion": LISTS,
+        "test_pickle": LOAD,
+        "test_build_index": "_build_index",
+        "test_check": LENGTH,
     },
     "coverage_sortedkeylist_modulo": {
-        "test_init": LOAD, "test_delete": LISTS, "test_getitem": "_build_index", "test_repr_recursion": LISTS,
+        "test_init": LOAD,
+        "test_delete": LISTS,
+        "test_getitem": "_build_index",
+        "test_repr_recursion": LISTS,
         "test_check": LENGTH,
     },
     "coverage_sortedkeylist_negate": {
-        "test_init": LOAD, "test_delete": LISTS, "test_pickle": LOAD, "test_check": LENGTH,
+        "test_init": LOAD,
+        "test_delete": LISTS,
+        "test_pickle": LOAD,
+        "test_check": LENGTH,
     },
     "stress_sortedlist": {"test_stress": LISTS},
     "stress_sortedkeylist": {"test_stress": LISTS},
@@ -54,7 +73,9 @@ INSIDE = {
 
 # What differs by ctypes alone: its walks are generators, and it wraps an error of the recursion.
 BY_CTYPES = {
-    "TestSet.test_iterator_pickling", "TestHashMappingProtocol.test_repr_deep", "Lists.test_repr_deep",
+    "TestSet.test_iterator_pickling",
+    "TestHashMappingProtocol.test_repr_deep",
+    "Lists.test_repr_deep",
 }
 
 CPYTHON = {"set": "test.test_set", "dict": "test.mapping_tests", "list": "test.list_tests"}
@@ -153,8 +174,16 @@ def cases_of(what):
     if what == "set":
         module.set = peer.SortedSet
         module.TestSet.thetype = module.TestSet.basetype = peer.SortedSet
-        names = [name for name, case in vars(module).items() if isinstance(case, type) and issubclass(case, unittest.TestCase)]
-        return [getattr(module, name) for name in names if "Frozen" not in name and "Weird" not in name and "Threads" not in name]
+        names = [
+            name
+            for name, case in vars(module).items()
+            if isinstance(case, type) and issubclass(case, unittest.TestCase)
+        ]
+        return [
+            getattr(module, name)
+            for name in names
+            if "Frozen" not in name and "Weird" not in name and "Threads" not in name
+        ]
     if what == "list":
         return [type("Lists", (module.CommonTest,), {"type2test": peer.SortedList})]
     names = ("BasicTestMappingProtocol", "TestMappingProtocol", "TestHashMappingProtocol")

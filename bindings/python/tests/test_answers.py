@@ -6,7 +6,17 @@ import unittest
 from array import array
 
 import indexset
-from indexset import Change, LoggedDict, Refused, Replica, SortedDict, SortedKeyList, SortedList, SortedListWithKey, SortedSet
+from indexset import (
+    Change,
+    LoggedDict,
+    Refused,
+    Replica,
+    SortedDict,
+    SortedKeyList,
+    SortedList,
+    SortedListWithKey,
+    SortedSet,
+)
 
 try:
     import numpy
@@ -58,7 +68,9 @@ class Given(unittest.TestCase):
     def check(self, items):
         for make in (SortedDict.fromkeys, SortedSet, SortedList, lambda it: SortedKeyList(it, key=lambda item: item)):
             found = list(make(items))
-            self.assertEqual([(it, type(it), repr(it)) for it in found], [(it, type(it), repr(it)) for it in sorted(items)])
+            self.assertEqual(
+                [(it, type(it), repr(it)) for it in found], [(it, type(it), repr(it)) for it in sorted(items)]
+            )
             one_by_one = make(items[:1])
             for item in items[1:]:
                 if isinstance(one_by_one, dict):
@@ -110,7 +122,11 @@ class Buffers(unittest.TestCase):
 
     def test_each_kind(self):
         top = 1 << 63
-        cases = [("int64", "q", [-top, -1, 0, 5, top - 1]), ("uint64", "Q", [0, 7, top, 2 * top - 1]), ("float64", "d", [float("-inf"), -0.5, 0.0, 2.5])]
+        cases = [
+            ("int64", "q", [-top, -1, 0, 5, top - 1]),
+            ("uint64", "Q", [0, 7, top, 2 * top - 1]),
+            ("float64", "d", [float("-inf"), -0.5, 0.0, 2.5]),
+        ]
         for kind, code, items in cases:
             for make in (SortedSet, SortedList):
                 ours = make(items, keys=kind)
@@ -137,7 +153,10 @@ class Buffers(unittest.TestCase):
         self.assertEqual((numpy.asarray(ours).tolist(), numpy.asarray(ours).dtype), ([1, 1, 2, 3], numpy.int64))
         self.assertEqual(numpy.asarray(ours.to_array()).tolist(), [1, 1, 2, 3])
         self.assertEqual(numpy.array(ours, dtype="float32").dtype, numpy.float32)
-        self.assertEqual((numpy.asarray(SortedSet([0.5])).dtype, numpy.asarray(SortedSet(["b", "a"])).tolist()), (numpy.float64, ["a", "b"]))
+        self.assertEqual(
+            (numpy.asarray(SortedSet([0.5])).dtype, numpy.asarray(SortedSet(["b", "a"])).tolist()),
+            (numpy.float64, ["a", "b"]),
+        )
 
 
 class Empty(unittest.TestCase):
@@ -198,12 +217,24 @@ class Subclasses(unittest.TestCase):
     def test_attributes(self):
         for ours in (Tagged([2, 1]), Tagged([2, 1], abs)):
             for made, items in (
-                (ours.copy(), [1, 2]), (ours | [3], [1, 2, 3]), (ours & [1], [1]), (ours - [1], [2]), (ours ^ [1], [2]), ([3, 1] - ours, [3]),
-                (ours.union([0]), [0, 1, 2]), (ours.intersection([2]), [2]), (ours.difference([2]), [1]),
+                (ours.copy(), [1, 2]),
+                (ours | [3], [1, 2, 3]),
+                (ours & [1], [1]),
+                (ours - [1], [2]),
+                (ours ^ [1], [2]),
+                ([3, 1] - ours, [3]),
+                (ours.union([0]), [0, 1, 2]),
+                (ours.intersection([2]), [2]),
+                (ours.difference([2]), [1]),
             ):
                 self.check(made, ours, items)
         ours = TaggedList([2, 1])
-        for made, items in ((ours.copy(), [1, 2]), (ours + [0], [0, 1, 2]), ([0] + ours, [0, 1, 2]), (ours * 2, [1, 1, 2, 2])):
+        for made, items in (
+            (ours.copy(), [1, 2]),
+            (ours + [0], [0, 1, 2]),
+            ([0] + ours, [0, 1, 2]),
+            (ours * 2, [1, 1, 2, 2]),
+        ):
             self.check(made, ours, items)
         ours = TaggedKeyList([-2, 1], abs)
         for made, items in ((ours.copy(), [1, -2]), (ours + [0], [0, 1, -2]), (ours * 2, [1, 1, -2, -2])):

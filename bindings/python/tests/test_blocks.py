@@ -51,11 +51,16 @@ class Many(unittest.TestCase):
         self.assertEqual((len(ours), list(ours), list(reversed(ours))), (len(wanted), wanted, wanted[::-1]))
         for _ in range(4):
             first, past = rng.randrange(-900, 3000), rng.randrange(-900, 3000)
-            self.assertEqual((ours[first:past], list(ours.islice(first, past, True))), (wanted[first:past], wanted[first:past][::-1]))
+            self.assertEqual(
+                (ours[first:past], list(ours.islice(first, past, True))), (wanted[first:past], wanted[first:past][::-1])
+            )
         for at in rng.sample(range(len(wanted)), min(20, len(wanted))):
             item = wanted[at]
             self.assertEqual((ours[at], ours[at - len(wanted)], item in ours), (item, item, True))
-            self.assertEqual((ours.bisect_left(item), ours.bisect_right(item)), (bisect_left(wanted, item), bisect_right(wanted, item)))
+            self.assertEqual(
+                (ours.bisect_left(item), ours.bisect_right(item)),
+                (bisect_left(wanted, item), bisect_right(wanted, item)),
+            )
             self.assertEqual((ours.index(item), ours.count(item)), (wanted.index(item), wanted.count(item)))
 
     def change(self, ours, wanted, make, rng):
@@ -73,7 +78,9 @@ class Many(unittest.TestCase):
             wanted += wanted[:700]
             wanted.sort()
         elif action == 3:
-            ours = rng.choice([copy.copy, SortedList.copy, lambda it: pickle.loads(pickle.dumps(it)), lambda it: it + []])(ours)
+            ours = rng.choice(
+                [copy.copy, SortedList.copy, lambda it: pickle.loads(pickle.dumps(it)), lambda it: it + []]
+            )(ours)
         else:
             for _ in range(rng.choice([1, 40])):
                 item = make(rng.randrange(6000))
@@ -103,7 +110,12 @@ class Many(unittest.TestCase):
             for _ in range(5):
                 others = {make(rng.randrange(6000)) for _ in range(rng.choice([5, 3000]))}
                 self.assertEqual((ours, list(ours), list(ages)), (peer, sorted(peer), sorted(peer)))
-                for mine, theirs in ((ours & others, peer & others), (ours | others, peer | others), (ours - others, peer - others), (ours ^ others, peer ^ others)):
+                for mine, theirs in (
+                    (ours & others, peer & others),
+                    (ours | others, peer | others),
+                    (ours - others, peer - others),
+                    (ours ^ others, peer ^ others),
+                ):
                     self.assertEqual((list(mine), len(mine._members)), (sorted(theirs), len(theirs)))
                 ours.update(others)
                 ages.update(dict.fromkeys(others, 1))
@@ -138,11 +150,17 @@ class Many(unittest.TestCase):
                 self.assertEqual((list(ours), list(ours.copy())), (wanted, wanted))
                 for sort_key in map(order, wanted[::97]):
                     places = [ours.bisect_key_left(sort_key), ours.bisect_key_right(sort_key)]
-                    self.assertEqual(places, [bisect_left(list(map(order, wanted)), sort_key), bisect_right(list(map(order, wanted)), sort_key)])
+                    self.assertEqual(
+                        places,
+                        [
+                            bisect_left(list(map(order, wanted)), sort_key),
+                            bisect_right(list(map(order, wanted)), sort_key),
+                        ],
+                    )
 
     @unittest.skipUnless(indexset.BACKEND == "extension", "by ctypes it is called again where many come")
     def test_key_is_called_once(self):
-        """A function makes the sort key of each item that comes, and of none that is there, where they are compared by `<`."""
+        """The key function is called once for each item that comes, and for no item of the collection."""
         called = []
 
         def order(item):
@@ -160,7 +178,13 @@ class Many(unittest.TestCase):
         """A search makes so many comparisons as a search by halves does."""
         items = [Counted(number) for number in range(20000)]
         ours = SortedList(random.Random(1).sample(items, len(items)))
-        for call, most in ((ours.bisect_left, 17), (ours.bisect_right, 17), (ours.add, 17), (ours.remove, 17), (ours.__contains__, 17)):
+        for call, most in (
+            (ours.bisect_left, 17),
+            (ours.bisect_right, 17),
+            (ours.add, 17),
+            (ours.remove, 17),
+            (ours.__contains__, 17),
+        ):
             Counted.compared = 0
             call(items[777])
             self.assertLessEqual(Counted.compared, most, call)
@@ -177,8 +201,15 @@ class Changes(unittest.TestCase):
         """A walk ends once there was a change, also the first one of what came at once."""
         for items in (range(3000), list(map(str, range(3000))), [(number,) for number in range(3000)], [1, 1, 2] * 900):
             for change in (
-                lambda it: it.add(it[0]), lambda it: it.remove(it[5]), lambda it: it.pop(), lambda it: it.clear(), lambda it: it.update(it[:5]),
-                lambda it: it.update(it[:]), lambda it: it.__delitem__(slice(5, 2000)), lambda it: it.__delitem__(3), lambda it: it.__imul__(2),
+                lambda it: it.add(it[0]),
+                lambda it: it.remove(it[5]),
+                lambda it: it.pop(),
+                lambda it: it.clear(),
+                lambda it: it.update(it[:5]),
+                lambda it: it.update(it[:]),
+                lambda it: it.__delitem__(slice(5, 2000)),
+                lambda it: it.__delitem__(3),
+                lambda it: it.__imul__(2),
             ):
                 ours = SortedList(items)
                 walk, back = iter(ours), reversed(ours)
@@ -195,7 +226,11 @@ class Changes(unittest.TestCase):
 
     def test_refused(self):
         """Where one cannot be compared with the others, none comes."""
-        for start, wrong in (([(number,) for number in range(2000)], ("a",)), (list(range(2000)), "a"), (list(map(str, range(2000))), 5)):
+        for start, wrong in (
+            ([(number,) for number in range(2000)], ("a",)),
+            (list(range(2000)), "a"),
+            (list(map(str, range(2000))), 5),
+        ):
             ours = SortedList(start)
             for items in ([start[0], wrong], start + [wrong], [wrong] * 3):
                 self.assertRaises(TypeError, ours.update, items)
@@ -223,10 +258,20 @@ class Changes(unittest.TestCase):
                     change(Sly.held)
                 return self.number < other.number
 
-        for change in (SortedList.clear, lambda it: it.__delitem__(slice(1, None)), lambda it: it.add(Sly(-1)), lambda it: it.pop(7)):
+        for change in (
+            SortedList.clear,
+            lambda it: it.__delitem__(slice(1, None)),
+            lambda it: it.add(Sly(-1)),
+            lambda it: it.pop(7),
+        ):
             for call in (
-                lambda it: it.add(Sly(5)), lambda it: it.update([Sly(6), Sly(3)]), lambda it: it.update([Sly(number) for number in range(2000)]),
-                lambda it: it.bisect_left(Sly(3)), lambda it: it.remove(Sly(4)), lambda it: it.index(Sly(4)), lambda it: Sly(9) in it,
+                lambda it: it.add(Sly(5)),
+                lambda it: it.update([Sly(6), Sly(3)]),
+                lambda it: it.update([Sly(number) for number in range(2000)]),
+                lambda it: it.bisect_left(Sly(3)),
+                lambda it: it.remove(Sly(4)),
+                lambda it: it.index(Sly(4)),
+                lambda it: Sly(9) in it,
             ):
                 Sly.held, Sly.other = SortedList(map(Sly, range(1000))), None
                 Sly.other = change
@@ -270,12 +315,24 @@ class Changes(unittest.TestCase):
     @unittest.skipUnless(_testcapi and indexset.BACKEND == "extension", "the interpreter cannot refuse memory")
     def test_memory(self):
         """Each request for memory fails in turn: all of a change is made, or nothing."""
-        kinds = ([(number,) for number in range(900)], list(range(10**12, 10**12 + 900)), list(map(str, range(900))), [number // 3 for number in range(900)])
-        changes = (
-            lambda it, more: it.update(more), lambda it, more: it.update(more[:9]), lambda it, more: it.__delitem__(slice(10, 800)),
-            lambda it, more: it.copy(), lambda it, more: it + more, lambda it, more: it.add(more[0]), lambda it, more: it.remove(it[3]),
+        kinds = (
+            [(number,) for number in range(900)],
+            list(range(10**12, 10**12 + 900)),
+            list(map(str, range(900))),
+            [number // 3 for number in range(900)],
         )
-        for items, change, make in itertools.product(kinds, changes, (SortedList, lambda it: SortedKeyList(it, key=lambda item: item))):
+        changes = (
+            lambda it, more: it.update(more),
+            lambda it, more: it.update(more[:9]),
+            lambda it, more: it.__delitem__(slice(10, 800)),
+            lambda it, more: it.copy(),
+            lambda it, more: it + more,
+            lambda it, more: it.add(more[0]),
+            lambda it, more: it.remove(it[3]),
+        )
+        for items, change, make in itertools.product(
+            kinds, changes, (SortedList, lambda it: SortedKeyList(it, key=lambda item: item))
+        ):
             for start in itertools.count(1):
                 ours, more = make(items), [items[0], *items[::3]]
                 before = list(ours)

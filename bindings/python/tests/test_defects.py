@@ -70,12 +70,25 @@ def examples():
     log = LoggedDict(None, {3: 30, 1: 10}, size=2)
     names = LoggedDict(None, {"b": "x", "a": None}, values="object", size=2)
     return [
-        SortedSet([2, 1]), SortedSet([0.5], keys="float64"), SortedSet(["b", "a"]), SortedSet([(2, "a"), (1, None)]),
-        SortedSet([1, 2], key=abs), SortedSet([None, 3, "x"], keys="any"), SortedDict({2: "b", 1: "a"}),
-        SortedDict({"b": [2], "a": [1]}), SortedDict(abs, {-2: 1, 1: 2}), SortedDict({b"a": 1}, keys="bytes"),
-        SortedList([2, 1, 2]), SortedList(["b", "a", "b"]), SortedKeyList([-3, 2], key=abs),
-        SortedMultiDict([(2, 1), (1, 5), (2, 0)]), SortedMultiDict([("b", "x"), ("a", "y"), ("b", "w")]),
-        log, names, Replica(log), Replica(names),
+        SortedSet([2, 1]),
+        SortedSet([0.5], keys="float64"),
+        SortedSet(["b", "a"]),
+        SortedSet([(2, "a"), (1, None)]),
+        SortedSet([1, 2], key=abs),
+        SortedSet([None, 3, "x"], keys="any"),
+        SortedDict({2: "b", 1: "a"}),
+        SortedDict({"b": [2], "a": [1]}),
+        SortedDict(abs, {-2: 1, 1: 2}),
+        SortedDict({b"a": 1}, keys="bytes"),
+        SortedList([2, 1, 2]),
+        SortedList(["b", "a", "b"]),
+        SortedKeyList([-3, 2], key=abs),
+        SortedMultiDict([(2, 1), (1, 5), (2, 0)]),
+        SortedMultiDict([("b", "x"), ("a", "y"), ("b", "w")]),
+        log,
+        names,
+        Replica(log),
+        Replica(names),
     ]
 
 
@@ -178,22 +191,42 @@ class Threads(unittest.TestCase):
 
     def test_reads(self):
         numbers = SortedSet(range(0, 200, 2))
-        self.run_beside(numbers, [
-            (lambda: numbers[7], 14), (lambda: numbers[90], 180), (lambda: numbers.bisect_left(41), 21),
-            (lambda: next(numbers.irange(33)), 34), (lambda: 5 in numbers, False),
-        ])
+        self.run_beside(
+            numbers,
+            [
+                (lambda: numbers[7], 14),
+                (lambda: numbers[90], 180),
+                (lambda: numbers.bisect_left(41), 21),
+                (lambda: next(numbers.irange(33)), 34),
+                (lambda: 5 in numbers, False),
+            ],
+        )
         ages = SortedDict({f"{at:3}": at for at in range(100)})
-        self.run_beside(ages, [
-            (lambda: ages[" 12"], 12), (lambda: ages.peekitem(70), (" 70", 70)), (lambda: ages.index("  9"), 9),
-        ])
+        self.run_beside(
+            ages,
+            [
+                (lambda: ages[" 12"], 12),
+                (lambda: ages.peekitem(70), (" 70", 70)),
+                (lambda: ages.index("  9"), 9),
+            ],
+        )
         log = LoggedDict(entries={at: -at for at in range(100)})
         replica = Replica(log)
         tags = SortedMultiDict((at % 10, at) for at in range(100))
-        self.run_beside(log, [
-            (lambda: log[12], -12), (lambda: replica[70], -70), (lambda: tags[3], list(range(3, 100, 10))),
-            (lambda: tags.last(), (9, 99)), (lambda: list(log.irange(8, 9)), [(8, -8), (9, -9)]),
-            (lambda: log.bisect_left(50), 50), (lambda: replica.peekitem(), (99, -99)), (lambda: tags.peekitem(11), (1, 11)),
-        ], 1000)
+        self.run_beside(
+            log,
+            [
+                (lambda: log[12], -12),
+                (lambda: replica[70], -70),
+                (lambda: tags[3], list(range(3, 100, 10))),
+                (lambda: tags.last(), (9, 99)),
+                (lambda: list(log.irange(8, 9)), [(8, -8), (9, -9)]),
+                (lambda: log.bisect_left(50), 50),
+                (lambda: replica.peekitem(), (99, -99)),
+                (lambda: tags.peekitem(11), (1, 11)),
+            ],
+            1000,
+        )
 
     def test_changes_beside_walks(self):
         """A walk beside changes gives keys in order or raises."""
@@ -221,9 +254,19 @@ class Changed(unittest.TestCase):
     """A change while something goes on."""
 
     def test_walks(self):
-        for make in (lambda: SortedSet(range(9)), lambda: SortedSet("abcdefghi"), lambda: SortedSet(zip(range(9))),
-                     lambda: SortedList([1, 1, 2, 3]), lambda: SortedDict(zip("abcdef", range(6)))):
-            for begin in (iter, reversed, lambda it: it.irange(it[1] if not isinstance(it, dict) else "b"), lambda it: it.islice(1)):
+        for make in (
+            lambda: SortedSet(range(9)),
+            lambda: SortedSet("abcdefghi"),
+            lambda: SortedSet(zip(range(9))),
+            lambda: SortedList([1, 1, 2, 3]),
+            lambda: SortedDict(zip("abcdef", range(6))),
+        ):
+            for begin in (
+                iter,
+                reversed,
+                lambda it: it.irange(it[1] if not isinstance(it, dict) else "b"),
+                lambda it: it.islice(1),
+            ):
                 ours = make()
                 walk = begin(ours)
                 next(walk)
@@ -235,8 +278,14 @@ class Changed(unittest.TestCase):
                     ours.clear()
 
     def test_within_a_walk(self):
-        for ours in (SortedSet(range(900)), SortedSet(map(str, range(900))), SortedDict.fromkeys(range(900)), SortedList("ab" * 450),
-                     SortedList([at // 3 for at in range(900)]), SortedList(range(900), key=float)):
+        for ours in (
+            SortedSet(range(900)),
+            SortedSet(map(str, range(900))),
+            SortedDict.fromkeys(range(900)),
+            SortedList("ab" * 450),
+            SortedList([at // 3 for at in range(900)]),
+            SortedList(range(900), key=float),
+        ):
             for begin in (iter, reversed):
                 for steps in (5, 70, 600):
                     walk, other = begin(ours), begin(ours)
@@ -318,8 +367,15 @@ class Refused(unittest.TestCase):
     """What does not fit leaves all as it was."""
 
     def test_many(self):
-        for keys, good, bad in (("int64", [5, 6], 1.5), ("str", ["x"], 5), ("any", [None, (1,)], {1}), ("object", [7], "a"),
-                                ("float64", [0.5], math.nan), ("bytes", [b""], "a"), ("uint64", [3], -1)):
+        for keys, good, bad in (
+            ("int64", [5, 6], 1.5),
+            ("str", ["x"], 5),
+            ("any", [None, (1,)], {1}),
+            ("object", [7], "a"),
+            ("float64", [0.5], math.nan),
+            ("bytes", [b""], "a"),
+            ("uint64", [3], -1),
+        ):
             for cls in (SortedSet, SortedList):
                 ours = cls(good, keys=keys)
                 before = list(ours)
@@ -329,7 +385,9 @@ class Refused(unittest.TestCase):
             ages = SortedDict(((key, 1) for key in good), keys=keys)
             for call in (lambda: ages.update([(good[0], 2), (bad, 3)]), lambda: ages.__setitem__(bad, 3)):
                 self.assertRaises((TypeError, ValueError, OverflowError), call)
-                self.assertEqual((dict(ages), sorted(map(repr, ages))), ({key: 1 for key in good}, sorted(map(repr, good))))
+                self.assertEqual(
+                    (dict(ages), sorted(map(repr, ages))), ({key: 1 for key in good}, sorted(map(repr, good)))
+                )
 
     def test_found_kinds(self):
         ours = SortedSet([1, 2])
@@ -342,8 +400,16 @@ class Refused(unittest.TestCase):
         """Each request for memory of Python fails in turn: the order and what finds its items agree."""
         texts = [f"{at}" for at in range(40)]
         numbers = range(10**12, 10**12 + 40)
-        kinds = ((SortedDict, texts), (SortedSet, texts), (SortedSet, numbers), (SortedDict, numbers), (SortedList, range(40)),
-                 (SortedList, [at // 4 for at in range(40)]), (lambda: SortedSet(key=int), numbers), (lambda: SortedDict(int), numbers))
+        kinds = (
+            (SortedDict, texts),
+            (SortedSet, texts),
+            (SortedSet, numbers),
+            (SortedDict, numbers),
+            (SortedList, range(40)),
+            (SortedList, [at // 4 for at in range(40)]),
+            (lambda: SortedSet(key=int), numbers),
+            (lambda: SortedDict(int), numbers),
+        )
         for (make, items), change in itertools.product(kinds, (changed, changed_together)):
             for start in range(1, 200):
                 ours = make()

@@ -119,9 +119,22 @@ class Bounds(unittest.TestCase):
     """Reads answer as on a list, whatever number they are given."""
 
     def test_numbers(self):
-        items = {"int64": [-5, 0, 1, 3, (1 << 63) - 1], "uint64": [0, 1, 7, (1 << 64) - 1], "float64": [-math.inf, -1.5, 0.0, 0.1, 2.0**60]}
+        items = {
+            "int64": [-5, 0, 1, 3, (1 << 63) - 1],
+            "uint64": [0, 1, 7, (1 << 64) - 1],
+            "float64": [-math.inf, -1.5, 0.0, 0.1, 2.0**60],
+        }
         bounds = [1.5, -0.5, 2**70, -(2**70), math.inf, -math.inf, 0, 1, 10**400, -(10**400), 2**53 + 1, 0.1]
-        bounds += [fractions.Fraction(1, 3), decimal.Decimal("0.1"), True, 2**64, 2**63, -(2**63) - 1, 2.0**60 + 1, 2**60 + 1]
+        bounds += [
+            fractions.Fraction(1, 3),
+            decimal.Decimal("0.1"),
+            True,
+            2**64,
+            2**63,
+            -(2**63) - 1,
+            2.0**60 + 1,
+            2**60 + 1,
+        ]
         for keys, wanted in items.items():
             for ours in (SortedSet(wanted, keys=keys), SortedDict.fromkeys(wanted), SortedList(wanted, keys=keys)):
                 for low in bounds:
@@ -155,7 +168,9 @@ class Arrays(unittest.TestCase):
 
     @unittest.skipUnless(numpy, "numpy is not installed")
     def test_numpy(self):
-        for name in "int8 int16 int32 int64 uint8 uint16 uint32 uint64 float16 float32 float64 bool >i8 >f4 <u2".split():
+        for (
+            name
+        ) in "int8 int16 int32 int64 uint8 uint16 uint32 uint64 float16 float32 float64 bool >i8 >f4 <u2".split():
             values = numpy.array([1, 0, 1], dtype=name)
             ours = SortedSet(values)
             self.assertEqual(list(ours), [0, 1])

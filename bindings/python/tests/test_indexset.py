@@ -339,7 +339,9 @@ class Dictionaries(unittest.TestCase):
                 return "odd"
 
         doubled, odd = Doubled({1: "a"}), Odd({1: "a"})
-        self.assertEqual((doubled[1], doubled[5], doubled.get(5), 5 in doubled, list(doubled)), ("a", 10, None, False, [1]))
+        self.assertEqual(
+            (doubled[1], doubled[5], doubled.get(5), 5 in doubled, list(doubled)), ("a", 10, None, False, [1])
+        )
         self.assertEqual((odd[1], odd[5], 7 in odd, 1 in odd, list(odd)), ("odd", "odd", True, False, [1]))
 
     def test_references(self):
@@ -347,7 +349,13 @@ class Dictionaries(unittest.TestCase):
         number = 10**15 + len(repr(self))
         before = sys.getrefcount(number)
         for make in (SortedSet, SortedList, SortedDict.fromkeys):
-            for end in (list, len, lambda it: it.clear(), lambda it: it.copy(), lambda it: isinstance(it, dict) and it.pop(number, 0)):
+            for end in (
+                list,
+                len,
+                lambda it: it.clear(),
+                lambda it: it.copy(),
+                lambda it: isinstance(it, dict) and it.pop(number, 0),
+            ):
                 ours = make([number])
                 ours.update({number: 1, 5: 2})
                 end(ours), end(ours.copy())

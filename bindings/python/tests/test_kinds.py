@@ -102,12 +102,31 @@ DRAWN = {
 
 # The errors of each call that raises some, but for those of memory.
 RAISED = {
-    "add": "TypeError", "apply": "Gap Refused", "apply_all": "Gap Refused", "append": "NotImplementedError", "at_all": "IndexError",
-    "bisect": "TypeError", "bisect_key": "TypeError", "bisect_key_left": "TypeError", "bisect_key_right": "TypeError",
-    "bisect_right": "TypeError", "extend": "NotImplementedError", "first": "IndexError", "fromkeys": "TypeError", "index": "ValueError",
-    "insert": "NotImplementedError", "irange_key": "RuntimeError TypeError", "last": "IndexError", "peekitem": "IndexError",
-    "pop": "Error", "popitem": "KeyError", "remove": "Error", "reverse": "NotImplementedError", "setdefault": "TypeError",
-    "to_array": "TypeError", "update": "TypeError",
+    "add": "TypeError",
+    "apply": "Gap Refused",
+    "apply_all": "Gap Refused",
+    "append": "NotImplementedError",
+    "at_all": "IndexError",
+    "bisect": "TypeError",
+    "bisect_key": "TypeError",
+    "bisect_key_left": "TypeError",
+    "bisect_key_right": "TypeError",
+    "bisect_right": "TypeError",
+    "extend": "NotImplementedError",
+    "first": "IndexError",
+    "fromkeys": "TypeError",
+    "index": "ValueError",
+    "insert": "NotImplementedError",
+    "irange_key": "RuntimeError TypeError",
+    "last": "IndexError",
+    "peekitem": "IndexError",
+    "pop": "Error",
+    "popitem": "KeyError",
+    "remove": "Error",
+    "reverse": "NotImplementedError",
+    "setdefault": "TypeError",
+    "to_array": "TypeError",
+    "update": "TypeError",
 }
 
 
@@ -126,7 +145,13 @@ class Encoding(unittest.TestCase):
         self.assertEqual([rank for _, rank in sorted(followed)], sorted(map(rank_of, keys)))
 
     def test_refused(self):
-        for key, error in (({}, TypeError), (math.nan, ValueError), (1 << 2040, OverflowError), ([1], TypeError), (object(), TypeError)):
+        for key, error in (
+            ({}, TypeError),
+            (math.nan, ValueError),
+            (1 << 2040, OverflowError),
+            ([1], TypeError),
+            (object(), TypeError),
+        ):
             self.assertRaises(error, pack, key)
             self.assertRaises(error, pack, (1, key))
         self.assertEqual(unpack(pack((1 << 2040) - 1)), (1 << 2040) - 1)
@@ -158,7 +183,9 @@ class Kinds(unittest.TestCase):
                 self.assertEqual(ages.popitem(at), (wanted, members[wanted]))
                 self.assertEqual(ours.pop(at), wanted)
                 del members[wanted]
-            self.assertEqual((len(ours), item in ours, ages.get(item)), (len(members), item in members, members.get(item)))
+            self.assertEqual(
+                (len(ours), item in ours, ages.get(item)), (len(members), item in members, members.get(item))
+            )
             if step % 100 == 0:
                 self.compare(ours, ages, members, order, drawn(rng), drawn(rng))
         self.assertEqual(ours.kind, ages.kind)
@@ -168,13 +195,17 @@ class Kinds(unittest.TestCase):
     def compare(self, ours, ages, members, order, low, high):
         wanted = sorted(members, key=order) if order is rank_of or order is None else list(ours)
         self.assertEqual((list(ours), list(ages)), (wanted, wanted))
-        self.assertEqual([order(it) if order else it for it in wanted], sorted(order(it) if order else it for it in wanted))
+        self.assertEqual(
+            [order(it) if order else it for it in wanted], sorted(order(it) if order else it for it in wanted)
+        )
         self.assertEqual((list(reversed(ours)), ours[2:9], ours[9:2:-2]), (wanted[::-1], wanted[2:9], wanted[9:2:-2]))
         self.assertEqual(list(ages.items()), [(item, members[item]) for item in wanted])
         ranks, edges = ([order(it) if order else it for it in items] for items in (wanted, (low, high)))
         for one in (ours, ages):
             self.assertEqual([one.bisect_left(it) for it in (low, high)], [bisect_left(ranks, edge) for edge in edges])
-            self.assertEqual([one.bisect_right(it) for it in (low, high)], [bisect_right(ranks, edge) for edge in edges])
+            self.assertEqual(
+                [one.bisect_right(it) for it in (low, high)], [bisect_right(ranks, edge) for edge in edges]
+            )
             inside = [it for it, rank in zip(wanted, ranks) if edges[0] <= rank <= edges[1]]
             if None not in (low, high):
                 self.assertEqual(list(one.irange(low, high)), inside)
@@ -199,10 +230,22 @@ class Kinds(unittest.TestCase):
         self.run_kind("object", False, lambda it: it.parts[1])
 
     def test_names(self):
-        cases = [([1], "int64"), ([True], "object"), ([1 << 63], "object"), ([0.5], "float64"), (["a"], "str"), ([b"a"], "bytes"),
-                 ([(1, 2)], "object"), ([1, 0.5], "object"), ([-1, 1 << 62], "int64"), ([], "int64")]
+        cases = [
+            ([1], "int64"),
+            ([True], "object"),
+            ([1 << 63], "object"),
+            ([0.5], "float64"),
+            (["a"], "str"),
+            ([b"a"], "bytes"),
+            ([(1, 2)], "object"),
+            ([1, 0.5], "object"),
+            ([-1, 1 << 62], "int64"),
+            ([], "int64"),
+        ]
         for items, kind in cases:
-            self.assertEqual((SortedSet(items).kind, SortedDict.fromkeys(items).kind, SortedList(items).kind), (kind,) * 3)
+            self.assertEqual(
+                (SortedSet(items).kind, SortedDict.fromkeys(items).kind, SortedList(items).kind), (kind,) * 3
+            )
             self.assertEqual(repr(SortedSet(items)), f"SortedSet({sorted(items)})")
         self.assertEqual(repr(SortedSet(["a", None], keys="any")), "SortedSet([None, 'a'], keys='any')")
         self.assertEqual(repr(SortedList([2, 1], keys="uint64")), "SortedList([1, 2], keys='uint64')")
@@ -225,14 +268,35 @@ class Kinds(unittest.TestCase):
         self.assertEqual((list(ours), ours.kind), (["a"], "str"))
 
     def test_examples(self):
-        for name in ("", "._dict", "._list", "._log", "._multi", "._nodes", "._placed", "._replica", "._set", "._sorted", "._tuple", "._views"):
+        for name in (
+            "",
+            "._dict",
+            "._list",
+            "._log",
+            "._multi",
+            "._nodes",
+            "._placed",
+            "._replica",
+            "._set",
+            "._sorted",
+            "._tuple",
+            "._views",
+        ):
             result = doctest.testmod(importlib.import_module(f"indexset{name}"))
             self.assertEqual((name, result.failed), (name, 0))
             self.assertGreater(result.attempted, 0, name)
 
     def test_help(self):
-        """Each public class says what it costs and has an example; so has each public call, which also says what it raises."""
-        for name in ("LoggedDict", "Replica", "SortedDict", "SortedKeyList", "SortedList", "SortedMultiDict", "SortedSet"):
+        """Each public class says its cost and has an example; each public call has one and says what it raises."""
+        for name in (
+            "LoggedDict",
+            "Replica",
+            "SortedDict",
+            "SortedKeyList",
+            "SortedList",
+            "SortedMultiDict",
+            "SortedSet",
+        ):
             found = getattr(indexset, name)
             self.assertRegex(found.__doc__, "(?i)cost", name)
             self.assertIn(">>>", found.__doc__, name)
@@ -276,7 +340,10 @@ class Multi(unittest.TestCase):
                     self.assertEqual(ours.pop(key), values.pop(0))
                 else:
                     self.assertRaises(KeyError, ours.pop, key)
-                self.assertEqual((ours.get(key), ours.count(key), (key, value) in ours), (wanted[key], len(wanted[key]), value in wanted[key]))
+                self.assertEqual(
+                    (ours.get(key), ours.count(key), (key, value) in ours),
+                    (wanted[key], len(wanted[key]), value in wanted[key]),
+                )
                 if step % 200 == 0:
                     order = rank_of if kind == "any" else None
                     pairs = [(key, value) for key in sorted(wanted, key=order) for value in wanted[key]]

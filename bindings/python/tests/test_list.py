@@ -60,7 +60,9 @@ class Random(unittest.TestCase):
             self.assertEqual(list(ours.islice(start, stop, True)), wanted[start:stop][::-1])
             low, high = rng.sample(items, 2)
             self.assertEqual(list(ours.irange(low, high)), [it for it in wanted if low <= it <= high])
-            self.assertEqual(list(ours.irange(low, high, (False, False), True)), [it for it in wanted if low < it < high][::-1])
+            self.assertEqual(
+                list(ours.irange(low, high, (False, False), True)), [it for it in wanted if low < it < high][::-1]
+            )
         if wanted:
             chosen = rng.choice(wanted)
             first = wanted.index(chosen)
@@ -109,7 +111,11 @@ class Repeated(unittest.TestCase):
     """Numbers that repeat, and sort keys that are numbers."""
 
     def test_other_types(self):
-        for kind, items in (("int64", [1, True, 1.0, 0, False]), ("uint64", [7, 7.0, 3]), ("float64", [1, 1.0, True, -0.0, 0])):
+        for kind, items in (
+            ("int64", [1, True, 1.0, 0, False]),
+            ("uint64", [7, 7.0, 3]),
+            ("float64", [1, 1.0, True, -0.0, 0]),
+        ):
             ours = SortedList(items + items, keys=kind)
             wanted = sorted(items + items)
             self.assertEqual([(it, type(it)) for it in ours], [(it, type(it)) for it in wanted])
@@ -117,18 +123,32 @@ class Repeated(unittest.TestCase):
             for value in (0.5, "x", None, 1 << 70, -1, float("nan"), float("inf")):
                 self.assertEqual((value in ours, ours.count(value)), (False, 0))
                 ours.discard(value)
-            self.assertEqual((ours.bisect(0.5), ours.bisect_left(1 << 70), len(ours)), (bisect_right(wanted, 0.5), len(wanted), len(wanted)))
+            self.assertEqual(
+                (ours.bisect(0.5), ours.bisect_left(1 << 70), len(ours)),
+                (bisect_right(wanted, 0.5), len(wanted), len(wanted)),
+            )
             for item in items:
                 ours.remove(item)
                 wanted.remove(item)
             self.assertEqual([(it, type(it)) for it in ours], [(it, type(it)) for it in wanted])
 
     def test_ends(self):
-        for kind, least, greatest in (("int64", -(1 << 63), (1 << 63) - 1), ("uint64", 0, (1 << 64) - 1), ("float64", -math.inf, math.inf)):
+        for kind, least, greatest in (
+            ("int64", -(1 << 63), (1 << 63) - 1),
+            ("uint64", 0, (1 << 64) - 1),
+            ("float64", -math.inf, math.inf),
+        ):
             ours = SortedList([least, greatest] * 3, keys=kind)
-            self.assertEqual([ours.bisect_left(least), ours.bisect(least), ours.bisect_left(greatest), ours.bisect(greatest)], [0, 3, 3, 6])
-            self.assertEqual((list(ours.irange(greatest)), list(ours.irange(None, least))), ([greatest] * 3, [least] * 3))
-            self.assertEqual((ours.count(greatest), ours.index(greatest, 4), ours.pop(), ours.pop(0)), (3, 4, greatest, least))
+            self.assertEqual(
+                [ours.bisect_left(least), ours.bisect(least), ours.bisect_left(greatest), ours.bisect(greatest)],
+                [0, 3, 3, 6],
+            )
+            self.assertEqual(
+                (list(ours.irange(greatest)), list(ours.irange(None, least))), ([greatest] * 3, [least] * 3)
+            )
+            self.assertEqual(
+                (ours.count(greatest), ours.index(greatest, 4), ours.pop(), ours.pop(0)), (3, 4, greatest, least)
+            )
 
     def test_not_compared(self):
         """Equal items are not compared one by one."""
@@ -141,7 +161,11 @@ class Repeated(unittest.TestCase):
         self.assertEqual((found, len(ours), Told.compared - before < 10), ((3001, True, 0, 2000, 3001, 0), 2999, True))
 
     def test_refused(self):
-        for ours in (SortedList([5, 5, 1]), SortedList([5, 5, 1], keys="int64"), SortedKeyList([5, 5, 1], key=abs, keys="int64")):
+        for ours in (
+            SortedList([5, 5, 1]),
+            SortedList([5, 5, 1], keys="int64"),
+            SortedKeyList([5, 5, 1], key=abs, keys="int64"),
+        ):
             for items in ([5, 5, "x"], [2, 5, None]):
                 self.assertRaises(TypeError, ours.update, items)
                 self.assertEqual(list(ours), [1, 5, 5])
@@ -151,8 +175,13 @@ class Repeated(unittest.TestCase):
         """A call that the library refuses memory changes nothing."""
         ours, key = SortedList([5, 5, 1]), SortedKeyList([-5, 5, 1], key=abs)
         changes = [
-            ("push", lambda: ours.add(7)), ("push", lambda: key.update([7, 8])), ("push", ours.copy), ("push", key.copy),
-            ("remove_at", ours.pop), ("remove_at", lambda: key.remove(5)), ("remove_first", lambda: ours.remove(5)),
+            ("push", lambda: ours.add(7)),
+            ("push", lambda: key.update([7, 8])),
+            ("push", ours.copy),
+            ("push", key.copy),
+            ("remove_at", ours.pop),
+            ("remove_at", lambda: key.remove(5)),
+            ("remove_first", lambda: ours.remove(5)),
         ]
         for call, change in changes:
             with mock.patch.object(indexset._library.lib, f"indexset_multi_{call}", lambda *words: 2):
@@ -204,7 +233,13 @@ class Repeated(unittest.TestCase):
 class Calls(unittest.TestCase):
     def test_refused(self):
         ours = SortedList([3, 1])
-        for call, words in ((ours.append, (1,)), (ours.extend, ([1],)), (ours.insert, (0, 1)), (ours.reverse, ()), (ours.__setitem__, (0, 1))):
+        for call, words in (
+            (ours.append, (1,)),
+            (ours.extend, ([1],)),
+            (ours.insert, (0, 1)),
+            (ours.reverse, ()),
+            (ours.__setitem__, (0, 1)),
+        ):
             self.assertRaises(NotImplementedError, call, *words)
         for call in (lambda: ours[2], lambda: ours[-3], lambda: ours.pop(2), lambda: ours[1 << 70]):
             self.assertRaises(IndexError, call)
@@ -216,7 +251,9 @@ class Calls(unittest.TestCase):
 
     def test_beside_lists(self):
         ours = SortedList([2, 1, 2])
-        self.assertEqual((ours, ours + [0], ours * 2, 2 * ours), ([1, 2, 2], [0, 1, 2, 2], [1, 1, 2, 2, 2, 2], [1, 1, 2, 2, 2, 2]))
+        self.assertEqual(
+            (ours, ours + [0], ours * 2, 2 * ours), ([1, 2, 2], [0, 1, 2, 2], [1, 1, 2, 2, 2, 2], [1, 1, 2, 2, 2, 2])
+        )
         self.assertTrue(ours < [1, 3] and ours <= [1, 2, 2] and ours > [1] and ours >= (1, 2) and ours != {1, 2})
         ours += [5, 0]
         ours *= 2
@@ -235,7 +272,9 @@ class Calls(unittest.TestCase):
 
     def test_unhashable(self):
         ours = SortedList([[2], [1], [1, 5]])
-        self.assertEqual((list(ours), ours.index([1, 5]), [2] in ours, ours.kind), ([[1], [1, 5], [2]], 1, True, "object"))
+        self.assertEqual(
+            (list(ours), ours.index([1, 5]), [2] in ours, ours.kind), ([[1], [1, 5], [2]], 1, True, "object")
+        )
         ours = SortedKeyList([{"a": 2}, {"a": 1}], key=lambda it: it["a"])
         self.assertEqual((list(ours), ours.count({"a": 2}), ours.kind), ([{"a": 1}, {"a": 2}], 1, "int64"))
 

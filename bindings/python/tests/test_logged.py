@@ -93,7 +93,9 @@ class Calls(unittest.TestCase):
         ours[0.5] = "x"
         self.assertEqual(ours.kinds, ("float64", "str"))
         ours = LoggedDict(entries={Version("1.2"): 1, Version("1.10"): 2})
-        self.assertEqual((ours.kinds[0], [repr(key) for key in ours]), ("object", ["Version('1.2')", "Version('1.10')"]))
+        self.assertEqual(
+            (ours.kinds[0], [repr(key) for key in ours]), ("object", ["Version('1.2')", "Version('1.10')"])
+        )
 
     def test_refused(self):
         told = []

@@ -37,7 +37,9 @@ def views(case, one, pairs):
         for at in (slice(None), slice(2, -1), slice(None, None, -2), slice(5, 1, -1), slice(9, 3), slice(0, 9, 3)):
             case.assertEqual(view[at], wanted[at])
         for item in wanted[::7]:
-            case.assertEqual((view.index(item), view.count(item), item in view), (wanted.index(item), wanted.count(item), True))
+            case.assertEqual(
+                (view.index(item), view.count(item), item in view), (wanted.index(item), wanted.count(item), True)
+            )
 
 
 class MultiDictionaries(unittest.TestCase):
@@ -210,14 +212,18 @@ class Replicas(unittest.TestCase):
         replica.apply_all(told)
         self.assertEqual((replica.next, replica.nodes()), (ours.next, ours.nodes()))
         self.assertEqual((replica, len(replica), list(replica)), (ours, len(ours), list(ours)))
-        self.assertEqual([replica.get(key / 2) for key in range(-60, 60)], [ours.get(key / 2) for key in range(-60, 60)])
+        self.assertEqual(
+            [replica.get(key / 2) for key in range(-60, 60)], [ours.get(key / 2) for key in range(-60, 60)]
+        )
         self.assertEqual(list(replica.irange(-3, 3.5)), list(ours.irange(-3, 3.5)))
 
     def test_refused(self):
         told = []
         ours = LoggedDict(told.append, {1: 10, 2: 20})
         replica = Replica(ours)
-        self.assertEqual((repr(replica), replica.next, 1 in replica, "1" in replica), ("Replica({1: 10, 2: 20})", 2, True, False))
+        self.assertEqual(
+            (repr(replica), replica.next, 1 in replica, "1" in replica), ("Replica({1: 10, 2: 20})", 2, True, False)
+        )
         self.assertRaises(KeyError, replica.__getitem__, 3)
         self.assertFalse(replica.apply(told[1]))
         self.assertRaises(Gap, replica.apply, told[1]._replace(number=3))

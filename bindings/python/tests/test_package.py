@@ -13,13 +13,20 @@ HERE = pathlib.Path(__file__).resolve().parent.parent
 SAYS = "import indexset; print(indexset.BACKEND, indexset.SortedSet([2, 1]), len(indexset.LoggedDict(None, {'a': 1})))"
 sys.path.insert(0, str(HERE))
 
-from build_fast import compiler
+from build_fast import compiler  # noqa: E402
 
 
 def ran(*words, **more):
     """A command's status and what it said."""
     where = {name: value for name, value in os.environ.items() if not name.startswith("INDEXSET_")}
-    done = subprocess.run(list(map(str, words)), stdout=subprocess.PIPE, stderr=subprocess.STDOUT, text=True, cwd="/", env={**where, **more})
+    done = subprocess.run(
+        list(map(str, words)),
+        stdout=subprocess.PIPE,
+        stderr=subprocess.STDOUT,
+        text=True,
+        cwd="/",
+        env={**where, **more},
+    )
     return done.returncode, done.stdout
 
 
@@ -49,7 +56,10 @@ class Package(unittest.TestCase):
 
     def built(self, call, folder=HERE, **more):
         """What a hook of the backend makes."""
-        made = f"import sys; sys.path.insert(0, {str(folder)!r}); import wheel_backend; print(wheel_backend.{call}({str(self.folder)!r}))"
+        made = (
+            f"import sys; sys.path.insert(0, {str(folder)!r}); import wheel_backend;"
+            f" print(wheel_backend.{call}({str(self.folder)!r}))"
+        )
         status, said = ran(sys.executable, "-c", made, **more)
         self.assertEqual(status, 0, said)
         return self.folder / said.splitlines()[-1]
@@ -75,7 +85,9 @@ class Package(unittest.TestCase):
         names = set(zipfile.ZipFile(made).namelist())
         for name in ("indexset/py.typed", "indexset/libindexset.so", "indexset-0.2.0.dist-info/LICENSE"):
             self.assertIn(name, names)
-        self.assertEqual(self.built("build_wheel", PATH="/nowhere", CC="no-compiler").name, f"indexset-0.2.0-{tags[None]}.whl")
+        self.assertEqual(
+            self.built("build_wheel", PATH="/nowhere", CC="no-compiler").name, f"indexset-0.2.0-{tags[None]}.whl"
+        )
 
     def test_without_the_library(self):
         shutil.copytree(HERE, self.folder / "bare/bindings/python", ignore=shutil.ignore_patterns("out"))
@@ -83,7 +95,9 @@ class Package(unittest.TestCase):
         self.assertNotEqual(status, 0)
         self.assertNotIn("Traceback", said)
         self.assertRegex(said, "libindexset.so is missing; `make -C bindings/c` makes it")
-        status, said = ran(sys.executable, "-c", "import indexset", PYTHONPATH=str(self.folder / "bare/bindings/python/src"))
+        status, said = ran(
+            sys.executable, "-c", "import indexset", PYTHONPATH=str(self.folder / "bare/bindings/python/src")
+        )
         self.assertRegex(said.splitlines()[-1], "^ImportError: indexset lacks its library")
 
 

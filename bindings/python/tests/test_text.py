@@ -63,7 +63,9 @@ class Random(unittest.TestCase):
         self.assertEqual(ours.items()[3:40:2], wanted[3:40:2])
         self.assertEqual(list(ours.islice(2, 30, True)), keys[2:30][::-1])
         self.assertEqual(list(ours.irange(low, high)), [key for key in keys if low <= key <= high])
-        self.assertEqual((ours.bisect_left(low), ours.bisect_right(low)), (bisect_left(keys, low), bisect_right(keys, low)))
+        self.assertEqual(
+            (ours.bisect_left(low), ours.bisect_right(low)), (bisect_left(keys, low), bisect_right(keys, low))
+        )
         if keys:
             self.assertEqual(ours.index(keys[len(keys) // 2]), len(keys) // 2)
         self.assertEqual(ours, dict(wanted))
@@ -178,13 +180,36 @@ class Noted(unittest.TestCase):
     def test_reads(self):
         """Each read finds the changes made."""
         reads = [
-            lambda it: it.peekitem(1), lambda it: it.bisect_left("b"), lambda it: it.bisect_right("b"), lambda it: it.index("c"),
-            list, lambda it: list(reversed(it)), lambda it: it.keys()[0:2], lambda it: list(it.irange("b")), lambda it: it.popitem(0),
-            lambda it: list(it.copy()), lambda it: list(pickle.loads(pickle.dumps(it))), lambda it: it.pop("c"), len, repr,
+            lambda it: it.peekitem(1),
+            lambda it: it.bisect_left("b"),
+            lambda it: it.bisect_right("b"),
+            lambda it: it.index("c"),
+            list,
+            lambda it: list(reversed(it)),
+            lambda it: it.keys()[0:2],
+            lambda it: list(it.irange("b")),
+            lambda it: it.popitem(0),
+            lambda it: list(it.copy()),
+            lambda it: list(pickle.loads(pickle.dumps(it))),
+            lambda it: it.pop("c"),
+            len,
+            repr,
         ]
         wanted = [
-            ("b", 2), 1, 2, 2, ["a", "b", "c"], ["c", "b", "a"], ["a", "b"], ["b", "c"], ("a", 1), ["a", "b", "c"],
-            ["a", "b", "c"], 3, 3, "SortedDict({'a': 1, 'b': 2, 'c': 3})",
+            ("b", 2),
+            1,
+            2,
+            2,
+            ["a", "b", "c"],
+            ["c", "b", "a"],
+            ["a", "b"],
+            ["b", "c"],
+            ("a", 1),
+            ["a", "b", "c"],
+            ["a", "b", "c"],
+            3,
+            3,
+            "SortedDict({'a': 1, 'b': 2, 'c': 3})",
         ]
         for read, answer in zip(reads, wanted):
             ours = SortedDict({"x": 0, "b": 0})

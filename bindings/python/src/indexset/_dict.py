@@ -5,7 +5,18 @@ import warnings
 from collections.abc import Mapping
 from itertools import filterfalse
 from reprlib import recursive_repr
-from typing import Any, Callable, Generic, Iterable, Iterator, Literal, Optional, SupportsIndex, TypeVar, Union, overload
+from typing import (
+    Any,
+    Callable,
+    Generic,
+    Iterable,
+    Literal,
+    Optional,
+    SupportsIndex,
+    TypeVar,
+    Union,
+    overload,
+)
 
 from ._kinds import OBJECT, known
 from ._native import DictFront
@@ -50,19 +61,33 @@ class SortedDict(Placed[K, V], Generic[K, V]):
     _named: Optional[str]
 
     @overload
-    def __init__(self: SortedDict[int, V], entries: Entries[int, V] = ..., *, keys: Literal["int64", "uint64"]) -> None: ...
+    def __init__(self: SortedDict[int, V], entries: Entries[int, V] = ..., *, keys: Literal["int64", "uint64"]) -> None:
+        ...
+
     @overload
-    def __init__(self: SortedDict[float, V], entries: Entries[float, V] = ..., *, keys: Literal["float64"]) -> None: ...
+    def __init__(self: SortedDict[float, V], entries: Entries[float, V] = ..., *, keys: Literal["float64"]) -> None:
+        ...
+
     @overload
-    def __init__(self: SortedDict[str, V], entries: Entries[str, V] = ..., *, keys: Literal["str"]) -> None: ...
+    def __init__(self: SortedDict[str, V], entries: Entries[str, V] = ..., *, keys: Literal["str"]) -> None:
+        ...
+
     @overload
-    def __init__(self: SortedDict[bytes, V], entries: Entries[bytes, V] = ..., *, keys: Literal["bytes"]) -> None: ...
+    def __init__(self: SortedDict[bytes, V], entries: Entries[bytes, V] = ..., *, keys: Literal["bytes"]) -> None:
+        ...
+
     @overload
-    def __init__(self: SortedDict[str, V], *, keys: None = ..., **words: V) -> None: ...
+    def __init__(self: SortedDict[str, V], *, keys: None = ..., **words: V) -> None:
+        ...
+
     @overload
-    def __init__(self, entries: Mapping[K, V], /, *, keys: Optional[str] = ...) -> None: ...
+    def __init__(self, entries: Mapping[K, V], /, *, keys: Optional[str] = ...) -> None:
+        ...
+
     @overload
-    def __init__(self, entries: Iterable[tuple[K, V]], /, *, keys: Optional[str] = ...) -> None: ...
+    def __init__(self, entries: Iterable[tuple[K, V]], /, *, keys: Optional[str] = ...) -> None:
+        ...
+
     @overload
     def __init__(
         self,
@@ -71,7 +96,9 @@ class SortedDict(Placed[K, V], Generic[K, V]):
         /,
         *,
         keys: Optional[str] = ...,
-    ) -> None: ...
+    ) -> None:
+        ...
+
     def __init__(self, *given: object, keys: object = None, **words: object) -> None:
         is_key = bool(given) and (given[0] is None or callable(given[0]))
         named: Any = keys
@@ -87,10 +114,14 @@ class SortedDict(Placed[K, V], Generic[K, V]):
 
     @classmethod
     @overload
-    def fromkeys(cls, iterable: Iterable[S], value: None = None, /) -> SortedDict[S, None]: ...
+    def fromkeys(cls, iterable: Iterable[S], value: None = None, /) -> SortedDict[S, None]:
+        ...
+
     @classmethod
     @overload
-    def fromkeys(cls, iterable: Iterable[S], value: U, /) -> SortedDict[S, U]: ...
+    def fromkeys(cls, iterable: Iterable[S], value: U, /) -> SortedDict[S, U]:
+        ...
+
     @classmethod
     def fromkeys(cls, iterable: Iterable[object], value: object = None, /) -> object:
         """A dictionary from each key to a value. TypeError, OverflowError or ValueError where a key does not fit.
@@ -104,9 +135,13 @@ class SortedDict(Placed[K, V], Generic[K, V]):
     # ---- one key
 
     @overload
-    def setdefault(self: SortedDict[K, Optional[U]], key: K, default: None = None) -> Optional[U]: ...
+    def setdefault(self: SortedDict[K, Optional[U]], key: K, default: None = None) -> Optional[U]:
+        ...
+
     @overload
-    def setdefault(self, key: K, default: V) -> V: ...
+    def setdefault(self, key: K, default: V) -> V:
+        ...
+
     def setdefault(self, key: K, default: object = None) -> object:
         """The value of a key, which becomes the default where the key is not there. TypeError, OverflowError or
         ValueError where the key does not fit.
@@ -121,9 +156,13 @@ class SortedDict(Placed[K, V], Generic[K, V]):
         return default
 
     @overload
-    def pop(self, key: K) -> V: ...
+    def pop(self, key: K) -> V:
+        ...
+
     @overload
-    def pop(self, key: K, default: Union[V, U]) -> Union[V, U]: ...
+    def pop(self, key: K, default: Union[V, U]) -> Union[V, U]:
+        ...
+
     def pop(self, key: K, default: object = _NOT_GIVEN) -> object:
         """Removes a key and returns its value, or the default where it is not there. KeyError where there is none of
         the two.
@@ -166,11 +205,17 @@ class SortedDict(Placed[K, V], Generic[K, V]):
     # ---- many keys
 
     @overload  # type: ignore[override]
-    def update(self, entries: Entries[K, V], /) -> None: ...
+    def update(self, entries: Entries[K, V], /) -> None:
+        ...
+
     @overload
-    def update(self: SortedDict[str, V], __entries: Entries[str, V], **words: V) -> None: ...
+    def update(self: SortedDict[str, V], __entries: Entries[str, V], **words: V) -> None:
+        ...
+
     @overload
-    def update(self: SortedDict[str, V], **words: V) -> None: ...
+    def update(self: SortedDict[str, V], **words: V) -> None:
+        ...
+
     def update(self, *given: object, **words: object) -> None:
         """Makes each value that of its key. TypeError, OverflowError or ValueError where a key does not fit: then the
         dictionary is as it was.
@@ -194,8 +239,8 @@ class SortedDict(Placed[K, V], Generic[K, V]):
             raise
 
     def _laid(self, entries: dict[K, V]) -> bool:
-        """Has the entries of a dict, where there are none and its keys are of a kind's own type; whether it has. No code but
-        of such a type runs meanwhile, so that the dict stays as it is."""
+        """Takes the entries of a dict if there are none here and its keys are of a kind's own type; returns whether it
+        did. Only code of such a type runs meanwhile, so that the dict stays as it is."""
         if dict.__len__(self) or self.key is not None or own_kind(entries) == OBJECT:
             return False
         order = gathered(self._order, list(entries), self._named, None, False)
@@ -205,9 +250,13 @@ class SortedDict(Placed[K, V], Generic[K, V]):
         return order is not None
 
     @overload
-    def get_all(self, keys: Iterable[object], default: None = None) -> list[Optional[V]]: ...
+    def get_all(self, keys: Iterable[object], default: None = None) -> list[Optional[V]]:
+        ...
+
     @overload
-    def get_all(self, keys: Iterable[object], default: U) -> list[Union[V, U]]: ...
+    def get_all(self, keys: Iterable[object], default: U) -> list[Union[V, U]]:
+        ...
+
     def get_all(self, keys: Iterable[object], default: object = None) -> object:
         """The value of each key, or the default where it is not there. TypeError where a key has no hash.
 

@@ -36,9 +36,13 @@ class Front(Generic[T]):
         return walk
 
     @overload
-    def __getitem__(self, position: SupportsIndex) -> T: ...
+    def __getitem__(self, position: SupportsIndex) -> T:
+        ...
+
     @overload
-    def __getitem__(self, position: slice) -> list[T]: ...
+    def __getitem__(self, position: slice) -> list[T]:
+        ...
+
     def __getitem__(self, position: Any) -> Any:
         """The item at a position, or the list of those at a slice. IndexError where there is none."""
         return self._slice(position) if isinstance(position, slice) else self._order[position]

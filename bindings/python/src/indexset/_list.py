@@ -5,7 +5,6 @@ from collections.abc import MutableSequence, Sequence
 from operator import eq, ge, gt, le, lt, ne
 from typing import Any, Callable, Generic, Iterable, Literal, Optional, TypeVar, overload
 
-from ._kinds import items_of
 from ._native import Numbers
 from ._orders import Run, order_of, repeating
 from ._sorted import OWN_INITS, Sorted
@@ -57,19 +56,23 @@ class SortedList(Sorted[T], MutableSequence[T], Generic[T]):
     @overload
     def __init__(
         self: SortedList[int], iterable: Optional[Iterable[int]] = ..., *, keys: Literal["int64", "uint64"]
-    ) -> None: ...
+    ) -> None:
+        ...
+
     @overload
     def __init__(
         self: SortedList[float], iterable: Optional[Iterable[float]] = ..., *, keys: Literal["float64"]
-    ) -> None: ...
+    ) -> None:
+        ...
+
     @overload
-    def __init__(
-        self: SortedList[str], iterable: Optional[Iterable[str]] = ..., *, keys: Literal["str"]
-    ) -> None: ...
+    def __init__(self: SortedList[str], iterable: Optional[Iterable[str]] = ..., *, keys: Literal["str"]) -> None:
+        ...
+
     @overload
-    def __init__(
-        self: SortedList[bytes], iterable: Optional[Iterable[bytes]] = ..., *, keys: Literal["bytes"]
-    ) -> None: ...
+    def __init__(self: SortedList[bytes], iterable: Optional[Iterable[bytes]] = ..., *, keys: Literal["bytes"]) -> None:
+        ...
+
     @overload
     def __init__(
         self,
@@ -77,7 +80,9 @@ class SortedList(Sorted[T], MutableSequence[T], Generic[T]):
         key: Optional[Callable[[T], object]] = ...,
         *,
         keys: Optional[str] = ...,
-    ) -> None: ...
+    ) -> None:
+        ...
+
     def __init__(
         self,
         iterable: Optional[Iterable[object]] = None,

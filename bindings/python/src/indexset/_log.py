@@ -118,9 +118,7 @@ class LoggedDict(Noded[K, V], MutableMapping[K, V], Generic[K, V]):
         """Removes a key, and returns its value, if it had one."""
         events, told, before = (Event * library.CHANGES)(), Count(), Number()
         was_there = check(
-            lib.indexset_log_remove(
-                self._handle, code, place(before), place(events), library.CHANGES, place(told)
-            )
+            lib.indexset_log_remove(self._handle, code, place(before), place(events), library.CHANGES, place(told))
         )
         changes += [self._change(events[at]) for at in range(told.value)]
         return before.value if was_there else None

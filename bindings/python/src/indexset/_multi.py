@@ -41,11 +41,15 @@ class SortedMultiDict(Generic[K, V]):
     @overload
     def __init__(
         self: SortedMultiDict[int, int], pairs: Iterable[tuple[int, int]] = ..., *, keys: Whole, values: Whole
-    ) -> None: ...
+    ) -> None:
+        ...
+
     @overload
     def __init__(
         self, pairs: Iterable[tuple[K, V]] = ..., *, keys: Optional[str] = ..., values: Optional[str] = ...
-    ) -> None: ...
+    ) -> None:
+        ...
+
     def __init__(
         self, pairs: Iterable[tuple[object, object]] = (), *, keys: Optional[str] = None, values: Optional[str] = None
     ) -> None:
@@ -64,8 +68,7 @@ class SortedMultiDict(Generic[K, V]):
         """Finds the kinds for a pair that comes, where none were named."""
         now = self._pairs.kinds
         wanted = [
-            kind if name is not None else kind_of([item])
-            for name, kind, item in zip(self._named, now, (key, value))
+            kind if name is not None else kind_of([item]) for name, kind, item in zip(self._named, now, (key, value))
         ]
         if len(self):
             wanted = [old if old == new or old == OBJECT else OBJECT for old, new in zip(now, wanted)]
@@ -299,9 +302,7 @@ class SortedMultiDict(Generic[K, V]):
         return len(self) == len(other) and list(self.items()) == list(other.items())
 
     def __repr__(self) -> str:
-        kinds = "".join(
-            f", {name}={kind!r}" for name, kind in zip(("keys", "values"), self._named) if kind is not None
-        )
+        kinds = "".join(f", {name}={kind!r}" for name, kind in zip(("keys", "values"), self._named) if kind is not None)
         return f"{type(self).__name__}({list(self.items())}{kinds})"
 
     def __reduce__(self) -> tuple[object, ...]:

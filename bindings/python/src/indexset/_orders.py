@@ -197,17 +197,24 @@ def _number_span(order: Union[Repeated[Any], Run[Any]], below: Callable[[int], i
 
 
 class Run(Blocks[T], Spanned[T]):
-    """Objects that came at once, whose sort keys are of the own type of a kind. Numbers are only read: another order has
-    them once there is a change."""
+    """Objects that came at once, whose sort keys are of the own type of a kind. Numbers are only read: the first change
+    moves them into another order."""
 
     __slots__ = ("kind", "is_fixed", "_repeats")
 
     if TYPE_CHECKING:  # (of the compiled module alone)
 
-        def are_distinct(self) -> bool: ...
-        def below(self, code: int) -> int: ...
-        def fill(self, items: list[Any]) -> bool: ...
-        def settle(self, order: Order) -> bool: ...
+        def are_distinct(self) -> bool:
+            ...
+
+        def below(self, code: int) -> int:
+            ...
+
+        def fill(self, items: list[Any]) -> bool:
+            ...
+
+        def settle(self, order: Order) -> bool:
+            ...
 
     count = Spanned.count
 
@@ -359,8 +366,7 @@ def kind_of(keys: list[Any]) -> str:
 
 
 def settled(order: Order, items: list[Any]) -> Order:
-    """An order that takes these items, or lets some go where there are none: another one where there was a run that does
-    not."""
+    """An order that takes these items, or, without items, removals: another one if the order is a run of numbers."""
     return order.settled() if isinstance(order, Run) and not order.takes(items) else order
 
 
@@ -380,7 +386,7 @@ def fitted(order: Order, items: list[Any], key: KeyFunction, repeats: bool) -> O
 
 
 def gathered(order: Order, items: list[Any], named: Optional[str], key: KeyFunction, repeats: bool) -> Optional[Order]:
-    """A run of the items of an order and of others that come, where these are many, and all are of a kind's own type. Then
+    """A run of the items of an order and of others that come, if these are many, and all are of a kind's own type. Then
     their list may be empty afterwards."""
     if BACKEND != "extension" or not items or len(items) * _PART < len(order):
         return None

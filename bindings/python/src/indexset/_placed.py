@@ -72,7 +72,7 @@ class Placed(DictFront[K, V], Generic[K, V]):
         return position
 
     def bisect_right(self, value: object) -> int:
-        """How many keys are not above a value. TypeError where it cannot be compared with them, ValueError where it is NaN.
+        """How many keys are not above a value. TypeError if it cannot be compared with them, ValueError if it is NaN.
 
         >>> from indexset import SortedDict
         >>> SortedDict({10: "a", 20: "b"}).bisect_right(20)
@@ -114,9 +114,7 @@ class Placed(DictFront[K, V], Generic[K, V]):
         walk: Iterator[K] = self._order.walk(0, len(self), True)
         return walk
 
-    def islice(
-        self, start: Optional[int] = None, stop: Optional[int] = None, reverse: bool = False
-    ) -> Iterator[K]:
+    def islice(self, start: Optional[int] = None, stop: Optional[int] = None, reverse: bool = False) -> Iterator[K]:
         """Walks over the keys at the positions from `start` and before `stop`. RuntimeError once keys came or went.
 
         >>> from indexset import SortedDict

@@ -49,19 +49,23 @@ class SortedSet(Sorted[T], MutableSet[T], Generic[T]):
     @overload
     def __init__(
         self: SortedSet[int], iterable: Optional[Iterable[int]] = ..., *, keys: Literal["int64", "uint64"]
-    ) -> None: ...
+    ) -> None:
+        ...
+
     @overload
     def __init__(
         self: SortedSet[float], iterable: Optional[Iterable[float]] = ..., *, keys: Literal["float64"]
-    ) -> None: ...
+    ) -> None:
+        ...
+
     @overload
-    def __init__(
-        self: SortedSet[str], iterable: Optional[Iterable[str]] = ..., *, keys: Literal["str"]
-    ) -> None: ...
+    def __init__(self: SortedSet[str], iterable: Optional[Iterable[str]] = ..., *, keys: Literal["str"]) -> None:
+        ...
+
     @overload
-    def __init__(
-        self: SortedSet[bytes], iterable: Optional[Iterable[bytes]] = ..., *, keys: Literal["bytes"]
-    ) -> None: ...
+    def __init__(self: SortedSet[bytes], iterable: Optional[Iterable[bytes]] = ..., *, keys: Literal["bytes"]) -> None:
+        ...
+
     @overload
     def __init__(
         self,
@@ -69,7 +73,9 @@ class SortedSet(Sorted[T], MutableSet[T], Generic[T]):
         key: Optional[Callable[[T], object]] = ...,
         *,
         keys: Optional[str] = ...,
-    ) -> None: ...
+    ) -> None:
+        ...
+
     def __init__(
         self,
         iterable: Optional[Iterable[object]] = None,

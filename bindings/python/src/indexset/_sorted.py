@@ -201,9 +201,7 @@ class Sorted(Front[T], Sequence[T], Generic[T]):
         """Walks over the items from the last to the first."""
         return self.islice(reverse=True)
 
-    def islice(
-        self, start: Optional[int] = None, stop: Optional[int] = None, reverse: bool = False
-    ) -> Iterator[T]:
+    def islice(self, start: Optional[int] = None, stop: Optional[int] = None, reverse: bool = False) -> Iterator[T]:
         """Walks over the items at the positions from `start` and before `stop`. RuntimeError once there was a
         change.
 
@@ -259,9 +257,13 @@ class Sorted(Front[T], Sequence[T], Generic[T]):
     # ---- arrays
 
     @overload
-    def to_array(self: Sorted[int]) -> array[int]: ...
+    def to_array(self: Sorted[int]) -> array[int]:
+        ...
+
     @overload
-    def to_array(self: Sorted[float]) -> array[float]: ...
+    def to_array(self: Sorted[float]) -> array[float]:
+        ...
+
     def to_array(self) -> Union[array[int], array[float]]:
         """The items as an array of numbers of 64 bits, which has a buffer: `numpy.asarray(items.to_array())` copies
         none, and `numpy.asarray(items)` goes by it. TypeError where their kind is none of numbers, or `key` is given.

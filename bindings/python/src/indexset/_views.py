@@ -29,9 +29,13 @@ class SortedKeysView(KeysView[K], Sequence[K]):
         return SortedSet(it)
 
     @overload
-    def __getitem__(self, index: SupportsIndex) -> K: ...
+    def __getitem__(self, index: SupportsIndex) -> K:
+        ...
+
     @overload
-    def __getitem__(self, index: slice) -> list[K]: ...
+    def __getitem__(self, index: slice) -> list[K]:
+        ...
+
     def __getitem__(self, index: Union[SupportsIndex, slice]) -> Union[K, list[K]]:
         if isinstance(index, slice):
             first, past, step = index.indices(len(self))
@@ -87,9 +91,13 @@ class SortedValuesView(ValuesView[V], Sequence[V]):
         return map(self._mapping.__getitem__, reversed(self._mapping))
 
     @overload
-    def __getitem__(self, index: SupportsIndex) -> V: ...
+    def __getitem__(self, index: SupportsIndex) -> V:
+        ...
+
     @overload
-    def __getitem__(self, index: slice) -> list[V]: ...
+    def __getitem__(self, index: slice) -> list[V]:
+        ...
+
     def __getitem__(self, index: Union[SupportsIndex, slice]) -> Union[V, list[V]]:
         if isinstance(index, slice):
             return list(map(self._mapping.__getitem__, self._mapping.keys()[index]))
@@ -121,9 +129,13 @@ class SortedItemsView(ItemsView[K, V], Sequence[Tuple[K, V]]):
         return zip(reversed(self._mapping), map(self._mapping.__getitem__, reversed(self._mapping)))
 
     @overload
-    def __getitem__(self, index: SupportsIndex) -> tuple[K, V]: ...
+    def __getitem__(self, index: SupportsIndex) -> tuple[K, V]:
+        ...
+
     @overload
-    def __getitem__(self, index: slice) -> list[tuple[K, V]]: ...
+    def __getitem__(self, index: slice) -> list[tuple[K, V]]:
+        ...
+
     def __getitem__(self, index: Union[SupportsIndex, slice]) -> Union[tuple[K, V], list[tuple[K, V]]]:
         if isinstance(index, slice):
             keys = self._mapping.keys()[index]
@@ -144,9 +156,13 @@ class _Positions(Sequence[T]):
         raise NotImplementedError
 
     @overload
-    def __getitem__(self, index: SupportsIndex) -> T: ...
+    def __getitem__(self, index: SupportsIndex) -> T:
+        ...
+
     @overload
-    def __getitem__(self, index: slice) -> list[T]: ...
+    def __getitem__(self, index: slice) -> list[T]:
+        ...
+
     def __getitem__(self, index: Union[SupportsIndex, slice]) -> Union[T, list[T]]:
         if isinstance(index, slice):
             return [self._part(pair) for pair in self._mapping._slice(index)]

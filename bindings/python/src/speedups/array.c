@@ -2,20 +2,16 @@
 #include "fast.h"
 
 static enum kind kind_of(PyObject *owner) {
-    if (Py_TYPE(owner) == &NumbersType)
-        return ((Numbers *)owner)->kind;
+    if (Py_TYPE(owner) == &NumbersType) return ((Numbers *)owner)->kind;
     return IS_BLOCKS(owner) ? ((Blocks *)owner)->by : ((Held *)owner)->kind;
 }
 
 /* What a code stands for, as it lies in memory. Of the two zeros, which have one code, it is that of the object. */
 static uint64_t decoded(enum kind kind, uint64_t code, PyObject *object) {
     double number = 0;
-    if (kind == UINT64)
-        return code;
-    if (kind == INT64 || code != TOP)
-        return code & TOP || kind == INT64 ? code ^ TOP : ~code;
-    if (object != NULL && PyFloat_CheckExact(object))
-        number = PyFloat_AS_DOUBLE(object);
+    if (kind == UINT64) return code;
+    if (kind == INT64 || code != TOP) return code & TOP || kind == INT64 ? code ^ TOP : ~code;
+    if (object != NULL && PyFloat_CheckExact(object)) number = PyFloat_AS_DOUBLE(object);
     memcpy(&code, &number, sizeof code);
     return code;
 }
@@ -24,8 +20,7 @@ static void write_part(PyObject *owner, const Part *part, uint64_t *to) {
     enum kind kind = kind_of(owner);
     for (size_t i = 0; i < part->count; i++) {
         uint64_t code = part->codes[i];
-        if (Py_TYPE(owner) != &NumbersType && IS_BLOCKS(owner))
-            number_code(kind, OBJECT(part->objects[i]), &code);
+        if (Py_TYPE(owner) != &NumbersType && IS_BLOCKS(owner)) number_code(kind, OBJECT(part->objects[i]), &code);
         to[i] = decoded(kind, code, OBJECT(part->objects[i]));
     }
 }
@@ -33,8 +28,7 @@ static void write_part(PyObject *owner, const Part *part, uint64_t *to) {
 PyObject *numbers_method(PyObject *owner, PyObject *nothing) {
     (void)nothing;
     size_t length = length_of(owner);
-    if (kind_of(owner) > FLOAT64)
-        return PyErr_Format(PyExc_TypeError, "numbers are needed");
+    if (kind_of(owner) > FLOAT64) return PyErr_Format(PyExc_TypeError, "numbers are needed");
     PyObject *made = PyBytes_FromStringAndSize(NULL, (Py_ssize_t)(8 * length));
     Part part;
     for (size_t at = 0; made != NULL && at < length; at += part.count) {

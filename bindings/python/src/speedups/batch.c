@@ -4,8 +4,7 @@
 /* Room for numbers; NULL with an error. */
 static uint64_t *room(size_t count) {
     uint64_t *made = count < PY_SSIZE_T_MAX / 8 ? PyMem_Malloc(8 * (count + 1)) : NULL;
-    if (made == NULL)
-        PyErr_NoMemory();
+    if (made == NULL) PyErr_NoMemory();
     return made;
 }
 
@@ -33,8 +32,7 @@ static uint64_t *asked_codes(Numbers *self, PyObject *values, size_t *count) {
     }
     *count = (size_t)view.len / 8;
     uint64_t *codes = room(*count);
-    if (codes != NULL)
-        memcpy(codes, view.buf, (size_t)view.len);
+    if (codes != NULL) memcpy(codes, view.buf, (size_t)view.len);
     PyBuffer_Release(&view);
     Py_DECREF(array);
     return codes;
@@ -46,8 +44,7 @@ static int is_list(PyObject *values) { return PyList_CheckExact(values) || PyTup
 static uint64_t *codes_of(Numbers *self, PyObject *values, size_t *count, PyObject ***items) {
     uint64_t *codes = is_list(values) ? own_codes(self, values) : NULL;
     *items = NULL;
-    if (codes == NULL)
-        return PyErr_Occurred() ? NULL : asked_codes(self, values, count);
+    if (codes == NULL) return PyErr_Occurred() ? NULL : asked_codes(self, values, count);
     *items = PySequence_Fast_ITEMS(values);
     *count = (size_t)PySequence_Fast_GET_SIZE(values);
     return codes;
@@ -68,12 +65,9 @@ static int by_code(const void *a, const void *b) {
 static int put_all(Numbers *self, Fresh *fresh, size_t count) {
     size_t done = 0;
     qsort(fresh, count, sizeof *fresh, by_code);
-    while (done < count && numbers_put(self, fresh[done].code, fresh[done].given) >= 0)
-        done++;
-    if (done == count)
-        return 1;
-    while (done > 0)
-        numbers_take_out(self, fresh[--done].code);
+    while (done < count && numbers_put(self, fresh[done].code, fresh[done].given) >= 0) done++;
+    if (done == count) return 1;
+    while (done > 0) numbers_take_out(self, fresh[--done].code);
     return 0;
 }
 
@@ -82,13 +76,11 @@ PyObject *numbers_take(Numbers *self, PyObject *values) {
     PyObject **items;
     uint64_t *codes = codes_of(self, values, &count, &items);
     Fresh *fresh = codes ? PyMem_Malloc((count + 1) * sizeof *fresh) : NULL;
-    for (size_t i = 0; fresh != NULL && i < count; i++)
-        fresh[i] = (Fresh){codes[i], items ? items[i] : NULL};
+    for (size_t i = 0; fresh != NULL && i < count; i++) fresh[i] = (Fresh){codes[i], items ? items[i] : NULL};
     PyMem_Free(codes);
     int is_done = fresh != NULL && put_all(self, fresh, count);
     PyMem_Free(fresh);
-    if (is_done)
-        Py_RETURN_NONE;
+    if (is_done) Py_RETURN_NONE;
     return PyErr_Occurred() ? NULL : PyErr_NoMemory();
 }
 
@@ -100,8 +92,7 @@ static Py_ssize_t own_count(Numbers *self, PyObject *values) {
         PyErr_SetString(PyExc_TypeError, "a list is needed");
         return -1;
     }
-    while (count < PyList_GET_SIZE(values) && number_code(self->kind, PyList_GET_ITEM(values, count), &code))
-        count++;
+    while (count < PyList_GET_SIZE(values) && number_code(self->kind, PyList_GET_ITEM(values, count), &code)) count++;
     return count;
 }
 
@@ -114,8 +105,7 @@ PyObject *numbers_are_own(Numbers *self, PyObject *values) {
 PyObject *numbers_own(Numbers *self, PyObject *values) {
     uint64_t code;
     Py_ssize_t first = own_count(self, values);
-    if (first < 0)
-        return NULL;
+    if (first < 0) return NULL;
     if (first == PyList_GET_SIZE(values)) {
         Py_INCREF(values);
         return values;
@@ -130,8 +120,7 @@ PyObject *numbers_own(Numbers *self, PyObject *values) {
             Py_DECREF(value);
         else if (number == NULL || PyList_SetItem(made, i, number) < 0)
             Py_CLEAR(made);
-        if (number != value)
-            Py_DECREF(value);
+        if (number != value) Py_DECREF(value);
     }
     return made;
 }
@@ -140,10 +129,8 @@ PyObject *numbers_ranks(Numbers *self, PyObject *values) {
     size_t count;
     PyObject **items;
     uint64_t *codes = codes_of(self, values, &count, &items);
-    if (codes == NULL)
-        return NULL;
-    for (size_t i = 0; i < count; i++)
-        codes[i] = indexset_map_rank(&self->map, codes[i]);
+    if (codes == NULL) return NULL;
+    for (size_t i = 0; i < count; i++) codes[i] = indexset_map_rank(&self->map, codes[i]);
     PyObject *bytes = PyBytes_FromStringAndSize((char *)codes, (Py_ssize_t)(8 * count));
     PyMem_Free(codes);
     PyObject *mask = bytes ? PyLong_FromLong(0) : NULL;

@@ -9,46 +9,36 @@
 /* ---- positions: a Fenwick tree over the lengths of the blocks, made anew once their number has changed */
 
 static void index_blocks(Blocks *self) {
-    if (self->count == 0)
-        return;
+    if (self->count == 0) return;
     memset(self->tree, 0, (self->count + 1) * sizeof *self->tree);
     for (size_t i = 1; i <= self->count; i++) {
         size_t above = i + (i & (~i + 1));
         self->tree[i] += self->blocks[i - 1].count;
-        if (above <= self->count)
-            self->tree[above] += self->tree[i];
+        if (above <= self->count) self->tree[above] += self->tree[i];
     }
     self->is_indexed = 1;
 }
 
 static void count_in(Blocks *self, size_t block, size_t more) {
     self->length += more;
-    for (size_t i = block + 1; self->is_indexed && i <= self->count; i += i & (~i + 1))
-        self->tree[i] += more;
+    for (size_t i = block + 1; self->is_indexed && i <= self->count; i += i & (~i + 1)) self->tree[i] += more;
 }
 
 size_t blocks_before(Blocks *self, size_t block) {
     size_t sum = 0;
-    if (self->is_even)
-        return block * FILLED;
-    if (!self->is_indexed)
-        index_blocks(self);
-    for (size_t i = block; i > 0; i &= i - 1)
-        sum += self->tree[i];
+    if (self->is_even) return block * FILLED;
+    if (!self->is_indexed) index_blocks(self);
+    for (size_t i = block; i > 0; i &= i - 1) sum += self->tree[i];
     return sum;
 }
 
 Place blocks_place(Blocks *self, size_t position) {
     size_t block = 0, step = 1;
-    if (self->is_even)
-        return (Place){position / FILLED, position % FILLED};
-    if (!self->is_indexed)
-        index_blocks(self);
-    while (2 * step <= self->count)
-        step *= 2;
+    if (self->is_even) return (Place){position / FILLED, position % FILLED};
+    if (!self->is_indexed) index_blocks(self);
+    while (2 * step <= self->count) step *= 2;
     for (; step > 0; step /= 2)
-        if (block + step <= self->count && self->tree[block + step] <= position)
-            position -= self->tree[block += step];
+        if (block + step <= self->count && self->tree[block + step] <= position) position -= self->tree[block += step];
     return (Place){block, position};
 }
 
@@ -56,12 +46,10 @@ Place blocks_place(Blocks *self, size_t position) {
 
 /* Has room for so many blocks; 0 with an error. */
 static int has_blocks(Blocks *self, size_t count) {
-    if (count <= self->room)
-        return 1;
+    if (count <= self->room) return 1;
     size_t room = count + count / 4 + 4;
     Block *blocks = PyMem_Realloc(self->blocks, room * sizeof *blocks);
-    if (blocks != NULL)
-        self->blocks = blocks;
+    if (blocks != NULL) self->blocks = blocks;
     size_t *tree = blocks ? PyMem_Realloc(self->tree, (room + 1) * sizeof *tree) : NULL;
     if (tree == NULL) {
         PyErr_NoMemory();
@@ -75,13 +63,10 @@ static int has_blocks(Blocks *self, size_t count) {
 
 /* Has room for so many objects in a block; 0 with an error. */
 static int has_room(Block *block, size_t room, int has_keys) {
-    if (room <= block->room)
-        return 1;
+    if (room <= block->room) return 1;
     PyObject **items = PyMem_Realloc(block->items, room * sizeof *items), **keys = NULL;
-    if (items != NULL && !has_keys)
-        block->keys = items;
-    if (items != NULL)
-        block->items = items;
+    if (items != NULL && !has_keys) block->keys = items;
+    if (items != NULL) block->items = items;
     if (items != NULL && has_keys && (keys = PyMem_Realloc(block->keys, room * sizeof *keys)) != NULL)
         block->keys = keys;
     if (items == NULL || (has_keys && keys == NULL)) {
@@ -93,8 +78,7 @@ static int has_room(Block *block, size_t room, int has_keys) {
 }
 
 static void free_block(Block *block) {
-    if (block->keys != block->items)
-        PyMem_Free(block->keys);
+    if (block->keys != block->items) PyMem_Free(block->keys);
     PyMem_Free(block->items);
 }
 
@@ -108,8 +92,7 @@ static void put(PyObject **items, size_t count, size_t at, PyObject *item) {
 
 static void copy(Block *to, const Block *from, size_t first, size_t count) {
     memcpy(to->items, from->items + first, count * sizeof *to->items);
-    if (to->keys != to->items)
-        memcpy(to->keys, from->keys + first, count * sizeof *to->keys);
+    if (to->keys != to->items) memcpy(to->keys, from->keys + first, count * sizeof *to->keys);
     to->count = count;
     to->last = to->keys[count - 1];
 }
@@ -144,18 +127,14 @@ int blocks_insert(Blocks *self, Place at, PyObject *item, PyObject *key) {
         self->is_indexed = 0;
     }
     if (self->blocks[at.block].count == MOST) {
-        if (!split(self, at.block))
-            return -1;
-        if (at.index > MOST / 2)
-            at = (Place){at.block + 1, at.index - MOST / 2};
+        if (!split(self, at.block)) return -1;
+        if (at.index > MOST / 2) at = (Place){at.block + 1, at.index - MOST / 2};
     }
     Block *block = self->blocks + at.block;
     size_t room = block->count + block->count / 8 + 8;
-    if (block->count == block->room && !has_room(block, room < MOST ? room : MOST, self->key != NULL))
-        return -1;
+    if (block->count == block->room && !has_room(block, room < MOST ? room : MOST, self->key != NULL)) return -1;
     put(block->items, block->count, at.index, item);
-    if (block->keys != block->items)
-        put(block->keys, block->count, at.index, key);
+    if (block->keys != block->items) put(block->keys, block->count, at.index, key);
     block->last = block->keys[block->count++];
     count_in(self, at.block, 1);
     self->changes++;
@@ -173,8 +152,7 @@ static void drop_block(Blocks *self, size_t at) {
 
 /* Makes one of a block and the one behind it, where both have few objects. It may be left undone. */
 static void merge(Blocks *self, size_t at) {
-    if (at + 1 >= self->count || self->blocks[at].count + self->blocks[at + 1].count > MOST / 2)
-        return;
+    if (at + 1 >= self->count || self->blocks[at].count + self->blocks[at + 1].count > MOST / 2) return;
     Block *block = self->blocks + at, *other = block + 1;
     if (!has_room(block, block->count + other->count, self->key != NULL)) {
         PyErr_Clear();
@@ -195,16 +173,14 @@ PyObject *blocks_remove(Blocks *self, Place at, PyObject **key) {
     size_t after = --block->count - at.index;
     *key = block->keys != block->items ? block->keys[at.index] : NULL;
     memmove(block->items + at.index, block->items + at.index + 1, after * sizeof *block->items);
-    if (*key != NULL)
-        memmove(block->keys + at.index, block->keys + at.index + 1, after * sizeof *block->keys);
+    if (*key != NULL) memmove(block->keys + at.index, block->keys + at.index + 1, after * sizeof *block->keys);
     count_in(self, at.block, (size_t)-1);
     self->changes++;
     if (block->count == 0)
         drop_block(self, at.block);
     else
         block->last = block->keys[block->count - 1];
-    if (at.block < self->count && self->blocks[at.block].count < FEW)
-        merge(self, at.block > 0 ? at.block - 1 : 0);
+    if (at.block < self->count && self->blocks[at.block].count < FEW) merge(self, at.block > 0 ? at.block - 1 : 0);
     return item;
 }
 
@@ -243,8 +219,7 @@ void blocks_drop(Blocks *self) {
     for (size_t b = 0; b < before.count; b++) {
         Block *block = before.blocks + b;
         for (size_t i = 0; i < block->count; i++) {
-            if (block->keys != block->items)
-                Py_DECREF(block->keys[i]);
+            if (block->keys != block->items) Py_DECREF(block->keys[i]);
             Py_DECREF(block->items[i]);
         }
         free_block(block);
@@ -255,8 +230,7 @@ void blocks_drop(Blocks *self) {
 /* Has room for the codes of so many keys, where these are numbers; 0 with an error. */
 static int has_codes(Blocks *self, size_t count) {
     self->codes = self->by <= FLOAT64 ? PyMem_Malloc((count / GROUP + 1) * sizeof *self->codes) : NULL;
-    if (self->codes == NULL && self->by <= FLOAT64)
-        PyErr_NoMemory();
+    if (self->codes == NULL && self->by <= FLOAT64) PyErr_NoMemory();
     return self->codes != NULL || self->by > FLOAT64;
 }
 
@@ -269,10 +243,8 @@ static int lay(Blocks *self, PyObject **items, PyObject **keys, size_t count) {
         is_done = block_of(self->blocks + self->count, items + at, keys ? keys + at : NULL, size);
         self->count += (size_t)is_done;
     }
-    if (is_done && self->codes != NULL)
-        codes_of_groups(self->by, keys ? keys : items, count, self->codes);
-    for (size_t b = 0; !is_done && b < self->count; b++)
-        free_block(self->blocks + b);
+    if (is_done && self->codes != NULL) codes_of_groups(self->by, keys ? keys : items, count, self->codes);
+    for (size_t b = 0; !is_done && b < self->count; b++) free_block(self->blocks + b);
     if (!is_done) {
         free_blocks(self);
         forget(self);
@@ -293,19 +265,20 @@ static void swap(Blocks *self, Blocks *other) {
 
 int blocks_fill(Blocks *self, PyObject *items, PyObject *keys) {
     Blocks made = {.key = self->key, .by = self->by};
-    if (!lay(&made, PySequence_Fast_ITEMS(items), keys ? PySequence_Fast_ITEMS(keys) : NULL, (size_t)PyList_GET_SIZE(items)))
+    if (!lay(&made, PySequence_Fast_ITEMS(items), keys ? PySequence_Fast_ITEMS(keys) : NULL,
+             (size_t)PyList_GET_SIZE(items)))
         return -1;
     /* The references are those of the lists, which let none go. */
     Py_SET_SIZE(items, 0);
-    if (keys != NULL)
-        Py_SET_SIZE(keys, 0);
+    if (keys != NULL) Py_SET_SIZE(keys, 0);
     swap(self, &made);
     blocks_drop(&made);
     return 1;
 }
 
 int blocks_copy(Blocks *self, Blocks *from) {
-    PyObject *items = blocks_list(from, 0, from->length, 0), *keys = items && from->key ? blocks_list(from, 0, from->length, 1) : NULL;
+    PyObject *items = blocks_list(from, 0, from->length, 0),
+             *keys = items && from->key ? blocks_list(from, 0, from->length, 1) : NULL;
     int state = items && (keys || !from->key) ? blocks_fill(self, items, keys) : -1;
     Py_XDECREF(items);
     Py_XDECREF(keys);
@@ -315,14 +288,12 @@ int blocks_copy(Blocks *self, Blocks *from) {
 /* Moves the objects of a block from one on and before another to other places, and their keys where they have some. */
 static void cut_block(Block *block, size_t first, size_t past, PyObject **items, PyObject **keys) {
     memcpy(items, block->items + first, (past - first) * sizeof *items);
-    if (block->keys != block->items)
-        memcpy(keys, block->keys + first, (past - first) * sizeof *keys);
+    if (block->keys != block->items) memcpy(keys, block->keys + first, (past - first) * sizeof *keys);
     memmove(block->items + first, block->items + past, (block->count - past) * sizeof *block->items);
     if (block->keys != block->items)
         memmove(block->keys + first, block->keys + past, (block->count - past) * sizeof *block->keys);
     block->count -= past - first;
-    if (block->count > 0)
-        block->last = block->keys[block->count - 1];
+    if (block->count > 0) block->last = block->keys[block->count - 1];
 }
 
 void blocks_cut(Blocks *self, size_t first, size_t past, PyObject **items, PyObject **keys) {
@@ -349,8 +320,7 @@ void blocks_cut(Blocks *self, size_t first, size_t past, PyObject **items, PyObj
 size_t blocks_read(Blocks *self, size_t from, int of_keys, PyObject **read, size_t size) {
     size_t count = 0, left = from < self->length ? self->length - from : 0;
     size = size < left ? size : left;
-    if (size == 0)
-        return 0;
+    if (size == 0) return 0;
     Place at = blocks_place(self, from);
     for (; count < size; at = (Place){at.block + 1, 0}) {
         const Block *block = self->blocks + at.block;
@@ -364,8 +334,7 @@ size_t blocks_read(Blocks *self, size_t from, int of_keys, PyObject **read, size
 PyObject *blocks_list(Blocks *self, size_t first, size_t past, int of_keys) {
     PyObject *made = PyList_New((Py_ssize_t)(past - first));
     size_t count = made ? blocks_read(self, first, of_keys, PySequence_Fast_ITEMS(made), past - first) : 0;
-    for (size_t i = 0; i < count; i++)
-        Py_INCREF(PyList_GET_ITEM(made, i));
+    for (size_t i = 0; i < count; i++) Py_INCREF(PyList_GET_ITEM(made, i));
     if (made != NULL && count < past - first) { /* the list was made, and a `__del__` ran */
         Py_CLEAR(made);
         PyErr_SetString(PyExc_RuntimeError, "it changed meanwhile");

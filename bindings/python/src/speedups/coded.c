@@ -20,8 +20,7 @@ static PyObject *coded_new(PyTypeObject *type, PyObject *given, PyObject *words)
     (void)given;
     (void)words;
     Coded *self = (Coded *)type->tp_alloc(type, 0);
-    if (self == NULL)
-        return NULL;
+    if (self == NULL) return NULL;
     self->kind = OTHER;
     self->map = map_new();
     if (self->map == NULL) {
@@ -36,8 +35,7 @@ static int coded_init(Coded *self, PyObject *given, PyObject *words) {
     const char *kind;
     PyObject *key;
     (void)words;
-    if (!PyArg_ParseTuple(given, "sOp", &kind, &key, &self->repeats))
-        return -1;
+    if (!PyArg_ParseTuple(given, "sOp", &kind, &key, &self->repeats)) return -1;
     self->kind = strcmp(kind, "str") == 0 ? TEXT : strcmp(kind, "bytes") == 0 ? BYTES : OTHER;
     if (key != Py_None) {
         Py_INCREF(key);
@@ -52,8 +50,7 @@ static int coded_traverse(Coded *self, visitproc visit, void *arg) {
     for (size_t at = 0, count = CHUNK; self->map != NULL && count == CHUNK; at += count) {
         uint64_t read[CHUNK];
         count = indexset_text_map_range_by_position(self->map, at, read, CHUNK);
-        for (size_t i = 0; i < count; i++)
-            Py_VISIT(OBJECT(read[i]));
+        for (size_t i = 0; i < count; i++) Py_VISIT(OBJECT(read[i]));
     }
     return 0;
 }
@@ -64,10 +61,8 @@ static void let_go(indexset_text_map *map) {
     size_t count = CHUNK;
     for (size_t at = 0; map != &nowhere && count == CHUNK; at += count) {
         count = indexset_text_map_range_by_position(map, at, read, CHUNK);
-        for (size_t i = 0; i < count; i++)
-            __builtin_prefetch(OBJECT(read[i]), 1);
-        for (size_t i = 0; i < count; i++)
-            Py_DECREF(OBJECT(read[i]));
+        for (size_t i = 0; i < count; i++) __builtin_prefetch(OBJECT(read[i]), 1);
+        for (size_t i = 0; i < count; i++) Py_DECREF(OBJECT(read[i]));
     }
     if (map != &nowhere) {
         indexset_text_map_free(map);
@@ -99,8 +94,7 @@ static void coded_dealloc(Coded *self) {
 static PyObject *clear(Coded *self, PyObject *nothing) {
     (void)nothing;
     indexset_text_map *map = map_new();
-    if (map == NULL)
-        return NULL;
+    if (map == NULL) return NULL;
     become(self, map);
     Py_RETURN_NONE;
 }
@@ -115,10 +109,8 @@ static void count_objects(indexset_text_map *map) {
     size_t count = CHUNK;
     for (size_t at = 0; count == CHUNK; at += count) {
         count = indexset_text_map_range_by_position(map, at, read, CHUNK);
-        for (size_t i = 0; i < count; i++)
-            __builtin_prefetch(OBJECT(read[i]), 1);
-        for (size_t i = 0; i < count; i++)
-            Py_INCREF(OBJECT(read[i]));
+        for (size_t i = 0; i < count; i++) __builtin_prefetch(OBJECT(read[i]), 1);
+        for (size_t i = 0; i < count; i++) Py_INCREF(OBJECT(read[i]));
     }
 }
 
@@ -129,8 +121,7 @@ static PyObject *copied(Coded *self, PyObject *given) {
         return NULL;
     }
     Coded *other = (Coded *)given;
-    if (coded_map(other) == NULL)
-        return NULL;
+    if (coded_map(other) == NULL) return NULL;
     indexset_text_map *map = PyMem_Calloc(1, sizeof *map);
     if (map == NULL || indexset_text_map_clone(other->map, map) != INDEXSET_YES) {
         PyMem_Free(map);
@@ -156,20 +147,19 @@ static int bytes_of(PyObject *code, const char **data, size_t *size) {
 
 int coded_insert(Coded *self, const void *data, size_t size, PyObject *item) {
     uint64_t before, ours;
-    if (coded_map(self) == NULL)
-        return -1;
+    if (coded_map(self) == NULL) return -1;
     uint32_t status = indexset_text_map_insert(self->map, data, size, ADDRESS(item), &before);
     if (status == INDEXSET_YES) {
         Py_INCREF(item);
         self->changes++;
         return 0;
     }
-    if (status == INDEXSET_NO)
-        indexset_text_map_insert(self->map, data, size, before, &ours);
+    if (status == INDEXSET_NO) indexset_text_map_insert(self->map, data, size, before, &ours);
     if (status == INDEXSET_MEMORY)
         PyErr_NoMemory();
     else
-        PyErr_SetString(PyExc_RuntimeError, status == INDEXSET_NO ? "the code has an object" : "the object is being collected");
+        PyErr_SetString(PyExc_RuntimeError,
+                        status == INDEXSET_NO ? "the code has an object" : "the object is being collected");
     return -1;
 }
 
@@ -180,24 +170,21 @@ static PyObject *insert(Coded *self, PyObject *const *given, Py_ssize_t count) {
         PyErr_SetString(PyExc_TypeError, "insert takes a code and an object");
         return NULL;
     }
-    if (!bytes_of(given[0], &data, &size) || coded_insert(self, data, size, given[1]) < 0)
-        return NULL;
+    if (!bytes_of(given[0], &data, &size) || coded_insert(self, data, size, given[1]) < 0) return NULL;
     Py_RETURN_NONE;
 }
 
 static PyObject *rank(Coded *self, PyObject *code) {
     const char *data;
     size_t size;
-    if (!bytes_of(code, &data, &size) || coded_map(self) == NULL)
-        return NULL;
+    if (!bytes_of(code, &data, &size) || coded_map(self) == NULL) return NULL;
     return PyLong_FromSize_t(indexset_text_map_rank(self->map, data, size));
 }
 
 static PyObject *has(Coded *self, PyObject *code) {
     const char *data;
     size_t size;
-    if (!bytes_of(code, &data, &size) || coded_map(self) == NULL)
-        return NULL;
+    if (!bytes_of(code, &data, &size) || coded_map(self) == NULL) return NULL;
     return PyBool_FromLong(indexset_text_map_contains(self->map, data, size));
 }
 
@@ -206,17 +193,14 @@ static PyObject *code_at(Coded *self, size_t position) {
     char room[64];
     size_t size;
     uint64_t place;
-    if (coded_map(self) == NULL)
-        return NULL;
+    if (coded_map(self) == NULL) return NULL;
     if (!indexset_text_map_at(self->map, position, room, sizeof room, &size, &place)) {
         PyErr_SetString(PyExc_IndexError, "index out of range");
         return NULL;
     }
-    if (size <= sizeof room)
-        return PyBytes_FromStringAndSize(room, (Py_ssize_t)size);
+    if (size <= sizeof room) return PyBytes_FromStringAndSize(room, (Py_ssize_t)size);
     PyObject *made = PyBytes_FromStringAndSize(NULL, (Py_ssize_t)size);
-    if (made != NULL)
-        indexset_text_map_at(self->map, position, PyBytes_AS_STRING(made), size, &size, &place);
+    if (made != NULL) indexset_text_map_at(self->map, position, PyBytes_AS_STRING(made), size, &size, &place);
     return made;
 }
 
@@ -224,8 +208,7 @@ static PyObject *code_at(Coded *self, size_t position) {
 
 PyObject *coded_item(Coded *self, Py_ssize_t position) {
     uint64_t object;
-    if (coded_map(self) == NULL)
-        return NULL;
+    if (coded_map(self) == NULL) return NULL;
     if (position < 0 || indexset_text_map_range_by_position(self->map, (size_t)position, &object, 1) != 1) {
         PyErr_SetString(PyExc_IndexError, "index out of range");
         return NULL;
@@ -241,10 +224,8 @@ static PyObject *code(Coded *self, PyObject *index) {
 
 int coded_remove(Coded *self, const void *data, size_t size, PyObject **item) {
     uint64_t object;
-    if (coded_map(self) == NULL)
-        return -1;
-    if (!indexset_text_map_remove(self->map, data, size, &object))
-        return 0;
+    if (coded_map(self) == NULL) return -1;
+    if (!indexset_text_map_remove(self->map, data, size, &object)) return 0;
     self->changes++;
     *item = OBJECT(object);
     return 1;
@@ -267,12 +248,16 @@ PyObject *coded_pop(Coded *self, size_t position) {
 
 static PyMethodDef methods[] = {
     {"add", (PyCFunction)add_method, METH_O, "Adds an object behind its equals."},
-    {"bisect", (PyCFunction)(void (*)(void))bisect_method, METH_FASTCALL, "How many objects are below a value, or not above it."},
-    {"discard", (PyCFunction)discard_method, METH_O, "Removes the first object that equals a value, and tells whether there was one."},
+    {"bisect", (PyCFunction)(void (*)(void))bisect_method, METH_FASTCALL,
+     "How many objects are below a value, or not above it."},
+    {"discard", (PyCFunction)discard_method, METH_O,
+     "Removes the first object that equals a value, and tells whether there was one."},
     {"find", (PyCFunction)find_method, METH_O, "The position of the first object that equals a value, or -1."},
-    {"place", (PyCFunction)(void (*)(void))place_method, METH_FASTCALL, "How many sort keys are below a key, or not above it."},
+    {"place", (PyCFunction)(void (*)(void))place_method, METH_FASTCALL,
+     "How many sort keys are below a key, or not above it."},
     {"own_span", (PyCFunction)own_span_method, METH_O, "The positions of a sort key of the kind's own type, or None."},
-    {"chunk", (PyCFunction)(void (*)(void))chunk_method, METH_FASTCALL, "The objects at the positions from the first and before the second."},
+    {"chunk", (PyCFunction)(void (*)(void))chunk_method, METH_FASTCALL,
+     "The objects at the positions from the first and before the second."},
     {"changed", (PyCFunction)changed_method, METH_NOARGS, "Counts a change."},
     {"clear", (PyCFunction)clear, METH_NOARGS, "Removes all objects."},
     {"code", (PyCFunction)code, METH_O, "The byte string of the object at a position."},
@@ -295,8 +280,7 @@ static PySequenceMethods sequence = {.sq_length = (lenfunc)coded_length, .sq_con
 static PyMappingMethods mapping = {.mp_length = (lenfunc)coded_length, .mp_subscript = (binaryfunc)item_method};
 
 PyTypeObject CodedType = {
-    PyVarObject_HEAD_INIT(NULL, 0)
-    .tp_name = "indexset._fast.Coded",
+    PyVarObject_HEAD_INIT(NULL, 0).tp_name = "indexset._fast.Coded",
     .tp_doc = "Objects at byte strings, in the order of these, in a map of the library.",
     .tp_basicsize = sizeof(Coded),
     .tp_flags = Py_TPFLAGS_DEFAULT | Py_TPFLAGS_BASETYPE | Py_TPFLAGS_HAVE_GC,

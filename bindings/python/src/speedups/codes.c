@@ -10,13 +10,11 @@ static uint64_t code_of_double(double number) {
 
 int number_code(enum kind kind, PyObject *value, uint64_t *code) {
     if (kind == FLOAT64) {
-        if (!PyFloat_CheckExact(value) || PyFloat_AS_DOUBLE(value) != PyFloat_AS_DOUBLE(value))
-            return 0;
+        if (!PyFloat_CheckExact(value) || PyFloat_AS_DOUBLE(value) != PyFloat_AS_DOUBLE(value)) return 0;
         *code = code_of_double(PyFloat_AS_DOUBLE(value));
         return 1;
     }
-    if (!PyLong_CheckExact(value))
-        return 0;
+    if (!PyLong_CheckExact(value)) return 0;
     if (kind == INT64) {
         int overflow;
         *code = (uint64_t)PyLong_AsLongLongAndOverflow(value, &overflow) ^ TOP;
@@ -36,18 +34,14 @@ enum kind kind_of_numbers(const char *name) { return name[0] == 'i' ? INT64 : na
 /* An integer of two or three digits, which Python's own call makes by loops over them. */
 static PyObject *integer(long long value) {
     uint64_t size = value < 0 ? 0 - (uint64_t)value : (uint64_t)value;
-    if (size >> 30 == 0)
-        return PyLong_FromLongLong(value);
+    if (size >> 30 == 0) return PyLong_FromLongLong(value);
     Py_ssize_t digits = size >> 60 ? 3 : 2;
     PyLongObject *made = _PyLong_New(digits);
-    if (made == NULL)
-        return NULL;
+    if (made == NULL) return NULL;
     made->ob_digit[0] = size & PyLong_MASK;
     made->ob_digit[1] = size >> 30 & PyLong_MASK;
-    if (digits == 3)
-        made->ob_digit[2] = (digit)(size >> 60);
-    if (value < 0)
-        Py_SET_SIZE(made, -digits);
+    if (digits == 3) made->ob_digit[2] = (digit)(size >> 60);
+    if (value < 0) Py_SET_SIZE(made, -digits);
     return (PyObject *)made;
 }
 #else
@@ -55,10 +49,8 @@ static PyObject *integer(long long value) {
 #endif
 
 PyObject *number_of(enum kind kind, uint64_t code) {
-    if (kind == INT64)
-        return integer((long long)(code ^ TOP));
-    if (kind == UINT64)
-        return PyLong_FromUnsignedLongLong(code);
+    if (kind == INT64) return integer((long long)(code ^ TOP));
+    if (kind == UINT64) return PyLong_FromUnsignedLongLong(code);
     uint64_t bits = code & TOP ? code & ~TOP : ~code;
     double number;
     memcpy(&number, &bits, sizeof number);

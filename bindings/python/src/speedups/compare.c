@@ -9,20 +9,18 @@ typedef struct {
 } Probe;
 
 PyObject *blocks_key(Blocks *self, PyObject *item) {
-    if (self->key != NULL)
-        return PyObject_CallOneArg(self->key, item);
+    if (self->key != NULL) return PyObject_CallOneArg(self->key, item);
     Py_INCREF(item);
     return item;
 }
 
 /* ---- comparisons */
 
-/* Whether an object is below another: 1 or 0, or -1 with an error. Objects of one type are compared by its own function,
- * as `list.sort` does it. */
+/* Whether an object is below another: 1 or 0, or -1 with an error. Objects of one type are compared by its own
+ * function, as `list.sort` does it. */
 static int less(PyObject *one, PyObject *other) {
     richcmpfunc compare = Py_TYPE(one)->tp_richcompare;
-    if (compare == NULL || Py_TYPE(one) != Py_TYPE(other))
-        return PyObject_RichCompareBool(one, other, Py_LT);
+    if (compare == NULL || Py_TYPE(one) != Py_TYPE(other)) return PyObject_RichCompareBool(one, other, Py_LT);
     PyObject *answer = compare(one, other, Py_LT);
     if (answer == Py_NotImplemented) {
         Py_DECREF(answer);
@@ -39,7 +37,8 @@ static int bytes_order(PyObject *one, PyObject *other) {
     return order ? order : (first > second) - (first < second);
 }
 
-/* Whether a sort key of the blocks stands before what is looked for, or to the right also where they are equal, by `<`. */
+/* Whether a sort key of the blocks stands before what is looked for, or to the right also where they are equal, by `<`.
+ */
 static int is_before_object(Blocks *self, PyObject *other, PyObject *key, int right) {
     unsigned long long changes = self->changes;
     Py_INCREF(other);
@@ -59,9 +58,7 @@ static inline int is_before(Blocks *self, PyObject *other, const Probe *probe, i
     case OTHER: return is_before_object(self, other, probe->key, right);
     case TEXT: order = PyUnicode_Compare(other, probe->key); break;
     case BYTES: order = bytes_order(other, probe->key); break;
-    default:
-        number_code(self->by, other, &code);
-        order = (code > probe->code) - (code < probe->code);
+    default: number_code(self->by, other, &code); order = (code > probe->code) - (code < probe->code);
     }
     return order < right;
 }
@@ -90,16 +87,15 @@ static Py_ssize_t block_of(Blocks *self, const Probe *probe, int right) {
     while (low < high) {
         size_t middle = (low + high) / 2;
         int state = is_before(self, self->blocks[middle].last, probe, right);
-        if (state < 0)
-            return -1;
+        if (state < 0) return -1;
         low = state ? middle + 1 : low;
         high = state ? high : middle;
     }
     return (Py_ssize_t)low;
 }
 
-/* Among numbers of a kind, how many sort keys have codes below a limit: by the codes that are kept, without a branch on one,
- * and then by those of the group. */
+/* Among numbers of a kind, how many sort keys have codes below a limit: by the codes that are kept, without a branch on
+ * one, and then by those of the group. */
 static size_t count_below(Blocks *self, uint64_t limit) {
     const uint64_t *codes = self->codes;
     size_t left = self->length / GROUP;
@@ -126,11 +122,9 @@ static int bound_number(Blocks *self, uint64_t code, int right, Place *place) {
 }
 
 static int bound(Blocks *self, const Probe *probe, int right, Place *place) {
-    if (self->by <= FLOAT64)
-        return bound_number(self, probe->code, right, place);
+    if (self->by <= FLOAT64) return bound_number(self, probe->code, right, place);
     Py_ssize_t at = block_of(self, probe, right);
-    if (at < 0)
-        return -1;
+    if (at < 0) return -1;
     if ((size_t)at == self->count) { /* behind all */
         *place = at > 0 ? (Place){(size_t)at - 1, self->blocks[at - 1].count} : (Place){0, 0};
         return 1;
@@ -139,8 +133,7 @@ static int bound(Blocks *self, const Probe *probe, int right, Place *place) {
     while (low < high) {
         size_t middle = (low + high) / 2;
         int state = is_before(self, self->blocks[at].keys[middle], probe, right);
-        if (state < 0)
-            return -1;
+        if (state < 0) return -1;
         low = state ? middle + 1 : low;
         high = state ? high : middle;
     }
@@ -189,11 +182,9 @@ static int find(Blocks *self, PyObject *value, const Probe *probe, Place *at) {
             continue;
         }
         int state = is_equal(self, *at, value);
-        if (state != 0)
-            return state;
+        if (state != 0) return state;
         state = is_before(self, self->blocks[at->block].keys[at->index], probe, 1);
-        if (state != 1)
-            return state;
+        if (state != 1) return state;
     }
     return 0;
 }
@@ -202,14 +193,10 @@ int blocks_find(Blocks *self, PyObject *value, size_t from, Place *place) {
     Probe probe;
     PyObject *key = blocks_key(self, value);
     int state = key ? probe_of(self, key, &probe) : -1;
-    if (state == 1)
-        state = bound(self, &probe, 0, place);
-    if (state == 1 && from > 0 && from >= self->length)
-        state = 0;
-    if (state == 1 && from > blocks_before(self, place->block) + place->index)
-        *place = blocks_place(self, from);
-    if (state == 1)
-        state = find(self, value, &probe, place);
+    if (state == 1) state = bound(self, &probe, 0, place);
+    if (state == 1 && from > 0 && from >= self->length) state = 0;
+    if (state == 1 && from > blocks_before(self, place->block) + place->index) *place = blocks_place(self, from);
+    if (state == 1) state = find(self, value, &probe, place);
     Py_XDECREF(key);
     return state;
 }

@@ -8,8 +8,7 @@ static int blocks_init(Blocks *self, PyObject *given, PyObject *words) {
     const char *kind;
     PyObject *key;
     (void)words;
-    if (!PyArg_ParseTuple(given, "sO", &kind, &key))
-        return -1;
+    if (!PyArg_ParseTuple(given, "sO", &kind, &key)) return -1;
     int is_number = strcmp(kind, "int64") == 0 || strcmp(kind, "uint64") == 0 || strcmp(kind, "float64") == 0;
     int is_text = strcmp(kind, "str") == 0, is_bytes = strcmp(kind, "bytes") == 0;
     blocks_drop(self);
@@ -35,10 +34,8 @@ static int blocks_traverse(Blocks *self, visitproc visit, void *arg) {
     Py_VISIT(self->key);
     for (size_t b = 0; b < self->count; b++) {
         const Block *block = self->blocks + b;
-        for (size_t i = 0; i < block->count; i++)
-            Py_VISIT(block->items[i]);
-        for (size_t i = 0; block->keys != block->items && i < block->count; i++)
-            Py_VISIT(block->keys[i]);
+        for (size_t i = 0; i < block->count; i++) Py_VISIT(block->items[i]);
+        for (size_t i = 0; block->keys != block->items && i < block->count; i++) Py_VISIT(block->keys[i]);
     }
     return 0;
 }
@@ -63,12 +60,12 @@ static PyObject *clear(Blocks *self, PyObject *nothing) {
 
 /* Becomes a clone of another, from empty. */
 static PyObject *copied(Blocks *self, PyObject *given) {
-    if (!PyObject_TypeCheck(given, &BlocksType) || self->length != 0 || (((Blocks *)given)->key == NULL) != (self->key == NULL)) {
+    if (!PyObject_TypeCheck(given, &BlocksType) || self->length != 0
+        || (((Blocks *)given)->key == NULL) != (self->key == NULL)) {
         PyErr_SetString(PyExc_TypeError, "what is empty becomes a copy of Blocks");
         return NULL;
     }
-    if (blocks_copy(self, (Blocks *)given) < 0)
-        return NULL;
+    if (blocks_copy(self, (Blocks *)given) < 0) return NULL;
     self->changes++;
     Py_RETURN_NONE;
 }
@@ -77,11 +74,12 @@ static Py_ssize_t blocks_length(Blocks *self) { return (Py_ssize_t)self->length;
 
 /* ---- one object */
 
-/* Of a value that cannot be compared with the others a search finds none: 0 in place of the error, but of what is no key
- * of a set either. */
+/* Of a value that cannot be compared with the others a search finds none: 0 in place of the error, but of what is no
+ * key of a set either. */
 static int unfit(Blocks *self, PyObject *value, int state) {
-    if (state != -1 || !(PyErr_ExceptionMatches(PyExc_TypeError) || PyErr_ExceptionMatches(PyExc_OverflowError) ||
-                         PyErr_ExceptionMatches(PyExc_ValueError)))
+    if (state != -1
+        || !(PyErr_ExceptionMatches(PyExc_TypeError) || PyErr_ExceptionMatches(PyExc_OverflowError)
+             || PyErr_ExceptionMatches(PyExc_ValueError)))
         return state;
     PyErr_Clear();
     return self->key == NULL && PyObject_Hash(value) == -1 ? -1 : 0;
@@ -91,8 +89,7 @@ static size_t position_at(Blocks *self, Place place) { return blocks_before(self
 
 int blocks_add(Blocks *self, PyObject *item, PyObject *members) {
     Place place;
-    if (self->by <= FLOAT64)
-        return NOT_OWN;
+    if (self->by <= FLOAT64) return NOT_OWN;
     PyObject *key = blocks_key(self, item);
     int state = key == NULL ? -1 : blocks_is_own(self, key) ? join(members, item) : NOT_OWN;
     if (state == 1) {
@@ -112,18 +109,15 @@ static void let_go(Blocks *self, Place place) {
 
 int blocks_discard(Blocks *self, PyObject *item) {
     Place place;
-    if (self->by <= FLOAT64)
-        return NOT_OWN;
+    if (self->by <= FLOAT64) return NOT_OWN;
     int state = unfit(self, item, blocks_find(self, item, 0, &place));
-    if (state == 1)
-        let_go(self, place);
+    if (state == 1) let_go(self, place);
     return state;
 }
 
 int blocks_contains(Blocks *self, PyObject *item) {
     Place place;
-    if (self->by == OTHER)
-        return unfit(self, item, blocks_find(self, item, 0, &place));
+    if (self->by == OTHER) return unfit(self, item, blocks_find(self, item, 0, &place));
     int state = self->key == NULL ? blocks_bound(self, item, 0, &place) : NOT_OWN;
     if (state != 1 || self->length == 0 || place.index == self->blocks[place.block].count)
         return state == 1 ? 0 : state;
@@ -132,8 +126,7 @@ int blocks_contains(Blocks *self, PyObject *item) {
 
 Py_ssize_t blocks_bisect(Blocks *self, PyObject *value, int right) {
     Place place;
-    if (self->length == 0)
-        return 0;
+    if (self->length == 0) return 0;
     PyObject *key = blocks_key(self, value);
     int state = key ? blocks_bound(self, key, right, &place) : -1;
     Py_XDECREF(key);
@@ -144,8 +137,7 @@ int blocks_places(Blocks *self, PyObject *key, size_t *first, size_t *past) {
     Place place = {0, 0};
     *first = *past = 0;
     int state = blocks_bound(self, key, 0, &place);
-    if (state != 1 || self->length == 0)
-        return state;
+    if (state != 1 || self->length == 0) return state;
     *first = position_at(self, place);
     state = blocks_bound(self, key, 1, &place);
     *past = state == 1 ? position_at(self, place) : 0;
@@ -165,8 +157,7 @@ PyObject *blocks_item(Blocks *self, Py_ssize_t position) {
 
 static PyObject *pop(Blocks *self, PyObject *index) {
     Py_ssize_t position = position_of((PyObject *)self, index);
-    if (position < 0)
-        return NULL;
+    if (position < 0) return NULL;
     PyObject *key, *item = blocks_remove(self, blocks_place(self, (size_t)position), &key);
     Py_XDECREF(key);
     return item;
@@ -180,7 +171,8 @@ static PyObject *position_found(Blocks *self, int state, Place place) {
 static PyObject *find(Blocks *self, PyObject *value) {
     Place place;
     int state = unfit(self, value, blocks_find(self, value, 0, &place));
-    return state == NOT_OWN ? PyObject_CallMethodOneArg((PyObject *)self, names.found, value) : position_found(self, state, place);
+    return state == NOT_OWN ? PyObject_CallMethodOneArg((PyObject *)self, names.found, value)
+                            : position_found(self, state, place);
 }
 
 static PyObject *find_from(Blocks *self, PyObject *const *given, Py_ssize_t count) {
@@ -213,8 +205,7 @@ static PyObject *count(Blocks *self, PyObject *value) {
 static PyObject *below(Blocks *self, PyObject *given) {
     Place place;
     uint64_t code = PyLong_AsUnsignedLongLong(given);
-    if (code == UINT64_MAX && PyErr_Occurred())
-        return NULL;
+    if (code == UINT64_MAX && PyErr_Occurred()) return NULL;
     blocks_bound_code(self, code, &place);
     return PyLong_FromSize_t(position_at(self, place));
 }
@@ -226,8 +217,7 @@ static PyObject *are_distinct(Blocks *self, PyObject *nothing) {
     for (size_t b = 0; b < self->count; b++)
         for (size_t i = 0; i < self->blocks[b].count; i++) {
             PyObject *key = self->blocks[b].keys[i];
-            if (before != NULL && blocks_are_equal(self, before, key))
-                Py_RETURN_FALSE;
+            if (before != NULL && blocks_are_equal(self, before, key)) Py_RETURN_FALSE;
             before = key;
         }
     Py_RETURN_TRUE;
@@ -237,24 +227,33 @@ static PyObject *are_distinct(Blocks *self, PyObject *nothing) {
 
 static PyMethodDef methods[] = {
     {"add", (PyCFunction)add_method, METH_O, "Adds an object behind its equals."},
-    {"are_distinct", (PyCFunction)are_distinct, METH_NOARGS, "Whether no two sort keys are equal, of kinds with own types."},
+    {"are_distinct", (PyCFunction)are_distinct, METH_NOARGS,
+     "Whether no two sort keys are equal, of kinds with own types."},
     {"below", (PyCFunction)below, METH_O, "How many objects have codes below one, of a kind of numbers."},
-    {"bisect", (PyCFunction)(void (*)(void))bisect_method, METH_FASTCALL, "How many objects are below a value, or not above it."},
+    {"bisect", (PyCFunction)(void (*)(void))bisect_method, METH_FASTCALL,
+     "How many objects are below a value, or not above it."},
     {"changed", (PyCFunction)changed_method, METH_NOARGS, "Counts a change."},
-    {"chunk", (PyCFunction)(void (*)(void))chunk_method, METH_FASTCALL, "The objects at the positions from the first and before the second."},
+    {"chunk", (PyCFunction)(void (*)(void))chunk_method, METH_FASTCALL,
+     "The objects at the positions from the first and before the second."},
     {"clear", (PyCFunction)clear, METH_NOARGS, "Removes all objects."},
     {"copied", (PyCFunction)copied, METH_O, "Becomes a clone of another, from empty."},
     {"count", (PyCFunction)count, METH_O, "How many objects equal a value."},
-    {"cut", (PyCFunction)(void (*)(void))blocks_cut_method, METH_FASTCALL, "Removes the objects at the positions from the first and before the second."},
-    {"discard", (PyCFunction)discard_method, METH_O, "Removes the first object that equals a value, and tells whether there was one."},
-    {"fill", (PyCFunction)blocks_fill_method, METH_O, "Adds the objects of a list at once; False where one is not of the kind's own type."},
+    {"cut", (PyCFunction)(void (*)(void))blocks_cut_method, METH_FASTCALL,
+     "Removes the objects at the positions from the first and before the second."},
+    {"discard", (PyCFunction)discard_method, METH_O,
+     "Removes the first object that equals a value, and tells whether there was one."},
+    {"fill", (PyCFunction)blocks_fill_method, METH_O,
+     "Adds the objects of a list at once; False where one is not of the kind's own type."},
     {"find", (PyCFunction)find, METH_O, "The position of the first object that equals a value, or -1."},
-    {"find_from", (PyCFunction)(void (*)(void))find_from, METH_FASTCALL, "The same from a position on; what cannot be compared is an error."},
+    {"find_from", (PyCFunction)(void (*)(void))find_from, METH_FASTCALL,
+     "The same from a position on; what cannot be compared is an error."},
     {"numbers", (PyCFunction)numbers_method, METH_NOARGS, "All numbers, one by one in memory."},
     {"own_span", (PyCFunction)own_span_method, METH_O, "The positions of a sort key of the kind's own type, or None."},
-    {"place", (PyCFunction)(void (*)(void))place_method, METH_FASTCALL, "How many sort keys are below a key, or not above it."},
+    {"place", (PyCFunction)(void (*)(void))place_method, METH_FASTCALL,
+     "How many sort keys are below a key, or not above it."},
     {"pop", (PyCFunction)pop, METH_O, "Removes the object at a position and returns it."},
-    {"settle", (PyCFunction)blocks_settle_method, METH_O, "Has an order of the library, which is empty, take all objects; whether it could."},
+    {"settle", (PyCFunction)blocks_settle_method, METH_O,
+     "Has an order of the library, which is empty, take all objects; whether it could."},
     {"take", (PyCFunction)blocks_take_method, METH_O, "Adds the objects of a list, or none where one does not fit."},
     {"walk", (PyCFunction)(void (*)(void))walk_method, METH_FASTCALL, "The objects at positions one by one."},
     {"__class_getitem__", Py_GenericAlias, METH_O | METH_CLASS, NULL},
@@ -269,8 +268,7 @@ static PySequenceMethods sequence = {.sq_length = (lenfunc)blocks_length, .sq_co
 static PyMappingMethods mapping = {.mp_length = (lenfunc)blocks_length, .mp_subscript = (binaryfunc)item_method};
 
 PyTypeObject BlocksType = {
-    PyVarObject_HEAD_INIT(NULL, 0)
-    .tp_name = "indexset._fast.Blocks",
+    PyVarObject_HEAD_INIT(NULL, 0).tp_name = "indexset._fast.Blocks",
     .tp_doc = "Objects in blocks, in the order of their sort keys.",
     .tp_basicsize = sizeof(Blocks),
     .tp_flags = Py_TPFLAGS_DEFAULT | Py_TPFLAGS_BASETYPE | Py_TPFLAGS_HAVE_GC,

@@ -19,8 +19,7 @@ static void dict_dealloc(DictFront *self) {
 
 /* What orders the keys, as a new reference: it outlives what runs meanwhile. There is none before `__init__`. */
 static PyObject *order_of(DictFront *self) {
-    if (self->order == NULL)
-        PyErr_SetString(PyExc_RuntimeError, "the object was not made");
+    if (self->order == NULL) PyErr_SetString(PyExc_RuntimeError, "the object was not made");
     Py_XINCREF(self->order);
     return self->order;
 }
@@ -30,15 +29,13 @@ static PyObject *order_of(DictFront *self) {
 /* Has a key in order that is not there: 1, or NOT_OWN, or -1 with an error. */
 static int add_key(PyObject *order, PyObject *key) {
     uint64_t code;
-    if (Py_TYPE(order) != &NumbersType)
-        return is_fresh(order) ? NOT_OWN : held_add(order, key, NULL);
+    if (Py_TYPE(order) != &NumbersType) return is_fresh(order) ? NOT_OWN : held_add(order, key, NULL);
     return number_code(((Numbers *)order)->kind, key, &code) ? numbers_add((Numbers *)order, key) : NOT_OWN;
 }
 
 /* Takes out a key that is there. */
 static int discard_key(PyObject *order, PyObject *key) {
-    if (Py_TYPE(order) == &NumbersType)
-        return numbers_discard((Numbers *)order, key);
+    if (Py_TYPE(order) == &NumbersType) return numbers_discard((Numbers *)order, key);
     int state = IS_MULTI(order) || IS_BLOCKS(order) ? NOT_OWN : own_drop((Coded *)order, key);
     return state == NOT_OWN ? held_discard(order, key) : state;
 }
@@ -46,8 +43,7 @@ static int discard_key(PyObject *order, PyObject *key) {
 /* The same by `_order_keys` of the class, which finds the kind. */
 static int order_key(DictFront *self, PyObject *key) {
     PyObject *keys = PyList_New(1);
-    if (keys == NULL)
-        return -1;
+    if (keys == NULL) return -1;
     Py_INCREF(key);
     PyList_SET_ITEM(keys, 0, key);
     PyObject *done = PyObject_CallMethodOneArg((PyObject *)self, names.order_keys, keys);
@@ -79,36 +75,31 @@ static int discard(DictFront *self, PyObject *key) {
     order = changing_order(self);
     int state = order ? discard_key(order, key) : -1;
     Py_XDECREF(order);
-    if (type != NULL)
-        PyErr_Restore(type, value, trace);
+    if (type != NULL) PyErr_Restore(type, value, trace);
     return state;
 }
 
 static int set_value(DictFront *self, PyObject *key, PyObject *value) {
     int is_there = PyDict_Contains((PyObject *)self, key);
-    if (is_there < 0 || (!is_there && add(self, key) < 0))
-        return -1;
-    if (PyDict_SetItem((PyObject *)self, key, value) == 0)
-        return 0;
-    if (!is_there)
-        discard(self, key);
+    if (is_there < 0 || (!is_there && add(self, key) < 0)) return -1;
+    if (PyDict_SetItem((PyObject *)self, key, value) == 0) return 0;
+    if (!is_there) discard(self, key);
     return -1;
 }
 
-static int delete(DictFront *self, PyObject *key) {
+static int delete (DictFront *self, PyObject *key) {
     int is_there = PyDict_Contains((PyObject *)self, key);
     if (is_there == 0) {
         PyObject *words = PyTuple_Pack(1, key);
         PyErr_SetObject(PyExc_KeyError, words);
         Py_XDECREF(words);
     }
-    if (is_there < 1 || discard(self, key) < 0)
-        return -1;
+    if (is_there < 1 || discard(self, key) < 0) return -1;
     return PyDict_DelItem((PyObject *)self, key);
 }
 
 static int assign(DictFront *self, PyObject *key, PyObject *value) {
-    return value == NULL ? delete(self, key) : set_value(self, key, value);
+    return value == NULL ? delete (self, key) : set_value(self, key, value);
 }
 
 static PyObject *walk(DictFront *self) {
@@ -122,8 +113,7 @@ static PyObject *walk(DictFront *self) {
 
 static int set_order(DictFront *self, PyObject *order, void *nothing) {
     (void)nothing;
-    if (!is_order(order))
-        return -1;
+    if (!is_order(order)) return -1;
     Py_INCREF(order);
     Py_XSETREF(self->order, order);
     return 0;
@@ -136,14 +126,13 @@ static PyObject *get_order(DictFront *self, void *nothing) {
 
 static PyMethodDef methods[] = {{"__class_getitem__", Py_GenericAlias, METH_O | METH_CLASS, NULL}, {0}};
 static PyGetSetDef properties[] = {{"_order", (getter)get_order, (setter)set_order, NULL, NULL}, {0}};
-/* `in` and `[key]` are dict's: a class below, which has slots from here, goes straight to them, where from dict it would
- * look for the methods at each call. The module has the other slot from dict. */
+/* `in` and `[key]` are dict's: a class below, which has slots from here, goes straight to them, where from dict it
+ * would look for the methods at each call. The module has the other slot from dict. */
 static PyMappingMethods mapping = {.mp_ass_subscript = (objobjargproc)assign};
 static PySequenceMethods sequence = {.sq_contains = PyDict_Contains};
 
 PyTypeObject DictFrontType = {
-    PyVarObject_HEAD_INIT(NULL, 0)
-    .tp_name = "indexset._fast.DictFront",
+    PyVarObject_HEAD_INIT(NULL, 0).tp_name = "indexset._fast.DictFront",
     .tp_doc = "A dict whose keys are in order too.",
     .tp_basicsize = sizeof(DictFront),
     .tp_flags = Py_TPFLAGS_DEFAULT | Py_TPFLAGS_BASETYPE | Py_TPFLAGS_HAVE_GC,

@@ -29,17 +29,16 @@ enum kind { INT64, UINT64, FLOAT64, TEXT, BYTES, OTHER, COMPARED };
 /* Distinct numbers of a kind, in order. The map leads from the code of each to the object that was given, or
  * to 0 where none was: then one is made of the code. */
 typedef struct {
-    PyObject_HEAD
-    indexset_map map;
+    PyObject_HEAD indexset_map map;
     enum kind kind;
     PyObject *python; /* the kind in `_kinds`, which knows of other types */
     unsigned long long changes;
 } Numbers;
 
 /* What both collections of objects begin with. */
-#define HELD_HEAD                                                         \
-    PyObject_HEAD PyObject *key; /* what makes sort keys, or NULL */      \
-    enum kind kind;                                                       \
+#define HELD_HEAD                                                                                                      \
+    PyObject_HEAD PyObject *key; /* what makes sort keys, or NULL */                                                   \
+    enum kind kind;                                                                                                    \
     unsigned long long changes;
 
 typedef struct {
@@ -78,9 +77,9 @@ typedef struct {
     enum kind by;
     Block *blocks;
     size_t count, room, length;
-    size_t *tree; /* of the lengths of the blocks, where `is_indexed` */
+    size_t *tree;            /* of the lengths of the blocks, where `is_indexed` */
     int is_indexed, is_even; /* all blocks but the last have FILLED objects */
-    uint64_t *codes; /* of the last of each GROUP sort keys, where these are numbers of a kind */
+    uint64_t *codes;         /* of the last of each GROUP sort keys, where these are numbers of a kind */
 } Blocks;
 
 /* How many objects a block has where many come at once, and of how many sort keys in a row one code is kept. */
@@ -109,8 +108,7 @@ typedef struct {
 
 /* What stands before what orders the items. */
 typedef struct {
-    PyObject_HEAD
-    PyObject *order;
+    PyObject_HEAD PyObject *order;
     PyObject *members; /* the items as a set, or None where they may repeat */
 } Front;
 
@@ -125,7 +123,8 @@ extern PyTypeObject NumbersType, CodedType, MultiType, BlocksType, FrontType, Di
 /* The module `_kinds`, and the names of the methods that are called. */
 extern PyObject *kinds;
 extern struct names {
-    PyObject *add, *bisect, *bound, *code, *codes_of, *contains, *discard, *find, *flipped, *found, *found_from, *order_keys, *placed, *settled, *slice;
+    PyObject *add, *bisect, *bound, *code, *codes_of, *contains, *discard, *find, *flipped, *found, *found_from,
+        *order_keys, *placed, *settled, *slice;
 } names;
 
 /* ---- codes.c */
@@ -203,8 +202,8 @@ int blocks_insert(Blocks *self, Place at, PyObject *item, PyObject *key);
 PyObject *blocks_remove(Blocks *self, Place at, PyObject **key);
 /* Lets all objects go. */
 void blocks_drop(Blocks *self);
-/* Has the objects of a list, whose sort keys are those of the second, if one is given, in place of those before; the lists
- * are empty then: 1, or -1 with an error. */
+/* Has the objects of a list, whose sort keys are those of the second, if one is given, in place of those before; the
+ * lists are empty then: 1, or -1 with an error. */
 int blocks_fill(Blocks *self, PyObject *items, PyObject *keys);
 /* From empty, has the objects of another. */
 int blocks_copy(Blocks *self, Blocks *from);
@@ -273,8 +272,8 @@ PyObject *item_method(PyObject *self, PyObject *index);
 PyObject *own_span_method(PyObject *self, PyObject *key);
 PyObject *place_method(PyObject *self, PyObject *const *given, Py_ssize_t count);
 PyObject *find_method(PyObject *self, PyObject *value);
-/* Where the first object that equals a value stands, from a position on, by a sort key that a function makes: 1, or 0 where
- * there is none, or NOT_OWN, or -1 with an error. */
+/* Where the first object that equals a value stands, from a position on, by a sort key that a function makes: 1, or 0
+ * where there is none, or NOT_OWN, or -1 with an error. */
 int held_find(PyObject *self, PyObject *value, size_t from, size_t *position);
 /* Takes an item out of a set; an error that there is stays. */
 void discard_quietly(PyObject *members, PyObject *item);

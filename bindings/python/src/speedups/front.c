@@ -21,8 +21,7 @@ static void front_dealloc(Front *self) {
 
 /* Whether there is an order; there is none before `__init__`. */
 static int is_made(Front *self) {
-    if (self->order == NULL)
-        PyErr_SetString(PyExc_RuntimeError, "the object was not made");
+    if (self->order == NULL) PyErr_SetString(PyExc_RuntimeError, "the object was not made");
     return self->order != NULL;
 }
 
@@ -32,13 +31,11 @@ static Py_ssize_t front_length(Front *self) { return is_made(self) ? (Py_ssize_t
 
 /* What is asked for a value outlives what runs meanwhile of its type. */
 static int front_contains(Front *self, PyObject *value) {
-    if (!is_made(self))
-        return -1;
-    if (!has_members(self) && length_of(self->order) == 0)
-        return 0;
+    if (!is_made(self)) return -1;
+    if (!has_members(self) && length_of(self->order) == 0) return 0;
     PyObject *asked = has_members(self) ? self->members : self->order;
     Py_INCREF(asked);
-    int is_there = asked == self->members                ? PySequence_Contains(asked, value)
+    int is_there = asked == self->members           ? PySequence_Contains(asked, value)
                    : Py_TYPE(asked) == &NumbersType ? numbers_contains((Numbers *)asked, value)
                                                     : held_contains(asked, value);
     Py_DECREF(asked);
@@ -53,29 +50,23 @@ static PyObject *front_iter(Front *self) {
 /* The items at a slice; `_slice` of the class knows of steps. */
 static PyObject *slice(Front *self, PyObject *index) {
     Py_ssize_t first, past, step, length = front_length(self);
-    if (length < 0 || PySlice_Unpack(index, &first, &past, &step) < 0)
-        return NULL;
-    if (step != 1)
-        return PyObject_CallMethodOneArg((PyObject *)self, names.slice, index);
+    if (length < 0 || PySlice_Unpack(index, &first, &past, &step) < 0) return NULL;
+    if (step != 1) return PyObject_CallMethodOneArg((PyObject *)self, names.slice, index);
     PySlice_AdjustIndices(length, &first, &past, step);
     past = past < first ? first : past;
     return chunk_of(self->order, (size_t)first, (size_t)past);
 }
 
 static PyObject *front_subscript(Front *self, PyObject *index) {
-    if (PySlice_Check(index))
-        return slice(self, index);
+    if (PySlice_Check(index)) return slice(self, index);
     Py_ssize_t position = PyNumber_AsSsize_t(index, PyExc_IndexError);
-    if (position == -1 && PyErr_Occurred())
-        return NULL;
+    if (position == -1 && PyErr_Occurred()) return NULL;
     if (position < 0) {
         Py_ssize_t length = front_length(self);
-        if (length < 0)
-            return NULL;
+        if (length < 0) return NULL;
         position += length;
     }
-    if (!is_made(self))
-        return NULL;
+    if (!is_made(self)) return NULL;
     int is_numbers = Py_TYPE(self->order) == &NumbersType;
     return is_numbers ? numbers_item((Numbers *)self->order, position) : held_item(self->order, position);
 }
@@ -84,44 +75,45 @@ static PyObject *front_subscript(Front *self, PyObject *index) {
  * is there, or NOT_OWN, or -1 with an error. */
 static int add_number(Numbers *order, PyObject *members, PyObject *value) {
     uint64_t code;
-    if (!number_code(order->kind, value, &code))
-        return NOT_OWN;
+    if (!number_code(order->kind, value, &code)) return NOT_OWN;
     int state = join(members, value);
     return state == 1 ? joined(members, value, numbers_add(order, value)) : state;
 }
 
-int is_fresh(PyObject *order) { return Py_TYPE(order) != &NumbersType && IS_BLOCKS(order) && ((Blocks *)order)->length == 0; }
+int is_fresh(PyObject *order) {
+    return Py_TYPE(order) != &NumbersType && IS_BLOCKS(order) && ((Blocks *)order)->length == 0;
+}
 
 /* `_add` of the class finds the kind, and keeps apart what is equal. */
 static PyObject *add(Front *self, PyObject *value) {
-    if (!is_made(self))
-        return NULL;
+    if (!is_made(self)) return NULL;
     /* They outlive what runs meanwhile of the key function and of comparisons. */
     PyObject *order = self->order, *members = has_members(self) ? self->members : NULL;
     Py_INCREF(order);
     Py_XINCREF(members);
     int is_numbers = Py_TYPE(order) == &NumbersType, may_repeat = members == NULL;
-    int state = is_fresh(order) ? NOT_OWN : is_numbers ? add_number((Numbers *)order, members, value) : held_add(order, value, members);
+    int state = is_fresh(order) ? NOT_OWN
+                : is_numbers    ? add_number((Numbers *)order, members, value)
+                                : held_add(order, value, members);
     Py_DECREF(order);
     Py_XDECREF(members);
     if (state == NOT_OWN || (state == 0 && may_repeat))
         return PyObject_CallMethodOneArg((PyObject *)self, names.add, value);
-    if (state < 0)
-        return NULL;
+    if (state < 0) return NULL;
     Py_RETURN_NONE;
 }
 
 static PyObject *discard(Front *self, PyObject *value) {
     PyObject *answer = PyObject_CallMethodOneArg((PyObject *)self, names.discard, value);
-    if (answer == NULL)
-        return NULL;
+    if (answer == NULL) return NULL;
     Py_DECREF(answer);
     Py_RETURN_NONE;
 }
 
 static PyObject *bisect_of(PyObject *order, PyObject *value, int right) {
     int is_numbers = Py_TYPE(order) == &NumbersType;
-    Py_ssize_t position = is_numbers ? numbers_bisect((Numbers *)order, value, right) : held_bisect(order, value, right);
+    Py_ssize_t position =
+        is_numbers ? numbers_bisect((Numbers *)order, value, right) : held_bisect(order, value, right);
     if (position == NOT_OWN)
         return PyObject_CallMethodObjArgs(order, names.bisect, value, right ? Py_True : Py_False, NULL);
     return position < 0 ? NULL : PyLong_FromSsize_t(position);
@@ -139,8 +131,9 @@ static PyObject *bisect_left(Front *self, PyObject *value) { return bisect(self,
 static PyObject *bisect_right(Front *self, PyObject *value) { return bisect(self, value, 1); }
 
 int is_order(PyObject *order) {
-    if (order != NULL && (Py_TYPE(order) == &NumbersType || PyObject_TypeCheck(order, &CodedType) || PyObject_TypeCheck(order, &MultiType) ||
-                          PyObject_TypeCheck(order, &BlocksType)))
+    if (order != NULL
+        && (Py_TYPE(order) == &NumbersType || PyObject_TypeCheck(order, &CodedType)
+            || PyObject_TypeCheck(order, &MultiType) || PyObject_TypeCheck(order, &BlocksType)))
         return 1;
     PyErr_SetString(PyExc_TypeError, "an order is Numbers, a Coded, a Multi or Blocks");
     return 0;
@@ -148,8 +141,7 @@ int is_order(PyObject *order) {
 
 static int set_order(Front *self, PyObject *order, void *nothing) {
     (void)nothing;
-    if (!is_order(order))
-        return -1;
+    if (!is_order(order)) return -1;
     Py_INCREF(order);
     Py_XSETREF(self->order, order);
     return 0;
@@ -157,8 +149,7 @@ static int set_order(Front *self, PyObject *order, void *nothing) {
 
 static PyObject *get_order(Front *self, void *nothing) {
     (void)nothing;
-    if (!is_made(self))
-        return NULL;
+    if (!is_made(self)) return NULL;
     Py_INCREF(self->order);
     return self->order;
 }
@@ -207,8 +198,7 @@ static PySequenceMethods sequence = {.sq_length = (lenfunc)front_length, .sq_con
 static PyMappingMethods mapping = {.mp_length = (lenfunc)front_length, .mp_subscript = (binaryfunc)front_subscript};
 
 PyTypeObject FrontType = {
-    PyVarObject_HEAD_INIT(NULL, 0)
-    .tp_name = "indexset._fast.Front",
+    PyVarObject_HEAD_INIT(NULL, 0).tp_name = "indexset._fast.Front",
     .tp_doc = "What stands before what orders the items.",
     .tp_basicsize = sizeof(Front),
     .tp_flags = Py_TPFLAGS_DEFAULT | Py_TPFLAGS_BASETYPE | Py_TPFLAGS_HAVE_GC,

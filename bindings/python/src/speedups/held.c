@@ -5,8 +5,7 @@
 /* ---- one item, where its sort key is of the kind's own type */
 
 int held_add(PyObject *self, PyObject *item, PyObject *members) {
-    if (IS_BLOCKS(self))
-        return blocks_add((Blocks *)self, item, members);
+    if (IS_BLOCKS(self)) return blocks_add((Blocks *)self, item, members);
     return IS_MULTI(self) ? multi_add((Multi *)self, item, members) : own_add((Coded *)self, item, members);
 }
 
@@ -15,21 +14,18 @@ int held_add_keyed(PyObject *self, PyObject *item, PyObject *key) {
 }
 
 Py_ssize_t held_bisect(PyObject *self, PyObject *value, int right) {
-    if (IS_BLOCKS(self))
-        return blocks_bisect((Blocks *)self, value, right);
+    if (IS_BLOCKS(self)) return blocks_bisect((Blocks *)self, value, right);
     return IS_MULTI(self) ? multi_bisect((Multi *)self, value, right) : own_bisect((Coded *)self, value, right);
 }
 
 PyObject *held_item(PyObject *self, Py_ssize_t position) {
-    if (IS_BLOCKS(self))
-        return blocks_item((Blocks *)self, position);
+    if (IS_BLOCKS(self)) return blocks_item((Blocks *)self, position);
     return IS_MULTI(self) ? multi_item((Multi *)self, position) : coded_item((Coded *)self, position);
 }
 
 /* The positions of a sort key of the kind's own type. */
 static int places_of(PyObject *self, PyObject *key, size_t *first, size_t *past) {
-    if (IS_BLOCKS(self))
-        return blocks_places((Blocks *)self, key, first, past);
+    if (IS_BLOCKS(self)) return blocks_places((Blocks *)self, key, first, past);
     return IS_MULTI(self) ? multi_places((Multi *)self, key, first, past) : own_places((Coded *)self, key, first, past);
 }
 
@@ -48,13 +44,11 @@ static int is_equal(PyObject *self, size_t position, PyObject *value) {
 
 int held_find(PyObject *self, PyObject *value, size_t from, size_t *position) {
     size_t first = 0, past = 0;
-    if (((Held *)self)->key == NULL)
-        return NOT_OWN;
+    if (((Held *)self)->key == NULL) return NOT_OWN;
     PyObject *key = PyObject_CallOneArg(((Held *)self)->key, value);
     int state = key ? places_of(self, key, &first, &past) : -1;
     Py_XDECREF(key);
-    if (state != 1)
-        return state;
+    if (state != 1) return state;
     state = 0;
     for (*position = first > from ? first : from; state == 0 && *position < past; *position += state == 0)
         state = is_equal(self, *position, value);
@@ -63,8 +57,9 @@ int held_find(PyObject *self, PyObject *value, size_t from, size_t *position) {
 
 /* A value that makes no sort key that can be compared with the others equals none. */
 static int unfit(int state) {
-    if (state != -1 || !(PyErr_ExceptionMatches(PyExc_TypeError) || PyErr_ExceptionMatches(PyExc_OverflowError) ||
-                         PyErr_ExceptionMatches(PyExc_ValueError)))
+    if (state != -1
+        || !(PyErr_ExceptionMatches(PyExc_TypeError) || PyErr_ExceptionMatches(PyExc_OverflowError)
+             || PyErr_ExceptionMatches(PyExc_ValueError)))
         return state;
     PyErr_Clear();
     return 0;
@@ -74,8 +69,7 @@ static int unfit(int state) {
 
 /* A state, or, where it is NOT_OWN, whether a method of the class answers so of a value. */
 static int asked(PyObject *self, PyObject *name, PyObject *value, int state) {
-    if (state != NOT_OWN)
-        return state;
+    if (state != NOT_OWN) return state;
     PyObject *answer = PyObject_CallMethodOneArg(self, name, value);
     state = answer ? PyObject_IsTrue(answer) : -1;
     Py_XDECREF(answer);
@@ -84,14 +78,15 @@ static int asked(PyObject *self, PyObject *name, PyObject *value, int state) {
 
 static PyObject *truth(int state) { return state < 0 ? NULL : PyBool_FromLong(state); }
 
-PyObject *add_method(PyObject *self, PyObject *item) { return truth(asked(self, names.add, item, held_add(self, item, NULL))); }
+PyObject *add_method(PyObject *self, PyObject *item) {
+    return truth(asked(self, names.add, item, held_add(self, item, NULL)));
+}
 
 /* Takes out the object that equals a value, where a function makes the sort keys. */
 static int discard_found(PyObject *self, PyObject *value) {
     size_t position;
     int state = unfit(held_find(self, value, 0, &position));
-    if (state != 1)
-        return state;
+    if (state != 1) return state;
     PyObject *item = IS_MULTI(self) ? multi_pop((Multi *)self, position) : coded_pop((Coded *)self, position);
     Py_XDECREF(item);
     return item ? 1 : -1;
@@ -101,8 +96,7 @@ int held_discard(PyObject *self, PyObject *value) {
     int state = IS_BLOCKS(self)  ? blocks_discard((Blocks *)self, value)
                 : IS_MULTI(self) ? multi_discard((Multi *)self, value)
                                  : own_discard((Coded *)self, value);
-    if (state == NOT_OWN && !IS_BLOCKS(self))
-        state = discard_found(self, value);
+    if (state == NOT_OWN && !IS_BLOCKS(self)) state = discard_found(self, value);
     return asked(self, names.discard, value, state);
 }
 
@@ -113,8 +107,7 @@ int held_contains(PyObject *self, PyObject *value) {
     int state = IS_BLOCKS(self)  ? blocks_contains((Blocks *)self, value)
                 : IS_MULTI(self) ? multi_contains((Multi *)self, value)
                                  : own_contains((Coded *)self, value);
-    if (state == NOT_OWN)
-        state = unfit(held_find(self, value, 0, &position));
+    if (state == NOT_OWN) state = unfit(held_find(self, value, 0, &position));
     return asked(self, names.contains, value, state);
 }
 
@@ -125,8 +118,7 @@ PyObject *bisect_method(PyObject *self, PyObject *const *given, Py_ssize_t count
         return NULL;
     }
     Py_ssize_t position = held_bisect(self, given[0], right);
-    if (position == NOT_OWN)
-        return PyObject_CallMethodObjArgs(self, names.bisect, given[0], given[1], NULL);
+    if (position == NOT_OWN) return PyObject_CallMethodObjArgs(self, names.bisect, given[0], given[1], NULL);
     return position == -1 ? NULL : PyLong_FromSsize_t(position);
 }
 
@@ -134,33 +126,28 @@ PyObject *place_method(PyObject *self, PyObject *const *given, Py_ssize_t count)
     size_t first, past;
     Place place;
     int right = count == 2 ? PyObject_IsTrue(given[1]) : -1;
-    if (right < 0)
-        return PyErr_Format(PyExc_TypeError, "place takes a sort key and a bool");
+    if (right < 0) return PyErr_Format(PyExc_TypeError, "place takes a sort key and a bool");
     if (IS_BLOCKS(self)) {
         int state = blocks_bound((Blocks *)self, given[0], right, &place);
-        if (state == 1)
-            return PyLong_FromSize_t(blocks_before((Blocks *)self, place.block) + place.index);
+        if (state == 1) return PyLong_FromSize_t(blocks_before((Blocks *)self, place.block) + place.index);
         return state == NOT_OWN ? PyObject_CallMethodObjArgs(self, names.placed, given[0], given[1], NULL) : NULL;
     }
     int state = places_of(self, given[0], &first, &past);
-    if (state == NOT_OWN)
-        return PyObject_CallMethodObjArgs(self, names.placed, given[0], given[1], NULL);
+    if (state == NOT_OWN) return PyObject_CallMethodObjArgs(self, names.placed, given[0], given[1], NULL);
     return state < 0 ? NULL : PyLong_FromSize_t(right ? past : first);
 }
 
 PyObject *find_method(PyObject *self, PyObject *value) {
     size_t position;
     int state = unfit(held_find(self, value, 0, &position));
-    if (state == NOT_OWN)
-        return PyObject_CallMethodOneArg(self, names.found, value);
+    if (state == NOT_OWN) return PyObject_CallMethodOneArg(self, names.found, value);
     return state < 0 ? NULL : PyLong_FromSsize_t(state ? (Py_ssize_t)position : -1);
 }
 
 PyObject *own_span_method(PyObject *self, PyObject *key) {
     size_t first, past;
     int state = places_of(self, key, &first, &past);
-    if (state == NOT_OWN)
-        Py_RETURN_NONE;
+    if (state == NOT_OWN) Py_RETURN_NONE;
     return state == -1 ? NULL : Py_BuildValue("nn", (Py_ssize_t)first, (Py_ssize_t)past);
 }
 
@@ -174,8 +161,7 @@ PyObject *changed_method(PyObject *self, PyObject *nothing) {
 
 Py_ssize_t position_of(PyObject *self, PyObject *index) {
     Py_ssize_t position = PyNumber_AsSsize_t(index, PyExc_IndexError), length = (Py_ssize_t)length_of(self);
-    if (position == -1 && PyErr_Occurred())
-        return -1;
+    if (position == -1 && PyErr_Occurred()) return -1;
     position += position < 0 ? length : 0;
     if (position < 0 || position >= length) {
         PyErr_SetString(PyExc_IndexError, "index out of range");
@@ -200,16 +186,13 @@ void discard_quietly(PyObject *members, PyObject *item) {
 
 int join(PyObject *members, PyObject *item) {
     int is_there = members ? PySet_Contains(members, item) : 0;
-    if (is_there != 0 || members == NULL)
-        return is_there < 0 ? -1 : !is_there;
-    if (PySet_Add(members, item) == 0)
-        return 1;
+    if (is_there != 0 || members == NULL) return is_there < 0 ? -1 : !is_there;
+    if (PySet_Add(members, item) == 0) return 1;
     discard_quietly(members, item); /* a set that cannot grow has it already */
     return -1;
 }
 
 int joined(PyObject *members, PyObject *item, int state) {
-    if (state < 0 && members != NULL)
-        discard_quietly(members, item);
+    if (state < 0 && members != NULL) discard_quietly(members, item);
     return state;
 }

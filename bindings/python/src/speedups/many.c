@@ -1,4 +1,5 @@
-/* Many objects that come to blocks or go at once: those that come are compared first, and then all come, or none with an error. */
+/* Many objects that come to blocks or go at once: those that come are compared first, and then all come, or none with
+ * an error. */
 #include "fast.h"
 
 /* From how many that come on, beside so many, all are sorted: the others are put in one by one. */
@@ -12,8 +13,7 @@ static PyObject *keys_of(Blocks *self, PyObject *items) {
         Py_INCREF(item);
         PyObject *key = PyObject_CallOneArg(self->key, item);
         Py_DECREF(item);
-        if (key == NULL || PyList_Append(made, key) < 0)
-            Py_CLEAR(made);
+        if (key == NULL || PyList_Append(made, key) < 0) Py_CLEAR(made);
         Py_XDECREF(key);
     }
     return made;
@@ -26,27 +26,24 @@ static PyObject *joined_list(Blocks *self, PyObject *more, int of_keys) {
         return more;
     }
     PyObject *made = blocks_list(self, 0, self->length, of_keys);
-    if (made != NULL && PyList_SetSlice(made, PY_SSIZE_T_MAX, PY_SSIZE_T_MAX, more) < 0)
-        Py_CLEAR(made);
+    if (made != NULL && PyList_SetSlice(made, PY_SSIZE_T_MAX, PY_SSIZE_T_MAX, more) < 0) Py_CLEAR(made);
     return made;
 }
 
 /* Whether the blocks are as they were; else an error says so. */
 static int is_same(Blocks *self, unsigned long long changes) {
-    if (self->changes != changes)
-        PyErr_SetString(PyExc_RuntimeError, "it changed meanwhile");
+    if (self->changes != changes) PyErr_SetString(PyExc_RuntimeError, "it changed meanwhile");
     return self->changes == changes;
 }
 
-/* All objects here and those of a list become the objects: 1, or 0 where a key is not of the kind's own type, or -1 with an
- * error. */
+/* All objects here and those of a list become the objects: 1, or 0 where a key is not of the kind's own type, or -1
+ * with an error. */
 static int fill(Blocks *self, PyObject *values, PyObject *more_keys) {
     unsigned long long changes = self->changes;
     int has_keys = self->key != NULL;
     PyObject *items = joined_list(self, values, 0), *keys = has_keys && items ? joined_list(self, more_keys, 1) : NULL;
     int state = items && (keys || !has_keys) ? blocks_sort(self->by, items, keys) : -1;
-    if (state == 1)
-        state = is_same(self, changes) ? blocks_fill(self, items, keys) : -1;
+    if (state == 1) state = is_same(self, changes) ? blocks_fill(self, items, keys) : -1;
     Py_XDECREF(items);
     Py_XDECREF(keys);
     return state;
@@ -60,8 +57,7 @@ static int places_of(Blocks *self, PyObject *keys, size_t *positions) {
     for (Py_ssize_t i = 0; state == 1 && i < PyList_GET_SIZE(keys); i++) {
         Place place;
         state = blocks_bound(self, PyList_GET_ITEM(keys, i), 1, &place);
-        if (state == 1)
-            positions[i] = blocks_before(self, place.block) + place.index;
+        if (state == 1) positions[i] = blocks_before(self, place.block) + place.index;
     }
     return state;
 }
@@ -78,10 +74,11 @@ static int insert_at(Blocks *self, size_t position, PyObject *item, PyObject *ke
 /* Puts sorted objects at their positions, from the last to the first; where memory is refused, those put go again. */
 static int insert_all(Blocks *self, PyObject *items, PyObject *keys, const size_t *positions) {
     Py_ssize_t count = PyList_GET_SIZE(items), left = count;
-    while (left > 0 && insert_at(self, positions[left - 1], PyList_GET_ITEM(items, left - 1), PyList_GET_ITEM(keys, left - 1)) == 1)
+    while (left > 0
+           && insert_at(self, positions[left - 1], PyList_GET_ITEM(items, left - 1), PyList_GET_ITEM(keys, left - 1))
+                  == 1)
         left--;
-    if (left == 0)
-        return 1;
+    if (left == 0) return 1;
     for (Py_ssize_t i = count - 1; i >= left; i--) {
         PyObject *key, *item = blocks_remove(self, blocks_place(self, positions[i] + (size_t)(i - left)), &key);
         Py_XDECREF(key); /* the lists hold both */
@@ -98,24 +95,19 @@ static int insert_list(Blocks *self, PyObject *items, PyObject *keys) {
         PyErr_NoMemory();
         return -1;
     }
-    if (state == 1)
-        state = places_of(self, keys, positions);
-    if (state == 1 && !is_same(self, changes))
-        state = -1;
-    if (state == 1)
-        state = insert_all(self, items, keys, positions);
+    if (state == 1) state = places_of(self, keys, positions);
+    if (state == 1 && !is_same(self, changes)) state = -1;
+    if (state == 1) state = insert_all(self, items, keys, positions);
     PyMem_Free(positions);
     return state;
 }
 
 static int take(Blocks *self, PyObject *values) {
     PyObject *keys = self->key ? keys_of(self, values) : values;
-    if (keys == NULL)
-        return -1;
+    if (keys == NULL) return -1;
     int is_part = (size_t)PyList_GET_SIZE(values) * PART < self->length;
     int state = is_part ? insert_list(self, values, keys) : fill(self, values, keys);
-    if (keys != values)
-        Py_DECREF(keys);
+    if (keys != values) Py_DECREF(keys);
     return state;
 }
 
@@ -125,16 +117,13 @@ PyObject *blocks_take_method(Blocks *self, PyObject *values) {
     if (self->by <= FLOAT64 || !PyList_CheckExact(values))
         return PyErr_Format(PyExc_TypeError, "a list is needed, and no numbers");
     int state = take(self, values);
-    if (state == 0)
-        return PyErr_Format(PyExc_TypeError, "a sort key of the kind's own type is needed");
-    if (state < 0)
-        return NULL;
+    if (state == 0) return PyErr_Format(PyExc_TypeError, "a sort key of the kind's own type is needed");
+    if (state < 0) return NULL;
     Py_RETURN_NONE;
 }
 
 PyObject *blocks_fill_method(Blocks *self, PyObject *values) {
-    if (!PyList_CheckExact(values))
-        return PyErr_Format(PyExc_TypeError, "a list is needed");
+    if (!PyList_CheckExact(values)) return PyErr_Format(PyExc_TypeError, "a list is needed");
     PyObject *keys = self->key ? keys_of(self, values) : NULL;
     int state = self->key && keys == NULL ? -1 : fill(self, values, keys);
     Py_XDECREF(keys);
@@ -152,8 +141,7 @@ static int cut_run(Blocks *self, size_t first, size_t past, int has_keys) {
         state = left[i] && PyList_SetSlice(left[i], PY_SSIZE_T_MAX, PY_SSIZE_T_MAX, behind) == 0 ? 1 : -1;
         Py_XDECREF(behind);
     }
-    if (state == 1)
-        state = is_same(self, changes) ? blocks_fill(self, left[0], left[1]) : -1;
+    if (state == 1) state = is_same(self, changes) ? blocks_fill(self, left[0], left[1]) : -1;
     Py_XDECREF(left[0]);
     Py_XDECREF(left[1]);
     return state;
@@ -169,7 +157,9 @@ static int settle(Blocks *self, PyObject *order) {
             if (Py_TYPE(order) != &NumbersType)
                 state = held_add_keyed(order, block->items[i], block->keys[i]);
             else
-                state = number_code(self->by, block->items[i], &code) ? numbers_put((Numbers *)order, code, block->items[i]) : NOT_OWN;
+                state = number_code(self->by, block->items[i], &code)
+                            ? numbers_put((Numbers *)order, code, block->items[i])
+                            : NOT_OWN;
     }
     return state;
 }
@@ -196,11 +186,9 @@ static int cut(Blocks *self, size_t first, size_t past) {
 
 PyObject *blocks_cut_method(Blocks *self, PyObject *const *given, Py_ssize_t count) {
     size_t first, past;
-    if (!two_positions(given, count, &first, &past))
-        return NULL;
+    if (!two_positions(given, count, &first, &past)) return NULL;
     past = past < self->length ? past : self->length;
-    if (first >= past)
-        Py_RETURN_NONE;
+    if (first >= past) Py_RETURN_NONE;
     int is_most = 2 * (past - first) > self->length;
     if ((self->by <= FLOAT64 || is_most ? cut_run(self, first, past, self->key != NULL) : cut(self, first, past)) < 0)
         return NULL;

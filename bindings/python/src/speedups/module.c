@@ -12,11 +12,12 @@ static struct PyModuleDef module = {
 };
 
 static int make_names(void) {
-    const char *texts[] = {"_add", "_bisect", "bound", "code", "codes_of", "_contains", "_discard", "find", "flipped", "_found", "_found_from", "_order_keys", "_placed", "_settled", "_slice"};
+    const char *texts[] = {"_add",        "_bisect",     "bound",   "code",     "codes_of",
+                           "_contains",   "_discard",    "find",    "flipped",  "_found",
+                           "_found_from", "_order_keys", "_placed", "_settled", "_slice"};
     PyObject **places = (PyObject **)&names;
-    for (size_t i = 0; i < sizeof names / sizeof *places; i++)
-        if ((places[i] = PyUnicode_InternFromString(texts[i])) == NULL)
-            return 0;
+    for (size_t i = 0; i < sizeof texts / sizeof texts[0]; i++) // NOLINT(bugprone-sizeof-expression)
+        if ((places[i] = PyUnicode_InternFromString(texts[i])) == NULL) return 0;
     return 1;
 }
 
@@ -25,14 +26,11 @@ static int add_types(PyObject *made) {
     const char *names[] = {"Numbers", "Coded", "Multi", "Blocks", "Front", "DictFront"};
     DictFrontType.tp_base = &PyDict_Type;
     DictFrontType.tp_as_mapping->mp_subscript = PyDict_Type.tp_as_mapping->mp_subscript;
-    if (PyType_Ready(&WalkType) < 0)
-        return 0;
-    for (size_t i = 0; i < sizeof types / sizeof *types; i++) {
-        if (PyType_Ready(types[i]) < 0)
-            return 0;
+    if (PyType_Ready(&WalkType) < 0) return 0;
+    for (size_t i = 0; i < sizeof types / sizeof types[0]; i++) { // NOLINT(bugprone-sizeof-expression)
+        if (PyType_Ready(types[i]) < 0) return 0;
         Py_INCREF(types[i]);
-        if (PyModule_AddObject(made, names[i], (PyObject *)types[i]) < 0)
-            return 0;
+        if (PyModule_AddObject(made, names[i], (PyObject *)types[i]) < 0) return 0;
     }
     return PyModule_AddStringConstant(made, "BACKEND", "extension") == 0;
 }
@@ -40,7 +38,6 @@ static int add_types(PyObject *made) {
 PyMODINIT_FUNC PyInit__fast(void) {
     kinds = PyImport_ImportModule("indexset._kinds");
     PyObject *made = kinds && make_names() ? PyModule_Create(&module) : NULL;
-    if (made != NULL && !add_types(made))
-        Py_CLEAR(made);
+    if (made != NULL && !add_types(made)) Py_CLEAR(made);
     return made;
 }

@@ -20,8 +20,7 @@ static int multi_init(Multi *self, PyObject *given, PyObject *words) {
     const char *kind;
     PyObject *key;
     (void)words;
-    if (!PyArg_ParseTuple(given, "sO", &kind, &key))
-        return -1;
+    if (!PyArg_ParseTuple(given, "sO", &kind, &key)) return -1;
     self->kind = kind_of_numbers(kind);
     if (key != Py_None) {
         Py_INCREF(key);
@@ -40,8 +39,7 @@ static int multi_traverse(Multi *self, visitproc visit, void *arg) {
     Part part;
     Py_VISIT(self->key);
     for (size_t at = 0; read_pairs(&self->pairs, at, &part), part.count > 0; at += part.count)
-        for (size_t i = 0; i < part.count; i++)
-            Py_VISIT(OBJECT(part.objects[i]));
+        for (size_t i = 0; i < part.count; i++) Py_VISIT(OBJECT(part.objects[i]));
     return 0;
 }
 
@@ -49,10 +47,8 @@ static int multi_traverse(Multi *self, visitproc visit, void *arg) {
 static void let_go(indexset_multi *pairs) {
     Part part;
     for (size_t at = 0; read_pairs(pairs, at, &part), part.count > 0; at += part.count) {
-        for (size_t i = 0; i < part.count; i++)
-            __builtin_prefetch(OBJECT(part.objects[i]), 1);
-        for (size_t i = 0; i < part.count; i++)
-            Py_DECREF(OBJECT(part.objects[i]));
+        for (size_t i = 0; i < part.count; i++) __builtin_prefetch(OBJECT(part.objects[i]), 1);
+        for (size_t i = 0; i < part.count; i++) Py_DECREF(OBJECT(part.objects[i]));
     }
     indexset_multi_free(pairs);
 }
@@ -81,8 +77,7 @@ static void multi_dealloc(Multi *self) {
 static PyObject *clear(Multi *self, PyObject *nothing) {
     (void)nothing;
     indexset_multi made = INDEXSET_HANDLE;
-    if (indexset_multi_new(&made) != INDEXSET_YES)
-        return PyErr_NoMemory();
+    if (indexset_multi_new(&made) != INDEXSET_YES) return PyErr_NoMemory();
     become(self, &made);
     Py_RETURN_NONE;
 }
@@ -103,8 +98,7 @@ static int refused(uint32_t status) {
 /* Pushes an object, with a reference to it: 1, or -1 with an error. */
 static int push(indexset_multi *pairs, uint64_t code, PyObject *item) {
     uint32_t status = indexset_multi_push(pairs, code, ADDRESS(item));
-    if (status != INDEXSET_YES)
-        return refused(status);
+    if (status != INDEXSET_YES) return refused(status);
     Py_INCREF(item);
     return 1;
 }
@@ -114,8 +108,7 @@ static int push_all(indexset_multi *to, const indexset_multi *from) {
     Part part;
     int state = 1;
     for (size_t at = 0; state == 1 && (read_pairs(from, at, &part), part.count > 0); at += part.count)
-        for (size_t i = 0; state == 1 && i < part.count; i++)
-            state = push(to, part.codes[i], OBJECT(part.objects[i]));
+        for (size_t i = 0; state == 1 && i < part.count; i++) state = push(to, part.codes[i], OBJECT(part.objects[i]));
     return state;
 }
 
@@ -126,8 +119,7 @@ static PyObject *copied(Multi *self, PyObject *given) {
         PyErr_SetString(PyExc_TypeError, "what is empty becomes a copy of a Multi");
         return NULL;
     }
-    if (indexset_multi_new(&made) != INDEXSET_YES)
-        return PyErr_NoMemory();
+    if (indexset_multi_new(&made) != INDEXSET_YES) return PyErr_NoMemory();
     if (push_all(&made, &((Multi *)given)->pairs) < 0) {
         let_go(&made);
         return NULL;
@@ -150,15 +142,13 @@ static PyObject *insert(Multi *self, PyObject *const *given, Py_ssize_t count) {
         return NULL;
     }
     uint64_t code = PyLong_AsUnsignedLongLong(given[0]);
-    if ((code == UINT64_MAX && PyErr_Occurred()) || insert_at(self, code, given[1]) < 0)
-        return NULL;
+    if ((code == UINT64_MAX && PyErr_Occurred()) || insert_at(self, code, given[1]) < 0) return NULL;
     Py_RETURN_NONE;
 }
 
 /* How many objects are at numbers below a number, or not above it. */
 static size_t rank_of(Multi *self, uint64_t code, int right) {
-    if (right && code == UINT64_MAX)
-        return indexset_multi_len(&self->pairs);
+    if (right && code == UINT64_MAX) return indexset_multi_len(&self->pairs);
     return indexset_multi_rank(&self->pairs, code + (uint64_t)right);
 }
 
@@ -196,12 +186,13 @@ PyObject *multi_pop(Multi *self, size_t position) {
 /* ---- items whose sort keys are of the kind's own type */
 
 /* Writes the code of a sort key: 1, or NOT_OWN. */
-static int code_of(Multi *self, PyObject *key, uint64_t *code) { return number_code(self->kind, key, code) ? 1 : NOT_OWN; }
+static int code_of(Multi *self, PyObject *key, uint64_t *code) {
+    return number_code(self->kind, key, code) ? 1 : NOT_OWN;
+}
 
 /* Writes that of an item: 1, or NOT_OWN, or -1. */
 static int item_code(Multi *self, PyObject *item, uint64_t *code) {
-    if (self->key == NULL)
-        return code_of(self, item, code);
+    if (self->key == NULL) return code_of(self, item, code);
     PyObject *key = PyObject_CallOneArg(self->key, item);
     int state = key ? code_of(self, key, code) : -1;
     Py_XDECREF(key);
@@ -220,8 +211,7 @@ int multi_places(Multi *self, PyObject *key, size_t *first, size_t *past) {
 
 Py_ssize_t multi_bisect(Multi *self, PyObject *value, int right) {
     uint64_t code;
-    if (multi_length(self) == 0)
-        return 0;
+    if (multi_length(self) == 0) return 0;
     int state = item_code(self, value, &code);
     return state == 1 ? (Py_ssize_t)rank_of(self, code, right) : state;
 }
@@ -236,13 +226,10 @@ int multi_contains(Multi *self, PyObject *item) {
 int multi_discard(Multi *self, PyObject *item) {
     uint64_t code, object;
     int state = self->key == NULL ? code_of(self, item, &code) : NOT_OWN;
-    if (state != 1)
-        return state;
+    if (state != 1) return state;
     uint32_t status = indexset_multi_remove_first(&self->pairs, code, &object);
-    if (status == INDEXSET_NO)
-        return 0;
-    if (status != INDEXSET_YES)
-        return refused(status);
+    if (status == INDEXSET_NO) return 0;
+    if (status != INDEXSET_YES) return refused(status);
     self->changes++;
     Py_DECREF(OBJECT(object));
     return 1;
@@ -251,8 +238,7 @@ int multi_discard(Multi *self, PyObject *item) {
 int multi_add(Multi *self, PyObject *item, PyObject *members) {
     uint64_t code;
     int state = item_code(self, item, &code);
-    if (state == 1)
-        state = join(members, item);
+    if (state == 1) state = join(members, item);
     return state == 1 ? joined(members, item, insert_at(self, code, item)) : state;
 }
 
@@ -265,17 +251,22 @@ int multi_add_keyed(Multi *self, PyObject *item, PyObject *key) {
 
 static PyMethodDef methods[] = {
     {"add", (PyCFunction)add_method, METH_O, "Adds an object behind its equals."},
-    {"bisect", (PyCFunction)(void (*)(void))bisect_method, METH_FASTCALL, "How many objects are below a value, or not above it."},
-    {"discard", (PyCFunction)discard_method, METH_O, "Removes the first object that equals a value, and tells whether there was one."},
+    {"bisect", (PyCFunction)(void (*)(void))bisect_method, METH_FASTCALL,
+     "How many objects are below a value, or not above it."},
+    {"discard", (PyCFunction)discard_method, METH_O,
+     "Removes the first object that equals a value, and tells whether there was one."},
     {"find", (PyCFunction)find_method, METH_O, "The position of the first object that equals a value, or -1."},
-    {"place", (PyCFunction)(void (*)(void))place_method, METH_FASTCALL, "How many sort keys are below a key, or not above it."},
+    {"place", (PyCFunction)(void (*)(void))place_method, METH_FASTCALL,
+     "How many sort keys are below a key, or not above it."},
     {"numbers", (PyCFunction)numbers_method, METH_NOARGS, "All numbers, one by one in memory."},
     {"own_span", (PyCFunction)own_span_method, METH_O, "The positions of a sort key of the kind's own type, or None."},
-    {"chunk", (PyCFunction)(void (*)(void))chunk_method, METH_FASTCALL, "The objects at the positions from the first and before the second."},
+    {"chunk", (PyCFunction)(void (*)(void))chunk_method, METH_FASTCALL,
+     "The objects at the positions from the first and before the second."},
     {"changed", (PyCFunction)changed_method, METH_NOARGS, "Counts a change."},
     {"clear", (PyCFunction)clear, METH_NOARGS, "Removes all objects."},
     {"copied", (PyCFunction)copied, METH_O, "Becomes a clone of another, from empty."},
-    {"insert", (PyCFunction)(void (*)(void))insert, METH_FASTCALL, "Puts an object at a number, behind those that are there."},
+    {"insert", (PyCFunction)(void (*)(void))insert, METH_FASTCALL,
+     "Puts an object at a number, behind those that are there."},
     {"pop", (PyCFunction)pop, METH_O, "Removes the object at a position and returns it."},
     {"rank", (PyCFunction)rank, METH_O, "How many objects are at numbers below a number."},
     {"walk", (PyCFunction)(void (*)(void))walk_method, METH_FASTCALL, "The objects at positions one by one."},
@@ -291,8 +282,7 @@ static PySequenceMethods sequence = {.sq_length = (lenfunc)multi_length, .sq_con
 static PyMappingMethods mapping = {.mp_length = (lenfunc)multi_length, .mp_subscript = (binaryfunc)item_method};
 
 PyTypeObject MultiType = {
-    PyVarObject_HEAD_INIT(NULL, 0)
-    .tp_name = "indexset._fast.Multi",
+    PyVarObject_HEAD_INIT(NULL, 0).tp_name = "indexset._fast.Multi",
     .tp_doc = "Objects at numbers of 64 bits, in the order of these, in a multimap of the library.",
     .tp_basicsize = sizeof(Multi),
     .tp_flags = Py_TPFLAGS_DEFAULT | Py_TPFLAGS_BASETYPE | Py_TPFLAGS_HAVE_GC,

@@ -5,8 +5,7 @@
 
 int numbers_asked(Numbers *self, PyObject *call, PyObject *value, uint64_t *code) {
     PyObject *answer = PyObject_CallMethodOneArg(self->python, call, value);
-    if (answer == NULL)
-        return -1;
+    if (answer == NULL) return -1;
     if (answer == Py_None) {
         Py_DECREF(answer);
         return 0;
@@ -25,8 +24,7 @@ static int found(Numbers *self, PyObject *value, uint64_t *code) {
 static PyObject *numbers_new(PyTypeObject *type, PyObject *given, PyObject *words) {
     const char *name;
     if (!PyArg_ParseTuple(given, "s", &name) || (words && PyDict_GET_SIZE(words))) {
-        if (!PyErr_Occurred())
-            PyErr_SetString(PyExc_TypeError, "Numbers takes the name of a kind");
+        if (!PyErr_Occurred()) PyErr_SetString(PyExc_TypeError, "Numbers takes the name of a kind");
         return NULL;
     }
     PyObject *all = PyObject_GetAttrString(kinds, "NUMBERS");
@@ -68,8 +66,7 @@ static void numbers_dealloc(Numbers *self) {
 static PyObject *numbers_clone(Numbers *self, PyObject *nothing) {
     (void)nothing;
     Numbers *made = (Numbers *)NumbersType.tp_alloc(&NumbersType, 0);
-    if (made == NULL)
-        return NULL;
+    if (made == NULL) return NULL;
     Py_INCREF(self->python);
     made->python = self->python;
     made->kind = self->kind;
@@ -109,15 +106,13 @@ int numbers_put(Numbers *self, uint64_t code, PyObject *given) {
 
 int numbers_add(Numbers *self, PyObject *value) {
     uint64_t code;
-    if (number_code(self->kind, value, &code))
-        return numbers_put(self, code, value);
+    if (number_code(self->kind, value, &code)) return numbers_put(self, code, value);
     return numbers_asked(self, names.code, value, &code) == 1 ? numbers_put(self, code, NULL) : -1;
 }
 
 int numbers_take_out(Numbers *self, uint64_t code) {
     uint64_t object;
-    if (!indexset_map_remove(&self->map, code, &object))
-        return 0;
+    if (!indexset_map_remove(&self->map, code, &object)) return 0;
     self->changes++;
     Py_XDECREF(OBJECT(object));
     return 1;
@@ -137,12 +132,10 @@ static PyObject *discard(Numbers *self, PyObject *value) { return truth(numbers_
 Py_ssize_t numbers_bisect(Numbers *self, PyObject *value, int right) {
     uint64_t code;
     int exact = 1;
-    if (indexset_map_len(&self->map) == 0)
-        return 0;
+    if (indexset_map_len(&self->map) == 0) return 0;
     if (!number_code(self->kind, value, &code)) {
         PyObject *bound = PyObject_CallMethodOneArg(self->python, names.bound, value);
-        if (bound == NULL)
-            return -1;
+        if (bound == NULL) return -1;
         code = PyLong_AsUnsignedLongLong(PyTuple_GET_ITEM(bound, 0));
         exact = PyTuple_GET_ITEM(bound, 1) == Py_True;
         Py_DECREF(bound);
@@ -169,8 +162,7 @@ static PyObject *bisect(Numbers *self, PyObject *const *given, Py_ssize_t count)
 static PyObject *find(Numbers *self, PyObject *value) {
     uint64_t code;
     int state = found(self, value, &code);
-    if (state < 0)
-        return NULL;
+    if (state < 0) return NULL;
     int is_there = state && indexset_map_contains(&self->map, code);
     return PyLong_FromSsize_t(is_there ? (Py_ssize_t)indexset_map_rank(&self->map, code) : -1);
 }
@@ -187,15 +179,13 @@ PyObject *numbers_item(Numbers *self, Py_ssize_t position) {
 
 static PyObject *subscript(Numbers *self, PyObject *index) {
     Py_ssize_t position = PyNumber_AsSsize_t(index, PyExc_IndexError);
-    if (position == -1 && PyErr_Occurred())
-        return NULL;
+    if (position == -1 && PyErr_Occurred()) return NULL;
     return numbers_item(self, position < 0 ? position + numbers_length(self) : position);
 }
 
 static PyObject *pop(Numbers *self, PyObject *index) {
     PyObject *value = subscript(self, index);
-    if (value != NULL && numbers_discard(self, value) < 0)
-        Py_CLEAR(value);
+    if (value != NULL && numbers_discard(self, value) < 0) Py_CLEAR(value);
     return value;
 }
 
@@ -205,8 +195,7 @@ static PyObject *at_all(Numbers *self, PyObject *positions) {
     PyObject *every = PySequence_List(positions);
     for (Py_ssize_t i = 0; every != NULL && i < PyList_GET_SIZE(every); i++) {
         PyObject *value = subscript(self, PyList_GET_ITEM(every, i));
-        if (value == NULL || PyList_SetItem(every, i, value) < 0)
-            Py_CLEAR(every);
+        if (value == NULL || PyList_SetItem(every, i, value) < 0) Py_CLEAR(every);
     }
     return every;
 }
@@ -234,10 +223,12 @@ static PyObject *kind_name(Numbers *self, void *nothing) {
 
 static PyMethodDef methods[] = {
     {"add", (PyCFunction)add, METH_O, "Adds a key, and tells whether it was not there."},
-    {"are_own", (PyCFunction)numbers_are_own, METH_O, "Whether all values of a list are of the kind's own type and range."},
+    {"are_own", (PyCFunction)numbers_are_own, METH_O,
+     "Whether all values of a list are of the kind's own type and range."},
     {"at_all", (PyCFunction)at_all, METH_O, "The keys at positions, in one call."},
     {"bisect", (PyCFunction)(void (*)(void))bisect, METH_FASTCALL, "How many keys are below a value, or not above it."},
-    {"chunk", (PyCFunction)(void (*)(void))chunk_method, METH_FASTCALL, "The keys at the positions from the first and before the second."},
+    {"chunk", (PyCFunction)(void (*)(void))chunk_method, METH_FASTCALL,
+     "The keys at the positions from the first and before the second."},
     {"changed", (PyCFunction)changed, METH_NOARGS, "Counts a change."},
     {"clear", (PyCFunction)clear, METH_NOARGS, "Removes all keys."},
     {"clone", (PyCFunction)numbers_clone, METH_NOARGS, "The same numbers again."},
@@ -258,8 +249,7 @@ static PySequenceMethods sequence = {.sq_length = (lenfunc)numbers_length, .sq_c
 static PyMappingMethods mapping = {.mp_length = (lenfunc)numbers_length, .mp_subscript = (binaryfunc)subscript};
 
 PyTypeObject NumbersType = {
-    PyVarObject_HEAD_INIT(NULL, 0)
-    .tp_name = "indexset._fast.Numbers",
+    PyVarObject_HEAD_INIT(NULL, 0).tp_name = "indexset._fast.Numbers",
     .tp_doc = "Distinct numbers of a kind, in order, in a map of the library.",
     .tp_basicsize = sizeof(Numbers),
     .tp_flags = Py_TPFLAGS_DEFAULT,

@@ -13,26 +13,22 @@ typedef struct {
 static void drop(Code *code) { PyMem_Free(code->owned); }
 
 static void put_number(unsigned char *to, uint64_t number) {
-    for (int i = 0; i < 8; i++)
-        to[i] = (unsigned char)(number >> (56 - 8 * i));
+    for (int i = 0; i < 8; i++) to[i] = (unsigned char)(number >> (56 - 8 * i));
 }
 
 /* Makes room for a code of at most so many bytes; 0 with an error. */
 static int make_room(Code *code, size_t size) {
     code->owned = size + 9 <= SHORT ? NULL : PyMem_Malloc(size + 9);
     code->data = size + 9 <= SHORT ? code->brief : code->owned;
-    if (code->data == NULL)
-        PyErr_NoMemory();
+    if (code->data == NULL) PyErr_NoMemory();
     return code->data != NULL;
 }
 
 /* The bytes of a text or a byte string, framed as `_tuple.py` has it. */
 static int encode_framed(Code *code, const char *data, size_t size, unsigned char first) {
     size_t zeros = 0;
-    for (size_t i = 0; i < size; i++)
-        zeros += data[i] == 0;
-    if (!make_room(code, size + zeros + 2))
-        return -1;
+    for (size_t i = 0; i < size; i++) zeros += data[i] == 0;
+    if (!make_room(code, size + zeros + 2)) return -1;
     unsigned char *to = code->data;
     *to++ = first;
     if (zeros == 0) {
@@ -41,8 +37,7 @@ static int encode_framed(Code *code, const char *data, size_t size, unsigned cha
     }
     for (size_t i = 0; zeros != 0 && i < size; i++) {
         *to++ = (unsigned char)data[i];
-        if (data[i] == 0)
-            *to++ = 0xFF;
+        if (data[i] == 0) *to++ = 0xFF;
     }
     *to++ = 0;
     code->size = (size_t)(to - code->data);
@@ -51,8 +46,7 @@ static int encode_framed(Code *code, const char *data, size_t size, unsigned cha
 
 /* The same, framed where sort keys may repeat: they do where a function makes them. */
 static int encode_bytes(Coded *self, Code *code, const char *data, size_t size, unsigned char first) {
-    if (self->repeats || self->key != NULL)
-        return encode_framed(code, data, size, first);
+    if (self->repeats || self->key != NULL) return encode_framed(code, data, size, first);
     code->data = (unsigned char *)data;
     code->owned = NULL;
     code->size = size;
@@ -63,8 +57,7 @@ static int encode_bytes(Coded *self, Code *code, const char *data, size_t size, 
 static int encode(Coded *self, PyObject *key, Code *code) {
     if (self->kind == BYTES && PyBytes_CheckExact(key))
         return encode_bytes(self, code, PyBytes_AS_STRING(key), (size_t)PyBytes_GET_SIZE(key), 1);
-    if (self->kind != TEXT || !PyUnicode_CheckExact(key))
-        return NOT_OWN;
+    if (self->kind != TEXT || !PyUnicode_CheckExact(key)) return NOT_OWN;
     Py_ssize_t size;
     const char *text = PyUnicode_AsUTF8AndSize(key, &size);
     if (text == NULL) { /* a lone surrogate */
@@ -76,10 +69,8 @@ static int encode(Coded *self, PyObject *key, Code *code) {
 
 /* Encodes the sort key of an item. */
 static int encode_item(Coded *self, PyObject *item, Code *code) {
-    if (self->kind == OTHER)
-        return NOT_OWN;
-    if (self->key == NULL)
-        return encode(self, item, code);
+    if (self->kind == OTHER) return NOT_OWN;
+    if (self->key == NULL) return encode(self, item, code);
     PyObject *key = PyObject_CallOneArg(self->key, item);
     int state = key ? encode(self, key, code) : -1;
     Py_XDECREF(key);
@@ -88,8 +79,7 @@ static int encode_item(Coded *self, PyObject *item, Code *code) {
 
 /* The positions of a code, which gets a byte more where sort keys may repeat: 1, or -1 with an error. */
 static int places_of(Coded *self, Code *code, size_t *first, size_t *past) {
-    if (coded_map(self) == NULL)
-        return -1;
+    if (coded_map(self) == NULL) return -1;
     *first = indexset_text_map_rank(self->map, code->data, code->size);
     if (!self->repeats) {
         *past = *first + indexset_text_map_contains(self->map, code->data, code->size);
@@ -103,31 +93,25 @@ static int places_of(Coded *self, Code *code, size_t *first, size_t *past) {
 int own_places(Coded *self, PyObject *key, size_t *first, size_t *past) {
     Code code;
     int state = encode(self, key, &code);
-    if (state != 1)
-        return state;
+    if (state != 1) return state;
     state = places_of(self, &code, first, past);
     drop(&code);
     return state;
 }
 
 static Py_ssize_t bisect_code(Coded *self, Code *code, int right) {
-    if (coded_map(self) == NULL)
-        return -1;
-    if (right && self->repeats)
-        code->data[code->size++] = 0xFE;
+    if (coded_map(self) == NULL) return -1;
+    if (right && self->repeats) code->data[code->size++] = 0xFE;
     size_t position = indexset_text_map_rank(self->map, code->data, code->size);
-    if (right && !self->repeats)
-        position += indexset_text_map_contains(self->map, code->data, code->size);
+    if (right && !self->repeats) position += indexset_text_map_contains(self->map, code->data, code->size);
     return (Py_ssize_t)position;
 }
 
 Py_ssize_t own_bisect(Coded *self, PyObject *value, int right) {
     Code code;
-    if (coded_length(self) == 0)
-        return 0;
+    if (coded_length(self) == 0) return 0;
     int state = encode_item(self, value, &code);
-    if (state != 1)
-        return state;
+    if (state != 1) return state;
     Py_ssize_t position = bisect_code(self, &code, right);
     drop(&code);
     return position;
@@ -135,10 +119,8 @@ Py_ssize_t own_bisect(Coded *self, PyObject *value, int right) {
 
 /* Whether an object is at a code. Where sort keys may repeat, the code becomes the whole one of the first. */
 static int is_there(Coded *self, Code *code) {
-    if (coded_map(self) == NULL)
-        return -1;
-    if (!self->repeats)
-        return indexset_text_map_contains(self->map, code->data, code->size);
+    if (coded_map(self) == NULL) return -1;
+    if (!self->repeats) return indexset_text_map_contains(self->map, code->data, code->size);
     unsigned char found[SHORT + 9], *whole = found;
     size_t size, wanted = code->size + 8;
     uint64_t place;
@@ -148,11 +130,9 @@ static int is_there(Coded *self, Code *code) {
     }
     int is_first = indexset_text_map_lower_bound(self->map, code->data, code->size, whole, wanted, &size, &place);
     is_first = is_first && size == wanted && memcmp(whole, code->data, code->size) == 0;
-    if (is_first)
-        memcpy(code->data, whole, wanted);
+    if (is_first) memcpy(code->data, whole, wanted);
     code->size += is_first ? 8 : 0;
-    if (whole != found)
-        PyMem_Free(whole);
+    if (whole != found) PyMem_Free(whole);
     return is_first;
 }
 
@@ -160,8 +140,7 @@ static int is_there(Coded *self, Code *code) {
 int own_contains(Coded *self, PyObject *item) {
     Code code;
     int state = self->key == NULL ? encode(self, item, &code) : NOT_OWN;
-    if (state != 1)
-        return state;
+    if (state != 1) return state;
     state = is_there(self, &code);
     drop(&code);
     return state;
@@ -171,11 +150,9 @@ int own_discard(Coded *self, PyObject *item) {
     Code code;
     PyObject *taken = NULL;
     int state = self->key == NULL ? encode(self, item, &code) : NOT_OWN;
-    if (state != 1)
-        return state;
+    if (state != 1) return state;
     state = self->repeats ? is_there(self, &code) : 1;
-    if (state == 1)
-        state = coded_remove(self, code.data, code.size, &taken);
+    if (state == 1) state = coded_remove(self, code.data, code.size, &taken);
     drop(&code);
     Py_XDECREF(taken);
     return state;
@@ -187,8 +164,7 @@ static int is_items(const Code *code) { return code->data != code->brief && code
 int own_drop(Coded *self, PyObject *item) {
     Code code;
     int state = self->key == NULL ? encode(self, item, &code) : NOT_OWN;
-    if (state != 1)
-        return state;
+    if (state != 1) return state;
     state = is_items(&code) ? late_note(self, item, code.size, 1) : 0;
     drop(&code);
     return state == 0 ? own_discard(self, item) : state;
@@ -202,8 +178,7 @@ static int insert(Coded *self, Code *code, PyObject *item) {
 /* Adds an item, also to a set of those that there are, if one is given: 1, or 0 where it is there. */
 static int add_code(Coded *self, PyObject *item, PyObject *members, Code *code) {
     int state = join(members, item);
-    if (state != 1)
-        return state;
+    if (state != 1) return state;
     if (self->repeats) {
         put_number(code->data + code->size, self->added++);
         code->size += 8;
@@ -214,8 +189,7 @@ static int add_code(Coded *self, PyObject *item, PyObject *members, Code *code) 
 int own_add(Coded *self, PyObject *item, PyObject *members) {
     Code code;
     int state = encode_item(self, item, &code);
-    if (state != 1)
-        return state;
+    if (state != 1) return state;
     state = add_code(self, item, members, &code);
     drop(&code);
     return state;
@@ -224,8 +198,7 @@ int own_add(Coded *self, PyObject *item, PyObject *members) {
 int own_add_keyed(Coded *self, PyObject *item, PyObject *key) {
     Code code;
     int state = encode(self, key, &code);
-    if (state != 1)
-        return state;
+    if (state != 1) return state;
     state = add_code(self, item, NULL, &code);
     drop(&code);
     return state;

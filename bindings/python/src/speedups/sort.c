@@ -10,17 +10,14 @@ typedef struct {
 /* Sorts by one byte of the codes into other room, where not all are the same; tells whether it did. */
 static int pass(const Ranked *from, Ranked *to, size_t count, unsigned shift) {
     size_t places[256] = {0}, sum = 0;
-    for (size_t i = 0; i < count; i++)
-        places[from[i].code >> shift & 255]++;
-    if (places[from[0].code >> shift & 255] == count)
-        return 0;
+    for (size_t i = 0; i < count; i++) places[from[i].code >> shift & 255]++;
+    if (places[from[0].code >> shift & 255] == count) return 0;
     for (size_t i = 0; i < 256; i++) {
         size_t size = places[i];
         places[i] = sum;
         sum += size;
     }
-    for (size_t i = 0; i < count; i++)
-        to[places[from[i].code >> shift & 255]++] = from[i];
+    for (size_t i = 0; i < count; i++) to[places[from[i].code >> shift & 255]++] = from[i];
     return 1;
 }
 
@@ -31,8 +28,7 @@ static Ranked *insertion_sort(Ranked *items, size_t count) {
     for (size_t i = 1; i < count; i++) {
         Ranked item = items[i];
         size_t at = i;
-        for (; at > 0 && items[at - 1].code > item.code; at--)
-            items[at] = items[at - 1];
+        for (; at > 0 && items[at - 1].code > item.code; at--) items[at] = items[at - 1];
         items[at] = item;
     }
     return items;
@@ -40,8 +36,7 @@ static Ranked *insertion_sort(Ranked *items, size_t count) {
 
 /* The same by all bytes, from the last to the first: what is equal stays in its order. */
 static Ranked *radix_sort(Ranked *items, Ranked *room, size_t count) {
-    if (count <= SOME)
-        return insertion_sort(items, count);
+    if (count <= SOME) return insertion_sort(items, count);
     for (unsigned shift = 0; shift < 64; shift += 8)
         if (pass(items, room, count, shift)) {
             Ranked *sorted = room;
@@ -55,13 +50,11 @@ static Ranked *radix_sort(Ranked *items, Ranked *room, size_t count) {
 static void arrange(PyObject *list, const Ranked *order, size_t count, PyObject **room) {
     PyObject **items = PySequence_Fast_ITEMS(list);
     memcpy(room, items, count * sizeof *room);
-    for (size_t i = 0; i < count; i++)
-        items[i] = room[order[i].at];
+    for (size_t i = 0; i < count; i++) items[i] = room[order[i].at];
 }
 
 void codes_of_groups(enum kind by, PyObject *const *keys, size_t count, uint64_t *codes) {
-    for (size_t i = 0; i < count / GROUP; i++)
-        number_code(by, keys[i * GROUP + GROUP - 1], codes + i);
+    for (size_t i = 0; i < count / GROUP; i++) number_code(by, keys[i * GROUP + GROUP - 1], codes + i);
 }
 
 /* Merges two runs in a row into other room. */
@@ -92,16 +85,14 @@ static Ranked *merge_runs(Ranked *items, Ranked *room, size_t *ends, size_t runs
     return items;
 }
 
-/* Writes the codes of keys, and where each of the first runs ends; how many runs there are, RUNS + 1 where they are more, or
- * 0 where a key is not of the kind's own type. */
+/* Writes the codes of keys, and where each of the first runs ends; how many runs there are, RUNS + 1 where they are
+ * more, or 0 where a key is not of the kind's own type. */
 static size_t codes_of(enum kind by, PyObject *keys, Ranked *codes, size_t count, size_t *ends) {
     size_t runs = 1;
     for (size_t i = 0; i < count; i++) {
         codes[i].at = i;
-        if (!number_code(by, PyList_GET_ITEM(keys, i), &codes[i].code))
-            return 0;
-        if (i > 0 && codes[i].code < codes[i - 1].code && runs <= RUNS)
-            ends[runs++ - 1] = i;
+        if (!number_code(by, PyList_GET_ITEM(keys, i), &codes[i].code)) return 0;
+        if (i > 0 && codes[i].code < codes[i - 1].code && runs <= RUNS) ends[runs++ - 1] = i;
     }
     ends[runs - 1] = count;
     return runs;
@@ -111,15 +102,13 @@ static size_t codes_of(enum kind by, PyObject *keys, Ranked *codes, size_t count
 static int ascends(enum kind by, PyObject *keys) {
     uint64_t code, before = 0;
     for (Py_ssize_t i = 0; i < PyList_GET_SIZE(keys); i++, before = code)
-        if (!number_code(by, PyList_GET_ITEM(keys, i), &code) || code < before)
-            return 0;
+        if (!number_code(by, PyList_GET_ITEM(keys, i), &code) || code < before) return 0;
     return 1;
 }
 
 static int sort_numbers(enum kind by, PyObject *items, PyObject *keys) {
     size_t ends[RUNS + 1], count = (size_t)PyList_GET_SIZE(items);
-    if (ascends(by, keys ? keys : items))
-        return 1;
+    if (ascends(by, keys ? keys : items)) return 1;
     Ranked *codes = PyMem_Malloc(2 * count * sizeof *codes);
     if (codes == NULL) {
         PyErr_NoMemory();
@@ -127,11 +116,11 @@ static int sort_numbers(enum kind by, PyObject *items, PyObject *keys) {
     }
     size_t runs = codes_of(by, keys ? keys : items, codes, count, ends);
     if (runs > 1) {
-        Ranked *room = codes + count, *order = runs <= RUNS ? merge_runs(codes, room, ends, runs) : radix_sort(codes, room, count);
+        Ranked *room = codes + count,
+               *order = runs <= RUNS ? merge_runs(codes, room, ends, runs) : radix_sort(codes, room, count);
         room = order == codes ? codes + count : codes;
         arrange(items, order, count, (PyObject **)room);
-        if (keys != NULL)
-            arrange(keys, order, count, (PyObject **)room);
+        if (keys != NULL) arrange(keys, order, count, (PyObject **)room);
     }
     PyMem_Free(codes);
     return runs > 0;
@@ -148,7 +137,8 @@ static PyMethodDef next_key_method = {"next_key", next_key, METH_O, NULL};
 /* Has the positions of some keys sorted by these. */
 static int sort_positions(PyObject *positions, PyObject *keys) {
     PyObject *iterator = PyObject_GetIter(keys), *next = iterator ? PyCFunction_New(&next_key_method, iterator) : NULL;
-    PyObject *sort = next ? PyObject_GetAttrString(positions, "sort") : NULL, *words = sort ? Py_BuildValue("{sO}", "key", next) : NULL;
+    PyObject *sort = next ? PyObject_GetAttrString(positions, "sort") : NULL,
+             *words = sort ? Py_BuildValue("{sO}", "key", next) : NULL;
     PyObject *none = words ? PyTuple_New(0) : NULL, *done = none ? PyObject_Call(sort, none, words) : NULL;
     Py_XDECREF(iterator);
     Py_XDECREF(next);
@@ -172,8 +162,7 @@ static int sort_by_keys(PyObject *items, PyObject *keys) {
             PyList_SET_ITEM(positions, i, position);
     }
     int state = positions ? sort_positions(positions, keys) : -1;
-    for (size_t i = 0; state == 1 && i < count; i++)
-        order[i].at = PyLong_AsSize_t(PyList_GET_ITEM(positions, i));
+    for (size_t i = 0; state == 1 && i < count; i++) order[i].at = PyLong_AsSize_t(PyList_GET_ITEM(positions, i));
     if (state == 1) {
         arrange(items, order, count, (PyObject **)(order + count));
         arrange(keys, order, count, (PyObject **)(order + count));
@@ -187,15 +176,12 @@ static int sort_by_keys(PyObject *items, PyObject *keys) {
 static int are_own(enum kind by, PyObject *keys) {
     PyTypeObject *type = by == TEXT ? &PyUnicode_Type : &PyBytes_Type;
     for (Py_ssize_t i = 0; i < PyList_GET_SIZE(keys); i++)
-        if (Py_TYPE(PyList_GET_ITEM(keys, i)) != type)
-            return 0;
+        if (Py_TYPE(PyList_GET_ITEM(keys, i)) != type) return 0;
     return 1;
 }
 
 int blocks_sort(enum kind by, PyObject *items, PyObject *keys) {
-    if (by <= FLOAT64)
-        return sort_numbers(by, items, keys);
-    if (by != OTHER && !are_own(by, keys ? keys : items))
-        return 0;
+    if (by <= FLOAT64) return sort_numbers(by, items, keys);
+    if (by != OTHER && !are_own(by, keys ? keys : items)) return 0;
     return keys ? sort_by_keys(items, keys) : PyList_Sort(items) < 0 ? -1 : 1;
 }

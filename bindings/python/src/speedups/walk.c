@@ -10,10 +10,8 @@
 /* ---- parts */
 
 size_t length_of(PyObject *owner) {
-    if (Py_TYPE(owner) == &NumbersType)
-        return indexset_map_len(&((Numbers *)owner)->map);
-    if (IS_BLOCKS(owner))
-        return ((Blocks *)owner)->length;
+    if (Py_TYPE(owner) == &NumbersType) return indexset_map_len(&((Numbers *)owner)->map);
+    if (IS_BLOCKS(owner)) return ((Blocks *)owner)->length;
     return (size_t)(IS_MULTI(owner) ? multi_length((Multi *)owner) : coded_length((Coded *)owner));
 }
 
@@ -29,23 +27,23 @@ static size_t read_blocks(PyObject *owner, size_t from, size_t size, Part *part)
 }
 
 static inline void fetch(const Part *part, size_t i) {
-    if (i < part->count)
-        __builtin_prefetch(OBJECT(part->objects[i]), 1);
+    if (i < part->count) __builtin_prefetch(OBJECT(part->objects[i]), 1);
 }
 
 static inline void fetch_first(const Part *part) {
-    for (size_t i = 0; i < AHEAD && i < part->count; i++)
-        fetch(part, i);
+    for (size_t i = 0; i < AHEAD && i < part->count; i++) fetch(part, i);
 }
 
 /* No change is noted here. */
 void read_part(PyObject *owner, size_t from, size_t size, Part *part) {
     if (Py_TYPE(owner) == &NumbersType)
-        part->count = indexset_map_range_by_position(&((Numbers *)owner)->map, from, part->codes, size, part->objects, size);
+        part->count =
+            indexset_map_range_by_position(&((Numbers *)owner)->map, from, part->codes, size, part->objects, size);
     else if (IS_BLOCKS(owner))
         part->count = read_blocks(owner, from, size, part);
     else if (IS_MULTI(owner))
-        part->count = indexset_multi_range_by_position(&((Multi *)owner)->pairs, from, part->codes, size, part->objects, size);
+        part->count =
+            indexset_multi_range_by_position(&((Multi *)owner)->pairs, from, part->codes, size, part->objects, size);
     else
         part->count = indexset_text_map_range_by_position(((Coded *)owner)->map, from, part->objects, size);
     fetch_first(part);
@@ -65,11 +63,13 @@ static indexset_cursor cursor_at(PyObject *owner, size_t position) {
  * by their position, which writes no lengths. */
 static void read_on(PyObject *owner, indexset_cursor *cursor, size_t from, size_t size, Part *part) {
     if (Py_TYPE(owner) == &NumbersType)
-        part->count = indexset_map_cursor_next(&((Numbers *)owner)->map, cursor, part->codes, size, part->objects, size);
+        part->count =
+            indexset_map_cursor_next(&((Numbers *)owner)->map, cursor, part->codes, size, part->objects, size);
     else if (IS_BLOCKS(owner))
         part->count = read_blocks(owner, from, size, part);
     else if (IS_MULTI(owner))
-        part->count = indexset_multi_cursor_next(&((Multi *)owner)->pairs, cursor, part->codes, size, part->objects, size);
+        part->count =
+            indexset_multi_cursor_next(&((Multi *)owner)->pairs, cursor, part->codes, size, part->objects, size);
     else
         part->count = indexset_text_map_range_by_position(((Coded *)owner)->map, from, part->objects, size);
     fetch_first(part);
@@ -78,8 +78,7 @@ static void read_on(PyObject *owner, indexset_cursor *cursor, size_t from, size_
 /* An item of a part, as a new reference. */
 static inline PyObject *item_of(PyObject *owner, const Part *part, size_t i) {
     PyObject *item = OBJECT(part->objects[i]);
-    if (item == NULL)
-        return number_of(((Numbers *)owner)->kind, part->codes[i]);
+    if (item == NULL) return number_of(((Numbers *)owner)->kind, part->codes[i]);
     Py_INCREF(item);
     return item;
 }
@@ -89,8 +88,7 @@ static int put_part(PyObject *owner, const Part *part, PyObject *list, size_t pl
     for (size_t i = 0; i < part->count; i++) {
         fetch(part, i + AHEAD);
         PyObject *item = item_of(owner, part, i);
-        if (item == NULL)
-            return 0;
+        if (item == NULL) return 0;
         PyList_SET_ITEM(list, (Py_ssize_t)(place + i), item);
     }
     return 1;
@@ -102,17 +100,14 @@ static PyObject *chunk_of_held(PyObject *owner, size_t first, size_t past) {
     first = first < past ? first : past;
     PyObject *made = PyList_New((Py_ssize_t)(past - first));
     Part part;
-    if (made != NULL && !is_ready(owner))
-        Py_CLEAR(made);
+    if (made != NULL && !is_ready(owner)) Py_CLEAR(made);
     indexset_cursor cursor = INDEXSET_CURSOR;
-    if (made != NULL && first < past)
-        cursor = cursor_at(owner, first);
+    if (made != NULL && first < past) cursor = cursor_at(owner, first);
     for (size_t at = first; made != NULL && at < past; at += part.count) {
         read_on(owner, &cursor, at, past - at < CHUNK ? past - at : CHUNK, &part);
         if (part.count == 0) /* the list was made, and a `__del__` ran */
             PyErr_SetString(PyExc_RuntimeError, "it changed meanwhile");
-        if (part.count == 0 || !put_part(owner, &part, made, at - first))
-            Py_CLEAR(made);
+        if (part.count == 0 || !put_part(owner, &part, made, at - first)) Py_CLEAR(made);
     }
     return made;
 }
@@ -132,8 +127,7 @@ int two_positions(PyObject *const *given, Py_ssize_t count, size_t *first, size_
     Py_ssize_t ends[2];
     for (int i = 0; i < 2; i++) {
         ends[i] = PyNumber_AsSsize_t(given[i], NULL);
-        if (ends[i] == -1 && PyErr_Occurred())
-            return 0;
+        if (ends[i] == -1 && PyErr_Occurred()) return 0;
     }
     *first = ends[0] < 0 ? 0 : (size_t)ends[0];
     *past = ends[1] < 0 ? 0 : (size_t)ends[1];
@@ -147,8 +141,7 @@ PyObject *chunk_method(PyObject *self, PyObject *const *given, Py_ssize_t count)
 
 PyObject *walk_method(PyObject *self, PyObject *const *given, Py_ssize_t count) {
     size_t first, past;
-    if (!two_positions(given, count, &first, &past))
-        return NULL;
+    if (!two_positions(given, count, &first, &past)) return NULL;
     int reverse = count > 2 ? PyObject_IsTrue(given[2]) : 0;
     return reverse < 0 ? NULL : walk_new(self, first, past, reverse);
 }
@@ -156,12 +149,11 @@ PyObject *walk_method(PyObject *self, PyObject *const *given, Py_ssize_t count) 
 /* ---- walks */
 
 typedef struct {
-    PyObject_HEAD
-    PyObject *owner; /* Numbers, Coded, Multi or Blocks; NULL at the end */
+    PyObject_HEAD PyObject *owner; /* Numbers, Coded, Multi or Blocks; NULL at the end */
     size_t first, past;
     unsigned long long *counter, changes; /* of the owner, now and at the start */
     int reverse;
-    size_t at, next; /* in `part`, and how many are read next */
+    size_t at, next;        /* in `part`, and how many are read next */
     indexset_cursor cursor; /* at `first`, once there were several parts and where it goes forward */
     Part part;
 } Walk;
@@ -211,21 +203,18 @@ static void walk_dealloc(Walk *self) {
 /* Reads the next items; 0 where there are none. */
 static int read_more(Walk *self) {
     size_t left = self->past - self->first, size = left < self->next ? left : self->next;
-    if (size == 0)
-        return 0;
+    if (size == 0) return 0;
     if (self->reverse) {
         read_part(self->owner, self->past -= size, size, &self->part);
     } else {
-        if (self->next == WALKED)
-            self->cursor = cursor_at(self->owner, self->first);
+        if (self->next == WALKED) self->cursor = cursor_at(self->owner, self->first);
         if (self->next < WALKED)
             read_part(self->owner, self->first, size, &self->part);
         else
             read_on(self->owner, &self->cursor, self->first, size, &self->part);
         self->first += size;
     }
-    for (size_t i = AHEAD; self->reverse && i < self->part.count; i++)
-        fetch(&self->part, i);
+    for (size_t i = AHEAD; self->reverse && i < self->part.count; i++) fetch(&self->part, i);
     self->at = 0;
     self->next = self->next * 8 < CHUNK ? self->next * 8 : CHUNK;
     return 1;
@@ -233,8 +222,7 @@ static int read_more(Walk *self) {
 
 /* The same at the end of a part, at the end, after a change, or backwards. */
 static PyObject *next_of_any(Walk *self) {
-    if (self->owner == NULL)
-        return NULL;
+    if (self->owner == NULL) return NULL;
     if (*self->counter != self->changes) {
         Py_CLEAR(self->owner);
         PyErr_SetString(PyExc_RuntimeError, "it changed during iteration");
@@ -245,8 +233,7 @@ static PyObject *next_of_any(Walk *self) {
         return NULL;
     }
     size_t at = self->at++;
-    if (self->reverse)
-        return item_of(self->owner, &self->part, self->part.count - 1 - at);
+    if (self->reverse) return item_of(self->owner, &self->part, self->part.count - 1 - at);
     fetch(&self->part, at + AHEAD);
     return item_of(self->owner, &self->part, at);
 }
@@ -297,8 +284,7 @@ static PyMethodDef methods[] = {
 };
 
 PyTypeObject WalkType = {
-    PyVarObject_HEAD_INIT(NULL, 0)
-    .tp_name = "indexset._fast.Walk",
+    PyVarObject_HEAD_INIT(NULL, 0).tp_name = "indexset._fast.Walk",
     .tp_doc = "A walk over positions. RuntimeError once there was a change.",
     .tp_basicsize = sizeof(Walk),
     .tp_flags = Py_TPFLAGS_DEFAULT | Py_TPFLAGS_HAVE_GC,
