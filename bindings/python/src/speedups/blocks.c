@@ -239,6 +239,7 @@ static int lay(Blocks *self, PyObject **items, PyObject **keys, size_t count) {
     int is_done = has_blocks(self, (count + FILLED - 1) / FILLED) && has_codes(self, count);
     for (size_t at = 0; is_done && at < count; at += FILLED) {
         size_t left = count - at, size = left < FILLED ? left : FILLED;
+        /* Room for a block has been made. NOLINTNEXTLINE(clang-analyzer-core.NullDereference) */
         self->blocks[self->count] = (Block){0};
         is_done = block_of(self->blocks + self->count, items + at, keys ? keys + at : NULL, size);
         self->count += (size_t)is_done;
@@ -288,7 +289,7 @@ int blocks_copy(Blocks *self, Blocks *from) {
 /* Moves the objects of a block from one on and before another to other places, and their keys where they have some. */
 static void cut_block(Block *block, size_t first, size_t past, PyObject **items, PyObject **keys) {
     memcpy(items, block->items + first, (past - first) * sizeof *items);
-    if (block->keys != block->items) memcpy(keys, block->keys + first, (past - first) * sizeof *keys);
+    if (block->keys != block->items && keys != NULL) memcpy(keys, block->keys + first, (past - first) * sizeof *keys);
     memmove(block->items + first, block->items + past, (block->count - past) * sizeof *block->items);
     if (block->keys != block->items)
         memmove(block->keys + first, block->keys + past, (block->count - past) * sizeof *block->keys);

@@ -65,7 +65,7 @@ static inline int is_before(Blocks *self, PyObject *other, const Probe *probe, i
 
 /* Makes what is looked for: 1, or NOT_OWN. */
 static int probe_of(Blocks *self, PyObject *key, Probe *probe) {
-    probe->key = key;
+    *probe = (Probe){.key = key};
     switch (self->by) {
     case OTHER: return 1;
     case TEXT: return PyUnicode_CheckExact(key) ? 1 : NOT_OWN;

@@ -123,7 +123,7 @@ PyObject *bisect_method(PyObject *self, PyObject *const *given, Py_ssize_t count
 }
 
 PyObject *place_method(PyObject *self, PyObject *const *given, Py_ssize_t count) {
-    size_t first, past;
+    size_t first = 0, past = 0;
     Place place;
     int right = count == 2 ? PyObject_IsTrue(given[1]) : -1;
     if (right < 0) return PyErr_Format(PyExc_TypeError, "place takes a sort key and a bool");
@@ -138,7 +138,7 @@ PyObject *place_method(PyObject *self, PyObject *const *given, Py_ssize_t count)
 }
 
 PyObject *find_method(PyObject *self, PyObject *value) {
-    size_t position;
+    size_t position = 0;
     int state = unfit(held_find(self, value, 0, &position));
     if (state == NOT_OWN) return PyObject_CallMethodOneArg(self, names.found, value);
     return state < 0 ? NULL : PyLong_FromSsize_t(state ? (Py_ssize_t)position : -1);

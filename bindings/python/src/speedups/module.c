@@ -16,7 +16,7 @@ static int make_names(void) {
                            "_contains",   "_discard",    "find",    "flipped",  "_found",
                            "_found_from", "_order_keys", "_placed", "_settled", "_slice"};
     PyObject **places = (PyObject **)&names;
-    for (size_t i = 0; i < sizeof texts / sizeof texts[0]; i++) // NOLINT(bugprone-sizeof-expression)
+    for (size_t i = 0; i < sizeof texts / sizeof texts[0]; i++)
         if ((places[i] = PyUnicode_InternFromString(texts[i])) == NULL) return 0;
     return 1;
 }
@@ -27,7 +27,7 @@ static int add_types(PyObject *made) {
     DictFrontType.tp_base = &PyDict_Type;
     DictFrontType.tp_as_mapping->mp_subscript = PyDict_Type.tp_as_mapping->mp_subscript;
     if (PyType_Ready(&WalkType) < 0) return 0;
-    for (size_t i = 0; i < sizeof types / sizeof types[0]; i++) { // NOLINT(bugprone-sizeof-expression)
+    for (size_t i = 0; i < sizeof types / sizeof types[0]; i++) {
         if (PyType_Ready(types[i]) < 0) return 0;
         Py_INCREF(types[i]);
         if (PyModule_AddObject(made, names[i], (PyObject *)types[i]) < 0) return 0;

@@ -153,7 +153,11 @@ static int sort_positions(PyObject *positions, PyObject *keys) {
 static int sort_by_keys(PyObject *items, PyObject *keys) {
     size_t count = (size_t)PyList_GET_SIZE(items);
     Ranked *order = PyMem_Malloc((2 * count + 1) * sizeof *order);
-    PyObject *positions = order ? PyList_New((Py_ssize_t)count) : PyErr_NoMemory();
+    if (order == NULL) {
+        PyErr_NoMemory();
+        return -1;
+    }
+    PyObject *positions = PyList_New((Py_ssize_t)count);
     for (size_t i = 0; positions != NULL && i < count; i++) {
         PyObject *position = PyLong_FromSize_t(i);
         if (position == NULL)
