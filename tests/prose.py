@@ -4,9 +4,9 @@
     tests/prose.py [--sources]
 
 A link names a file of the repository, and a heading of that page; what is shown as code for a call of the reference, as
-a clause, is a word of that call. No page has a phrase of `PHRASES`; with --sources the
-lines of sources that have one are counted, which is no fault. The version is the one of bindings/python/pyproject.toml,
-which pkg-config, CMake and Python read. The last line is 'N pages, M faults'.
+a clause, is a word of that call. A path that is shown as code exists. No page has a phrase of `PHRASES`; with --sources
+the lines of sources that have one are counted, which is no fault. The version is the one of
+bindings/python/pyproject.toml, which pkg-config, CMake and Python read. The last line is 'N pages, M faults'.
 """
 
 from __future__ import annotations
@@ -76,6 +76,13 @@ def lost_links(page: pathlib.Path, sections_of: dict[pathlib.Path, dict[str, str
                 yield f"{page.relative_to(TOP)}: no {word[1]} in {link}"
 
 
+def lost_paths(page: pathlib.Path) -> Iterator[str]:
+    """The paths from the top of the repository that a page shows as code, and that are not there."""
+    for path in re.findall(r"`((?:bench|bindings|crates|docs|examples|scripts|tests)/[\w./-]+)`", prose(page)):
+        if not (TOP / path).exists() and "NAME" not in path:
+            yield f"{page.relative_to(TOP)}: no such path: {path}"
+
+
 def phrases_of(page: pathlib.Path) -> Iterator[str]:
     """The lines of a page that have a phrase which is not to be written."""
     if str(page.relative_to(TOP)).startswith((*GENERATED, *OTHERS)):
@@ -118,7 +125,8 @@ def main() -> int:
     if ask.parse_args().sources:
         print(*phrases_in_sources(), sep="\n")
     read, sections_of = pages(), dict[pathlib.Path, dict[str, str]]()
-    faults = [fault for page in read for fault in [*lost_links(page, sections_of), *phrases_of(page)]]
+    faults = [fault for page in read for fault in lost_links(page, sections_of)]
+    faults += [fault for page in read for fault in [*lost_paths(page), *phrases_of(page)]]
     faults += other_versions()
     print(*faults, sep="\n")
     print(f"{len(read)} pages, {len(faults)} faults")
