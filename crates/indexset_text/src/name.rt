@@ -1,6 +1,7 @@
 //! A text that is a key or a value.
 
 ghost use Rattle.std.specs.Prelude.{◌≡◌, ℕ, List, Some, true, refl};
+ghost use Rattle.std.proofs.Common.{rules};
 ghost use Rattle.indexset_text.specs.Names.{name_text, name_texts};
 ghost use Rattle.indexset_text.specs.Names.Laws.{EscapesOthers, name_words};
 
@@ -56,7 +57,7 @@ impl Key for Name {
 
     ghost words = { name_words };
 
-    ghost identical = { λ x y same. same };
+    ghost identical = { Prim.search rules };
 
     fn read_key(alloc: Global, text: &[u8]) -> Result<Option<Name>, AllocError> {
         let mut bytes = Vec::new(alloc);
