@@ -22,8 +22,7 @@ pub fn numbers()
     ensures bool { AreClonesEqual ⟦<bool as Ord>⟧.cmp ⟦<bool as Clone>⟧.is_clone }
 {}
 
-/// Types whose clones are identical to their sources, as all numbers, `bytes::ByteStr` and
-/// `bytes::Bytes`.
+/// Types whose clones are identical to their sources, as all numbers and `Text`.
 pub fn identical<T: Ord + Clone>()
     ensures { ((x y : T) → T.is_clone x y → y ≡ x) → AreClonesEqual T.cmp T.is_clone }
 {}
