@@ -79,7 +79,7 @@ def lost_links(page: pathlib.Path, sections_of: dict[pathlib.Path, dict[str, str
 def lost_paths(page: pathlib.Path) -> Iterator[str]:
     """The paths from the top of the repository that a page shows as code, and that are not there."""
     for path in re.findall(r"`((?:bench|bindings|crates|docs|examples|scripts|tests)/[\w./-]+)`", prose(page)):
-        if not (TOP / path).exists() and "NAME" not in path:
+        if not (TOP / path).exists() and not {"NAME", "out"} & {*path.split("/")}:
             yield f"{page.relative_to(TOP)}: no such path: {path}"
 
 
