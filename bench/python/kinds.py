@@ -21,8 +21,6 @@ from functools import partial
 from types import ModuleType
 from typing import Any, NamedTuple
 
-indexset = importlib.import_module("indexset")
-sortedcontainers = importlib.import_module("sortedcontainers")
 ENOUGH = 1.0  # seconds that a row of both may take
 SOME = 20000  # of the calls on one item
 
@@ -208,10 +206,11 @@ def cost(row: Row) -> float:
     return spent / row.operations * 1e9
 
 
-def compare(kind: str, count: int, parts: list[str]) -> None:
+def compare(libs: tuple[ModuleType, ModuleType], kind: str, count: int, parts: list[str]) -> None:
+    ours, peer = libs
     it = Items(kind, count)
     for part in parts:
-        for both in zip(PARTS[part](indexset, it), PARTS[part](sortedcontainers, it)):
+        for both in zip(PARTS[part](ours, it), PARTS[part](peer, it)):
             found: list[list[float]] = [[], []]
             start = time.thread_time()
             for turn in range(40):
@@ -247,13 +246,13 @@ def weigh(lib: ModuleType, cls: str, items: Any, one_by_one: bool) -> float:
     return (in_use() - before) / len(held)
 
 
-def weights(kind: str, count: int) -> None:
+def weights(libs: tuple[ModuleType, ModuleType], kind: str, count: int) -> None:
     """Prints the bytes an item of both, beside the items themselves."""
     it = Items(kind, count)
     for name, (cls, of) in MADE.items():
         items: Any = getattr(it, of or "drawn")
         items = dict.fromkeys(items) if cls == "SortedDict" else items
-        sizes = [weigh(lib, cls, items, not of) for lib in (indexset, sortedcontainers)]
+        sizes = [weigh(lib, cls, items, not of) for lib in libs]
         print(f"{count}\t{kind}\t{name}, bytes\t{sizes[0]:.1f}\t{sizes[1]:.1f}", flush=True)
 
 
@@ -263,13 +262,14 @@ def main() -> None:
     words.add_argument("--kinds", nargs="+", default=list(KINDS), choices=list(KINDS))
     words.add_argument("--parts", nargs="+", default=list(PARTS), choices=[*PARTS, "bytes"])
     given = words.parse_args()
+    libs = importlib.import_module("indexset"), importlib.import_module("sortedcontainers")
     gc.disable()
-    print(f"items\tkind\trow\t{indexset.BACKEND}\tsortedcontainers")
+    print(f"items\tkind\trow\t{libs[0].BACKEND}\tsortedcontainers")
     for count in given.counts:
         for kind in given.kinds:
-            compare(kind, count, [part for part in given.parts if part != "bytes"])
+            compare(libs, kind, count, [part for part in given.parts if part != "bytes"])
             if "bytes" in given.parts:
-                weights(kind, count)
+                weights(libs, kind, count)
 
 
 if __name__ == "__main__":
