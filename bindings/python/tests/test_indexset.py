@@ -235,7 +235,7 @@ class Calls(unittest.TestCase):
         top = next(it for it in pathlib.Path(__file__).resolve().parents if (it / "CHANGELOG.md").exists())
         number = ".".join(map(str, indexset.version()))
         self.assertIn(f'version = "{number}"\n', (top / "bindings/python/pyproject.toml").read_text())
-        self.assertIn(f"\n## {number}", (top / "CHANGELOG.md").read_text())
+        self.assertIn(f"\n## [{number}]", (top / "CHANGELOG.md").read_text())
 
     def test_proved(self):
         """A library that was built without proofs says so."""
