@@ -4,7 +4,7 @@
 
 ghost use Rattle.std.specs.Prelude.{◌≡◌, ◌==◌, ◌+◌, [], if◌then◌else◌, OnOk, Some, length, min};
 ghost use Rattle.std.specs.Ordering.{nat_cmp};
-ghost use Rattle.indexset.specs.Words.{by_number, replay, IsAdded, IsBeginning, IsNumberedFrom};
+ghost use Rattle.indexset.specs.Words.{by_number, replay, IsAdded, IsPrefix, IsNumberedFrom};
 
 use anyhow::Result;
 use indexset::base::Text;
@@ -25,7 +25,7 @@ struct Race {
     copy: Replica<Entry>,
     ghost numbered: { IsNumberedFrom 0 events.items × (results.next ≡ length events.items) },
     ghost replayed: { replay (by_number nat_cmp) [] events.items ≡ Some results.nodes },
-    ghost copied: { IsBeginning (by_number nat_cmp) 0 [] events.items copy },
+    ghost copied: { IsPrefix (by_number nat_cmp) 0 [] events.items copy },
 }
 
 fn main(rt: HostRuntime) -> Result<()> {

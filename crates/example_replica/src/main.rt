@@ -20,15 +20,15 @@ use indexset::replica::Replica;
 type Named = Pair<Text, u64>;
 
 /// The value of each name, in nodes of at most four names.
-type Names = BTreeMap<Text, u64>;
+type UniqueKey = BTreeMap<Text, u64>;
 
 fn main(rt: HostRuntime) -> Result<()> {
-    let mut names = Names::with_maximum_node_size(rt.alloc(), 4);
+    let mut names = UniqueKey::with_maximum_node_size(rt.alloc(), 4);
     let mut copy = Replica::new(rt.alloc(), 0);
     keep(&rt, &mut names, &mut copy)
 }
 
-fn keep(rt: &HostRuntime, names: &mut Names, copy: &mut Replica<Named>) -> Result<()>
+fn keep(rt: &HostRuntime, names: &mut UniqueKey, copy: &mut Replica<Named>) -> Result<()>
     requires { copy.old.nodes ≡ names.old.nodes }
 {
     for line in rt.lines(rt.alloc()) {
@@ -41,7 +41,12 @@ fn keep(rt: &HostRuntime, names: &mut Names, copy: &mut Replica<Named>) -> Resul
 }
 
 /// Obeys a line. The copy then has the nodes of the map again.
-fn obey(rt: &HostRuntime, names: &mut Names, copy: &mut Replica<Named>, line: &str) -> Result<()>
+fn obey(
+    rt: &HostRuntime,
+    names: &mut UniqueKey,
+    copy: &mut Replica<Named>,
+    line: &str,
+) -> Result<()>
     requires { copy.old.nodes ≡ names.old.nodes }
     ensures { OnOk result (copy.new.nodes ≡ names.new.nodes) }
 {
@@ -50,7 +55,7 @@ fn obey(rt: &HostRuntime, names: &mut Names, copy: &mut Replica<Named>, line: &s
 }
 
 // Changes the map, and returns the events of the change.
-fn change(rt: &HostRuntime, names: &mut Names, line: &str) -> Result<Vec<ChangeEvent<Named>>>
+fn change(rt: &HostRuntime, names: &mut UniqueKey, line: &str) -> Result<Vec<ChangeEvent<Named>>>
     ensures { IfOk result (λ events. replay (by_key (slice_cmp nat_cmp)) names.old.nodes events.items
         ≡ Some names.new.nodes) }
 {

@@ -6,7 +6,7 @@
 ghost use Rattle.std.specs.Prelude.{◌≡◌, nat_eq, OnOk};
 ghost use Rattle.std.specs.Cmp.Lexicographic.{slice_cmp};
 ghost use Rattle.std.specs.Ordering.{nat_cmp};
-ghost use Rattle.indexset.specs.Words.{joined, pairs_of, without_first};
+ghost use Rattle.indexset.specs.Words.{concat, pairs_of, without_first};
 
 use anyhow::{Result, bail};
 use indexset::base::Text;
@@ -52,9 +52,9 @@ fn add(rt: &HostRuntime, index: &mut Index, tag: &str, document: u64) -> Result<
 
 /// Removes a document from a tag, which keeps all others.
 fn remove(index: &mut Index, tag: &str, document: u64) -> Result<()>
-    ensures { OnOk result (pairs_of (slice_cmp nat_cmp) (joined index.new.nodes) tag.now
+    ensures { OnOk result (pairs_of (slice_cmp nat_cmp) (concat index.new.nodes) tag.now
         ≡ without_first (λ pair. nat_eq pair.value document)
-        (pairs_of (slice_cmp nat_cmp) (joined index.old.nodes) tag.now)) }
+        (pairs_of (slice_cmp nat_cmp) (concat index.old.nodes) tag.now)) }
 {
     if index.remove(tag, &document)?.is_none() {
         bail!("it is not listed");

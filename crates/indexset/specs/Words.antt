@@ -25,12 +25,12 @@
 --
 -- Names in the code, by the standard term: `Probe` is a comparator, which compares items with what it seeks, returns Less, Equal or Greater, and counts its comparisons; `Spine` is a node list with its length and index; `Spot` is a position in a node; `Refusal` is an error, and `Refused` an error with the value that the call was given; `digits` is the bit length; `_cdc` marks a call that returns its events (change data capture).
 --
--- What contracts see of a value: of a set `cut nodes size`, whose list is `items s`; of a map `Contents`: `pairs`, node lengths, node size; of a logged tree `Tree`: nodes, node size, number of the next event, whose list is `joined t.nodes`; of a multimap `MultiTree`, with the number of the next new pair; of a replica `ReplicaState`: nodes and the number of the event that it expects.
+-- What contracts see of a value: of a set `cut nodes size`, whose list is `items s`; of a map `Contents`: `pairs`, node lengths, node size; of a logged tree `Tree`: nodes, node size, number of the next event, whose list is `concat t.nodes`; of a multimap `MultiTree`, with the number of the next new pair; of a replica `ReplicaState`: nodes and the number of the event that it expects.
 
-pub use Rattle.indexset_spine.specs.Cut.{items}
-pub use Rattle.indexset_spine.specs.Extract.{Extracts, InThree, in_three}
+pub use Rattle.indexset_spine.specs.NodeList.{items}
+pub use Rattle.indexset_spine.specs.Extract.{Extracts, ExtractState, extract_state}
 pub use Rattle.indexset_core.specs.Order.{IsAscending, below, above, rank, has_equal, index_of, equal_element, lower_element, put, keep, without}
-pub use Rattle.indexset_core.specs.Bounds.{are_ordered, is_within, in_range, in_positions}
+pub use Rattle.indexset_core.specs.KeyRange.{are_ordered, is_within, in_range, in_positions}
 pub use Rattle.indexset_core.specs.Digits.{digits}
 pub use Rattle.indexset_core.specs.Pairs.{by_key, entry_of, has_key, key_rank, pair, pair_keys, pair_of, pair_values, pairs_within, put_value, set_value, value_of, without_key}
 pub use Rattle.indexset_core.specs.MultiPairs.{by_number}
@@ -40,8 +40,8 @@ pub use Rattle.indexset_set.specs.SetExtract.{CalledOn, ExtractsOne, extract_ite
 pub use Rattle.indexset_set.specs.SetRanges.{not_below, upper_element}
 pub use Rattle.indexset_map.specs.Contents.{with_entry, with_pairs, without_at, without_entry}
 pub use Rattle.indexset_map.specs.Extract.{ExtractsPair, extract_map, extract_map_pred, extract_pairs}
-pub use Rattle.indexset_map.specs.Walk.{HasWritten, walk_back, walk_front, written}
-pub use Rattle.indexset_core.specs.Nodes.{joined, vec_items, IsNodeList}
+pub use Rattle.indexset_map.specs.ItemIter.{HasWritten, walk_back, walk_front, written}
+pub use Rattle.indexset_core.specs.Nodes.{concat, vec_items, IsNodeList}
 pub use Rattle.indexset_events.specs.Clones.{IsEventClone}
 pub use Rattle.indexset_events.specs.declared.change.ChangeEvent.{ChangeEvent}
 pub use Rattle.indexset_events.specs.Attach.{nodes_refusal}
@@ -55,6 +55,6 @@ pub use Rattle.indexset_multi.specs.Changed.{IsAdded, IsInserted}
 pub use Rattle.indexset_multi.specs.Keys.{entries, equal_pair, has_pair_of, pairs_of, without_first}
 pub use Rattle.indexset_multi.specs.Tree.{MultiTree, inserted_pair, insertion_refusal, pair_removal_events}
 pub use Rattle.indexset_replica.specs.Copies.{AreClonesEqual, AreCopies, IsCopy, LeadsToCopies}
-pub use Rattle.indexset_replica.specs.Delivery.{CopiesAll, CopiesBeginning, HasStopped, HoldsAll, IsAlike, IsAt, IsBeginning, IsDelivered, IsDelivery, IsFeed, IsFollowed, IsReached, IsSubsequence, numbers_from}
+pub use Rattle.indexset_replica.specs.Delivery.{CopiesAll, CopiesPrefix, HasStopped, IsCaughtUp, IsAlike, IsAt, IsPrefix, IsDelivered, IsDelivery, IsEventLog, IsFollowed, IsDeliveredUpTo, IsSubsequence, numbers_from}
 pub use Rattle.indexset_replica.specs.Keyed.{count_equal}
 pub use Rattle.indexset_replica.specs.Replica.{ReplicaState, apply_refusal, AddsClone, IsClonedStep, IsEqualClone}

@@ -14,8 +14,8 @@
 pub mod base {
     pub use indexset_core::text::Text;
     pub use indexset_core::{
-        array_node, bounds, by_bytes, constants, laws, multipair, node, pair, positions, probe,
-        refusal, search, sought, steps,
+        array_node, by_bytes, constants, key_range, laws, lookup_key, multipair, node, pair,
+        position_range, probe, refusal, search, steps,
     };
 }
 
@@ -61,8 +61,8 @@ pub mod replica {
     pub use indexset_replica::{Replica, iter, laws, lookup};
 }
 
-pub use indexset_core::bounds::Bounds;
-pub use indexset_core::positions::Positions;
+pub use indexset_core::key_range::KeyRange;
+pub use indexset_core::position_range::PositionRange;
 pub use indexset_map::{
     BTreeMap, CursorMap, Entry, ExtractIfMap, IntoIterMap, IntoKeys, IntoValues, IterMap, IterMut,
     Keys, OccupiedEntry, RangeMap, RangeMut, VacantEntry, Values, ValuesMut, laws as map_laws,

@@ -10,8 +10,8 @@ use Rattle.indexset_events.specs.declared.change.ChangeEvent.{ChangeEvent}
 use Rattle.indexset_events.specs.declared.change.ChangeEventUnassigned.{ChangeEventUnassigned}
 use Rattle.indexset_events.specs.Replay.{replay, numbered_from, assigned, IsNumberedFrom}
 use Rattle.indexset_events.proofs.CallerLemmas.{clones_numbered, few_nodes, length-numbered, replay-append, zip_on}
-use Rattle.indexset_core.specs.Nodes.{joined}
-use Rattle.indexset_events.specs.Joining.{IsSpaced}
+use Rattle.indexset_core.specs.Nodes.{concat}
+use Rattle.indexset_events.specs.Merging.{IsDense}
 use Rattle.indexset_replica.specs.Copies.{AreClonesEqual, LeadsToCopies}
 use Rattle.indexset_replica.proofs.CallerLemmas.{copies_itself, replay_copies}
 use Rattle.indexset_bench.specs.Told.{events_in_turn}
@@ -35,12 +35,12 @@ pub record LogSoFar {S C T : Type 0} (cmp : T → T → Ordering) (left : S → 
   pub told_is : P → told ≡ numbered_from from (events_in_turn left events t done)
   pub replayed : replay cmp ns (numbered_from from (events_in_turn left events t done)) ≡ Some now
   pub next_is : next ≡ from + length (events_in_turn left events t done)
-  pub few : length told ≤ 3 * count
+  pub at_most_three_events : length told ≤ 3 * count
   pub left_is : t' ≡ fold left t done
 
 module _ {S C T : Type 0} (cmp : T → T → Ordering) (left : S → C → S) (events : S → C → List (ChangeEventUnassigned T)) (R : T → T → Type 0) (P : Type 0) (t : S) (ns : List (List T)) (from : ℕ) where
   pub no_log : LogSoFar cmp left events R P t t ns ns from from 0 [] []
-  no_log = record { cloned = tt; told_is = λ p. refl; replayed = refl; next_is = omega arith; few = omega arith; left_is = refl }
+  no_log = record { cloned = tt; told_is = λ p. refl; replayed = refl; next_is = omega arith; at_most_three_events = omega arith; left_is = refl }
 
   -- one more command
   pub more_log : (t' t'' : S) (now after : List (List T)) (next next' count : ℕ) (done : List C) (c : C) (told told' : List (ChangeEvent T))
@@ -58,7 +58,7 @@ module _ {S C T : Type 0} (cmp : T → T → Ordering) (left : S → C → S) (e
         told_is = λ p. rw parts (is p ∙ ap (λ l. l ++ numbered_from next es') (far.told_is p));
         replayed = rw (parts, replay-append cmp ns (numbered_from from es) (numbered_from next es'), far.replayed) step;
         next_is = rw more (omega (arith, num, far.next_is, length-append es es'));
-        few = omega (arith, few, far.few);
+        at_most_three_events = omega (arith, few, far.at_most_three_events);
         left_is = made ∙ ap (λ q. left q c) far.left_is ∙ sym (fold-append left t done (c ∷ []));
       }
 
@@ -90,11 +90,11 @@ module _ {S C T : Type 0} {cmp : T → T → Ordering} {left : S → C → S} {e
     tree_to_first = far.left_is ∙ ap (fold left t) (sym same)
 
 -- few nodes where neighbours stay apart, and so from none
-module _ {T U : Type 0} (h k : ℕ) (ns : List (List T)) (ms : List (List U)) (kept : IsSpaced h ns → IsSpaced k ms) where
-  pub few_after : IsSpaced h ns → (length ms - 1) * (k + 1) ≤ 2 * length (joined ms)
+module _ {T U : Type 0} (h k : ℕ) (ns : List (List T)) (ms : List (List U)) (kept : IsDense h ns → IsDense k ms) where
+  pub few_after : IsDense h ns → (length ms - 1) * (k + 1) ≤ 2 * length (concat ms)
   few_after s = few_nodes k ms (kept s)
 
-  pub few_from_none : ns ≡ [] → (length ms - 1) * (k + 1) ≤ 2 * length (joined ms)
+  pub few_from_none : ns ≡ [] → (length ms - 1) * (k + 1) ≤ 2 * length (concat ms)
   few_from_none e = few_after (λ j lt. absurd (omega (arith, ap (λ l. length l) e)))
 
 -- the command that comes after those that were answered

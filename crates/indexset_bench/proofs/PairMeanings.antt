@@ -70,11 +70,11 @@ module _ {T : Type 0} (texts : Texts T) (words : AreWords texts) where
 begins_pairs : List ℕ → Bool
 begins_pairs line = let x = get_or line 0 0 in (x == 112 || x == 99) || x == 110
 
-of_pairs : {T : Type 0} (texts : Texts T) (d : PairCommand T) → begins_pairs (pair_spelling texts d) ≡ true
+without_pair_numbers : {T : Type 0} (texts : Texts T) (d : PairCommand T) → begins_pairs (pair_spelling texts d) ≡ true
 unfolding begins_pairs
-of_pairs texts (Put k v) = refl
-of_pairs texts (Cut k) = refl
-of_pairs texts Nodes = refl
+without_pair_numbers texts (Put k v) = refl
+without_pair_numbers texts (Cut k) = refl
+without_pair_numbers texts Nodes = refl
 
 of_numbers : (c : Command) → begins_pairs (spelling c) ≡ false
 unfolding begins_pairs
@@ -86,7 +86,7 @@ of_numbers (At n) = refl
 of_numbers Len = refl
 
 pub apart : {T : Type 0} (texts : Texts T) (c : Command) (d : PairCommand T) → spelling c ≢ pair_spelling texts d
-apart texts c d e = true≢false (sym (of_pairs texts d) ∙ ap begins_pairs (sym e) ∙ of_numbers c)
+apart texts c d e = true≢false (sym (without_pair_numbers texts d) ∙ ap begins_pairs (sym e) ∙ of_numbers c)
 
 -- a line that is a command to the set is none to the map
 pub no_pairs_meant : (line : List ℕ) (c : Command) → meaning line ≡ Some c → pair_meaning number_texts line ≡ None

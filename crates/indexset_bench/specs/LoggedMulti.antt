@@ -3,7 +3,7 @@ use Rattle.std.specs.Prelude.{ℕ, ◌+◌, Bool, false, List, length, is_none, 
 use Rattle.std.specs.Option.{option_map, unwrap_or}
 use Rattle.std.specs.declared.cmp.Ordering.{Ordering}
 use Rattle.indexset_core.specs.MultiPairs.{by_number, numbered_pair}
-use Rattle.indexset_core.specs.Nodes.{joined}
+use Rattle.indexset_core.specs.Nodes.{concat}
 use Rattle.indexset_core.specs.Order.{put}
 use Rattle.indexset_core.specs.declared.multipair.MultiPair.{MultiPair}
 use Rattle.indexset_events.specs.declared.change.ChangeEventUnassigned.{ChangeEventUnassigned}
@@ -46,8 +46,8 @@ module _ {K V : Type 0} (cmp : K → K → Ordering) (eq : V → V → Bool) whe
   -- the events of it
   abbrev pub logged_multi_events : MultiTree K V → LoggedMultiCommand K V → List (ChangeEventUnassigned (MultiPair K V))
   logged_multi_events m (Insert k w) = insertion_events cmp eq m k w
-  logged_multi_events m (RemoveSome k) = pair_removal_events cmp m.size m.nodes (first_pair cmp (joined m.nodes) k)
-  logged_multi_events m (Remove k w) = pair_removal_events cmp m.size m.nodes (equal_pair cmp eq (joined m.nodes) k w)
+  logged_multi_events m (RemoveSome k) = pair_removal_events cmp m.size m.nodes (first_pair cmp (concat m.nodes) k)
+  logged_multi_events m (Remove k w) = pair_removal_events cmp m.size m.nodes (equal_pair cmp eq (concat m.nodes) k w)
 
   -- the tree that it leaves
   abbrev pub logged_multi_left : MultiTree K V → LoggedMultiCommand K V → MultiTree K V
@@ -55,7 +55,7 @@ module _ {K V : Type 0} (cmp : K → K → Ordering) (eq : V → V → Bool) whe
     nodes = nodes_after (by_number cmp) m.nodes m.next (logged_multi_events m c);
     size = m.size;
     next = m.next + length (logged_multi_events m c);
-    pair_next = logged_multi_next (record { pairs = joined m.nodes; pair_next = m.pair_next }) c;
+    pair_next = logged_multi_next (record { pairs = concat m.nodes; pair_next = m.pair_next }) c;
   }
 
   -- it needs a number for a new pair, and none remains

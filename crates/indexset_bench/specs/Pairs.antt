@@ -3,7 +3,7 @@ use Rattle.std.specs.Prelude.{ℕ, if◌then◌else◌, List, [], ◌++◌, Opti
 use Rattle.std.specs.Fmt.{decimal}
 use Rattle.std.specs.Option.{option_map_or}
 use Rattle.std.specs.declared.cmp.Ordering.{Ordering}
-use Rattle.indexset_core.specs.Nodes.{joined}
+use Rattle.indexset_core.specs.Nodes.{concat}
 use Rattle.indexset_core.specs.Pairs.{by_key, pair, value_of}
 use Rattle.indexset_core.specs.declared.pair.Pair.{Pair}
 use Rattle.indexset_events.specs.Keys.{key_removal_events}
@@ -43,8 +43,8 @@ module _ {T : Type 0} (cmp : T → T → Ordering) where
 
   -- the reply to a command that changes the map: the value that was there, where there was one
   abbrev pub change_reply : PairTree T → PairCommand T → Reply T
-  change_reply t (Put k v) = option_map_or OldValue (value_of cmp (joined t.nodes) k) New
-  change_reply t (Cut k) = option_map_or GoneValue (value_of cmp (joined t.nodes) k) Nothing
+  change_reply t (Put k v) = option_map_or OldValue (value_of cmp (concat t.nodes) k) New
+  change_reply t (Cut k) = option_map_or GoneValue (value_of cmp (concat t.nodes) k) Nothing
   change_reply t Nodes = Empty
 
 -- a reply as a line

@@ -23,8 +23,8 @@ pub fn pair_meaning_is_spelling<T: Key>()
         → (pair_meaning T.texts line ≡ Some command) ↔ (line ≡ pair_spelling T.texts command) }
     ensures fits { (line : List ℕ) (command : PairCommand T)
         → pair_meaning T.texts line ≡ Some command → CommandFits T.texts command }
-    ensures apart { (command : Command) (of_pairs : PairCommand T)
-        → spelling command ≢ pair_spelling T.texts of_pairs }
+    ensures apart { (command : Command) (without_pair_numbers : PairCommand T)
+        → spelling command ≢ pair_spelling T.texts without_pair_numbers }
 {}
 
 /// An input is cut after each byte 10, and a last part without one is a line unless it is empty.

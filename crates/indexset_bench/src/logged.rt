@@ -2,7 +2,7 @@
 ghost use Rattle.std.specs.Prelude.{◌≡◌, ◌+◌, ◌/◌, ◌≤◌, ℕ, List, Bool, false, Some, IfOk, OnOk, IfErr, OnErr, if◌then◌else◌, length};
 ghost use Rattle.std.specs.List.{AllZip};
 ghost use Rattle.indexset_events.specs.Clones.{IsEventClone};
-ghost use Rattle.indexset_events.specs.Joining.{IsSpaced};
+ghost use Rattle.indexset_events.specs.Merging.{IsDense};
 ghost use Rattle.indexset_events.specs.Replay.{replay, numbered_from};
 ghost use Rattle.indexset_events.specs.declared.change.ChangeEventUnassigned.{ChangeEventUnassigned};
 
@@ -72,13 +72,13 @@ pub trait Logged {
             (λ r. replay Self.Item.Ord.cmp (nodes self.old) r.1.items ≡ Some (nodes self.new)) }
         ensures table { OnOk result (replay Self.Item.Ord.cmp (nodes self.old)
             (numbered_from (next self.old) (events self.old command)) ≡ Some (nodes self.new)) }
-        ensures few { IfOk result (λ r. length r.1.items ≤ 3) }
+        ensures at_most_three_events { IfOk result (λ r. length r.1.items ≤ 3) }
         ensures tree { OnOk result (self.new ≡ left self.old command) }
         ensures next { OnOk result (next self.new
             ≡ next self.old + length (events self.old command)) }
         ensures size { size self.new ≡ size self.old }
-        ensures spaced { IsSpaced (size self.old / 2) (nodes self.old)
-            → IsSpaced (size self.new / 2) (nodes self.new) }
+        ensures dense { IsDense (size self.old / 2) (nodes self.old)
+            → IsDense (size self.new / 2) (nodes self.new) }
         ensures fits { OnOk result (lacks_numbers self.old command ≡ false) }
         ensures refusal { IfErr result (λ e. e
             ≡ (if lacks_numbers self.old command then Refusal.Numbers else Refusal.Memory)) }

@@ -2,9 +2,9 @@
 ghost use Rattle.std.specs.Prelude.{◌≡◌, ◌≢◌, ◌+◌, ◌-◌, ◌*◌, ◌/◌, ◌≤◌, ◌<◌, ◌++◌, ◌∷◌, [], true, Some, OnOk, IfErr, OnErr, IfSome, OnSome, IfNone, IsSomeAnd, length, take, slice_get};
 ghost use Rattle.std.specs.List.{AllZip, AppendsClones, fold, scan};
 ghost use Rattle.indexset_bench.specs.Told.{events_in_turn};
-ghost use Rattle.indexset_core.specs.Nodes.{joined};
+ghost use Rattle.indexset_core.specs.Nodes.{concat};
 ghost use Rattle.indexset_events.specs.Clones.{IsEventClone};
-ghost use Rattle.indexset_events.specs.Joining.{IsSpaced};
+ghost use Rattle.indexset_events.specs.Merging.{IsDense};
 ghost use Rattle.indexset_events.specs.Replay.{replay, numbered_from, IsNumberedFrom};
 ghost use Rattle.indexset_replica.specs.Copies.{AreClonesEqual, LeadsToCopies};
 
@@ -49,7 +49,7 @@ pub fn run_logged<L: Logged>(alloc: Global, tree: &mut L, commands: Vec<L::Comma
         ≡ numbered_from (L.next tree.old) (events_in_turn L.left L.events tree.old
         (take (length result.replies.items) commands.items)) }
     ensures next { L.next tree.new ≡ L.next tree.old + length result.events.items }
-    ensures few { length result.events.items ≤ 3 * length result.replies.items }
+    ensures at_most_three_events { length result.events.items ≤ 3 * length result.replies.items }
 
     // The commands with a reply are the first ones, as many as there are replies.
     ensures replies { result.replies.items ≡ scan L.after L.reply (L.state tree.old)
@@ -69,14 +69,14 @@ pub fn run_logged<L: Logged>(alloc: Global, tree: &mut L, commands: Vec<L::Comma
 
     // Few nodes: neighbours that held more than half the node size together still do, whether it
     // failed or not.
-    ensures spaced { IsSpaced (L.size tree.old / 2) (L.nodes tree.old)
-        → IsSpaced (L.size tree.new / 2) (L.nodes tree.new) }
-    ensures few_nodes { IsSpaced (L.size tree.old / 2) (L.nodes tree.old)
+    ensures dense { IsDense (L.size tree.old / 2) (L.nodes tree.old)
+        → IsDense (L.size tree.new / 2) (L.nodes tree.new) }
+    ensures few_nodes { IsDense (L.size tree.old / 2) (L.nodes tree.old)
         → (length (L.nodes tree.new) - 1) * (L.size tree.new / 2 + 1)
-        ≤ 2 * length (joined (L.nodes tree.new)) }
+        ≤ 2 * length (concat (L.nodes tree.new)) }
     ensures few_from_empty { L.nodes tree.old ≡ []
         → (length (L.nodes tree.new) - 1) * (L.size tree.new / 2 + 1)
-        ≤ 2 * length (joined (L.nodes tree.new)) }
+        ≤ 2 * length (concat (L.nodes tree.new)) }
 {
     let mut replies = Vec::new(alloc);
     let mut events = Vec::new(alloc);
@@ -115,12 +115,12 @@ fn answer<L: Logged>(
         ++ numbered_from (L.next tree.old) (L.events tree.old command)) }
     ensures table { OnOk result (replay L.Item.Ord.cmp (L.nodes tree.old)
         (numbered_from (L.next tree.old) (L.events tree.old command)) ≡ Some (L.nodes tree.new)) }
-    ensures few { OnOk result (length events.new.items ≤ length events.old.items + 3) }
+    ensures at_most_three_events { OnOk result (length events.new.items ≤ length events.old.items + 3) }
     ensures next { OnOk result (L.next tree.new
         ≡ L.next tree.old + length (L.events tree.old command)) }
     ensures size { L.size tree.new ≡ L.size tree.old }
-    ensures spaced { IsSpaced (L.size tree.old / 2) (L.nodes tree.old)
-        → IsSpaced (L.size tree.new / 2) (L.nodes tree.new) }
+    ensures dense { IsDense (L.size tree.old / 2) (L.nodes tree.old)
+        → IsDense (L.size tree.new / 2) (L.nodes tree.new) }
     ensures refusal { IfErr result (λ e. e ≢ Refusal.Memory
         → (e ≡ Refusal.Numbers) × (L.lacks_numbers tree.old command ≡ true)) }
     ensures untold { OnErr result (replies.new.items ≡ replies.old.items) }

@@ -1,6 +1,6 @@
 //! What a command does to the set, and the reply to it.
 ghost use Rattle.std.specs.Prelude.{◌≡◌, Some, IfOk, OnOk, IfErr, OnErr};
-ghost use Rattle.indexset_spine.specs.Cut.{items};
+ghost use Rattle.indexset_spine.specs.NodeList.{items};
 ghost use Rattle.indexset_bench.specs.Reply.{AddsNew, reply_to, contents_after};
 
 use crate::command::Command;

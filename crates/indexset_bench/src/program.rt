@@ -3,7 +3,7 @@
 ghost use Rattle.std.specs.Prelude.{◌≡◌, ◌≢◌, ◌⊎◌, ◌<◌, [], Some, Err, OnOk, IfErr, IfSome, OnSome};
 ghost use Rattle.std.below.core.specs.declared.int.u64.TheConstants.{MAX};
 ghost use Rattle.std.specs.Io.KnownBytes.{Appends, Keeps};
-ghost use Rattle.indexset_spine.specs.Cut.{items};
+ghost use Rattle.indexset_spine.specs.NodeList.{items};
 ghost use Rattle.indexset_lines.specs.Lines.{HasNoEnd, IsLinePart};
 ghost use Rattle.indexset_bench.specs.Reply.{AddsNew, contents_after, reply_to};
 ghost use Rattle.indexset_bench.specs.Pairs.{reply_ended};
@@ -75,7 +75,7 @@ struct Holding {
 }
 
 impl Answers for Holding {
-    ghost use Rattle.indexset_spine.specs.Cut.{items};
+    ghost use Rattle.indexset_spine.specs.NodeList.{items};
     ghost use Rattle.indexset_bench.specs.Run.{lacks};
     ghost use Rattle.indexset_bench.specs.Text.{Stores, reply_line, stores, stores_after};
 

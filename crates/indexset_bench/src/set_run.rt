@@ -1,7 +1,7 @@
 //! Lists of commands to a set, and the reply to each.
 
 ghost use Rattle.std.specs.Prelude.{◌≡◌, ◌<◌, ◌++◌, [], ◌∷◌, IfOk, OnOk, IfErr, OnErr, IfSome, OnSome, IfNone, length, take};
-ghost use Rattle.indexset_spine.specs.Cut.{items};
+ghost use Rattle.indexset_spine.specs.NodeList.{items};
 ghost use Rattle.indexset_bench.specs.Replies.{AppendsReply, AreReplies};
 ghost use Rattle.indexset_bench.specs.SetRun.{IsSetReply, set_reply, set_after, set_replies, set_after_all};
 

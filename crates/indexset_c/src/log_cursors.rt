@@ -20,9 +20,9 @@ pub extern "C" fn indexset_log_cursor_at(
     position: usize,
     cursor: &mut Cursor,
 )
-    ensures there { cursor_position (node_lengths (logged_nodes log.old.slot.value)) cursor.new
+    ensures contains { cursor_position (node_lengths (logged_nodes log.old.slot.value)) cursor.new
         ≡ min position (length (logged_pairs log.old.slot.value)) }
-    ensures same { log.new.slot.value ≡ log.old.slot.value }
+    ensures unchanged { log.new.slot.value ≡ log.old.slot.value }
 {
     let Some(held) = log.take(alloc) else {
         *cursor = START;
@@ -41,9 +41,9 @@ pub extern "C" fn indexset_log_cursor_from(
     from: u64,
     cursor: &mut Cursor,
 )
-    ensures there { cursor_position (node_lengths (logged_nodes log.old.slot.value)) cursor.new
+    ensures contains { cursor_position (node_lengths (logged_nodes log.old.slot.value)) cursor.new
         ≡ key_rank nat_cmp (logged_pairs log.old.slot.value) from }
-    ensures same { log.new.slot.value ≡ log.old.slot.value }
+    ensures unchanged { log.new.slot.value ≡ log.old.slot.value }
 {
     let Some(held) = log.take(alloc) else {
         *cursor = START;
@@ -71,7 +71,7 @@ pub extern "C" fn indexset_log_cursor_next(
         (pair_values (log_from log.old.slot.value cursor.old)) values.old }
     ensures moved { cursor_position (node_lengths (logged_nodes log.old.slot.value)) cursor.new
         ≡ cursor_position (node_lengths (logged_nodes log.old.slot.value)) cursor.old + result }
-    ensures same { log.new.slot.value ≡ log.old.slot.value }
+    ensures unchanged { log.new.slot.value ≡ log.old.slot.value }
 {
     let Some(held) = log.take(alloc) else {
         return 0;

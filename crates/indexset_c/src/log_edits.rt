@@ -41,15 +41,15 @@ pub extern "C" fn indexset_log_insert(
           size = m.size;
           next = m.next + told.new;
         })) }
-    ensures told { result ≤ YES → IfSome log.old.slot.value (λ m. IsWritten m
+    ensures events { result ≤ YES → IfSome log.old.slot.value (λ m. IsWritten m
         (put_events (by_key nat_cmp) m.size m.nodes (pair key value)) told.new events.old
         events.new) }
     ensures led { result ≤ YES → IfSome log.old.slot.value (λ m. IfSome log.new.slot.value (λ n.
         replay (by_key nat_cmp) m.nodes (numbered_from m.next
         (put_events (by_key nat_cmp) m.size m.nodes (pair key value))) ≡ Some n.nodes)) }
-    ensures few { told.new ≤ 3 }
+    ensures at_most_three_events { told.new ≤ 3 }
     ensures unwritten { result ≢ NO → before.new ≡ before.old }
-    ensures same { MEMORY ≤ result → (told.new ≡ 0) × (events.new ≡ events.old)
+    ensures unchanged { MEMORY ≤ result → (told.new ≡ 0) × (events.new ≡ events.old)
         × (log.new.slot.value ≡ log.old.slot.value) }
     ensures cause { IfSome log.old.slot.value (λ m. IsToldAs result (refusal_for m.next
         (length (put_events (by_key nat_cmp) m.size m.nodes (pair key value))))) }
@@ -97,11 +97,11 @@ pub extern "C" fn indexset_log_remove(
         ≡ without_key nat_cmp (logged_pairs log.old.slot.value) key }
     ensures changed { result ≡ YES → IfSome log.old.slot.value (λ m. IfSome log.new.slot.value
         (λ n. Changed (by_key nat_cmp) m n (key_removal nat_cmp m key))) }
-    ensures there { (log.new.slot.value ≡ None) ↔ (log.old.slot.value ≡ None) }
-    ensures told { result ≤ YES → IfSome log.old.slot.value (λ m. IsWritten m
+    ensures contains { (log.new.slot.value ≡ None) ↔ (log.old.slot.value ≡ None) }
+    ensures events { result ≤ YES → IfSome log.old.slot.value (λ m. IsWritten m
         (key_removal_events nat_cmp m.size m.nodes key) told.new events.old events.new) }
-    ensures few { told.new ≤ 3 }
-    ensures same { result ≢ YES → (out.new ≡ out.old) × (told.new ≡ 0) × (events.new ≡ events.old)
+    ensures at_most_three_events { told.new ≤ 3 }
+    ensures unchanged { result ≢ YES → (out.new ≡ out.old) × (told.new ≡ 0) × (events.new ≡ events.old)
         × (log.new.slot.value ≡ log.old.slot.value) }
     ensures cause { IfSome log.old.slot.value (λ m. IsToldAs result (refusal_for m.next
         (length (key_removal_events nat_cmp m.size m.nodes key)))) }

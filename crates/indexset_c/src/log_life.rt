@@ -111,7 +111,7 @@ pub extern "C" fn indexset_log_swap(one: &mut LogHandle, other: &mut LogHandle)
 #[unsafe(no_mangle)]
 pub extern "C" fn indexset_log_len(alloc: Global, log: &mut LogHandle) -> usize
     ensures value { result ≡ length (logged_pairs log.old.slot.value) }
-    ensures same { log.new.slot.value ≡ log.old.slot.value }
+    ensures unchanged { log.new.slot.value ≡ log.old.slot.value }
 {
     let Some(held) = log.take(alloc) else {
         return 0;
@@ -125,7 +125,7 @@ pub extern "C" fn indexset_log_len(alloc: Global, log: &mut LogHandle) -> usize
 #[unsafe(no_mangle)]
 pub extern "C" fn indexset_log_next(alloc: Global, log: &mut LogHandle) -> u64
     ensures value { result ≡ option_map_or (λ m. m.next) log.old.slot.value 0 }
-    ensures same { log.new.slot.value ≡ log.old.slot.value }
+    ensures unchanged { log.new.slot.value ≡ log.old.slot.value }
 {
     let Some(held) = log.take(alloc) else {
         return 0;

@@ -14,7 +14,7 @@ use std::ops::Bound;
 #[unsafe(no_mangle)]
 pub extern "C" fn indexset_log_rank(alloc: Global, log: &mut LogHandle, key: u64) -> usize
     ensures value { result ≡ key_rank nat_cmp (logged_pairs log.old.slot.value) key }
-    ensures same { log.new.slot.value ≡ log.old.slot.value }
+    ensures unchanged { log.new.slot.value ≡ log.old.slot.value }
 {
     let Some(held) = log.take(alloc) else {
         return 0;
@@ -38,7 +38,7 @@ pub extern "C" fn indexset_log_at(
     ensures absent { result ≡ false → entry_at (logged_pairs log.old.slot.value) position ≡ None }
     ensures no_key { result ≡ false → key.new ≡ key.old }
     ensures no_value { result ≡ false → value.new ≡ value.old }
-    ensures same { log.new.slot.value ≡ log.old.slot.value }
+    ensures unchanged { log.new.slot.value ≡ log.old.slot.value }
 {
     let Some(held) = log.take(alloc) else {
         return false;
@@ -67,7 +67,7 @@ pub extern "C" fn indexset_log_range_by_position(
         (pair_keys (drop from (logged_pairs log.old.slot.value))) keys.old }
     ensures values { values.new ≡ written result
         (pair_values (drop from (logged_pairs log.old.slot.value))) values.old }
-    ensures same { log.new.slot.value ≡ log.old.slot.value }
+    ensures unchanged { log.new.slot.value ≡ log.old.slot.value }
 {
     let Some(held) = log.take(alloc) else {
         return 0;

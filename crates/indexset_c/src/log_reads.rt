@@ -25,7 +25,7 @@ pub extern "C" fn indexset_log_get(
     ensures absent { result ≡ false → value_of nat_cmp (logged_pairs log.old.slot.value) key
         ≡ None }
     ensures unwritten { result ≡ false → out.new ≡ out.old }
-    ensures same { log.new.slot.value ≡ log.old.slot.value }
+    ensures unchanged { log.new.slot.value ≡ log.old.slot.value }
 {
     let Some(held) = log.take(alloc) else {
         return false;
@@ -42,7 +42,7 @@ pub extern "C" fn indexset_log_get(
 #[unsafe(no_mangle)]
 pub extern "C" fn indexset_log_contains(alloc: Global, log: &mut LogHandle, key: u64) -> bool
     ensures value { result ≡ has_key nat_cmp (logged_pairs log.old.slot.value) key }
-    ensures same { log.new.slot.value ≡ log.old.slot.value }
+    ensures unchanged { log.new.slot.value ≡ log.old.slot.value }
 {
     let Some(held) = log.take(alloc) else {
         return false;
@@ -56,7 +56,7 @@ pub extern "C" fn indexset_log_contains(alloc: Global, log: &mut LogHandle, key:
 #[unsafe(no_mangle)]
 pub extern "C" fn indexset_log_node_count(alloc: Global, log: &mut LogHandle) -> usize
     ensures value { result ≡ length (logged_nodes log.old.slot.value) }
-    ensures same { log.new.slot.value ≡ log.old.slot.value }
+    ensures unchanged { log.new.slot.value ≡ log.old.slot.value }
 {
     let Some(held) = log.take(alloc) else {
         return 0;
@@ -77,7 +77,7 @@ pub extern "C" fn indexset_log_node_lengths(
     ensures count { result ≡ min (length (logged_nodes log.old.slot.value)) (length out.old) }
     ensures written { out.new ≡ written result (node_lengths (logged_nodes log.old.slot.value))
         out.old }
-    ensures same { log.new.slot.value ≡ log.old.slot.value }
+    ensures unchanged { log.new.slot.value ≡ log.old.slot.value }
 {
     let Some(held) = log.take(alloc) else {
         return 0;
@@ -110,7 +110,7 @@ pub extern "C" fn indexset_log_range(
     ensures none { high < low → result ≡ 0 }
     ensures no_keys { high < low → keys.new ≡ keys.old }
     ensures no_values { high < low → values.new ≡ values.old }
-    ensures same { log.new.slot.value ≡ log.old.slot.value }
+    ensures unchanged { log.new.slot.value ≡ log.old.slot.value }
 {
     if high < low {
         return 0;

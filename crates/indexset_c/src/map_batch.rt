@@ -24,8 +24,8 @@ pub extern "C" fn indexset_map_insert_all(
     ensures all { result ≡ YES → taken.new ≡ min (length keys.now) (length values.now) }
     ensures some { result ≡ MEMORY → taken.new < min (length keys.now) (length values.now) }
     ensures none { result ≡ NONE ↔ (map.old.slot.value ≡ None) }
-    ensures there { is_some map.new.slot.value ≡ is_some map.old.slot.value }
-    ensures same { result ≡ NONE → map.new.slot.value ≡ map.old.slot.value }
+    ensures contains { is_some map.new.slot.value ≡ is_some map.old.slot.value }
+    ensures unchanged { result ≡ NONE → map.new.slot.value ≡ map.old.slot.value }
     ensures status { (result ≢ NO) × (result ≤ NONE) }
 {
     let Some(mut held) = map.take(alloc) else {
@@ -55,7 +55,7 @@ pub extern "C" fn indexset_map_gets(
     ensures count { result ≡ min (length keys.now) (length out.old) }
     ensures written { out.new ≡ written result
         (map (value_or (pairs handle.old.slot.value) absent) keys.now) out.old }
-    ensures same { handle.new.slot.value ≡ handle.old.slot.value }
+    ensures unchanged { handle.new.slot.value ≡ handle.old.slot.value }
 {
     let Some(held) = handle.take(alloc) else {
         return write_same(keys.len(), absent, out);

@@ -19,9 +19,9 @@ pub extern "C" fn indexset_map_cursor_at(
     position: usize,
     cursor: &mut Cursor,
 )
-    ensures there { cursor_position (map_lengths map.old.slot.value) cursor.new
+    ensures contains { cursor_position (map_lengths map.old.slot.value) cursor.new
         ≡ min position (length (pairs map.old.slot.value)) }
-    ensures same { map.new.slot.value ≡ map.old.slot.value }
+    ensures unchanged { map.new.slot.value ≡ map.old.slot.value }
 {
     let Some(held) = map.take(alloc) else {
         *cursor = START;
@@ -40,9 +40,9 @@ pub extern "C" fn indexset_map_cursor_from(
     from: u64,
     cursor: &mut Cursor,
 )
-    ensures there { cursor_position (map_lengths map.old.slot.value) cursor.new
+    ensures contains { cursor_position (map_lengths map.old.slot.value) cursor.new
         ≡ key_rank nat_cmp (pairs map.old.slot.value) from }
-    ensures same { map.new.slot.value ≡ map.old.slot.value }
+    ensures unchanged { map.new.slot.value ≡ map.old.slot.value }
 {
     let Some(held) = map.take(alloc) else {
         *cursor = START;
@@ -70,7 +70,7 @@ pub extern "C" fn indexset_map_cursor_next(
         (pair_values (map_from map.old.slot.value cursor.old)) values.old }
     ensures moved { cursor_position (map_lengths map.old.slot.value) cursor.new
         ≡ cursor_position (map_lengths map.old.slot.value) cursor.old + result }
-    ensures same { map.new.slot.value ≡ map.old.slot.value }
+    ensures unchanged { map.new.slot.value ≡ map.old.slot.value }
 {
     let Some(held) = map.take(alloc) else {
         return 0;

@@ -26,7 +26,7 @@ pub extern "C" fn indexset_map_insert(
     ensures ok { result ≤ YES → pairs map.new.slot.value
         ≡ put_value nat_cmp (pairs map.old.slot.value) key value }
     ensures unwritten { result ≢ NO → before.new ≡ before.old }
-    ensures same { MEMORY ≤ result → map.new.slot.value ≡ map.old.slot.value }
+    ensures unchanged { MEMORY ≤ result → map.new.slot.value ≡ map.old.slot.value }
     ensures none { result ≡ NONE ↔ (map.old.slot.value ≡ None) }
     ensures no_memory { has_key nat_cmp (pairs map.old.slot.value) key ≡ true → result ≡ NO }
     ensures status { result ≤ NONE }
@@ -65,7 +65,7 @@ pub extern "C" fn indexset_map_insert_ranked(
     ensures ok { result ≤ YES → pairs map.new.slot.value
         ≡ put_value nat_cmp (pairs map.old.slot.value) key value }
     ensures unwritten { result ≢ NO → before.new ≡ before.old }
-    ensures same { MEMORY ≤ result
+    ensures unchanged { MEMORY ≤ result
         → (rank.new ≡ rank.old) × (map.new.slot.value ≡ map.old.slot.value) }
     ensures none { result ≡ NONE ↔ (map.old.slot.value ≡ None) }
     ensures no_memory { has_key nat_cmp (pairs map.old.slot.value) key ≡ true → result ≡ NO }
@@ -90,7 +90,7 @@ pub extern "C" fn indexset_map_get(
     ensures found { result ≡ true → value_of nat_cmp (pairs map.old.slot.value) key ≡ Some out.new }
     ensures absent { result ≡ false → value_of nat_cmp (pairs map.old.slot.value) key ≡ None }
     ensures unwritten { result ≡ false → out.new ≡ out.old }
-    ensures same { map.new.slot.value ≡ map.old.slot.value }
+    ensures unchanged { map.new.slot.value ≡ map.old.slot.value }
 {
     let Some(held) = map.take(alloc) else {
         return false;
@@ -112,9 +112,9 @@ pub extern "C" fn indexset_map_remove(
     ensures found { result ≡ true → value_of nat_cmp (pairs map.old.slot.value) key ≡ Some out.new }
     ensures absent { result ≡ false → value_of nat_cmp (pairs map.old.slot.value) key ≡ None }
     ensures rest { pairs map.new.slot.value ≡ without_key nat_cmp (pairs map.old.slot.value) key }
-    ensures there { is_some map.new.slot.value ≡ is_some map.old.slot.value }
+    ensures contains { is_some map.new.slot.value ≡ is_some map.old.slot.value }
     ensures unwritten { result ≡ false → out.new ≡ out.old }
-    ensures same { result ≡ false → map.new.slot.value ≡ map.old.slot.value }
+    ensures unchanged { result ≡ false → map.new.slot.value ≡ map.old.slot.value }
 {
     let Some(mut held) = map.take(alloc) else {
         return false;
@@ -128,7 +128,7 @@ pub extern "C" fn indexset_map_remove(
 #[unsafe(no_mangle)]
 pub extern "C" fn indexset_map_contains(alloc: Global, map: &mut MapHandle, key: u64) -> bool
     ensures value { result ≡ has_key nat_cmp (pairs map.old.slot.value) key }
-    ensures same { map.new.slot.value ≡ map.old.slot.value }
+    ensures unchanged { map.new.slot.value ≡ map.old.slot.value }
 {
     let Some(held) = map.take(alloc) else {
         return false;
@@ -142,7 +142,7 @@ pub extern "C" fn indexset_map_contains(alloc: Global, map: &mut MapHandle, key:
 #[unsafe(no_mangle)]
 pub extern "C" fn indexset_map_rank(alloc: Global, map: &mut MapHandle, key: u64) -> usize
     ensures value { result ≡ key_rank nat_cmp (pairs map.old.slot.value) key }
-    ensures same { map.new.slot.value ≡ map.old.slot.value }
+    ensures unchanged { map.new.slot.value ≡ map.old.slot.value }
 {
     let Some(held) = map.take(alloc) else {
         return 0;
@@ -156,7 +156,7 @@ pub extern "C" fn indexset_map_rank(alloc: Global, map: &mut MapHandle, key: u64
 #[unsafe(no_mangle)]
 pub extern "C" fn indexset_map_count_up_to(alloc: Global, map: &mut MapHandle, key: u64) -> usize
     ensures value { result ≡ key_count_up_to nat_cmp (pairs map.old.slot.value) key }
-    ensures same { map.new.slot.value ≡ map.old.slot.value }
+    ensures unchanged { map.new.slot.value ≡ map.old.slot.value }
 {
     let Some(held) = map.take(alloc) else {
         return 0;

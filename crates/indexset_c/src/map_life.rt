@@ -44,7 +44,7 @@ pub extern "C" fn indexset_map_clone(alloc: Global, map: &mut MapHandle, to: &mu
     ensures none { result ≡ NONE ↔ (map.old.slot.value ≡ None) }
     ensures held { map.old.slot.value ≢ None
         → (result ≡ HELD ↔ (is_some to.old.slot.value ≡ true)) }
-    ensures same { map.new.slot.value ≡ map.old.slot.value }
+    ensures unchanged { map.new.slot.value ≡ map.old.slot.value }
     ensures status { result ≢ YES → result ≢ NONE → result ≢ HELD → result ≡ MEMORY }
 {
     let Some(held) = map.take(alloc) else {
@@ -128,7 +128,7 @@ pub extern "C" fn indexset_map_swap(one: &mut MapHandle, other: &mut MapHandle)
 #[unsafe(no_mangle)]
 pub extern "C" fn indexset_map_clear(alloc: Global, map: &mut MapHandle)
     ensures empty { pairs map.new.slot.value ≡ [] }
-    ensures there { is_some map.new.slot.value ≡ is_some map.old.slot.value }
+    ensures contains { is_some map.new.slot.value ≡ is_some map.old.slot.value }
     ensures size { IfSome map.old.slot.value (λ m. map.new.slot.value ≡ Some (no_pairs m.size)) }
 {
     let Some(mut held) = map.take(alloc) else {
@@ -142,7 +142,7 @@ pub extern "C" fn indexset_map_clear(alloc: Global, map: &mut MapHandle)
 #[unsafe(no_mangle)]
 pub extern "C" fn indexset_map_len(alloc: Global, map: &mut MapHandle) -> usize
     ensures value { result ≡ length (pairs map.old.slot.value) }
-    ensures same { map.new.slot.value ≡ map.old.slot.value }
+    ensures unchanged { map.new.slot.value ≡ map.old.slot.value }
 {
     let Some(held) = map.take(alloc) else {
         return 0;

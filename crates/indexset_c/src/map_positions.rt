@@ -24,7 +24,7 @@ pub extern "C" fn indexset_map_at(
     ensures absent { result ≡ false → entry_at (pairs map.old.slot.value) position ≡ None }
     ensures no_key { result ≡ false → key.new ≡ key.old }
     ensures no_value { result ≡ false → value.new ≡ value.old }
-    ensures same { map.new.slot.value ≡ map.old.slot.value }
+    ensures unchanged { map.new.slot.value ≡ map.old.slot.value }
 {
     let Some(held) = map.take(alloc) else {
         return false;
@@ -53,7 +53,7 @@ pub extern "C" fn indexset_map_lower_bound(
         (pairs_within nat_cmp (pairs map.old.slot.value) (Included from) Unbounded) 0 ≡ None }
     ensures no_key { result ≡ false → key.new ≡ key.old }
     ensures no_value { result ≡ false → value.new ≡ value.old }
-    ensures same { map.new.slot.value ≡ map.old.slot.value }
+    ensures unchanged { map.new.slot.value ≡ map.old.slot.value }
 {
     let Some(held) = map.take(alloc) else {
         return false;
@@ -79,7 +79,7 @@ pub extern "C" fn indexset_map_upper_bound(
         (pairs_within nat_cmp (pairs map.old.slot.value) (Excluded from) Unbounded) 0 ≡ None }
     ensures no_key { result ≡ false → key.new ≡ key.old }
     ensures no_value { result ≡ false → value.new ≡ value.old }
-    ensures same { map.new.slot.value ≡ map.old.slot.value }
+    ensures unchanged { map.new.slot.value ≡ map.old.slot.value }
 {
     let Some(held) = map.take(alloc) else {
         return false;
@@ -102,10 +102,10 @@ pub extern "C" fn indexset_map_remove_at(
         ≡ Some (key.new, value.new) }
     ensures absent { result ≡ false → entry_at (pairs map.old.slot.value) position ≡ None }
     ensures rest { pairs map.new.slot.value ≡ remove (pairs map.old.slot.value) position }
-    ensures there { is_some map.new.slot.value ≡ is_some map.old.slot.value }
+    ensures contains { is_some map.new.slot.value ≡ is_some map.old.slot.value }
     ensures no_key { result ≡ false → key.new ≡ key.old }
     ensures no_value { result ≡ false → value.new ≡ value.old }
-    ensures same { result ≡ false → map.new.slot.value ≡ map.old.slot.value }
+    ensures unchanged { result ≡ false → map.new.slot.value ≡ map.old.slot.value }
 {
     let Some(mut held) = map.take(alloc) else {
         return false;
@@ -128,7 +128,7 @@ pub extern "C" fn indexset_map_first(
     ensures absent { result ≡ false → entry_at (pairs map.old.slot.value) 0 ≡ None }
     ensures no_key { result ≡ false → key.new ≡ key.old }
     ensures no_value { result ≡ false → value.new ≡ value.old }
-    ensures same { map.new.slot.value ≡ map.old.slot.value }
+    ensures unchanged { map.new.slot.value ≡ map.old.slot.value }
 {
     indexset_map_at(alloc, map, 0, key, value)
 }
@@ -147,7 +147,7 @@ pub extern "C" fn indexset_map_last(
         (length (pairs map.old.slot.value) - 1) ≡ None }
     ensures no_key { result ≡ false → key.new ≡ key.old }
     ensures no_value { result ≡ false → value.new ≡ value.old }
-    ensures same { map.new.slot.value ≡ map.old.slot.value }
+    ensures unchanged { map.new.slot.value ≡ map.old.slot.value }
 {
     let Some(held) = map.take(alloc) else {
         return false;
@@ -172,10 +172,10 @@ pub extern "C" fn indexset_map_pop_first(
         ≡ Some (key.new, value.new) }
     ensures absent { result ≡ false → entry_at (pairs map.old.slot.value) 0 ≡ None }
     ensures rest { pairs map.new.slot.value ≡ drop 1 (pairs map.old.slot.value) }
-    ensures there { is_some map.new.slot.value ≡ is_some map.old.slot.value }
+    ensures contains { is_some map.new.slot.value ≡ is_some map.old.slot.value }
     ensures no_key { result ≡ false → key.new ≡ key.old }
     ensures no_value { result ≡ false → value.new ≡ value.old }
-    ensures same { result ≡ false → map.new.slot.value ≡ map.old.slot.value }
+    ensures unchanged { result ≡ false → map.new.slot.value ≡ map.old.slot.value }
 {
     let Some(mut held) = map.take(alloc) else {
         return false;
@@ -199,10 +199,10 @@ pub extern "C" fn indexset_map_pop_last(
         (length (pairs map.old.slot.value) - 1) ≡ None }
     ensures rest { pairs map.new.slot.value
         ≡ take (length (pairs map.old.slot.value) - 1) (pairs map.old.slot.value) }
-    ensures there { is_some map.new.slot.value ≡ is_some map.old.slot.value }
+    ensures contains { is_some map.new.slot.value ≡ is_some map.old.slot.value }
     ensures no_key { result ≡ false → key.new ≡ key.old }
     ensures no_value { result ≡ false → value.new ≡ value.old }
-    ensures same { result ≡ false → map.new.slot.value ≡ map.old.slot.value }
+    ensures unchanged { result ≡ false → map.new.slot.value ≡ map.old.slot.value }
 {
     let Some(mut held) = map.take(alloc) else {
         return false;

@@ -33,7 +33,7 @@ pub extern "C" fn indexset_map_range_by_key(
     ensures none { high < low → result ≡ 0 }
     ensures no_keys { high < low → keys.new ≡ keys.old }
     ensures no_values { high < low → values.new ≡ values.old }
-    ensures same { map.new.slot.value ≡ map.old.slot.value }
+    ensures unchanged { map.new.slot.value ≡ map.old.slot.value }
 {
     if high < low {
         return 0;
@@ -63,7 +63,7 @@ pub extern "C" fn indexset_map_range_by_position(
         keys.old }
     ensures values { values.new ≡ written result
         (pair_values (drop from (pairs map.old.slot.value))) values.old }
-    ensures same { map.new.slot.value ≡ map.old.slot.value }
+    ensures unchanged { map.new.slot.value ≡ map.old.slot.value }
 {
     let Some(held) = map.take(alloc) else {
         return 0;

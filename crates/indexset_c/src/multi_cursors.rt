@@ -19,9 +19,9 @@ pub extern "C" fn indexset_multi_cursor_at(
     position: usize,
     cursor: &mut Cursor,
 )
-    ensures there { cursor_position (multi_lengths multi.old.slot.value) cursor.new
+    ensures contains { cursor_position (multi_lengths multi.old.slot.value) cursor.new
         ≡ min position (length (numbered_pairs multi.old.slot.value)) }
-    ensures same { multi.new.slot.value ≡ multi.old.slot.value }
+    ensures unchanged { multi.new.slot.value ≡ multi.old.slot.value }
 {
     let Some(held) = multi.take(alloc) else {
         *cursor = START;
@@ -40,9 +40,9 @@ pub extern "C" fn indexset_multi_cursor_from(
     from: u64,
     cursor: &mut Cursor,
 )
-    ensures there { cursor_position (multi_lengths multi.old.slot.value) cursor.new
+    ensures contains { cursor_position (multi_lengths multi.old.slot.value) cursor.new
         ≡ count_by (λ p. is_lt (nat_cmp p.key from)) (numbered_pairs multi.old.slot.value) }
-    ensures same { multi.new.slot.value ≡ multi.old.slot.value }
+    ensures unchanged { multi.new.slot.value ≡ multi.old.slot.value }
 {
     let Some(held) = multi.take(alloc) else {
         *cursor = START;
@@ -70,7 +70,7 @@ pub extern "C" fn indexset_multi_cursor_next(
         (map (λ p. p.value) (multi_from multi.old.slot.value cursor.old)) values.old }
     ensures moved { cursor_position (multi_lengths multi.old.slot.value) cursor.new
         ≡ cursor_position (multi_lengths multi.old.slot.value) cursor.old + result }
-    ensures same { multi.new.slot.value ≡ multi.old.slot.value }
+    ensures unchanged { multi.new.slot.value ≡ multi.old.slot.value }
 {
     let Some(held) = multi.take(alloc) else {
         return 0;

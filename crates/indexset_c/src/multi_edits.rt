@@ -3,7 +3,7 @@ ghost use Rattle.std.specs.Prelude.{◌≡◌, ◌≢◌, ◌≤◌, ◌↔◌, 
 ghost use Rattle.std.specs.Ordering.{is_eq, nat_cmp};
 ghost use Rattle.std.specs.Option.{option_map};
 ghost use Rattle.indexset_core.specs.MultiPairs.{by_number, numbered_pair};
-ghost use Rattle.indexset_core.specs.Nodes.{joined};
+ghost use Rattle.indexset_core.specs.Nodes.{concat};
 ghost use Rattle.indexset_core.specs.Order.{put};
 ghost use Rattle.indexset_multi.specs.Changed.{addition, addition_refusal};
 ghost use Rattle.indexset_multi.specs.Keys.{equal_pair, first_pair, pairs_of, without_first, without_named};
@@ -25,17 +25,17 @@ pub extern "C" fn indexset_multi_insert(
     key: u64,
     value: u64,
 ) -> u32
-    ensures there { result ≡ NO ↔ (is_some
+    ensures contains { result ≡ NO ↔ (is_some
         (equal_pair nat_cmp nat_eq (numbered_pairs multi.old.slot.value) key value) ≡ true) }
     ensures ok { result ≡ YES → IfSome multi.old.slot.value
         (λ m. numbered_pairs multi.new.slot.value
-        ≡ put (by_number nat_cmp) (joined m.nodes) (numbered_pair key value m.pair_next)) }
+        ≡ put (by_number nat_cmp) (concat m.nodes) (numbered_pair key value m.pair_next)) }
     ensures last { result ≡ YES → values_of (numbered_pairs multi.new.slot.value) key
         ≡ values_of (numbered_pairs multi.old.slot.value) key ++ value ∷ [] }
     ensures others { result ≡ YES → (other : ℕ) → is_eq (nat_cmp other key) ≡ false
         → pairs_of nat_cmp (numbered_pairs multi.new.slot.value) other
         ≡ pairs_of nat_cmp (numbered_pairs multi.old.slot.value) other }
-    ensures same { result ≢ YES → multi.new.slot.value ≡ multi.old.slot.value }
+    ensures unchanged { result ≢ YES → multi.new.slot.value ≡ multi.old.slot.value }
     ensures none { result ≡ NONE ↔ (multi.old.slot.value ≡ None) }
     ensures cause { IfSome multi.old.slot.value
         (λ m. IsToldAs result (insertion_refusal nat_cmp nat_eq m key value)) }
@@ -71,7 +71,7 @@ pub extern "C" fn indexset_multi_push(
     ensures others { result ≡ YES → (other : ℕ) → is_eq (nat_cmp other key) ≡ false
         → pairs_of nat_cmp (numbered_pairs multi.new.slot.value) other
         ≡ pairs_of nat_cmp (numbered_pairs multi.old.slot.value) other }
-    ensures same { result ≢ YES → multi.new.slot.value ≡ multi.old.slot.value }
+    ensures unchanged { result ≢ YES → multi.new.slot.value ≡ multi.old.slot.value }
     ensures none { result ≡ NONE ↔ (multi.old.slot.value ≡ None) }
     ensures cause { IfSome multi.old.slot.value
         (λ m. IsToldAs result (addition_refusal nat_cmp m key value)) }
@@ -109,12 +109,12 @@ pub extern "C" fn indexset_multi_remove(
     ensures others { result ≡ YES → (other : ℕ) → is_eq (nat_cmp other key) ≡ false
         → pairs_of nat_cmp (numbered_pairs multi.new.slot.value) other
         ≡ pairs_of nat_cmp (numbered_pairs multi.old.slot.value) other }
-    ensures same { result ≢ YES → multi.new.slot.value ≡ multi.old.slot.value }
+    ensures unchanged { result ≢ YES → multi.new.slot.value ≡ multi.old.slot.value }
     ensures cause { IfSome multi.old.slot.value (λ m. IsToldAs result (refusal_for m.next
         (length (pair_removal_events nat_cmp m.size m.nodes
-        (equal_pair nat_cmp nat_eq (joined m.nodes) key value))))) }
+        (equal_pair nat_cmp nat_eq (concat m.nodes) key value))))) }
     ensures tree { result ≡ YES → IfSome multi.old.slot.value (λ m. multi.new.slot.value
-        ≡ Some (after_removal nat_cmp m (equal_pair nat_cmp nat_eq (joined m.nodes) key value))) }
+        ≡ Some (after_removal nat_cmp m (equal_pair nat_cmp nat_eq (concat m.nodes) key value))) }
     ensures status { (result ≤ NUMBERS) × (result ≢ NONE) × (result ≢ HELD) }
 {
     let Some(mut held) = multi.take(alloc) else {
@@ -149,13 +149,13 @@ pub extern "C" fn indexset_multi_remove_first(
     ensures others { result ≡ YES → (other : ℕ) → is_eq (nat_cmp other key) ≡ false
         → pairs_of nat_cmp (numbered_pairs multi.new.slot.value) other
         ≡ pairs_of nat_cmp (numbered_pairs multi.old.slot.value) other }
-    ensures same { result ≢ YES
+    ensures unchanged { result ≢ YES
         → (out.new ≡ out.old) × (multi.new.slot.value ≡ multi.old.slot.value) }
     ensures cause { IfSome multi.old.slot.value (λ m. IsToldAs result (refusal_for m.next
         (length (pair_removal_events nat_cmp m.size m.nodes
-        (first_pair nat_cmp (joined m.nodes) key))))) }
+        (first_pair nat_cmp (concat m.nodes) key))))) }
     ensures tree { result ≡ YES → IfSome multi.old.slot.value (λ m. multi.new.slot.value
-        ≡ Some (after_removal nat_cmp m (first_pair nat_cmp (joined m.nodes) key))) }
+        ≡ Some (after_removal nat_cmp m (first_pair nat_cmp (concat m.nodes) key))) }
     ensures status { (result ≤ NUMBERS) × (result ≢ NONE) × (result ≢ HELD) }
 {
     let Some(mut held) = multi.take(alloc) else {

@@ -18,7 +18,7 @@ pub extern "C" fn indexset_multi_contains(
 ) -> bool
     ensures value { result ≡ is_some (equal_pair nat_cmp nat_eq
         (numbered_pairs multi.old.slot.value) key value) }
-    ensures same { multi.new.slot.value ≡ multi.old.slot.value }
+    ensures unchanged { multi.new.slot.value ≡ multi.old.slot.value }
 {
     let Some(held) = multi.take(alloc) else {
         return false;
@@ -36,7 +36,7 @@ pub extern "C" fn indexset_multi_contains_key(
     key: u64,
 ) -> bool
     ensures value { result ≡ has_pair_of nat_cmp (numbered_pairs multi.old.slot.value) key }
-    ensures same { multi.new.slot.value ≡ multi.old.slot.value }
+    ensures unchanged { multi.new.slot.value ≡ multi.old.slot.value }
 {
     let Some(held) = multi.take(alloc) else {
         return false;
@@ -50,7 +50,7 @@ pub extern "C" fn indexset_multi_contains_key(
 #[unsafe(no_mangle)]
 pub extern "C" fn indexset_multi_count(alloc: Global, multi: &mut MultiHandle, key: u64) -> usize
     ensures value { result ≡ length (values_of (numbered_pairs multi.old.slot.value) key) }
-    ensures same { multi.new.slot.value ≡ multi.old.slot.value }
+    ensures unchanged { multi.new.slot.value ≡ multi.old.slot.value }
 {
     let Some(held) = multi.take(alloc) else {
         return 0;
@@ -73,7 +73,7 @@ pub extern "C" fn indexset_multi_get(
         (length out.old) }
     ensures written { out.new ≡ written result (values_of (numbered_pairs multi.old.slot.value) key)
         out.old }
-    ensures same { multi.new.slot.value ≡ multi.old.slot.value }
+    ensures unchanged { multi.new.slot.value ≡ multi.old.slot.value }
 {
     let Some(held) = multi.take(alloc) else {
         return 0;

@@ -90,7 +90,7 @@ pub extern "C" fn indexset_multi_swap(one: &mut MultiHandle, other: &mut MultiHa
 #[unsafe(no_mangle)]
 pub extern "C" fn indexset_multi_clear(alloc: Global, multi: &mut MultiHandle)
     ensures empty { numbered_pairs multi.new.slot.value ≡ [] }
-    ensures there { is_some multi.new.slot.value ≡ is_some multi.old.slot.value }
+    ensures contains { is_some multi.new.slot.value ≡ is_some multi.old.slot.value }
     ensures fresh { multi.old.slot.value ≢ None → multi.new.slot.value ≡ Some fresh_multi }
 {
     let Some(mut held) = multi.take(alloc) else {
@@ -104,7 +104,7 @@ pub extern "C" fn indexset_multi_clear(alloc: Global, multi: &mut MultiHandle)
 #[unsafe(no_mangle)]
 pub extern "C" fn indexset_multi_len(alloc: Global, multi: &mut MultiHandle) -> usize
     ensures value { result ≡ length (numbered_pairs multi.old.slot.value) }
-    ensures same { multi.new.slot.value ≡ multi.old.slot.value }
+    ensures unchanged { multi.new.slot.value ≡ multi.old.slot.value }
 {
     let Some(held) = multi.take(alloc) else {
         return 0;

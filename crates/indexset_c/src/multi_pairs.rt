@@ -26,7 +26,7 @@ pub extern "C" fn indexset_multi_first(
         ≡ None }
     ensures no_key { result ≡ false → key.new ≡ key.old }
     ensures no_value { result ≡ false → value.new ≡ value.old }
-    ensures same { multi.new.slot.value ≡ multi.old.slot.value }
+    ensures unchanged { multi.new.slot.value ≡ multi.old.slot.value }
 {
     let Some(held) = multi.take(alloc) else {
         return false;
@@ -52,7 +52,7 @@ pub extern "C" fn indexset_multi_last(
     ensures absent { result ≡ false → numbered_pairs multi.old.slot.value ≡ [] }
     ensures no_key { result ≡ false → key.new ≡ key.old }
     ensures no_value { result ≡ false → value.new ≡ value.old }
-    ensures same { multi.new.slot.value ≡ multi.old.slot.value }
+    ensures unchanged { multi.new.slot.value ≡ multi.old.slot.value }
 {
     let Some(held) = multi.take(alloc) else {
         return false;
@@ -89,7 +89,7 @@ pub extern "C" fn indexset_multi_range(
     ensures none { high < low → result ≡ 0 }
     ensures no_keys { high < low → keys.new ≡ keys.old }
     ensures no_values { high < low → values.new ≡ values.old }
-    ensures same { multi.new.slot.value ≡ multi.old.slot.value }
+    ensures unchanged { multi.new.slot.value ≡ multi.old.slot.value }
 {
     if high < low {
         return 0;

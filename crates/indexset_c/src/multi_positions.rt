@@ -3,7 +3,7 @@ ghost use Rattle.std.specs.Prelude.{◌≡◌, ◌≢◌, ◌≤◌, ◌↔◌, 
 ghost use Rattle.std.specs.List.{count_by};
 ghost use Rattle.std.specs.Option.{option_map};
 ghost use Rattle.std.specs.Ordering.{is_lt, nat_cmp};
-ghost use Rattle.indexset_core.specs.Nodes.{joined};
+ghost use Rattle.indexset_core.specs.Nodes.{concat};
 ghost use Rattle.indexset_core.specs.Pairs.{pair_keys, pair_values};
 ghost use Rattle.indexset_log.specs.Tree.{refusal_for};
 ghost use Rattle.indexset_multi.specs.Keys.{entries, key_and_value, without_named};
@@ -23,7 +23,7 @@ use std::ops::Bound;
 pub extern "C" fn indexset_multi_rank(alloc: Global, multi: &mut MultiHandle, key: u64) -> usize
     ensures value { result ≡ count_by (λ p. is_lt (nat_cmp p.key key))
         (numbered_pairs multi.old.slot.value) }
-    ensures same { multi.new.slot.value ≡ multi.old.slot.value }
+    ensures unchanged { multi.new.slot.value ≡ multi.old.slot.value }
 {
     let Some(held) = multi.take(alloc) else {
         return 0;
@@ -48,7 +48,7 @@ pub extern "C" fn indexset_multi_at(
         (slice_get (numbered_pairs multi.old.slot.value) position) ≡ None }
     ensures no_key { result ≡ false → key.new ≡ key.old }
     ensures no_value { result ≡ false → value.new ≡ value.old }
-    ensures same { multi.new.slot.value ≡ multi.old.slot.value }
+    ensures unchanged { multi.new.slot.value ≡ multi.old.slot.value }
 {
     let Some(held) = multi.take(alloc) else {
         return false;
@@ -76,7 +76,7 @@ pub extern "C" fn indexset_multi_range_by_position(
         (pair_keys (entries (drop from (numbered_pairs multi.old.slot.value)))) keys.old }
     ensures values { values.new ≡ written result
         (pair_values (entries (drop from (numbered_pairs multi.old.slot.value)))) values.old }
-    ensures same { multi.new.slot.value ≡ multi.old.slot.value }
+    ensures unchanged { multi.new.slot.value ≡ multi.old.slot.value }
 {
     let Some(held) = multi.take(alloc) else {
         return 0;
@@ -103,13 +103,13 @@ pub extern "C" fn indexset_multi_remove_at(
     ensures ok { result ≡ YES → numbered_pairs multi.new.slot.value
         ≡ without_named nat_cmp (numbered_pairs multi.old.slot.value)
         (slice_get (numbered_pairs multi.old.slot.value) position) }
-    ensures same { result ≢ YES → (key.new ≡ key.old) × (value.new ≡ value.old)
+    ensures unchanged { result ≢ YES → (key.new ≡ key.old) × (value.new ≡ value.old)
         × (multi.new.slot.value ≡ multi.old.slot.value) }
     ensures cause { IfSome multi.old.slot.value (λ m. IsToldAs result (refusal_for m.next
         (length (pair_removal_events nat_cmp m.size m.nodes
-        (slice_get (joined m.nodes) position))))) }
+        (slice_get (concat m.nodes) position))))) }
     ensures tree { result ≡ YES → IfSome multi.old.slot.value (λ m. multi.new.slot.value
-        ≡ Some (after_removal nat_cmp m (slice_get (joined m.nodes) position))) }
+        ≡ Some (after_removal nat_cmp m (slice_get (concat m.nodes) position))) }
     ensures status { (result ≤ NUMBERS) × (result ≢ NONE) × (result ≢ HELD) }
 {
     let Some(mut held) = multi.take(alloc) else {

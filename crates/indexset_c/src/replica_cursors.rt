@@ -21,9 +21,9 @@ pub extern "C" fn indexset_replica_cursor_at(
     position: usize,
     cursor: &mut Cursor,
 )
-    ensures there { cursor_position (node_lengths (copied_nodes replica.old.slot.value)) cursor.new
+    ensures contains { cursor_position (node_lengths (copied_nodes replica.old.slot.value)) cursor.new
         ≡ min position (length (copied_pairs replica.old.slot.value)) }
-    ensures same { replica.new.slot.value ≡ replica.old.slot.value }
+    ensures unchanged { replica.new.slot.value ≡ replica.old.slot.value }
 {
     let Some(held) = replica.take(alloc) else {
         *cursor = START;
@@ -42,9 +42,9 @@ pub extern "C" fn indexset_replica_cursor_from(
     from: u64,
     cursor: &mut Cursor,
 )
-    ensures there { cursor_position (node_lengths (copied_nodes replica.old.slot.value)) cursor.new
+    ensures contains { cursor_position (node_lengths (copied_nodes replica.old.slot.value)) cursor.new
         ≡ key_rank nat_cmp (copied_pairs replica.old.slot.value) from }
-    ensures same { replica.new.slot.value ≡ replica.old.slot.value }
+    ensures unchanged { replica.new.slot.value ≡ replica.old.slot.value }
 {
     let Some(held) = replica.take(alloc) else {
         *cursor = START;
@@ -72,7 +72,7 @@ pub extern "C" fn indexset_replica_cursor_next(
         (pair_values (replica_from replica.old.slot.value cursor.old)) values.old }
     ensures moved { cursor_position (node_lengths (copied_nodes replica.old.slot.value)) cursor.new
         ≡ cursor_position (node_lengths (copied_nodes replica.old.slot.value)) cursor.old + result }
-    ensures same { replica.new.slot.value ≡ replica.old.slot.value }
+    ensures unchanged { replica.new.slot.value ≡ replica.old.slot.value }
 {
     let Some(held) = replica.take(alloc) else {
         return 0;

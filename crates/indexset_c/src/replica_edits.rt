@@ -21,8 +21,8 @@ pub extern "C" fn indexset_replica_apply(
     ensures refusal { result ≢ YES → IfSome replica.old.slot.value
         (λ r. result ≡ unwrap_or (refused r event.now) MEMORY) }
     ensures none { result ≡ NONE ↔ (replica.old.slot.value ≡ None) }
-    ensures there { (replica.new.slot.value ≡ None) ↔ (replica.old.slot.value ≡ None) }
-    ensures same { result ≢ YES → replica.new.slot.value ≡ replica.old.slot.value }
+    ensures contains { (replica.new.slot.value ≡ None) ↔ (replica.old.slot.value ≡ None) }
+    ensures unchanged { result ≢ YES → replica.new.slot.value ≡ replica.old.slot.value }
 {
     let Some(mut held) = replica.take(alloc) else {
         return NONE;
@@ -49,8 +49,8 @@ pub extern "C" fn indexset_replica_apply_all(
         (λ r. IfSome (slice_get events.now taken.new)
         (λ e. result ≡ unwrap_or (refused r e) MEMORY)) }
     ensures none { result ≡ NONE ↔ (replica.old.slot.value ≡ None) }
-    ensures there { (replica.new.slot.value ≡ None) ↔ (replica.old.slot.value ≡ None) }
-    ensures same { result ≡ NONE → (taken.new ≡ 0) × (replica.new.slot.value ≡ None) }
+    ensures contains { (replica.new.slot.value ≡ None) ↔ (replica.old.slot.value ≡ None) }
+    ensures unchanged { result ≡ NONE → (taken.new ≡ 0) × (replica.new.slot.value ≡ None) }
     ensures status { result ≢ NO }
 {
     *taken = 0;

@@ -50,7 +50,7 @@ pub extern "C" fn indexset_replica_from_log(
     ensures none { result ≡ NONE ↔ (log.old.slot.value ≡ None) }
     ensures held { log.old.slot.value ≢ None
         → (result ≡ HELD ↔ (is_some replica.old.slot.value ≡ true)) }
-    ensures same { log.new.slot.value ≡ log.old.slot.value }
+    ensures unchanged { log.new.slot.value ≡ log.old.slot.value }
     ensures status { result ≢ YES → result ≢ NONE → result ≢ HELD → result ≡ MEMORY }
 {
     let Some(held) = log.take(alloc) else {
@@ -142,7 +142,7 @@ pub extern "C" fn indexset_replica_swap(one: &mut ReplicaHandle, other: &mut Rep
 #[unsafe(no_mangle)]
 pub extern "C" fn indexset_replica_len(alloc: Global, replica: &mut ReplicaHandle) -> usize
     ensures value { result ≡ length (copied_pairs replica.old.slot.value) }
-    ensures same { replica.new.slot.value ≡ replica.old.slot.value }
+    ensures unchanged { replica.new.slot.value ≡ replica.old.slot.value }
 {
     let Some(held) = replica.take(alloc) else {
         return 0;
@@ -156,7 +156,7 @@ pub extern "C" fn indexset_replica_len(alloc: Global, replica: &mut ReplicaHandl
 #[unsafe(no_mangle)]
 pub extern "C" fn indexset_replica_node_count(alloc: Global, replica: &mut ReplicaHandle) -> usize
     ensures value { result ≡ length (copied_nodes replica.old.slot.value) }
-    ensures same { replica.new.slot.value ≡ replica.old.slot.value }
+    ensures unchanged { replica.new.slot.value ≡ replica.old.slot.value }
 {
     let Some(held) = replica.take(alloc) else {
         return 0;
@@ -170,7 +170,7 @@ pub extern "C" fn indexset_replica_node_count(alloc: Global, replica: &mut Repli
 #[unsafe(no_mangle)]
 pub extern "C" fn indexset_replica_next(alloc: Global, replica: &mut ReplicaHandle) -> u64
     ensures value { result ≡ option_map_or (λ r. r.next) replica.old.slot.value 0 }
-    ensures same { replica.new.slot.value ≡ replica.old.slot.value }
+    ensures unchanged { replica.new.slot.value ≡ replica.old.slot.value }
 {
     let Some(held) = replica.take(alloc) else {
         return 0;

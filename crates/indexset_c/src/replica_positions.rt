@@ -19,7 +19,7 @@ pub extern "C" fn indexset_replica_rank(
     key: u64,
 ) -> usize
     ensures value { result ≡ key_rank nat_cmp (copied_pairs replica.old.slot.value) key }
-    ensures same { replica.new.slot.value ≡ replica.old.slot.value }
+    ensures unchanged { replica.new.slot.value ≡ replica.old.slot.value }
 {
     let Some(held) = replica.take(alloc) else {
         return 0;
@@ -44,7 +44,7 @@ pub extern "C" fn indexset_replica_at(
         ≡ None }
     ensures no_key { result ≡ false → key.new ≡ key.old }
     ensures no_value { result ≡ false → value.new ≡ value.old }
-    ensures same { replica.new.slot.value ≡ replica.old.slot.value }
+    ensures unchanged { replica.new.slot.value ≡ replica.old.slot.value }
 {
     let Some(held) = replica.take(alloc) else {
         return false;
@@ -72,7 +72,7 @@ pub extern "C" fn indexset_replica_range_by_position(
         (pair_keys (drop from (copied_pairs replica.old.slot.value))) keys.old }
     ensures values { values.new ≡ written result
         (pair_values (drop from (copied_pairs replica.old.slot.value))) values.old }
-    ensures same { replica.new.slot.value ≡ replica.old.slot.value }
+    ensures unchanged { replica.new.slot.value ≡ replica.old.slot.value }
 {
     let Some(held) = replica.take(alloc) else {
         return 0;

@@ -26,7 +26,7 @@ pub extern "C" fn indexset_replica_get(
     ensures absent { result ≡ false → value_of nat_cmp (copied_pairs replica.old.slot.value) key
         ≡ None }
     ensures unwritten { result ≡ false → out.new ≡ out.old }
-    ensures same { replica.new.slot.value ≡ replica.old.slot.value }
+    ensures unchanged { replica.new.slot.value ≡ replica.old.slot.value }
 {
     let Some(held) = replica.take(alloc) else {
         return false;
@@ -47,7 +47,7 @@ pub extern "C" fn indexset_replica_contains(
     key: u64,
 ) -> bool
     ensures value { result ≡ has_key nat_cmp (copied_pairs replica.old.slot.value) key }
-    ensures same { replica.new.slot.value ≡ replica.old.slot.value }
+    ensures unchanged { replica.new.slot.value ≡ replica.old.slot.value }
 {
     let Some(held) = replica.take(alloc) else {
         return false;
@@ -70,7 +70,7 @@ pub extern "C" fn indexset_replica_first(
     ensures absent { result ≡ false → entry_at (copied_pairs replica.old.slot.value) 0 ≡ None }
     ensures no_key { result ≡ false → key.new ≡ key.old }
     ensures no_value { result ≡ false → value.new ≡ value.old }
-    ensures same { replica.new.slot.value ≡ replica.old.slot.value }
+    ensures unchanged { replica.new.slot.value ≡ replica.old.slot.value }
 {
     let Some(held) = replica.take(alloc) else {
         return false;
@@ -97,7 +97,7 @@ pub extern "C" fn indexset_replica_last(
         (length (copied_pairs replica.old.slot.value) - 1) ≡ None }
     ensures no_key { result ≡ false → key.new ≡ key.old }
     ensures no_value { result ≡ false → value.new ≡ value.old }
-    ensures same { replica.new.slot.value ≡ replica.old.slot.value }
+    ensures unchanged { replica.new.slot.value ≡ replica.old.slot.value }
 {
     let Some(held) = replica.take(alloc) else {
         return false;
@@ -121,7 +121,7 @@ pub extern "C" fn indexset_replica_node_lengths(
     ensures count { result ≡ min (length (copied_nodes replica.old.slot.value)) (length out.old) }
     ensures written { out.new ≡ written result (node_lengths (copied_nodes replica.old.slot.value))
         out.old }
-    ensures same { replica.new.slot.value ≡ replica.old.slot.value }
+    ensures unchanged { replica.new.slot.value ≡ replica.old.slot.value }
 {
     let Some(held) = replica.take(alloc) else {
         return 0;
@@ -154,7 +154,7 @@ pub extern "C" fn indexset_replica_range(
     ensures none { high < low → result ≡ 0 }
     ensures no_keys { high < low → keys.new ≡ keys.old }
     ensures no_values { high < low → values.new ≡ values.old }
-    ensures same { replica.new.slot.value ≡ replica.old.slot.value }
+    ensures unchanged { replica.new.slot.value ≡ replica.old.slot.value }
 {
     if high < low {
         return 0;

@@ -27,8 +27,8 @@ pub extern "C" fn indexset_set_insert_all(
     ensures stop { result ≡ MEMORY → has_equal nat_cmp (elements set.new.slot.value)
         (slice_index_or keys.now taken.new 0) ≡ false }
     ensures none { result ≡ NONE ↔ (set.old.slot.value ≡ None) }
-    ensures there { is_some set.new.slot.value ≡ is_some set.old.slot.value }
-    ensures same { result ≡ NONE → set.new.slot.value ≡ set.old.slot.value }
+    ensures contains { is_some set.new.slot.value ≡ is_some set.old.slot.value }
+    ensures unchanged { result ≡ NONE → set.new.slot.value ≡ set.old.slot.value }
     ensures status { (result ≢ NO) × (result ≤ NONE) }
 {
     let Some(mut held) = set.take(alloc) else {
@@ -52,7 +52,7 @@ pub extern "C" fn indexset_set_ranks(
     ensures count { result ≡ min (length keys.now) (length out.old) }
     ensures written { out.new ≡ written result
         (map (rank nat_cmp (elements set.old.slot.value)) keys.now) out.old }
-    ensures same { set.new.slot.value ≡ set.old.slot.value }
+    ensures unchanged { set.new.slot.value ≡ set.old.slot.value }
 {
     let Some(held) = set.take(alloc) else {
         return write_same(keys.len(), 0, out);
@@ -72,13 +72,13 @@ pub extern "C" fn indexset_set_at_all(
     out: &mut [u64],
 ) -> usize
     ensures room { result ≤ min (length positions.now) (length out.old) }
-    ensures there { AllWithin (λ i. i < length (elements set.old.slot.value)) positions.now 0
+    ensures contains { AllWithin (λ i. i < length (elements set.old.slot.value)) positions.now 0
         result }
     ensures stop { result < min (length positions.now) (length out.old)
         → length (elements set.old.slot.value) ≤ slice_index_or positions.now result 0 }
     ensures written { out.new ≡ written result
         (map (element_at (elements set.old.slot.value)) positions.now) out.old }
-    ensures same { set.new.slot.value ≡ set.old.slot.value }
+    ensures unchanged { set.new.slot.value ≡ set.old.slot.value }
 {
     let Some(held) = set.take(alloc) else {
         return 0;

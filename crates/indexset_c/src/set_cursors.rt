@@ -19,9 +19,9 @@ pub extern "C" fn indexset_set_cursor_at(
     position: usize,
     cursor: &mut Cursor,
 )
-    ensures there { cursor_position (set_lengths set.old.slot.value) cursor.new
+    ensures contains { cursor_position (set_lengths set.old.slot.value) cursor.new
         ≡ min position (length (elements set.old.slot.value)) }
-    ensures same { set.new.slot.value ≡ set.old.slot.value }
+    ensures unchanged { set.new.slot.value ≡ set.old.slot.value }
 {
     let Some(held) = set.take(alloc) else {
         *cursor = START;
@@ -39,9 +39,9 @@ pub extern "C" fn indexset_set_cursor_from(
     key: u64,
     cursor: &mut Cursor,
 )
-    ensures there { cursor_position (set_lengths set.old.slot.value) cursor.new
+    ensures contains { cursor_position (set_lengths set.old.slot.value) cursor.new
         ≡ rank nat_cmp (elements set.old.slot.value) key }
-    ensures same { set.new.slot.value ≡ set.old.slot.value }
+    ensures unchanged { set.new.slot.value ≡ set.old.slot.value }
 {
     let Some(held) = set.take(alloc) else {
         *cursor = START;
@@ -66,7 +66,7 @@ pub extern "C" fn indexset_set_cursor_next(
         (set_from set.old.slot.value cursor.old) out.old }
     ensures moved { cursor_position (set_lengths set.old.slot.value) cursor.new
         ≡ cursor_position (set_lengths set.old.slot.value) cursor.old + result }
-    ensures same { set.new.slot.value ≡ set.old.slot.value }
+    ensures unchanged { set.new.slot.value ≡ set.old.slot.value }
 {
     let Some(held) = set.take(alloc) else {
         return 0;

@@ -16,10 +16,10 @@ use std::alloc::Global;
 #[unsafe(no_mangle)]
 pub extern "C" fn indexset_set_insert(alloc: Global, set: &mut SetHandle, key: u64) -> u32
     ensures added { result ≡ YES → has_equal nat_cmp (elements set.old.slot.value) key ≡ false }
-    ensures there { result ≡ NO → has_equal nat_cmp (elements set.old.slot.value) key ≡ true }
+    ensures contains { result ≡ NO → has_equal nat_cmp (elements set.old.slot.value) key ≡ true }
     ensures ok { result ≡ YES → elements set.new.slot.value
         ≡ keep nat_cmp (elements set.old.slot.value) key }
-    ensures same { result ≢ YES → set.new.slot.value ≡ set.old.slot.value }
+    ensures unchanged { result ≢ YES → set.new.slot.value ≡ set.old.slot.value }
     ensures none { result ≡ NONE ↔ (set.old.slot.value ≡ None) }
     ensures no_memory { has_equal nat_cmp (elements set.old.slot.value) key ≡ true → result ≡ NO }
     ensures status { result ≤ NONE }
@@ -45,11 +45,11 @@ pub extern "C" fn indexset_set_insert_ranked(
     rank: &mut usize,
 ) -> u32
     ensures added { result ≡ YES → has_equal nat_cmp (elements set.old.slot.value) key ≡ false }
-    ensures there { result ≡ NO → has_equal nat_cmp (elements set.old.slot.value) key ≡ true }
+    ensures contains { result ≡ NO → has_equal nat_cmp (elements set.old.slot.value) key ≡ true }
     ensures rank { result ≤ YES → rank.new ≡ order.rank nat_cmp (elements set.old.slot.value) key }
     ensures ok { result ≡ YES → elements set.new.slot.value
         ≡ keep nat_cmp (elements set.old.slot.value) key }
-    ensures same { result ≢ YES → set.new.slot.value ≡ set.old.slot.value }
+    ensures unchanged { result ≢ YES → set.new.slot.value ≡ set.old.slot.value }
     ensures unranked { MEMORY ≤ result → rank.new ≡ rank.old }
     ensures none { result ≡ NONE ↔ (set.old.slot.value ≡ None) }
     ensures no_memory { has_equal nat_cmp (elements set.old.slot.value) key ≡ true → result ≡ NO }
@@ -69,8 +69,8 @@ pub extern "C" fn indexset_set_insert_ranked(
 pub extern "C" fn indexset_set_remove(alloc: Global, set: &mut SetHandle, key: u64) -> bool
     ensures removed { result ≡ has_equal nat_cmp (elements set.old.slot.value) key }
     ensures rest { elements set.new.slot.value ≡ without nat_cmp (elements set.old.slot.value) key }
-    ensures there { is_some set.new.slot.value ≡ is_some set.old.slot.value }
-    ensures same { result ≡ false → set.new.slot.value ≡ set.old.slot.value }
+    ensures contains { is_some set.new.slot.value ≡ is_some set.old.slot.value }
+    ensures unchanged { result ≡ false → set.new.slot.value ≡ set.old.slot.value }
 {
     let Some(mut held) = set.take(alloc) else {
         return false;
@@ -84,7 +84,7 @@ pub extern "C" fn indexset_set_remove(alloc: Global, set: &mut SetHandle, key: u
 #[unsafe(no_mangle)]
 pub extern "C" fn indexset_set_contains(alloc: Global, set: &mut SetHandle, key: u64) -> bool
     ensures value { result ≡ has_equal nat_cmp (elements set.old.slot.value) key }
-    ensures same { set.new.slot.value ≡ set.old.slot.value }
+    ensures unchanged { set.new.slot.value ≡ set.old.slot.value }
 {
     let Some(held) = set.take(alloc) else {
         return false;
@@ -98,7 +98,7 @@ pub extern "C" fn indexset_set_contains(alloc: Global, set: &mut SetHandle, key:
 #[unsafe(no_mangle)]
 pub extern "C" fn indexset_set_rank(alloc: Global, set: &mut SetHandle, key: u64) -> usize
     ensures value { result ≡ rank nat_cmp (elements set.old.slot.value) key }
-    ensures same { set.new.slot.value ≡ set.old.slot.value }
+    ensures unchanged { set.new.slot.value ≡ set.old.slot.value }
 {
     let Some(held) = set.take(alloc) else {
         return 0;
@@ -121,7 +121,7 @@ pub extern "C" fn indexset_set_lower_bound(
     ensures absent { result ≡ false → lower_element nat_cmp (elements set.old.slot.value) key
         ≡ None }
     ensures unwritten { result ≡ false → out.new ≡ out.old }
-    ensures same { set.new.slot.value ≡ set.old.slot.value }
+    ensures unchanged { set.new.slot.value ≡ set.old.slot.value }
 {
     let Some(held) = set.take(alloc) else {
         return false;
@@ -144,7 +144,7 @@ pub extern "C" fn indexset_set_upper_bound(
     ensures absent { result ≡ false → upper_element nat_cmp (elements set.old.slot.value) key
         ≡ None }
     ensures unwritten { result ≡ false → out.new ≡ out.old }
-    ensures same { set.new.slot.value ≡ set.old.slot.value }
+    ensures unchanged { set.new.slot.value ≡ set.old.slot.value }
 {
     let Some(held) = set.take(alloc) else {
         return false;
@@ -158,7 +158,7 @@ pub extern "C" fn indexset_set_upper_bound(
 #[unsafe(no_mangle)]
 pub extern "C" fn indexset_set_count_up_to(alloc: Global, set: &mut SetHandle, key: u64) -> usize
     ensures value { result ≡ count_up_to nat_cmp (elements set.old.slot.value) key }
-    ensures same { set.new.slot.value ≡ set.old.slot.value }
+    ensures unchanged { set.new.slot.value ≡ set.old.slot.value }
 {
     let Some(held) = set.take(alloc) else {
         return 0;

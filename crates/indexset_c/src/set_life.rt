@@ -1,7 +1,7 @@
 //! Calls that make, empty, clone and free a set, and return its length.
 ghost use Rattle.std.specs.Prelude.{◌≡◌, ◌≢◌, ◌↔◌, [], Some, None, true, length, is_some, IfSome, ◌∷◌, option_map};
 ghost use Rattle.indexset_core.specs.declared.constants.TheConstants.{DEFAULT_INNER_SIZE};
-ghost use Rattle.indexset_spine.specs.Cut.{cut};
+ghost use Rattle.indexset_spine.specs.NodeList.{node_list};
 ghost use Rattle.indexset_ffi.specs.Elements.{elements};
 
 use indexset_ffi::set_handle::SetHandle;
@@ -15,7 +15,7 @@ use std::mem::swap;
 #[unsafe(no_mangle)]
 pub extern "C" fn indexset_set_new(alloc: Global, set: &mut SetHandle) -> u32
     ensures empty { result ≡ YES → elements set.new.slot.value ≡ [] }
-    ensures made { result ≡ YES → set.new.slot.value ≡ Some (cut ([] ∷ []) DEFAULT_INNER_SIZE) }
+    ensures made { result ≡ YES → set.new.slot.value ≡ Some (node_list ([] ∷ []) DEFAULT_INNER_SIZE) }
     ensures refused { result ≢ YES → set.new.slot.value ≡ set.old.slot.value }
     ensures held { result ≡ HELD ↔ (is_some set.old.slot.value ≡ true) }
     ensures status { result ≢ YES → result ≢ HELD → result ≡ MEMORY }
@@ -44,7 +44,7 @@ pub extern "C" fn indexset_set_clone(alloc: Global, set: &mut SetHandle, to: &mu
     ensures none { result ≡ NONE ↔ (set.old.slot.value ≡ None) }
     ensures held { set.old.slot.value ≢ None
         → (result ≡ HELD ↔ (is_some to.old.slot.value ≡ true)) }
-    ensures same { set.new.slot.value ≡ set.old.slot.value }
+    ensures unchanged { set.new.slot.value ≡ set.old.slot.value }
     ensures status { result ≢ YES → result ≢ NONE → result ≢ HELD → result ≡ MEMORY }
 {
     let Some(held) = set.take(alloc) else {
@@ -81,7 +81,7 @@ pub extern "C" fn indexset_set_free(alloc: Global, set: &mut SetHandle)
 #[unsafe(no_mangle)]
 pub extern "C" fn indexset_set_create(alloc: Global, set: &mut SetOwner) -> u32
     ensures made { result ≡ YES → option_map (λ h. h.slot.value) set.new.value
-        ≡ Some (Some (cut ([] ∷ []) DEFAULT_INNER_SIZE)) }
+        ≡ Some (Some (node_list ([] ∷ []) DEFAULT_INNER_SIZE)) }
     ensures refused { result ≢ YES → set.new.value ≡ set.old.value }
     ensures status { result ≢ YES → result ≡ MEMORY }
 {
@@ -128,9 +128,9 @@ pub extern "C" fn indexset_set_swap(one: &mut SetHandle, other: &mut SetHandle)
 #[unsafe(no_mangle)]
 pub extern "C" fn indexset_set_clear(alloc: Global, set: &mut SetHandle)
     ensures empty { elements set.new.slot.value ≡ [] }
-    ensures there { is_some set.new.slot.value ≡ is_some set.old.slot.value }
+    ensures contains { is_some set.new.slot.value ≡ is_some set.old.slot.value }
     ensures size { IfSome set.old.slot.value
-        (λ s. set.new.slot.value ≡ Some (cut ([] ∷ []) s.size)) }
+        (λ s. set.new.slot.value ≡ Some (node_list ([] ∷ []) s.size)) }
 {
     let Some(mut held) = set.take(alloc) else {
         return;
@@ -143,7 +143,7 @@ pub extern "C" fn indexset_set_clear(alloc: Global, set: &mut SetHandle)
 #[unsafe(no_mangle)]
 pub extern "C" fn indexset_set_len(alloc: Global, set: &mut SetHandle) -> usize
     ensures value { result ≡ length (elements set.old.slot.value) }
-    ensures same { set.new.slot.value ≡ set.old.slot.value }
+    ensures unchanged { set.new.slot.value ≡ set.old.slot.value }
 {
     let Some(held) = set.take(alloc) else {
         return 0;

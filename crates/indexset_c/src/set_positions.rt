@@ -19,7 +19,7 @@ pub extern "C" fn indexset_set_at(
         ≡ Some out.new }
     ensures absent { result ≡ false → slice_get (elements set.old.slot.value) position ≡ None }
     ensures unwritten { result ≡ false → out.new ≡ out.old }
-    ensures same { set.new.slot.value ≡ set.old.slot.value }
+    ensures unchanged { set.new.slot.value ≡ set.old.slot.value }
 {
     let Some(held) = set.take(alloc) else {
         return false;
@@ -41,9 +41,9 @@ pub extern "C" fn indexset_set_remove_at(
         ≡ Some out.new }
     ensures absent { result ≡ false → slice_get (elements set.old.slot.value) position ≡ None }
     ensures rest { elements set.new.slot.value ≡ remove (elements set.old.slot.value) position }
-    ensures there { is_some set.new.slot.value ≡ is_some set.old.slot.value }
+    ensures contains { is_some set.new.slot.value ≡ is_some set.old.slot.value }
     ensures unwritten { result ≡ false → out.new ≡ out.old }
-    ensures same { result ≡ false → set.new.slot.value ≡ set.old.slot.value }
+    ensures unchanged { result ≡ false → set.new.slot.value ≡ set.old.slot.value }
 {
     let Some(mut held) = set.take(alloc) else {
         return false;
@@ -59,7 +59,7 @@ pub extern "C" fn indexset_set_first(alloc: Global, set: &mut SetHandle, out: &m
     ensures found { result ≡ true → slice_get (elements set.old.slot.value) 0 ≡ Some out.new }
     ensures absent { result ≡ false → length (elements set.old.slot.value) ≡ 0 }
     ensures unwritten { result ≡ false → out.new ≡ out.old }
-    ensures same { set.new.slot.value ≡ set.old.slot.value }
+    ensures unchanged { set.new.slot.value ≡ set.old.slot.value }
 {
     let Some(held) = set.take(alloc) else {
         return false;
@@ -76,7 +76,7 @@ pub extern "C" fn indexset_set_last(alloc: Global, set: &mut SetHandle, out: &mu
         (length (elements set.old.slot.value) - 1) ≡ Some out.new }
     ensures absent { result ≡ false → length (elements set.old.slot.value) ≡ 0 }
     ensures unwritten { result ≡ false → out.new ≡ out.old }
-    ensures same { set.new.slot.value ≡ set.old.slot.value }
+    ensures unchanged { set.new.slot.value ≡ set.old.slot.value }
 {
     let Some(held) = set.take(alloc) else {
         return false;
@@ -91,10 +91,10 @@ pub extern "C" fn indexset_set_last(alloc: Global, set: &mut SetHandle, out: &mu
 pub extern "C" fn indexset_set_pop_first(alloc: Global, set: &mut SetHandle, out: &mut u64) -> bool
     ensures found { result ≡ true → slice_get (elements set.old.slot.value) 0 ≡ Some out.new }
     ensures rest { elements set.new.slot.value ≡ drop 1 (elements set.old.slot.value) }
-    ensures there { is_some set.new.slot.value ≡ is_some set.old.slot.value }
+    ensures contains { is_some set.new.slot.value ≡ is_some set.old.slot.value }
     ensures absent { result ≡ false → length (elements set.old.slot.value) ≡ 0 }
     ensures unwritten { result ≡ false → out.new ≡ out.old }
-    ensures same { result ≡ false → set.new.slot.value ≡ set.old.slot.value }
+    ensures unchanged { result ≡ false → set.new.slot.value ≡ set.old.slot.value }
 {
     let Some(mut held) = set.take(alloc) else {
         return false;
@@ -111,10 +111,10 @@ pub extern "C" fn indexset_set_pop_last(alloc: Global, set: &mut SetHandle, out:
         (length (elements set.old.slot.value) - 1) ≡ Some out.new }
     ensures rest { elements set.new.slot.value
         ≡ take (length (elements set.old.slot.value) - 1) (elements set.old.slot.value) }
-    ensures there { is_some set.new.slot.value ≡ is_some set.old.slot.value }
+    ensures contains { is_some set.new.slot.value ≡ is_some set.old.slot.value }
     ensures absent { result ≡ false → length (elements set.old.slot.value) ≡ 0 }
     ensures unwritten { result ≡ false → out.new ≡ out.old }
-    ensures same { result ≡ false → set.new.slot.value ≡ set.old.slot.value }
+    ensures unchanged { result ≡ false → set.new.slot.value ≡ set.old.slot.value }
 {
     let Some(mut held) = set.take(alloc) else {
         return false;

@@ -2,7 +2,7 @@
 ghost use Rattle.std.specs.Prelude.{◌≡◌, ◌≤◌, ◌<◌, drop, length, min, take};
 ghost use Rattle.std.specs.Ordering.{nat_cmp};
 ghost use Rattle.std.specs.declared.ops.Bound.TheVariants.{Included};
-ghost use Rattle.indexset_core.specs.Bounds.{in_range};
+ghost use Rattle.indexset_core.specs.KeyRange.{in_range};
 ghost use Rattle.indexset_ffi.specs.Elements.{elements, written};
 
 use indexset_ffi::set_calls::write_each;
@@ -28,7 +28,7 @@ pub extern "C" fn indexset_set_range_by_key(
         (Included high)) out.old }
     ensures none { high < low → result ≡ 0 }
     ensures unwritten { high < low → out.new ≡ out.old }
-    ensures same { set.new.slot.value ≡ set.old.slot.value }
+    ensures unchanged { set.new.slot.value ≡ set.old.slot.value }
 {
     if high < low {
         return 0;
@@ -56,7 +56,7 @@ pub extern "C" fn indexset_set_range_by_position(
     ensures count { result ≡ min (length (drop from (elements set.old.slot.value)))
         (length out.old) }
     ensures written { out.new ≡ written result (drop from (elements set.old.slot.value)) out.old }
-    ensures same { set.new.slot.value ≡ set.old.slot.value }
+    ensures unchanged { set.new.slot.value ≡ set.old.slot.value }
 {
     let Some(held) = set.take(alloc) else {
         return 0;

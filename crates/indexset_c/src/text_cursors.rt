@@ -2,7 +2,7 @@
 ghost use Rattle.std.specs.Prelude.{◌≡◌, ◌+◌, length, min, take};
 ghost use Rattle.std.specs.Cmp.Lexicographic.{slice_cmp};
 ghost use Rattle.std.specs.Ordering.{nat_cmp};
-ghost use Rattle.indexset_core.specs.Nodes.{joined};
+ghost use Rattle.indexset_core.specs.Nodes.{concat};
 ghost use Rattle.indexset_core.specs.Pairs.{key_rank, pair_keys, pair_values};
 ghost use Rattle.indexset_ffi.specs.Cursors.{cursor_position, text_from};
 ghost use Rattle.indexset_ffi.specs.Elements.{written};
@@ -22,9 +22,9 @@ pub extern "C" fn indexset_text_map_cursor_at(
     position: usize,
     cursor: &mut Cursor,
 )
-    ensures there { cursor_position (text_lengths map.old.slot.value) cursor.new
+    ensures contains { cursor_position (text_lengths map.old.slot.value) cursor.new
         ≡ min position (length (text_pairs map.old.slot.value)) }
-    ensures same { map.new.slot.value ≡ map.old.slot.value }
+    ensures unchanged { map.new.slot.value ≡ map.old.slot.value }
 {
     let Some(held) = map.take(alloc) else {
         *cursor = START;
@@ -43,9 +43,9 @@ pub extern "C" fn indexset_text_map_cursor_from(
     from: &[u8],
     cursor: &mut Cursor,
 )
-    ensures there { cursor_position (text_lengths map.old.slot.value) cursor.new
+    ensures contains { cursor_position (text_lengths map.old.slot.value) cursor.new
         ≡ key_rank (slice_cmp nat_cmp) (text_pairs map.old.slot.value) from.now }
-    ensures same { map.new.slot.value ≡ map.old.slot.value }
+    ensures unchanged { map.new.slot.value ≡ map.old.slot.value }
 {
     let Some(held) = map.take(alloc) else {
         *cursor = START;
@@ -70,14 +70,14 @@ pub extern "C" fn indexset_text_map_cursor_next(
     ensures count { result ≡ min (length (text_from map.old.slot.value cursor.old))
         (min (length lengths.old) (length values.old)) }
     ensures bytes { bytes.new ≡ written_over
-        (joined (take result (pair_keys (text_from map.old.slot.value cursor.old)))) bytes.old }
+        (concat (take result (pair_keys (text_from map.old.slot.value cursor.old)))) bytes.old }
     ensures lengths { lengths.new ≡ written result
         (key_lengths (text_from map.old.slot.value cursor.old)) lengths.old }
     ensures values { values.new ≡ written result
         (pair_values (text_from map.old.slot.value cursor.old)) values.old }
     ensures moved { cursor_position (text_lengths map.old.slot.value) cursor.new
         ≡ cursor_position (text_lengths map.old.slot.value) cursor.old + result }
-    ensures same { map.new.slot.value ≡ map.old.slot.value }
+    ensures unchanged { map.new.slot.value ≡ map.old.slot.value }
 {
     let Some(held) = map.take(alloc) else {
         return 0;

@@ -31,7 +31,7 @@ pub extern "C" fn indexset_text_map_insert(
     ensures ok { result ≤ YES → text_pairs map.new.slot.value
         ≡ put_value (slice_cmp nat_cmp) (text_pairs map.old.slot.value) key.now value }
     ensures unwritten { result ≢ NO → before.new ≡ before.old }
-    ensures same { MEMORY ≤ result → map.new.slot.value ≡ map.old.slot.value }
+    ensures unchanged { MEMORY ≤ result → map.new.slot.value ≡ map.old.slot.value }
     ensures none { result ≡ NONE ↔ (map.old.slot.value ≡ None) }
     ensures no_memory { has_key (slice_cmp nat_cmp) (text_pairs map.old.slot.value) key.now ≡ true
         → result ≡ NO }
@@ -72,7 +72,7 @@ pub extern "C" fn indexset_text_map_insert_ranked(
     ensures ok { result ≤ YES → text_pairs map.new.slot.value
         ≡ put_value (slice_cmp nat_cmp) (text_pairs map.old.slot.value) key.now value }
     ensures unwritten { result ≢ NO → before.new ≡ before.old }
-    ensures same { MEMORY ≤ result
+    ensures unchanged { MEMORY ≤ result
         → (rank.new ≡ rank.old) × (map.new.slot.value ≡ map.old.slot.value) }
     ensures none { result ≡ NONE ↔ (map.old.slot.value ≡ None) }
     ensures no_memory { has_key (slice_cmp nat_cmp) (text_pairs map.old.slot.value) key.now ≡ true
@@ -100,7 +100,7 @@ pub extern "C" fn indexset_text_map_get(
     ensures absent { result ≡ false → value_of (slice_cmp nat_cmp) (text_pairs map.old.slot.value)
         key.now ≡ None }
     ensures unwritten { result ≡ false → out.new ≡ out.old }
-    ensures same { map.new.slot.value ≡ map.old.slot.value }
+    ensures unchanged { map.new.slot.value ≡ map.old.slot.value }
 {
     let Some(held) = map.take(alloc) else {
         return false;
@@ -125,9 +125,9 @@ pub extern "C" fn indexset_text_map_remove(
         key.now ≡ None }
     ensures rest { text_pairs map.new.slot.value
         ≡ without_key (slice_cmp nat_cmp) (text_pairs map.old.slot.value) key.now }
-    ensures there { is_some map.new.slot.value ≡ is_some map.old.slot.value }
+    ensures contains { is_some map.new.slot.value ≡ is_some map.old.slot.value }
     ensures unwritten { result ≡ false → out.new ≡ out.old }
-    ensures same { result ≡ false → map.new.slot.value ≡ map.old.slot.value }
+    ensures unchanged { result ≡ false → map.new.slot.value ≡ map.old.slot.value }
 {
     let Some(mut held) = map.take(alloc) else {
         return false;
@@ -146,7 +146,7 @@ pub extern "C" fn indexset_text_map_contains(
     key: &[u8],
 ) -> bool
     ensures value { result ≡ has_key (slice_cmp nat_cmp) (text_pairs map.old.slot.value) key.now }
-    ensures same { map.new.slot.value ≡ map.old.slot.value }
+    ensures unchanged { map.new.slot.value ≡ map.old.slot.value }
 {
     let Some(held) = map.take(alloc) else {
         return false;
@@ -160,7 +160,7 @@ pub extern "C" fn indexset_text_map_contains(
 #[unsafe(no_mangle)]
 pub extern "C" fn indexset_text_map_rank(alloc: Global, map: &mut TextHandle, key: &[u8]) -> usize
     ensures value { result ≡ key_rank (slice_cmp nat_cmp) (text_pairs map.old.slot.value) key.now }
-    ensures same { map.new.slot.value ≡ map.old.slot.value }
+    ensures unchanged { map.new.slot.value ≡ map.old.slot.value }
 {
     let Some(held) = map.take(alloc) else {
         return 0;
@@ -179,7 +179,7 @@ pub extern "C" fn indexset_text_map_count_up_to(
 ) -> usize
     ensures value { result
         ≡ key_count_up_to (slice_cmp nat_cmp) (text_pairs map.old.slot.value) key.now }
-    ensures same { map.new.slot.value ≡ map.old.slot.value }
+    ensures unchanged { map.new.slot.value ≡ map.old.slot.value }
 {
     let Some(held) = map.take(alloc) else {
         return 0;

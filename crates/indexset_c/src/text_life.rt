@@ -49,7 +49,7 @@ pub extern "C" fn indexset_text_map_clone(
     ensures none { result ≡ NONE ↔ (map.old.slot.value ≡ None) }
     ensures held { map.old.slot.value ≢ None
         → (result ≡ HELD ↔ (is_some to.old.slot.value ≡ true)) }
-    ensures same { map.new.slot.value ≡ map.old.slot.value }
+    ensures unchanged { map.new.slot.value ≡ map.old.slot.value }
     ensures status { result ≢ YES → result ≢ NONE → result ≢ HELD → result ≡ MEMORY }
 {
     let Some(held) = map.take(alloc) else {
@@ -134,7 +134,7 @@ pub extern "C" fn indexset_text_map_swap(one: &mut TextHandle, other: &mut TextH
 #[unsafe(no_mangle)]
 pub extern "C" fn indexset_text_map_clear(alloc: Global, map: &mut TextHandle)
     ensures empty { text_pairs map.new.slot.value ≡ [] }
-    ensures there { is_some map.new.slot.value ≡ is_some map.old.slot.value }
+    ensures contains { is_some map.new.slot.value ≡ is_some map.old.slot.value }
     ensures size { IfSome map.old.slot.value (λ m. map.new.slot.value ≡ Some (no_pairs m.size)) }
 {
     let Some(mut held) = map.take(alloc) else {
@@ -148,7 +148,7 @@ pub extern "C" fn indexset_text_map_clear(alloc: Global, map: &mut TextHandle)
 #[unsafe(no_mangle)]
 pub extern "C" fn indexset_text_map_len(alloc: Global, map: &mut TextHandle) -> usize
     ensures value { result ≡ length (text_pairs map.old.slot.value) }
-    ensures same { map.new.slot.value ≡ map.old.slot.value }
+    ensures unchanged { map.new.slot.value ≡ map.old.slot.value }
 {
     let Some(held) = map.take(alloc) else {
         return 0;

@@ -2,7 +2,7 @@
 ghost use Rattle.std.specs.Prelude.{◌≡◌, ◌+◌, length, min, take};
 ghost use Rattle.std.specs.Cmp.Lexicographic.{slice_cmp};
 ghost use Rattle.std.specs.Ordering.{nat_cmp};
-ghost use Rattle.indexset_core.specs.Nodes.{joined};
+ghost use Rattle.indexset_core.specs.Nodes.{concat};
 ghost use Rattle.indexset_core.specs.Pairs.{key_rank, pair_keys, pair_values};
 ghost use Rattle.indexset_ffi.specs.Cursors.{cursor_position, text_log_from};
 ghost use Rattle.indexset_ffi.specs.Elements.{written};
@@ -22,9 +22,9 @@ pub extern "C" fn indexset_text_log_cursor_at(
     position: usize,
     cursor: &mut Cursor,
 )
-    ensures there { cursor_position (logged_lengths log.old.slot.value) cursor.new
+    ensures contains { cursor_position (logged_lengths log.old.slot.value) cursor.new
         ≡ min position (length (logged_texts log.old.slot.value)) }
-    ensures same { log.new.slot.value ≡ log.old.slot.value }
+    ensures unchanged { log.new.slot.value ≡ log.old.slot.value }
 {
     let Some(held) = log.take(alloc) else {
         *cursor = START;
@@ -43,9 +43,9 @@ pub extern "C" fn indexset_text_log_cursor_from(
     from: &[u8],
     cursor: &mut Cursor,
 )
-    ensures there { cursor_position (logged_lengths log.old.slot.value) cursor.new
+    ensures contains { cursor_position (logged_lengths log.old.slot.value) cursor.new
         ≡ key_rank (slice_cmp nat_cmp) (logged_texts log.old.slot.value) from.now }
-    ensures same { log.new.slot.value ≡ log.old.slot.value }
+    ensures unchanged { log.new.slot.value ≡ log.old.slot.value }
 {
     let Some(held) = log.take(alloc) else {
         *cursor = START;
@@ -70,14 +70,14 @@ pub extern "C" fn indexset_text_log_cursor_next(
     ensures count { result ≡ min (length (text_log_from log.old.slot.value cursor.old))
         (min (length lengths.old) (length values.old)) }
     ensures bytes { bytes.new ≡ written_over
-        (joined (take result (pair_keys (text_log_from log.old.slot.value cursor.old)))) bytes.old }
+        (concat (take result (pair_keys (text_log_from log.old.slot.value cursor.old)))) bytes.old }
     ensures lengths { lengths.new ≡ written result
         (key_lengths (text_log_from log.old.slot.value cursor.old)) lengths.old }
     ensures values { values.new ≡ written result
         (pair_values (text_log_from log.old.slot.value cursor.old)) values.old }
     ensures moved { cursor_position (logged_lengths log.old.slot.value) cursor.new
         ≡ cursor_position (logged_lengths log.old.slot.value) cursor.old + result }
-    ensures same { log.new.slot.value ≡ log.old.slot.value }
+    ensures unchanged { log.new.slot.value ≡ log.old.slot.value }
 {
     let Some(held) = log.take(alloc) else {
         return 0;

@@ -36,10 +36,10 @@ pub extern "C" fn indexset_text_log_insert(
     ensures changed { result ≤ YES → IfSome log.old.slot.value (λ t. IfSome log.new.slot.value
         (λ u. Changed (by_key (slice_cmp nat_cmp)) t.tree u.tree
         (put_change (by_key (slice_cmp nat_cmp)) t.tree (pair key.now value)))) }
-    ensures told { result ≤ YES → told.new ≡ length (told_changes log.new.slot.value) }
-    ensures few { told.new ≤ 3 }
+    ensures events { result ≤ YES → told.new ≡ length (told_changes log.new.slot.value) }
+    ensures at_most_three_events { told.new ≤ 3 }
     ensures unwritten { result ≢ NO → before.new ≡ before.old }
-    ensures same { MEMORY ≤ result
+    ensures unchanged { MEMORY ≤ result
         → (told.new ≡ 0) × (log.new.slot.value ≡ log.old.slot.value) }
     ensures cause { result ≡ NUMBERS → IfSome log.old.slot.value (λ t. refusal_of t.tree
         (put_change (by_key (slice_cmp nat_cmp)) t.tree (pair key.now value)) ≡ Numbers) }
@@ -80,9 +80,9 @@ pub extern "C" fn indexset_text_log_remove(
     ensures changed { result ≡ YES → IfSome log.old.slot.value (λ t. IfSome log.new.slot.value
         (λ u. Changed (by_key (slice_cmp nat_cmp)) t.tree u.tree
         (key_removal (slice_cmp nat_cmp) t.tree key.now))) }
-    ensures told { result ≡ YES → told.new ≡ length (told_changes log.new.slot.value) }
-    ensures few { told.new ≤ 3 }
-    ensures same { result ≢ YES → (out.new ≡ out.old) × (told.new ≡ 0)
+    ensures events { result ≡ YES → told.new ≡ length (told_changes log.new.slot.value) }
+    ensures at_most_three_events { told.new ≤ 3 }
+    ensures unchanged { result ≢ YES → (out.new ≡ out.old) × (told.new ≡ 0)
         × (log.new.slot.value ≡ log.old.slot.value) }
     ensures cause { result ≡ NUMBERS → IfSome log.old.slot.value (λ t. refusal_of t.tree
         (key_removal (slice_cmp nat_cmp) t.tree key.now) ≡ Numbers) }
@@ -124,7 +124,7 @@ pub extern "C" fn indexset_text_log_change(
     ensures key { key.new ≡ written_over
         (option_map_or pair_key (slice_get (told_changes log.old.slot.value) i) []) key.old }
     ensures unwritten { result ≡ false → event.new ≡ event.old }
-    ensures same { log.new.slot.value ≡ log.old.slot.value }
+    ensures unchanged { log.new.slot.value ≡ log.old.slot.value }
 {
     let Some(held) = log.take(alloc) else {
         return false;

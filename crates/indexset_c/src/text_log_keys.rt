@@ -23,7 +23,7 @@ pub extern "C" fn indexset_text_log_get(
     ensures absent { result ≡ false → value_of (slice_cmp nat_cmp) (logged_texts log.old.slot.value)
         key.now ≡ None }
     ensures unwritten { result ≡ false → out.new ≡ out.old }
-    ensures same { log.new.slot.value ≡ log.old.slot.value }
+    ensures unchanged { log.new.slot.value ≡ log.old.slot.value }
 {
     let Some(held) = log.take(alloc) else {
         return false;
@@ -42,7 +42,7 @@ pub extern "C" fn indexset_text_log_contains(
     key: &[u8],
 ) -> bool
     ensures value { result ≡ has_key (slice_cmp nat_cmp) (logged_texts log.old.slot.value) key.now }
-    ensures same { log.new.slot.value ≡ log.old.slot.value }
+    ensures unchanged { log.new.slot.value ≡ log.old.slot.value }
 {
     let Some(held) = log.take(alloc) else {
         return false;
@@ -61,7 +61,7 @@ pub extern "C" fn indexset_text_log_rank(
 ) -> usize
     ensures value { result
         ≡ key_rank (slice_cmp nat_cmp) (logged_texts log.old.slot.value) key.now }
-    ensures same { log.new.slot.value ≡ log.old.slot.value }
+    ensures unchanged { log.new.slot.value ≡ log.old.slot.value }
 {
     let Some(held) = log.take(alloc) else {
         return 0;
@@ -80,7 +80,7 @@ pub extern "C" fn indexset_text_log_count_up_to(
 ) -> usize
     ensures value { result
         ≡ key_count_up_to (slice_cmp nat_cmp) (logged_texts log.old.slot.value) key.now }
-    ensures same { log.new.slot.value ≡ log.old.slot.value }
+    ensures unchanged { log.new.slot.value ≡ log.old.slot.value }
 {
     let Some(held) = log.take(alloc) else {
         return 0;

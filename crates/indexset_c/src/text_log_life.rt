@@ -115,7 +115,7 @@ pub extern "C" fn indexset_text_log_swap(one: &mut TextLogHandle, other: &mut Te
 #[unsafe(no_mangle)]
 pub extern "C" fn indexset_text_log_len(alloc: Global, log: &mut TextLogHandle) -> usize
     ensures value { result ≡ length (logged_texts log.old.slot.value) }
-    ensures same { log.new.slot.value ≡ log.old.slot.value }
+    ensures unchanged { log.new.slot.value ≡ log.old.slot.value }
 {
     let Some(held) = log.take(alloc) else {
         return 0;
@@ -129,7 +129,7 @@ pub extern "C" fn indexset_text_log_len(alloc: Global, log: &mut TextLogHandle) 
 #[unsafe(no_mangle)]
 pub extern "C" fn indexset_text_log_next(alloc: Global, log: &mut TextLogHandle) -> u64
     ensures value { result ≡ option_map_or (λ t. t.tree.next) log.old.slot.value 0 }
-    ensures same { log.new.slot.value ≡ log.old.slot.value }
+    ensures unchanged { log.new.slot.value ≡ log.old.slot.value }
 {
     let Some(held) = log.take(alloc) else {
         return 0;
@@ -143,7 +143,7 @@ pub extern "C" fn indexset_text_log_next(alloc: Global, log: &mut TextLogHandle)
 #[unsafe(no_mangle)]
 pub extern "C" fn indexset_text_log_node_count(alloc: Global, log: &mut TextLogHandle) -> usize
     ensures value { result ≡ option_map_or (λ t. length t.tree.nodes) log.old.slot.value 0 }
-    ensures same { log.new.slot.value ≡ log.old.slot.value }
+    ensures unchanged { log.new.slot.value ≡ log.old.slot.value }
 {
     let Some(held) = log.take(alloc) else {
         return 0;

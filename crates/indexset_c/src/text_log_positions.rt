@@ -1,6 +1,6 @@
 //! Calls of a logged map from byte strings that go by a position.
 ghost use Rattle.std.specs.Prelude.{◌≡◌, Some, None, true, false, drop, length, min, take};
-ghost use Rattle.indexset_core.specs.Nodes.{joined};
+ghost use Rattle.indexset_core.specs.Nodes.{concat};
 ghost use Rattle.indexset_core.specs.Pairs.{pair_keys, pair_values};
 ghost use Rattle.indexset_ffi.specs.Elements.{written};
 ghost use Rattle.indexset_ffi.specs.Text.{key_at, key_lengths, value_at, written_over};
@@ -31,7 +31,7 @@ pub extern "C" fn indexset_text_log_at(
     ensures absent { result ≡ false → value_at (logged_texts log.old.slot.value) position ≡ None }
     ensures no_len { result ≡ false → len.new ≡ len.old }
     ensures no_value { result ≡ false → value.new ≡ value.old }
-    ensures same { log.new.slot.value ≡ log.old.slot.value }
+    ensures unchanged { log.new.slot.value ≡ log.old.slot.value }
 {
     let Some(held) = log.take(alloc) else {
         return false;
@@ -62,7 +62,7 @@ pub extern "C" fn indexset_text_log_range_by_position(
         (length values.old) }
     ensures values { values.new ≡ written result
         (pair_values (drop from (logged_texts log.old.slot.value))) values.old }
-    ensures same { log.new.slot.value ≡ log.old.slot.value }
+    ensures unchanged { log.new.slot.value ≡ log.old.slot.value }
 {
     let Some(held) = log.take(alloc) else {
         return 0;
@@ -89,8 +89,8 @@ pub extern "C" fn indexset_text_log_keys_by_position(
     ensures lengths { lengths.new ≡ written result
         (key_lengths (drop from (logged_texts log.old.slot.value))) lengths.old }
     ensures bytes { bytes.new ≡ written_over
-        (joined (take result (pair_keys (drop from (logged_texts log.old.slot.value))))) bytes.old }
-    ensures same { log.new.slot.value ≡ log.old.slot.value }
+        (concat (take result (pair_keys (drop from (logged_texts log.old.slot.value))))) bytes.old }
+    ensures unchanged { log.new.slot.value ≡ log.old.slot.value }
 {
     let Some(held) = log.take(alloc) else {
         return 0;

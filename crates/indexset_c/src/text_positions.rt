@@ -33,7 +33,7 @@ pub extern "C" fn indexset_text_map_at(
     ensures absent { result ≡ false → value_at (text_pairs map.old.slot.value) position ≡ None }
     ensures no_len { result ≡ false → len.new ≡ len.old }
     ensures no_value { result ≡ false → value.new ≡ value.old }
-    ensures same { map.new.slot.value ≡ map.old.slot.value }
+    ensures unchanged { map.new.slot.value ≡ map.old.slot.value }
 {
     let Some(held) = map.take(alloc) else {
         return false;
@@ -70,9 +70,9 @@ pub extern "C" fn indexset_text_map_remove_at(
         key.old }
     ensures absent { result ≡ false → value_at (text_pairs map.old.slot.value) position ≡ None }
     ensures rest { text_pairs map.new.slot.value ≡ remove (text_pairs map.old.slot.value) position }
-    ensures there { is_some map.new.slot.value ≡ is_some map.old.slot.value }
+    ensures contains { is_some map.new.slot.value ≡ is_some map.old.slot.value }
     ensures unwritten { result ≡ false → (len.new ≡ len.old) × (value.new ≡ value.old) }
-    ensures same { result ≡ false → map.new.slot.value ≡ map.old.slot.value }
+    ensures unchanged { result ≡ false → map.new.slot.value ≡ map.old.slot.value }
 {
     let Some(mut held) = map.take(alloc) else {
         return false;
@@ -113,7 +113,7 @@ pub extern "C" fn indexset_text_map_lower_bound(
         (key_rank (slice_cmp nat_cmp) (text_pairs map.old.slot.value) from.now) ≡ None }
     ensures no_len { result ≡ false → len.new ≡ len.old }
     ensures no_value { result ≡ false → value.new ≡ value.old }
-    ensures same { map.new.slot.value ≡ map.old.slot.value }
+    ensures unchanged { map.new.slot.value ≡ map.old.slot.value }
 {
     let position = indexset_text_map_rank(alloc, map, from);
     indexset_text_map_at(alloc, map, position, key, len, value)
@@ -143,7 +143,7 @@ pub extern "C" fn indexset_text_map_upper_bound(
         (key_count_up_to (slice_cmp nat_cmp) (text_pairs map.old.slot.value) from.now) ≡ None }
     ensures no_len { result ≡ false → len.new ≡ len.old }
     ensures no_value { result ≡ false → value.new ≡ value.old }
-    ensures same { map.new.slot.value ≡ map.old.slot.value }
+    ensures unchanged { map.new.slot.value ≡ map.old.slot.value }
 {
     let position = indexset_text_map_count_up_to(alloc, map, from);
     indexset_text_map_at(alloc, map, position, key, len, value)
@@ -164,7 +164,7 @@ pub extern "C" fn indexset_text_map_first(
     ensures absent { result ≡ false → value_at (text_pairs map.old.slot.value) 0 ≡ None }
     ensures no_len { result ≡ false → len.new ≡ len.old }
     ensures no_value { result ≡ false → value.new ≡ value.old }
-    ensures same { map.new.slot.value ≡ map.old.slot.value }
+    ensures unchanged { map.new.slot.value ≡ map.old.slot.value }
 {
     indexset_text_map_at(alloc, map, 0, key, len, value)
 }
@@ -190,7 +190,7 @@ pub extern "C" fn indexset_text_map_last(
         (length (text_pairs map.old.slot.value) - 1) ≡ None }
     ensures no_len { result ≡ false → len.new ≡ len.old }
     ensures no_value { result ≡ false → value.new ≡ value.old }
-    ensures same { map.new.slot.value ≡ map.old.slot.value }
+    ensures unchanged { map.new.slot.value ≡ map.old.slot.value }
 {
     let count = indexset_text_map_len(alloc, map);
     indexset_text_map_at(alloc, map, count.saturating_sub(1), key, len, value)

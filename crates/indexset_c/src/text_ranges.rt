@@ -1,6 +1,6 @@
 //! Calls of a map from byte strings that write a part of it into a caller's slices.
 ghost use Rattle.std.specs.Prelude.{◌≡◌, drop, length, min, take};
-ghost use Rattle.indexset_core.specs.Nodes.{joined};
+ghost use Rattle.indexset_core.specs.Nodes.{concat};
 ghost use Rattle.indexset_core.specs.Pairs.{pair_keys, pair_values};
 ghost use Rattle.indexset_ffi.specs.Elements.{written};
 ghost use Rattle.indexset_ffi.specs.Text.{key_lengths, text_pairs, written_over};
@@ -23,7 +23,7 @@ pub extern "C" fn indexset_text_map_range_by_position(
         (length values.old) }
     ensures values { values.new ≡ written result
         (pair_values (drop from (text_pairs map.old.slot.value))) values.old }
-    ensures same { map.new.slot.value ≡ map.old.slot.value }
+    ensures unchanged { map.new.slot.value ≡ map.old.slot.value }
 {
     let Some(held) = map.take(alloc) else {
         return 0;
@@ -50,8 +50,8 @@ pub extern "C" fn indexset_text_map_keys_by_position(
     ensures lengths { lengths.new ≡ written result
         (key_lengths (drop from (text_pairs map.old.slot.value))) lengths.old }
     ensures bytes { bytes.new ≡ written_over
-        (joined (take result (pair_keys (drop from (text_pairs map.old.slot.value))))) bytes.old }
-    ensures same { map.new.slot.value ≡ map.old.slot.value }
+        (concat (take result (pair_keys (drop from (text_pairs map.old.slot.value))))) bytes.old }
+    ensures unchanged { map.new.slot.value ≡ map.old.slot.value }
 {
     let Some(held) = map.take(alloc) else {
         return 0;

@@ -16,7 +16,7 @@ use Rattle.indexset_core.specs.Nodes.{equal_at}
 use Rattle.indexset_core.specs.Parted.{IsParted, less_count}
 use Rattle.indexset_core.specs.Order.{IsAscending, rank, has_equal, IsFoundAt, IsGapFor}
 use Rattle.indexset_core.specs.Order.{equal_element, lower_element}
-use Rattle.indexset_core.specs.Sought.{ActsAsKey, acts_as_itself}
+use Rattle.indexset_core.specs.LookupKey.{OrdersAsItem, acts_as_itself}
 use Rattle.indexset_core.proofs.OrderLemmas.{parted_by_item, parted_by_sought, less_from, greater_from, found_at, gap_at, found_rank, found_after, found_has_equal, gap_has_equal}
 use Rattle.indexset_core.proofs.PartedLemmas.{front-is_lt, front-is_le, count_parts, Parts, fails_above}
 
@@ -152,7 +152,7 @@ module _ {T : Type 0} (cmp : T → T → Ordering) (l : List T) (v : T) (i : ℕ
         | inr (inr above) ↦ rw (other a (λ same. omega arith), other b (λ same. omega arith)) (up a b d lt (omega arith))
       ]
 
-module _ {T Q : Type 0} {cmp : T → T → Ordering} {order : T → Q → Ordering} {among : Q → Q → Ordering} (acts : ActsAsKey cmp order among) (l : List T) (up : IsAscending cmp l) (v : Q) where
+module _ {T Q : Type 0} {cmp : T → T → Ordering} {order : T → Q → Ordering} {among : Q → Q → Ordering} (acts : OrdersAsItem cmp order among) (l : List T) (up : IsAscending cmp l) (v : Q) where
   parted : IsParted (λ x. order x v) l
   parted = parted_by_sought acts l up v
 

@@ -5,7 +5,7 @@ use Rattle.std.specs.Range.Bound.{start_index, end_index}
 use Rattle.std.specs.declared.ops.Bound.{Bound}
 use Rattle.std.specs.declared.ops.Bound.TheVariants.{Included, Excluded, Unbounded}
 use Rattle.std.proofs.lemmas.Bool.Decides.{nat_tests}
-use Rattle.indexset_core.specs.Bounds.{is_from_start, is_up_to_end, is_at_position}
+use Rattle.indexset_core.specs.KeyRange.{is_from_start, is_up_to_end, is_at_position}
 
 from_start : (start : Bound ℕ) (i : ℕ) → is_from_start nat_cmp start i ≡ not (nat_lt i (start_index start))
 from_start (Included v) i = grind (arith, nat_tests)

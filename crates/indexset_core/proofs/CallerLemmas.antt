@@ -6,7 +6,7 @@ pub use Rattle.indexset_core.proofs.KeyRangeLemmas.{key_range_is, key_range_orde
 pub use Rattle.indexset_core.proofs.LocateLemmas.{ends_for, ends_last, ends_until, equal_none, equal_read, node_found, parted_node, place_for}
 pub use Rattle.indexset_core.proofs.LocatedLemmas.{IsEnd, end_at, end_found, end_gap, end_node, end_offset, end_position, end_read, equal_joined, gap_found, gap_position, located_end}
 pub use Rattle.indexset_core.proofs.MemberLemmas.{gap_no_equal, has_none, has_put, key_gone, no_value, value_put}
-pub use Rattle.indexset_core.proofs.NodeLemmas.{around, get_in_node, held-set, held-splice, item_read, joined-append, joined-splice, joined_around, length-held, length-joined, length-joined-mono, length-joined-more, length-joined-take, more_read, node_lengths-set, node_lengths-splice, node_read, offset-le, slice_get-left, slice_get-right}
+pub use Rattle.indexset_core.proofs.NodeLemmas.{around, get_in_node, held-set, held-splice, item_read, concat-append, concat-splice, joined_around, length-held, length-concat, length-concat-mono, length-concat-more, length-concat-take, more_read, node_lengths-set, node_lengths-splice, node_read, offset-le, slice_get-left, slice_get-right}
 pub use Rattle.indexset_core.proofs.OrderLemmas.{equal_from, found_has_equal, found_keep, found_put, found_rank, found_without, gap_ascending, gap_at, gap_has_equal, gap_keep, gap_put, gap_rank, gap_without, has_equal_found, less_from, parted_by_item, parted_by_sought, read_item, sought_without}
 pub use Rattle.indexset_core.proofs.PairLemmas.{absent_gap, absent_without, find_absent, find_position, key_absent, key_found, key_inside, key_no_pair, key_pair, key_there, found_key, gap_key, key_written, parted_by_key, parted_by_sought_key, value_ascending, without-pair}
 pub use Rattle.indexset_core.proofs.PartLemmas.{between_up, clipped, front_up, tail_up}

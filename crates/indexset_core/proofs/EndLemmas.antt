@@ -7,10 +7,10 @@ use Rattle.std.specs.declared.cmp.Ordering.TheVariants.{Greater}
 use Rattle.std.proofs.lemmas.Bool.{cases_lt}
 use Rattle.std.proofs.lemmas.List.{get_or-take, get_or_default, length-take-le, take-append-drop}
 use Rattle.std.proofs.lemmas.Option.{slice_get_read}
-use Rattle.indexset_core.specs.Nodes.{joined, node_lengths, ends_less, node_for}
+use Rattle.indexset_core.specs.Nodes.{concat, node_lengths, ends_less, node_for}
 use Rattle.indexset_core.specs.Parted.{IsParted}
 use Rattle.indexset_core.proofs.LocateLemmas.{filled_at, node_found, parted-left}
-use Rattle.indexset_core.proofs.NodeLemmas.{get_or_in_node, length-joined-mono, length-joined-more, offset-le}
+use Rattle.indexset_core.proofs.NodeLemmas.{get_or_in_node, length-concat-mono, length-concat-more, offset-le}
 use Rattle.indexset_core.proofs.PartedLemmas.{Narrowed}
 
 module _ {X : Type 0} (answer : X → Ordering) where
@@ -36,21 +36,21 @@ module _ {X : Type 0} (answer : X → Ordering) where
   item_of (x ∷ xs) some = x
 
   -- a later node's last item is found no less
-  later : (ns : List (List X)) → All (λ n. 1 ≤ n) (node_lengths ns) → IsParted answer (joined ns) → (i j : ℕ) → i < j → j < length ns → X → ordering_index (end_answer (get_or ns i [])) ≤ ordering_index (end_answer (get_or ns j []))
+  later : (ns : List (List X)) → All (λ n. 1 ≤ n) (node_lengths ns) → IsParted answer (concat ns) → (i j : ℕ) → i < j → j < length ns → X → ordering_index (end_answer (get_or ns i [])) ≤ ordering_index (end_answer (get_or ns j []))
   later ns filled h i j before lt d =
       let a = get_or ns i [] in let b = get_or ns j [] in
       let some_a : 1 ≤ length a = filled_at answer ns filled i (omega arith) in
       let some_b : 1 ≤ length b = filled_at answer ns filled j lt in
-      let p = length (joined (take i ns)) + (length a - 1) in
-      let q = length (joined (take j ns)) + (length b - 1) in
-      let order : p ≤ q = omega (arith, length-joined-more ns i (omega arith), length-joined-mono ns (i + 1) j (omega arith)) in
-      let low : q < length (joined ns) = omega (arith, offset-le ns j (length b) lt (omega arith)) in
+      let p = length (concat (take i ns)) + (length a - 1) in
+      let q = length (concat (take j ns)) + (length b - 1) in
+      let order : p ≤ q = omega (arith, length-concat-more ns i (omega arith), length-concat-mono ns (i + 1) j (omega arith)) in
+      let low : q < length (concat ns) = omega (arith, offset-le ns j (length b) lt (omega arith)) in
       let at_a = get_or_in_node ns i (length a - 1) d (omega arith) (omega arith) in
       let at_b = get_or_in_node ns j (length b - 1) d lt (omega arith) in
       rw (end_at a d some_a, end_at b d some_b) (rw (← at_a, ← at_b) (h p q d order low))
 
   -- the answers at the last items are in order as well
-  ends_parted : (ns : List (List X)) → All (λ n. 1 ≤ n) (node_lengths ns) → IsParted answer (joined ns) → IsParted end_answer ns
+  ends_parted : (ns : List (List X)) → All (λ n. 1 ≤ n) (node_lengths ns) → IsParted answer (concat ns) → IsParted end_answer ns
   ends_parted ns filled h i j e le lt =
       elim (cases_lt i j) [
         | inl before ↦
@@ -59,7 +59,7 @@ module _ {X : Type 0} (answer : X → Ordering) where
         | inr same ↦ let at : i ≡ j = omega arith in rw at (omega arith)
       ]
 
-  pub front_parted : (ns : List (List X)) (k : ℕ) → All (λ n. 1 ≤ n) (node_lengths ns) → IsParted answer (joined ns) → IsParted end_answer (take k ns)
+  pub front_parted : (ns : List (List X)) (k : ℕ) → All (λ n. 1 ≤ n) (node_lengths ns) → IsParted answer (concat ns) → IsParted end_answer (take k ns)
   front_parted ns k filled h = parted-left end_answer (take k ns) (drop k ns) (rw (take-append-drop k ns) (ends_parted ns filled h))
 
   -- where the search ends

@@ -5,10 +5,10 @@ use Rattle.std.specs.List.{between, count_by, position}
 use Rattle.std.specs.Ordering.{is_eq, is_le}
 use Rattle.std.specs.declared.ops.Bound.{Bound}
 use Rattle.indexset_core.specs.declared.pair.Pair.{Pair}
-use Rattle.indexset_core.specs.Bounds.{are_ordered, is_before, is_up_to_end}
+use Rattle.indexset_core.specs.KeyRange.{are_ordered, is_before, is_up_to_end}
 use Rattle.indexset_core.specs.Order.{IsAscending}
 use Rattle.indexset_core.specs.Pairs.{pair, by_key, key_rank, pairs_within}
-use Rattle.indexset_core.specs.Sought.{ActsAsKey}
+use Rattle.indexset_core.specs.LookupKey.{OrdersAsItem}
 use Rattle.indexset_core.proofs.PairLemmas.{absent_gap, key_absent, key_found, key_inside, parted_by_key, parted_by_sought_key}
 use Rattle.indexset_core.proofs.RangeLemmas.{found_not_above, gap_not_above, keyed_range_is, keyed_range_order, sought_range_is, sought_range_order}
 
@@ -36,7 +36,7 @@ module _ {K V : Type 0} (cmp : K → K → Ordering) (o : IsTotalOrder cmp) wher
     key_range_order = keyed_range_order cmp o (λ p. p.key) l (parted_by_key cmp o l up) start end ordered i j from to
 
 -- the same of bounds on what is sought
-module _ {K V Q : Type 0} {cmp : K → K → Ordering} {order : K → Q → Ordering} {among : Q → Q → Ordering} (acts : ActsAsKey cmp order among) (l : List (Pair K V)) (up : IsAscending (by_key cmp) l) (start end : Bound Q) (ordered : are_ordered among start end ≡ true) (i j : ℕ) (from : i ≡ count_by (λ p. is_before order start p.key) l) (to : j ≡ count_by (λ p. is_up_to_end order end p.key) l) where
+module _ {K V Q : Type 0} {cmp : K → K → Ordering} {order : K → Q → Ordering} {among : Q → Q → Ordering} (acts : OrdersAsItem cmp order among) (l : List (Pair K V)) (up : IsAscending (by_key cmp) l) (start end : Bound Q) (ordered : are_ordered among start end ≡ true) (i j : ℕ) (from : i ≡ count_by (λ p. is_before order start p.key) l) (to : j ≡ count_by (λ p. is_up_to_end order end p.key) l) where
   pub sought_keys_are : between i j l ≡ pairs_within order l start end
   sought_keys_are = sought_range_is order (λ (p : Pair K V). p.key) l (parted_by_sought_key acts l up) acts start end ordered i j from to
 

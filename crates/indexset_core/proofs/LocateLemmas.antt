@@ -6,9 +6,9 @@ use Rattle.std.proofs.lemmas.List.{append-nil, get_or_append_left, get_or-append
 use Rattle.std.proofs.lemmas.List.Sums.{sum_by-append, position_or_len_is, prefix_len_stops}
 use Rattle.std.proofs.lemmas.Option.{slice_get_read}
 use Rattle.std.proofs.lemmas.Bool.{false≢true, cases_lt}
-use Rattle.indexset_core.specs.Nodes.{joined, node_lengths, ends_less, equal_at, node_for, node_at}
+use Rattle.indexset_core.specs.Nodes.{concat, node_lengths, ends_less, equal_at, node_for, node_at}
 use Rattle.indexset_core.specs.Parted.{IsParted, less_count}
-use Rattle.indexset_core.proofs.NodeLemmas.{get_or_in_node, length-joined-mono, length-joined-more, offset-le, length-held, node_read}
+use Rattle.indexset_core.proofs.NodeLemmas.{get_or_in_node, length-concat-mono, length-concat-more, offset-le, length-held, node_read}
 use Rattle.indexset_core.proofs.PartedLemmas.{passes_below, fails_above, count_parted, count_parts, front-is_lt}
 
 module _ {X : Type 0} (answer : X → Ordering) where
@@ -55,15 +55,15 @@ module _ {X : Type 0} (answer : X → Ordering) where
   first (x ∷ xs) some h = ends_last (x ∷ xs) x some ∙ h x
 
   -- where each node has an item, one that ends Less has only such before it
-  pub ends_before : (ns : List (List X)) → All (λ n. 1 ≤ n) (node_lengths ns) → IsParted answer (joined ns) → (j k : ℕ) → j < k → k < length ns → ends_less answer (get_or ns k []) ≡ true → ends_less answer (get_or ns j []) ≡ true
+  pub ends_before : (ns : List (List X)) → All (λ n. 1 ≤ n) (node_lengths ns) → IsParted answer (concat ns) → (j k : ℕ) → j < k → k < length ns → ends_less answer (get_or ns k []) ≡ true → ends_less answer (get_or ns j []) ≡ true
   ends_before ns filled h j k lt inside e =
       let a = get_or ns j [] in let b = get_or ns k [] in
       let some_a : 0 < length a = filled_at ns filled j (omega arith) in
       let some_b : 0 < length b = filled_at ns filled k inside in
-      let p = length (joined (take j ns)) + (length a - 1) in
-      let q = length (joined (take k ns)) + (length b - 1) in
-      let le : p ≤ q = omega (arith, length-joined-more ns j (omega arith), length-joined-mono ns (j + 1) k (omega arith)) in
-      let low : q < length (joined ns) = omega (arith, offset-le ns k (length b) inside (omega arith)) in
+      let p = length (concat (take j ns)) + (length a - 1) in
+      let q = length (concat (take k ns)) + (length b - 1) in
+      let le : p ≤ q = omega (arith, length-concat-more ns j (omega arith), length-concat-mono ns (j + 1) k (omega arith)) in
+      let low : q < length (concat ns) = omega (arith, offset-le ns k (length b) inside (omega arith)) in
       first a some_a (λ d.
       let at_a = get_or_in_node ns j (length a - 1) d (omega arith) (omega arith) in
       let at_b = get_or_in_node ns k (length b - 1) d inside (omega arith) in
@@ -82,27 +82,27 @@ module _ {X : Type 0} (answer : X → Ordering) where
   node_for-here n ns e = rw e (omega arith)
 
   abbrev Place : List (List X) → ℕ → Type 0
-  Place ns k = length (joined (take k ns)) + less_count answer (node_at ns k) ≡ less_count answer (joined ns)
+  Place ns k = length (concat (take k ns)) + less_count answer (node_at ns k) ≡ less_count answer (concat ns)
 
   less_count-append : (xs ys : List X) → less_count answer (xs ++ ys) ≡ less_count answer xs + less_count answer ys
   less_count-append xs ys = sum_by-append (λ x. cond (is_lt (answer x)) 1 0) xs ys
 
   place_past : (n : List X) (ns : List (List X)) (k : ℕ) → less_count answer n ≡ length n → Place ns k → Place (n ∷ ns) (suc k)
-  place_past n ns k all here = omega (arith, less_count-append n (joined ns), length-append n (joined (take k ns)))
+  place_past n ns k all here = omega (arith, less_count-append n (concat ns), length-append n (concat (take k ns)))
 
-  place_here : (n : List X) (ns : List (List X)) → less_count answer (joined ns) ≡ 0 → Place (n ∷ ns) 0
-  place_here n ns none = omega (arith, less_count-append n (joined ns))
+  place_here : (n : List X) (ns : List (List X)) → less_count answer (concat ns) ≡ 0 → Place (n ∷ ns) 0
+  place_here n ns none = omega (arith, less_count-append n (concat ns))
 
   -- all before the spot are found Less, and no others
-  pub place_for : (ns : List (List X)) → 1 ≤ length ns → Filled ns → IsParted answer (joined ns) → Place ns (node_for answer ns)
+  pub place_for : (ns : List (List X)) → 1 ≤ length ns → Filled ns → IsParted answer (concat ns) → Place ns (node_for answer ns)
   place_for [] some filled h = absurd (omega arith)
   place_for (n ∷ []) some filled h = rw (node_for-one n) (place_here n [] refl)
   place_for (n ∷ m ∷ ms) some filled h =
       let all = filled (omega arith) in
       let more : All (λ n. 1 ≤ n) (node_lengths (m ∷ ms)) = λ k d lt. all (suc k) d (omega arith) in
       elim (ends_less answer n) as (λ b. ends_less answer n ≡ b → Place (n ∷ m ∷ ms) (node_for answer (n ∷ m ∷ ms))) [
-        | true ↦ λ e. rw (node_for-past n m ms e) (place_past n (m ∷ ms) _ (less_all n (parted-left n (joined (m ∷ ms)) h) e) (place_for (m ∷ ms) (omega arith) (λ _. more) (parted-right n (joined (m ∷ ms)) h)))
-        | false ↦ λ e. rw (node_for-here n (m ∷ ms) e) (place_here n (m ∷ ms) (less_none n (joined (m ∷ ms)) (all 0 0 (omega arith)) h e))
+        | true ↦ λ e. rw (node_for-past n m ms e) (place_past n (m ∷ ms) _ (less_all n (parted-left n (concat (m ∷ ms)) h) e) (place_for (m ∷ ms) (omega arith) (λ _. more) (parted-right n (concat (m ∷ ms)) h)))
+        | false ↦ λ e. rw (node_for-here n (m ∷ ms) e) (place_here n (m ∷ ms) (less_none n (concat (m ∷ ms)) (all 0 0 (omega arith)) h e))
       ] refl
 
   stops : (ns : List (List X)) (k : ℕ) → position_or_len (λ n. not (ends_less answer n)) ns < k → k ≤ length ns → AllWithin (λ n. ends_less answer n ≡ true) ns 0 k → ⊥
@@ -120,28 +120,28 @@ module _ {X : Type 0} (answer : X → Ordering) where
       ]
 
   abbrev Ends : List (List X) → ℕ → Type 0
-  Ends ns k = length (node_at ns k) ≤ less_count answer (node_at ns k) → length (joined ns) ≤ length (joined (take k ns)) + less_count answer (node_at ns k)
+  Ends ns k = length (node_at ns k) ≤ less_count answer (node_at ns k) → length (concat ns) ≤ length (concat (take k ns)) + less_count answer (node_at ns k)
 
   ends_past : (n : List X) (ns : List (List X)) (k : ℕ) → Ends ns k → Ends (n ∷ ns) (suc k)
-  ends_past n ns k h le = omega (arith, h le, length-append n (joined ns), length-append n (joined (take k ns)))
+  ends_past n ns k h le = omega (arith, h le, length-append n (concat ns), length-append n (concat (take k ns)))
 
   -- a spot behind its node's last item is behind the last item of all
-  pub ends_for : (ns : List (List X)) → 1 ≤ length ns → Filled ns → IsParted answer (joined ns) → Ends ns (node_for answer ns)
+  pub ends_for : (ns : List (List X)) → 1 ≤ length ns → Filled ns → IsParted answer (concat ns) → Ends ns (node_for answer ns)
   ends_for [] some filled h = absurd (omega arith)
   ends_for (n ∷ []) some filled h = rw (node_for-one n) (λ le. omega (arith, le, length-append n []))
   ends_for (n ∷ m ∷ ms) some filled h =
       let all = filled (omega arith) in
       let more : All (λ n. 1 ≤ n) (node_lengths (m ∷ ms)) = λ k d lt. all (suc k) d (omega arith) in
       elim (ends_less answer n) as (λ b. ends_less answer n ≡ b → Ends (n ∷ m ∷ ms) (node_for answer (n ∷ m ∷ ms))) [
-        | true ↦ λ e. rw (node_for-past n m ms e) (ends_past n (m ∷ ms) _ (ends_for (m ∷ ms) (omega arith) (λ _. more) (parted-right n (joined (m ∷ ms)) h)))
-        | false ↦ λ e. rw (node_for-here n (m ∷ ms) e) (λ le. absurd (omega (arith, le, less_some n (all 0 0 (omega arith)) (parted-left n (joined (m ∷ ms)) h) e)))
+        | true ↦ λ e. rw (node_for-past n m ms e) (ends_past n (m ∷ ms) _ (ends_for (m ∷ ms) (omega arith) (λ _. more) (parted-right n (concat (m ∷ ms)) h)))
+        | false ↦ λ e. rw (node_for-here n (m ∷ ms) e) (λ le. absurd (omega (arith, le, less_some n (all 0 0 (omega arith)) (parted-left n (concat (m ∷ ms)) h) e)))
       ] refl
 
   -- a node's answers are in order
-  pub parted_node : (ns : List (List X)) (k : ℕ) → k < length ns → IsParted answer (joined ns) → IsParted answer (node_at ns k)
+  pub parted_node : (ns : List (List X)) (k : ℕ) → k < length ns → IsParted answer (concat ns) → IsParted answer (node_at ns k)
   parted_node [] k lt h = absurd (omega arith)
-  parted_node (n ∷ ns) zero lt h = parted-left n (joined ns) h
-  parted_node (n ∷ ns) (suc k) lt h = parted_node ns k (omega arith) (parted-right n (joined ns) h)
+  parted_node (n ∷ ns) zero lt h = parted-left n (concat ns) h
+  parted_node (n ∷ ns) (suc k) lt h = parted_node ns k (omega arith) (parted-right n (concat ns) h)
 
   -- the search's end
   pub node_found : (ns : List (List X)) (k : ℕ) → 1 ≤ length ns → k ≤ length ns - 1 → AllWithin (λ n. ends_less answer n ≡ true) ns 0 k → (k < length ns - 1 → HoldsAt (λ n. ends_less answer n ≡ false) ns k) → k ≡ node_for answer ns
@@ -156,7 +156,7 @@ module _ {X : Type 0} (answer : X → Ordering) where
       ]
 
   -- a node that ends Less, and all before it
-  pub ends_until : (ns : List (List X)) → All (λ n. 1 ≤ n) (node_lengths ns) → IsParted answer (joined ns) → (k : ℕ) → k < length ns → ends_less answer (get_or ns k []) ≡ true → AllWithin (λ n. ends_less answer n ≡ true) ns 0 (k + 1)
+  pub ends_until : (ns : List (List X)) → All (λ n. 1 ≤ n) (node_lengths ns) → IsParted answer (concat ns) → (k : ℕ) → k < length ns → ends_less answer (get_or ns k []) ≡ true → AllWithin (λ n. ends_less answer n ≡ true) ns 0 (k + 1)
   ends_until ns filled h k inside e j d low high =
       let same : get_or ns j d ≡ get_or ns j [] = get_or_default ns j d [] (omega arith) in
       rw same (elim (cases_lt j k) [
@@ -192,7 +192,7 @@ pub equal_none : {X : Type 0} (answer : X → Ordering) (l : List X) (i : ℕ) �
 equal_none answer l i e = rw e refl
 
 -- the items of an only node are those of all
-pub only_node : {N X : Type 0} (held : N → List X) (vs : List N) (v : N) → length vs ≡ 1 → v ≡ get_or vs 0 v → (joined (map held vs) ≡ held v) × (node_at (map held vs) 0 ≡ held v)
+pub only_node : {N X : Type 0} (held : N → List X) (vs : List N) (v : N) → length vs ≡ 1 → v ≡ get_or vs 0 v → (concat (map held vs) ≡ held v) × (node_at (map held vs) 0 ≡ held v)
 only_node held [] v one is = absurd (omega arith)
 only_node held (w ∷ []) v one is = (append-nil (held w) ∙ ap held (sym is), ap held (sym is))
 only_node held (w ∷ x ∷ vs) v one is = absurd (omega arith)

@@ -16,7 +16,7 @@ use Rattle.indexset_core.specs.Order.{IsAscending, IsFoundAt, IsGapFor, without,
 use Rattle.indexset_core.specs.Parted.{IsParted}
 use Rattle.indexset_core.specs.Pairs.{pair, valued, by_key, set_value_at, has_key, pair_of, key_rank, set_value, without_key, set_found}
 use Rattle.indexset_core.proofs.AscendingLemmas.{is_some-find}
-use Rattle.indexset_core.specs.Sought.{ActsAsKey, acts_on}
+use Rattle.indexset_core.specs.LookupKey.{OrdersAsItem, acts_on}
 use Rattle.indexset_core.proofs.OrderLemmas.{equal_from, gap_at, parted_by_sought}
 use Rattle.indexset_core.proofs.PartedLemmas.{front-is_le, passes_below, filter_all}
 
@@ -82,7 +82,7 @@ module _ {K V : Type 0} (cmp : K → K → Ordering) where
   parted_by_key o l up k = searchable_from_sorted o (λ (p : Pair K V). p.key) l k (λ j d low high. not_below o _ _ (up j (j + 1) d (omega arith) high))
 
 -- the same of what is sought
-pub parted_by_sought_key : {K V Q : Type 0} {cmp : K → K → Ordering} {order : K → Q → Ordering} {among : Q → Q → Ordering} → ActsAsKey cmp order among → (l : List (Pair K V)) → IsAscending (by_key cmp) l → (k : Q) → IsParted (λ p. order p.key k) l
+pub parted_by_sought_key : {K V Q : Type 0} {cmp : K → K → Ordering} {order : K → Q → Ordering} {among : Q → Q → Ordering} → OrdersAsItem cmp order among → (l : List (Pair K V)) → IsAscending (by_key cmp) l → (k : Q) → IsParted (λ p. order p.key k) l
 parted_by_sought_key acts l up k = parted_by_sought (acts_on (λ (p : Pair _ _). p.key) acts) l up k
 
 module _ {K V Q : Type 0} (cmp : K → Q → Ordering) where

@@ -4,7 +4,7 @@ use Rattle.std.specs.List.{count_by}
 use Rattle.std.specs.Range.Bound.{bound_map, IsExcludedAnd, IsIncludedAnd, MatchBound}
 use Rattle.std.specs.declared.ops.Bound.{Bound}
 use Rattle.std.specs.declared.ops.Bound.TheVariants.{Included, Excluded, Unbounded}
-use Rattle.indexset_core.specs.Bounds.{IfBounded, is_before, is_up_to_end}
+use Rattle.indexset_core.specs.KeyRange.{IfBounded, is_before, is_up_to_end}
 
 module _ {A T Q X : Type 0} (cmp : T → Q → Ordering) (now : A → Q) (f : X → T) (l : List X) where
   -- each probe is new, and seeks what the bound names

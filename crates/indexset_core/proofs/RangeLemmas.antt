@@ -7,10 +7,10 @@ use Rattle.std.specs.List.{AllWithin, count_by, between}
 use Rattle.std.specs.Ordering.{is_lt, is_le, is_gt, is_ge}
 use Rattle.std.specs.Cmp.{IsTotalOrder}
 use Rattle.std.proofs.lemmas.Bool.{false≢true, cases_lt}
-use Rattle.indexset_core.specs.Bounds.{is_before, is_from_start, is_up_to_end, is_within, are_ordered, in_range}
+use Rattle.indexset_core.specs.KeyRange.{is_before, is_from_start, is_up_to_end, is_within, are_ordered, in_range}
 use Rattle.indexset_core.specs.Order.{IsAscending, IsFoundAt, IsGapFor}
 use Rattle.indexset_core.specs.Parted.{IsParted}
-use Rattle.indexset_core.specs.Sought.{ActsAsKey, acts_as_itself}
+use Rattle.indexset_core.specs.LookupKey.{OrdersAsItem, acts_as_itself}
 use Rattle.indexset_core.proofs.OrderLemmas.{found_after, parted_by_item}
 use Rattle.indexset_core.proofs.PartedLemmas.{Parts, count_parts, count_parted, front-is_lt, front-is_le}
 
@@ -69,7 +69,7 @@ not_le Less = refl
 not_le Equal = refl
 not_le Greater = refl
 
-module _ {T Q : Type 0} {cmp : T → T → Ordering} {order : T → Q → Ordering} {among : Q → Q → Ordering} (acts : ActsAsKey cmp order among) where
+module _ {T Q : Type 0} {cmp : T → T → Ordering} {order : T → Q → Ordering} {among : Q → Q → Ordering} (acts : OrdersAsItem cmp order among) where
   before_less : (x : T) (a b : Q) → is_lt (order x a) ≡ true → is_le (among a b) ≡ true → is_lt (order x b) ≡ true
   before_less x a b e h = ap is_lt (acts.below x a b (less_is _ e) h)
 
@@ -112,7 +112,7 @@ module _ {X T Q : Type 0} (order : T → Q → Ordering) (f : X → T) (l : List
   up_to_parts (Excluded a) = count_parts is_lt front-is_lt (λ x. order (f x) a) l (parted a)
   up_to_parts Unbounded = all_parts
 
-  module _ {cmp : T → T → Ordering} {among : Q → Q → Ordering} (acts : ActsAsKey cmp order among) (start end : Bound Q) (ordered : are_ordered among start end ≡ true) (i j : ℕ) (from : i ≡ count_by (λ x. is_before order start (f x)) l) (to : j ≡ count_by (λ x. is_up_to_end order end (f x)) l) where
+  module _ {cmp : T → T → Ordering} {among : Q → Q → Ordering} (acts : OrdersAsItem cmp order among) (start end : Bound Q) (ordered : are_ordered among start end ≡ true) (i j : ℕ) (from : i ≡ count_by (λ x. is_before order start (f x)) l) (to : j ≡ count_by (λ x. is_up_to_end order end (f x)) l) where
     pub sought_range_order : i ≤ j
     sought_range_order = rw (from, to) (parts_le (λ x. is_before order start (f x)) (λ x. is_up_to_end order end (f x)) l _ _ (before_parts start) (up_to_parts end) (λ x. ordered_weaker acts start end ordered (f x)))
 

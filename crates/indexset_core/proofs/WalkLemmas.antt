@@ -4,9 +4,9 @@ use Rattle.std.specs.List.{between}
 use Rattle.std.proofs.lemmas.Bool.{false≢true}
 use Rattle.std.proofs.lemmas.Bool.Decides.{nat_tests}
 use Rattle.std.proofs.lemmas.List.{append-nil, length-drop, length-map, length-take, take-map, drop-map, take_rest}
-use Rattle.indexset_core.specs.Nodes.{joined, node_at}
+use Rattle.indexset_core.specs.Nodes.{concat, node_at}
 use Rattle.indexset_core.specs.Places.{IsPlace, items_before}
-use Rattle.indexset_core.proofs.NodeLemmas.{length-joined-more, length-joined-mono, node_read, offset-le}
+use Rattle.indexset_core.proofs.NodeLemmas.{length-concat-more, length-concat-mono, node_read, offset-le}
 use Rattle.indexset_core.proofs.PlaceLemmas.{between_in, between_across}
 
 -- a part has no more items than the whole
@@ -14,25 +14,25 @@ pub between_le : {X : Type 0} (l : List X) (i j : ℕ) → length (between i j l
 between_le l i j = omega (arith, length-take (j - i) (drop i l), length-drop i l)
 
 -- a place is not past the end
-pub place_le : {T : Type 0} (ns : List (List T)) (p : ℕ × ℕ) → IsPlace ns p → items_before ns p ≤ length (joined ns)
+pub place_le : {T : Type 0} (ns : List (List T)) (p : ℕ × ℕ) → IsPlace ns p → items_before ns p ≤ length (concat ns)
 place_le [] (zero, o) place = omega (arith, place.offset_in)
 place_le [] (suc k, o) place = absurd (omega (arith, place.node_in))
 place_le (n ∷ ns) p place = offset-le (n ∷ ns) p.0 p.1 (omega (arith, place.node_in)) place.offset_in
 
 -- the nodes as the code holds them: f tells the list of each
 module _ {T N : Type 0} (f : N → List T) where
-  joined-push : (ns : List N) (n : N) → joined (map f (ns ++ n ∷ [])) ≡ joined (map f ns) ++ f n
-  joined-push [] n = append-nil (f n)
-  joined-push (m ∷ ns) n = ap (λ l. f m ++ l) (joined-push ns n) ∙ sym (append_assoc (f m) (joined (map f ns)) (f n))
+  concat-push : (ns : List N) (n : N) → concat (map f (ns ++ n ∷ [])) ≡ concat (map f ns) ++ f n
+  concat-push [] n = append-nil (f n)
+  concat-push (m ∷ ns) n = ap (λ l. f m ++ l) (concat-push ns n) ∙ sym (append_assoc (f m) (concat (map f ns)) (f n))
 
-  joined-none : (ns : List N) → length ns ≡ 0 → joined (map f ns) ≡ []
-  joined-none [] e = refl
-  joined-none (n ∷ ns) e = absurd (omega arith)
+  concat-none : (ns : List N) → length ns ≡ 0 → concat (map f ns) ≡ []
+  concat-none [] e = refl
+  concat-none (n ∷ ns) e = absurd (omega arith)
 
   -- the last node becomes the back one
-  pub back_turn : (ns mid : List N) (n : N) (front back : List T) → mid ≡ ns ++ n ∷ [] → back ≡ [] → front ++ (joined (map f ns) ++ f n) ≡ front ++ (joined (map f mid) ++ back)
+  pub back_turn : (ns mid : List N) (n : N) (front back : List T) → mid ≡ ns ++ n ∷ [] → back ≡ [] → front ++ (concat (map f ns) ++ f n) ≡ front ++ (concat (map f mid) ++ back)
   back_turn ns mid n front back e none =
-      ap (λ l. front ++ l) (sym (joined-push ns n) ∙ (ap (λ m. joined (map f m)) (sym e) ∙ (sym (append-nil (joined (map f mid))) ∙ ap (λ l. joined (map f mid) ++ l) (sym none))))
+      ap (λ l. front ++ l) (sym (concat-push ns n) ∙ (ap (λ m. concat (map f m)) (sym e) ∙ (sym (append-nil (concat (map f mid))) ∙ ap (λ l. concat (map f mid) ++ l) (sym none))))
 
   pub between-map : (ns : List N) (i j : ℕ) → map f (between i j ns) ≡ between i j (map f ns)
   between-map ns i j = sym (ap (λ l. take (j - i) l) (drop-map f i ns) ∙ take-map f (j - i) (drop i ns))
@@ -40,7 +40,7 @@ module _ {T N : Type 0} (f : N → List T) where
   -- what a walk has left from one place to before another
   module _ (ns : List N) (p q : ℕ × ℕ) (start : IsPlace (map f ns) p) (stop : IsPlace (map f ns) q) where
     abbrev walk : List T
-    walk = between (items_before (map f ns) p) (items_before (map f ns) q) (joined (map f ns))
+    walk = between (items_before (map f ns) p) (items_before (map f ns) q) (concat (map f ns))
 
     within : (k : ℕ) → 1 ≤ length ns → k < max 1 (length (map f ns)) → k < length ns
     within k some lt = omega (arith, length-map ns f)
@@ -50,24 +50,24 @@ module _ {T N : Type 0} (f : N → List T) where
 
     -- there is no node
     pub walk_none : length ns ≡ 0 → [] ≡ walk
-    walk_none e = walk_nothing (omega (arith, place_le (map f ns) q stop, ap (λ l. length l) (joined-none ns e)))
+    walk_none e = walk_nothing (omega (arith, place_le (map f ns) q stop, ap (λ l. length l) (concat-none ns e)))
 
     module _ (some : 1 ≤ length ns) where
       -- the second place stands in an earlier node
       pub walk_back : q.0 < p.0 → [] ≡ walk
       walk_back lt =
           let inside : q.0 < length (map f ns) = omega (arith, some, stop.node_in, length-map ns f) in
-          walk_nothing (omega (arith, stop.offset_in, length-joined-more (map f ns) q.0 inside, length-joined-mono (map f ns) (q.0 + 1) p.0 (omega arith)))
+          walk_nothing (omega (arith, stop.offset_in, length-concat-more (map f ns) q.0 inside, length-concat-mono (map f ns) (q.0 + 1) p.0 (omega arith)))
 
       -- in the same
-      pub walk_in : (n : N) → n ≡ get_or ns p.0 n → p.0 ≡ q.0 → between p.1 q.1 (f n) ++ (joined (map f []) ++ []) ≡ walk
+      pub walk_in : (n : N) → n ≡ get_or ns p.0 n → p.0 ≡ q.0 → between p.1 q.1 (f n) ++ (concat (map f []) ++ []) ≡ walk
       walk_in n at e =
           let inside : q.0 < length (map f ns) = omega (arith, some, stop.node_in, length-map ns f) in
           let node : node_at (map f ns) q.0 ≡ f n = node_read f ns q.0 n (within q.0 some stop.node_in) (rw e at at) [] in
           append-nil (between p.1 q.1 (f n)) ∙ sym (between_in (map f ns) p.0 p.1 q.0 q.1 inside stop.offset_in e ∙ ap (between p.1 q.1) node)
 
       -- in a later one
-      pub walk_across : (m n : N) → m ≡ get_or ns p.0 m → n ≡ get_or ns q.0 n → p.0 < q.0 → between p.1 (length (f m)) (f m) ++ (joined (map f (between (p.0 + 1) q.0 ns)) ++ take q.1 (f n)) ≡ walk
+      pub walk_across : (m n : N) → m ≡ get_or ns p.0 m → n ≡ get_or ns q.0 n → p.0 < q.0 → between p.1 (length (f m)) (f m) ++ (concat (map f (between (p.0 + 1) q.0 ns)) ++ take q.1 (f n)) ≡ walk
       walk_across m n first last lt =
           let inside : q.0 < length (map f ns) = omega (arith, some, stop.node_in, length-map ns f) in
           let opened : node_at (map f ns) p.0 ≡ f m = node_read f ns p.0 m (within p.0 some start.node_in) first [] in

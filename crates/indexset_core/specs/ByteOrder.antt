@@ -5,7 +5,7 @@ use Rattle.std.specs.Cmp.{IsTotalOrder}
 use Rattle.std.specs.Cmp.Lexicographic.{slice_cmp}
 use Rattle.std.specs.Ordering.{nat_cmp, ordering_then}
 use Rattle.std.specs.declared.cmp.Ordering.{Ordering}
-use Rattle.indexset_core.specs.Sought.{ActsAsKey, ActsAsOne, acts_by, one_by}
+use Rattle.indexset_core.specs.LookupKey.{OrdersAsItem, EqualsAtMostOne, acts_by, one_by}
 
 -- items compare by cmp as their views do by among
 abbrev pub IsOrderedBy : {T C : Type 0} → (T → T → Ordering) → (C → C → Ordering) → (T → C) → Type 0
@@ -17,7 +17,7 @@ IsOrderedByBytes cmp bytes = IsOrderedBy cmp (slice_cmp nat_cmp) bytes
 
 -- a key that is compared with the views of items acts as a key among the items
 module _ {T C Q : Type 0} {cmp : T → T → Ordering} {among : C → C → Ordering} (o : IsTotalOrder among) (view : T → C) (key : Q → C) (ordered : IsOrderedBy cmp among view) where
-  pub acts_by_view : ActsAsKey cmp (λ x q. among (view x) (key q)) (λ a b. among (key a) (key b))
+  pub acts_by_view : OrdersAsItem cmp (λ x q. among (view x) (key q)) (λ a b. among (key a) (key b))
   acts_by_view =
       let acts = acts_by among o view key in
       record {
@@ -27,7 +27,7 @@ module _ {T C Q : Type 0} {cmp : T → T → Ordering} {among : C → C → Orde
         tied = acts.tied;
       }
 
-  pub one_by_view : ActsAsOne cmp (λ x q. among (view x) (key q))
+  pub one_by_view : EqualsAtMostOne cmp (λ x q. among (view x) (key q))
   one_by_view q x y e = one_by among o view key q x y e ∙ sym (ordered y x)
 
 -- pairs compare as the pairs of their parts' views do

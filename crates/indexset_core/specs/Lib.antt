@@ -1,4 +1,4 @@
-pub mod Bounds
+pub mod KeyRange
 pub mod ByteOrder
 pub mod Digits
 pub mod MultiPairs
@@ -7,8 +7,8 @@ pub mod Order
 pub mod Pairs
 pub mod Parted
 pub mod Places
-pub mod Pulls
+pub mod Calls
 pub mod Refusal
-pub mod Sought
+pub mod LookupKey
 pub mod Tally
 pub mod Text

@@ -13,9 +13,9 @@ module _ {X : Type 0} where
   vec_items vs = map (λ v. v.items) vs
 
   -- the nodes, one after another
-  abbrev pub joined : List (List X) → List X
-  joined [] = []
-  joined (n ∷ ns) = n ++ joined ns
+  abbrev pub concat : List (List X) → List X
+  concat [] = []
+  concat (n ∷ ns) = n ++ concat ns
 
   -- the lengths of the nodes
   abbrev pub node_lengths : List (List X) → List ℕ
@@ -28,7 +28,7 @@ module _ {X : Type 0} where
   -- no node is empty, and the items of all ascend, one node after another
   pub record IsNodeList (cmp : X → X → Ordering) (ns : List (List X)) : Type 0 where
     pub filled : All (λ n. 1 ≤ n) (node_lengths ns)
-    pub ascending : IsAscending cmp (joined ns)
+    pub ascending : IsAscending cmp (concat ns)
 
   -- besides, no node holds more than the size
   pub record IsLawful (cmp : X → X → Ordering) (size : ℕ) (ns : List (List X)) : Type 0 where

@@ -9,7 +9,7 @@ use Rattle.std.specs.Ordering.{is_eq, is_lt}
 use Rattle.std.specs.declared.cmp.Ordering.{Ordering}
 use Rattle.std.specs.declared.ops.Bound.{Bound}
 use Rattle.indexset_core.specs.declared.pair.Pair.{Pair}
-use Rattle.indexset_core.specs.Bounds.{is_within}
+use Rattle.indexset_core.specs.KeyRange.{is_within}
 use Rattle.indexset_core.specs.Order.{put, unequal}
 
 module _ {K V : Type 0} where
@@ -26,8 +26,8 @@ module _ {K V : Type 0} where
   entry_of p = (p.key, p.value)
 
   -- what a `(&K, &V)` points to
-  abbrev pub pair_shown : Bor K × Bor V → Pair K V
-  pair_shown p = pair p.0.now p.1.now
+  abbrev pub pair_deref : Bor K × Bor V → Pair K V
+  pair_deref p = pair p.0.now p.1.now
 
   -- the order of pairs, which is that of their keys
   abbrev pub by_key : (K → K → Ordering) → Pair K V → Pair K V → Ordering

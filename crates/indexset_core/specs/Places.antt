@@ -1,7 +1,7 @@
 -- Places between the items of nodes, and where a search ends.
 use Rattle.std.specs.Prelude.{ℕ, ◌+◌, ◌<◌, ◌≤◌, max, length, List, take, Result, Ok, Err, if◌then◌else◌}
 use Rattle.std.specs.declared.cmp.Ordering.{Ordering}
-use Rattle.indexset_core.specs.Nodes.{joined, node_at, node_for, equal_at}
+use Rattle.indexset_core.specs.Nodes.{concat, node_at, node_for, equal_at}
 use Rattle.indexset_core.specs.Parted.{less_count}
 
 module _ {T : Type 0} where
@@ -12,7 +12,7 @@ module _ {T : Type 0} where
 
   -- how many items are before the place
   abbrev pub items_before : List (List T) → ℕ × ℕ → ℕ
-  items_before ns p = length (joined (take p.0 ns)) + p.1
+  items_before ns p = length (concat (take p.0 ns)) + p.1
 
   -- the node and the offset of the first item not found Less, and whether it is found Equal: a place behind all stands in the last node
   abbrev pub located : (T → Ordering) → List (List T) → Result (ℕ × ℕ) (ℕ × ℕ)

@@ -1,15 +1,15 @@
 //! Searches of a list of nodes, however a node is read.
 ghost use Rattle.std.specs.Prelude.{◌≡◌, ℕ, ◌+◌, ◌≤◌, length, map};
 ghost use Rattle.std.specs.List.{All, count_by};
-ghost use Rattle.indexset_core.specs.Bounds.{IfBounded, is_before, is_up_to_end};
+ghost use Rattle.indexset_core.specs.KeyRange.{IfBounded, is_before, is_up_to_end};
 ghost use Rattle.indexset_core.specs.Digits.{digits};
-ghost use Rattle.indexset_core.specs.Nodes.{joined, node_lengths, node_for};
+ghost use Rattle.indexset_core.specs.Nodes.{concat, node_lengths, node_for};
 ghost use Rattle.indexset_core.specs.Parted.{IsParted, less_count, not_greater_count};
 ghost use Rattle.indexset_core.specs.Places.{IsPlace, items_before, located};
 
-use crate::probe::{Past, Probe};
+use crate::item_iter::NodeItems;
+use crate::probe::{After, Probe};
 use crate::search::{self, choose};
-use crate::walk::ReadNode;
 use std::ops::Bound;
 
 // Up to how many nodes a search does without branches, where their items stay in the cache too: the
@@ -19,14 +19,14 @@ const NEAR_NODES: usize = 1 << 10;
 /// Returns the place of the first node whose last item is not found Less, else of the last node, by
 /// one binary search over the nodes' last items. There must be a node, and none may be empty but an
 /// only one; the probe must find the items in order.
-pub fn node_by<T, Node, R: ReadNode<T, Node>, P: Probe<T>>(nodes: &[Node], probe: &mut P) -> usize
+pub fn node_by<T, Node, R: NodeItems<T, Node>, P: Probe<T>>(nodes: &[Node], probe: &mut P) -> usize
     requires some { 1 ≤ length nodes.now }
     requires filled { 2 ≤ length nodes.now → All (λ n. 1 ≤ n)
         (node_lengths (map R.list nodes.now)) }
-    requires parted { IsParted (P.answer probe.old) (joined (map R.list nodes.now)) }
+    requires parted { IsParted (P.answer probe.old) (concat (map R.list nodes.now)) }
     ensures node { result ≡ node_for (P.answer probe.old) (map R.list nodes.now) }
     ensures fixed { P.answer probe.new ≡ P.answer probe.old }
-    ensures few { P.asked probe.new ≤ P.asked probe.old + digits (length nodes.now) }
+    ensures comparisons { P.asked probe.new ≤ P.asked probe.old + digits (length nodes.now) }
 {
     if nodes.len() == 1 {
         return 0;
@@ -41,14 +41,14 @@ pub fn node_by<T, Node, R: ReadNode<T, Node>, P: Probe<T>>(nodes: &[Node], probe
 }
 
 // Returns the same by a search without branches on comparisons, as `first_not_less_near` does it.
-fn node_near<T, Node, R: ReadNode<T, Node>, P: Probe<T>>(nodes: &[Node], probe: &mut P) -> usize
+fn node_near<T, Node, R: NodeItems<T, Node>, P: Probe<T>>(nodes: &[Node], probe: &mut P) -> usize
     requires some { 1 ≤ length nodes.now }
     requires filled { 2 ≤ length nodes.now → All (λ n. 1 ≤ n)
         (node_lengths (map R.list nodes.now)) }
-    requires parted { IsParted (P.answer probe.old) (joined (map R.list nodes.now)) }
+    requires parted { IsParted (P.answer probe.old) (concat (map R.list nodes.now)) }
     ensures node { result ≡ node_for (P.answer probe.old) (map R.list nodes.now) }
     ensures fixed { P.answer probe.new ≡ P.answer probe.old }
-    ensures few { P.asked probe.new ≤ P.asked probe.old + digits (length nodes.now) }
+    ensures comparisons { P.asked probe.new ≤ P.asked probe.old + digits (length nodes.now) }
 {
     let last = nodes.len() - 1;
     let mut low = 0;
@@ -66,14 +66,14 @@ fn node_near<T, Node, R: ReadNode<T, Node>, P: Probe<T>>(nodes: &[Node], probe: 
 }
 
 // Returns the same by a search whose predicted branches fetch ahead.
-fn node_far<T, Node, R: ReadNode<T, Node>, P: Probe<T>>(nodes: &[Node], probe: &mut P) -> usize
+fn node_far<T, Node, R: NodeItems<T, Node>, P: Probe<T>>(nodes: &[Node], probe: &mut P) -> usize
     requires some { 1 ≤ length nodes.now }
     requires filled { 2 ≤ length nodes.now → All (λ n. 1 ≤ n)
         (node_lengths (map R.list nodes.now)) }
-    requires parted { IsParted (P.answer probe.old) (joined (map R.list nodes.now)) }
+    requires parted { IsParted (P.answer probe.old) (concat (map R.list nodes.now)) }
     ensures node { result ≡ node_for (P.answer probe.old) (map R.list nodes.now) }
     ensures fixed { P.answer probe.new ≡ P.answer probe.old }
-    ensures few { P.asked probe.new ≤ P.asked probe.old + digits (length nodes.now) }
+    ensures comparisons { P.asked probe.new ≤ P.asked probe.old + digits (length nodes.now) }
 {
     let mut low = 0;
     let mut high = nodes.len() - 1;
@@ -91,16 +91,16 @@ fn node_far<T, Node, R: ReadNode<T, Node>, P: Probe<T>>(nodes: &[Node], probe: &
 
 /// Returns the place before the first item that is not found Less, by two binary searches: one
 /// among the nodes and one in a node, or by none where there is no node.
-pub fn place_by<T, Node, R: ReadNode<T, Node>, P: Probe<T>>(
+pub fn place_by<T, Node, R: NodeItems<T, Node>, P: Probe<T>>(
     nodes: &[Node],
     probe: &mut P,
 ) -> (usize, usize)
     requires filled { 2 ≤ length nodes.now → All (λ n. 1 ≤ n)
         (node_lengths (map R.list nodes.now)) }
-    requires parted { IsParted (P.answer probe.old) (joined (map R.list nodes.now)) }
+    requires parted { IsParted (P.answer probe.old) (concat (map R.list nodes.now)) }
     ensures place { IsPlace (map R.list nodes.now) result }
     ensures before { items_before (map R.list nodes.now) result
-        ≡ less_count (P.answer probe.old) (joined (map R.list nodes.now)) }
+        ≡ less_count (P.answer probe.old) (concat (map R.list nodes.now)) }
 {
     if nodes.is_empty() {
         return (0, 0);
@@ -112,37 +112,37 @@ pub fn place_by<T, Node, R: ReadNode<T, Node>, P: Probe<T>>(
 }
 
 // Returns the place before the first item that is found Greater, as `place_by` finds one: in an only
-// node by a search that needs no `Past`, whose answers are never Equal.
-fn place_past<T, Node, R: ReadNode<T, Node>, P: Probe<T> + Drop>(
+// node by a search that needs no `After`, whose answers are never Equal.
+fn place_past<T, Node, R: NodeItems<T, Node>, P: Probe<T> + Drop>(
     nodes: &[Node],
     mut probe: P,
 ) -> (usize, usize)
     requires filled { 2 ≤ length nodes.now → All (λ n. 1 ≤ n)
         (node_lengths (map R.list nodes.now)) }
-    requires parted { IsParted (P.answer probe) (joined (map R.list nodes.now)) }
+    requires parted { IsParted (P.answer probe) (concat (map R.list nodes.now)) }
     ensures place { IsPlace (map R.list nodes.now) result }
     ensures before { items_before (map R.list nodes.now) result
-        ≡ not_greater_count (P.answer probe) (joined (map R.list nodes.now)) }
+        ≡ not_greater_count (P.answer probe) (concat (map R.list nodes.now)) }
 {
     if nodes.len() == 1 {
         let items = R::items_of(&nodes[0]);
         return (0, search::not_greater_len(items, &mut probe, 1));
     }
-    place_by::<T, Node, R, Past<P>>(nodes, &mut Past::new(probe))
+    place_by::<T, Node, R, After<P>>(nodes, &mut After::new(probe))
 }
 
 /// Returns the place after the items before the start, by two binary searches, or by no comparison
 /// where it is unbounded.
-pub fn place_from<T, Node, R: ReadNode<T, Node>, P: Probe<T> + Drop>(
+pub fn place_from<T, Node, R: NodeItems<T, Node>, P: Probe<T> + Drop>(
     nodes: &[Node],
     start: Bound<P>,
 ) -> (usize, usize)
     requires filled { 2 ≤ length nodes.now → All (λ n. 1 ≤ n)
         (node_lengths (map R.list nodes.now)) }
-    requires parted { IfBounded (λ p. IsParted (P.answer p) (joined (map R.list nodes.now))) start }
+    requires parted { IfBounded (λ p. IsParted (P.answer p) (concat (map R.list nodes.now))) start }
     ensures place { IsPlace (map R.list nodes.now) result }
     ensures before { items_before (map R.list nodes.now) result
-        ≡ count_by (is_before (λ x p. P.answer p x) start) (joined (map R.list nodes.now)) }
+        ≡ count_by (is_before (λ x p. P.answer p x) start) (concat (map R.list nodes.now)) }
 {
     match start {
         Bound::Included(mut probe) => place_by::<T, Node, R, P>(nodes, &mut probe),
@@ -152,16 +152,16 @@ pub fn place_from<T, Node, R: ReadNode<T, Node>, P: Probe<T> + Drop>(
 }
 
 /// Returns the place after the items that are not past the end, found in the same way.
-pub fn place_to<T, Node, R: ReadNode<T, Node>, P: Probe<T> + Drop>(
+pub fn place_to<T, Node, R: NodeItems<T, Node>, P: Probe<T> + Drop>(
     nodes: &[Node],
     end: Bound<P>,
 ) -> (usize, usize)
     requires filled { 2 ≤ length nodes.now → All (λ n. 1 ≤ n)
         (node_lengths (map R.list nodes.now)) }
-    requires parted { IfBounded (λ p. IsParted (P.answer p) (joined (map R.list nodes.now))) end }
+    requires parted { IfBounded (λ p. IsParted (P.answer p) (concat (map R.list nodes.now))) end }
     ensures place { IsPlace (map R.list nodes.now) result }
     ensures before { items_before (map R.list nodes.now) result
-        ≡ count_by (is_up_to_end (λ x p. P.answer p x) end) (joined (map R.list nodes.now)) }
+        ≡ count_by (is_up_to_end (λ x p. P.answer p x) end) (concat (map R.list nodes.now)) }
 {
     match end {
         Bound::Included(probe) => place_past::<T, Node, R, P>(nodes, probe),
@@ -171,10 +171,10 @@ pub fn place_to<T, Node, R: ReadNode<T, Node>, P: Probe<T> + Drop>(
 }
 
 /// Returns the place after all items.
-pub fn last_place<T, Node, R: ReadNode<T, Node>>(nodes: &[Node]) -> (usize, usize)
+pub fn last_place<T, Node, R: NodeItems<T, Node>>(nodes: &[Node]) -> (usize, usize)
     ensures place { IsPlace (map R.list nodes.now) result }
     ensures before { items_before (map R.list nodes.now) result
-        ≡ length (joined (map R.list nodes.now)) }
+        ≡ length (concat (map R.list nodes.now)) }
 {
     if nodes.is_empty() {
         return (0, 0);
@@ -186,16 +186,16 @@ pub fn last_place<T, Node, R: ReadNode<T, Node>>(nodes: &[Node]) -> (usize, usiz
 
 /// Returns the node and the offset of the first item that the probe finds Equal, or its insertion
 /// point, by two binary searches. It makes no comparison where there is no node.
-pub fn locate_by<T, Node, R: ReadNode<T, Node>, P: Probe<T>>(
+pub fn locate_by<T, Node, R: NodeItems<T, Node>, P: Probe<T>>(
     nodes: &[Node],
     probe: &mut P,
 ) -> Result<(usize, usize), (usize, usize)>
     requires filled { 2 ≤ length nodes.now → All (λ n. 1 ≤ n)
         (node_lengths (map R.list nodes.now)) }
-    requires parted { IsParted (P.answer probe.old) (joined (map R.list nodes.now)) }
+    requires parted { IsParted (P.answer probe.old) (concat (map R.list nodes.now)) }
     ensures place { result ≡ located (P.answer probe.old) (map R.list nodes.now) }
     ensures fixed { P.answer probe.new ≡ P.answer probe.old }
-    ensures few { (size : ℕ) → All (λ n. n ≤ size) (node_lengths (map R.list nodes.now))
+    ensures comparisons { (size : ℕ) → All (λ n. n ≤ size) (node_lengths (map R.list nodes.now))
         → P.asked probe.new ≤ P.asked probe.old
         + (digits (length nodes.now) + digits size + 1) }
     ensures unasked { length nodes.now ≡ 0 → P.asked probe.new ≡ P.asked probe.old }

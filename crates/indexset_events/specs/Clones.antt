@@ -29,8 +29,8 @@ abbrev pub IsEventClone : {T : Type 0} → (T → T → Type 0) → ChangeEvent 
 IsEventClone C e f = (event_shape f ≡ event_shape e) × AllZip C (event_items e) (event_items f)
 
 -- what is told: the table's events, numbered from s on, with clones in the place of their items
-abbrev pub IsTold : {T : Type 0} → (T → T → Type 0) → ℕ → List (ChangeEventUnassigned T) → List (ChangeEvent T) → Type 0
-IsTold C s table events = AllZip (IsEventClone C) (numbered_from s table) events
+abbrev pub AreTableEvents : {T : Type 0} → (T → T → Type 0) → ℕ → List (ChangeEventUnassigned T) → List (ChangeEvent T) → Type 0
+AreTableEvents C s table events = AllZip (IsEventClone C) (numbered_from s table) events
 
 -- a clone is identical to what it was made of
 abbrev pub AreIdentical : {T : Type 0} → (T → T → Type 0) → Type 0

@@ -3,9 +3,9 @@ use Rattle.std.specs.Prelude.{ℕ, ◌+◌, ◌/◌, length, List, [], ◌∷◌
 use Rattle.std.specs.declared.cmp.Ordering.{Ordering}
 use Rattle.std.specs.List.{splice}
 use Rattle.std.specs.Option.{option_map_or}
-use Rattle.indexset_core.specs.Nodes.{joined, node_at}
+use Rattle.indexset_core.specs.Nodes.{concat, node_at}
 use Rattle.indexset_core.specs.Order.{put, has_equal}
-use Rattle.indexset_events.specs.Joining.{with_joined, item_removed, join_after}
+use Rattle.indexset_events.specs.Merging.{with_merged, item_removed, merge_after}
 use Rattle.indexset_events.specs.Nodes.{is_filled}
 use Rattle.indexset_events.specs.Table.{target}
 
@@ -17,8 +17,8 @@ module _ {T : Type 0} where
       splice ns k (k + 1) (take half (node_at ns k) ∷ drop half (node_at ns k) ∷ [])
 
   -- the nodes after the item at place i of the node at place k is removed and small neighbours are merged
-  abbrev pub with_taken : ℕ → List (List T) → ℕ → ℕ → List (List T)
-  with_taken size ns k i = option_map_or (with_joined (item_removed ns k i)) (join_after size ns k i) (item_removed ns k i)
+  abbrev pub with_removed : ℕ → List (List T) → ℕ → ℕ → List (List T)
+  with_removed size ns k i = option_map_or (with_merged (item_removed ns k i)) (merge_after size ns k i) (item_removed ns k i)
 
   -- the nodes with v put into its target
   abbrev pub put_into_target : (T → T → Ordering) → List (List T) → T → List (List T)
@@ -34,4 +34,4 @@ module _ {T : Type 0} where
 
   -- the nodes after a checked put
   unfoldable pub with_checked_put : (T → T → Ordering) → ℕ → List (List T) → T → List (List T)
-  with_checked_put cmp size ns v = if has_equal cmp (joined ns) v then ns else with_put cmp size ns v
+  with_checked_put cmp size ns v = if has_equal cmp (concat ns) v then ns else with_put cmp size ns v

@@ -2,7 +2,7 @@
 use Rattle.std.specs.Prelude.{◌≡◌, ℕ, ◌<◌, length, List, [], slice_get}
 use Rattle.std.specs.Option.{option_map_or}
 use Rattle.std.specs.declared.cmp.Ordering.{Ordering}
-use Rattle.indexset_core.specs.Nodes.{joined, node_at}
+use Rattle.indexset_core.specs.Nodes.{concat, node_at}
 use Rattle.indexset_events.specs.declared.change.ChangeEventUnassigned.{ChangeEventUnassigned}
 use Rattle.indexset_core.specs.Places.{items_before}
 use Rattle.indexset_events.specs.Table.{removal_events}
@@ -16,4 +16,4 @@ module _ {T : Type 0} where
 
   -- the events of the removal of the item at position i, if any
   unfoldable pub removal_events_at : (T → T → Ordering) → ℕ → List (List T) → ℕ → List (ChangeEventUnassigned T)
-  removal_events_at cmp size ns i = option_map_or (λ x. removal_events cmp size ns x) (slice_get (joined ns) i) []
+  removal_events_at cmp size ns i = option_map_or (λ x. removal_events cmp size ns x) (slice_get (concat ns) i) []

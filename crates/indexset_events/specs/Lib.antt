@@ -3,7 +3,7 @@ pub mod Clones
 pub mod Edits
 pub mod Ends
 pub mod EventText
-pub mod Joining
+pub mod Merging
 pub mod Keys
 pub mod Located
 pub mod Nodes

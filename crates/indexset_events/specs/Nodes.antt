@@ -4,7 +4,7 @@ use Rattle.std.below.core.specs.declared.int.usize.TheConstants.{MAX}
 use Rattle.std.specs.declared.cmp.Ordering.{Ordering}
 use Rattle.std.specs.Ordering.{is_lt}
 use Rattle.std.specs.List.{list_all}
-use Rattle.indexset_core.specs.Nodes.{joined}
+use Rattle.indexset_core.specs.Nodes.{concat}
 
 -- the last item, or d
 abbrev pub last_of : {T : Type 0} → List T → T → T
@@ -23,7 +23,7 @@ is_ascending cmp (x ∷ xs) = list_all (λ y. is_lt (cmp x y)) xs && is_ascendin
 
 -- whether no node is empty, and the concatenation is ascending: the test of `IsNodeList`
 unfoldable pub are_nodes : {T : Type 0} → (T → T → Ordering) → List (List T) → Bool
-are_nodes cmp ns = list_all is_filled ns && is_ascending cmp (joined ns)
+are_nodes cmp ns = list_all is_filled ns && is_ascending cmp (concat ns)
 
 -- the nodes, whose items these lists are, have room for so many in all, or for no fewer where that is MAX
 abbrev pub AddsUp : {N T : Type 0} → (N → List T) → (N → ℕ) → List (List T) → ℕ → Type 0

@@ -6,10 +6,10 @@ use Rattle.indexset_events.specs.declared.change.ChangeEvent.{ChangeEvent}
 use Rattle.indexset_events.specs.declared.change.ChangeEvent.TheVariants.{InsertAt, RemoveAt, CreateNode, RemoveNode, SplitNode, MergeNodes}
 
 -- the same event, whose pairs have no numbers
-abbrev pub of_pairs : {K V : Type 0} → ChangeEvent (MultiPair K V) → ChangeEvent (Pair K V)
-of_pairs (InsertAt id m v i) = InsertAt id (unnumbered m) (unnumbered v) i
-of_pairs (RemoveAt id m v i) = RemoveAt id (unnumbered m) (unnumbered v) i
-of_pairs (CreateNode id m) = CreateNode id (unnumbered m)
-of_pairs (RemoveNode id m) = RemoveNode id (unnumbered m)
-of_pairs (SplitNode id m k) = SplitNode id (unnumbered m) k
-of_pairs (MergeNodes id m w) = MergeNodes id (unnumbered m) (unnumbered w)
+abbrev pub without_pair_numbers : {K V : Type 0} → ChangeEvent (MultiPair K V) → ChangeEvent (Pair K V)
+without_pair_numbers (InsertAt id m v i) = InsertAt id (unnumbered m) (unnumbered v) i
+without_pair_numbers (RemoveAt id m v i) = RemoveAt id (unnumbered m) (unnumbered v) i
+without_pair_numbers (CreateNode id m) = CreateNode id (unnumbered m)
+without_pair_numbers (RemoveNode id m) = RemoveNode id (unnumbered m)
+without_pair_numbers (SplitNode id m k) = SplitNode id (unnumbered m) k
+without_pair_numbers (MergeNodes id m w) = MergeNodes id (unnumbered m) (unnumbered w)

@@ -9,7 +9,7 @@ use Rattle.indexset_events.specs.declared.change.ChangeEvent.TheVariants as numb
 use Rattle.indexset_events.specs.declared.change.ChangeEventUnassigned.{ChangeEventUnassigned}
 use Rattle.indexset_events.specs.declared.change.ChangeEventUnassigned.TheVariants as plain
 use Rattle.indexset_core.specs.Nodes.{ends_less, node_at}
-use Rattle.indexset_events.specs.Joining.{with_joined}
+use Rattle.indexset_events.specs.Merging.{with_merged}
 use Rattle.indexset_events.specs.Nodes.{is_filled, last_of, are_nodes}
 
 -- the node's last item equals m
@@ -35,7 +35,7 @@ edit cmp ns (plain.RemoveAt m v i) = at_named cmp ns m (λ n. if (leb 2 (length 
 edit cmp ns (plain.CreateNode m) = Some (insert ns (position_or_len (reaches cmp m) ns) (m ∷ []))
 edit cmp ns (plain.RemoveNode m) = at_named cmp ns m (λ n. Some [])
 edit cmp ns (plain.SplitNode m k) = at_named cmp ns m (λ n. if ltb 0 k && ltb k (length n) then Some (take k n ∷ drop k n ∷ []) else None)
-edit cmp ns (plain.MergeNodes m w) = option_and_then (λ p. option_and_then (λ q. if q == p + 1 then Some (with_joined ns p) else None) (node_named cmp ns w)) (node_named cmp ns m)
+edit cmp ns (plain.MergeNodes m w) = option_and_then (λ p. option_and_then (λ q. if q == p + 1 then Some (with_merged ns p) else None) (node_named cmp ns w)) (node_named cmp ns m)
 
 -- the nodes after an event without a number, if it applies: it must leave a node list
 unfoldable pub step_plain : {T : Type 0} → (T → T → Ordering) → List (List T) → ChangeEventUnassigned T → Option (List (List T))

@@ -7,8 +7,8 @@ use Rattle.indexset_core.specs.Order.{rank, has_equal}
 use Rattle.indexset_core.specs.Parted.{less_count}
 use Rattle.indexset_events.specs.declared.change.ChangeEventUnassigned.{ChangeEventUnassigned}
 use Rattle.indexset_events.specs.declared.change.ChangeEventUnassigned.TheVariants.{InsertAt, RemoveAt, CreateNode, RemoveNode, SplitNode, MergeNodes}
-use Rattle.indexset_core.specs.Nodes.{joined, node_at, node_for}
-use Rattle.indexset_events.specs.Joining.{item_removed, join_after}
+use Rattle.indexset_core.specs.Nodes.{concat, node_at, node_for}
+use Rattle.indexset_events.specs.Merging.{item_removed, merge_after}
 use Rattle.indexset_events.specs.Nodes.{is_filled, last_of}
 
 -- the place of the first node whose last item is not below v, else of the last node
@@ -29,8 +29,8 @@ unfoldable pub node_events : {T : Type 0} → (T → T → Ordering) → List T 
 node_events cmp n v = if has_equal cmp n v then replace_events cmp n v else InsertAt (last_of n v) v (rank cmp n v) ∷ []
 
 -- v is above the last item
-abbrev pub is_past : {T : Type 0} → (T → T → Ordering) → List T → T → Bool
-is_past cmp n v = is_gt (cmp v (last_of n v))
+abbrev pub is_after_last : {T : Type 0} → (T → T → Ordering) → List T → T → Bool
+is_after_last cmp n v = is_gt (cmp v (last_of n v))
 
 -- a node that stays whole, or the half of a full one
 abbrev pub half_of : {T : Type 0} → Bool → Bool → List T → List T
@@ -38,7 +38,7 @@ half_of full right n = if full then (if right then drop (length n / 2) n else ta
 
 -- the part of the target that v goes into: a full node is halved first
 abbrev pub part_for : {T : Type 0} → (T → T → Ordering) → ℕ → List T → T → List T
-part_for cmp size n v = half_of (length n == size) (is_past cmp (take (length n / 2) n) v) n
+part_for cmp size n v = half_of (length n == size) (is_after_last cmp (take (length n / 2) n) v) n
 
 -- a put into a full node: the node is halved first
 abbrev pub halving_events : {T : Type 0} → ℕ → List T → T → List (ChangeEventUnassigned T)
@@ -54,19 +54,19 @@ put_events cmp size ns v = if is_filled ns then target_events cmp size (node_at 
 
 -- a checked put: nothing changes where an equal item is present
 unfoldable pub checked_put_events : {T : Type 0} → (T → T → Ordering) → ℕ → List (List T) → T → List (ChangeEventUnassigned T)
-checked_put_events cmp size ns v = if has_equal cmp (joined ns) v then [] else put_events cmp size ns v
+checked_put_events cmp size ns v = if has_equal cmp (concat ns) v then [] else put_events cmp size ns v
 
 -- removal, removal of an only item: the item x at place i of the node n goes
-abbrev pub taking_event : {T : Type 0} → List T → ℕ → T → ChangeEventUnassigned T
-taking_event n i x = if length n == 1 then RemoveNode x else RemoveAt (last_of n x) x i
+abbrev pub removal_event : {T : Type 0} → List T → ℕ → T → ChangeEventUnassigned T
+removal_event n i x = if length n == 1 then RemoveNode x else RemoveAt (last_of n x) x i
 
 -- a merge: the node at place j and the one after it become one, each named by its last item
-abbrev pub joining_event : {T : Type 0} → List (List T) → T → ℕ → ChangeEventUnassigned T
-joining_event ns d j = MergeNodes (last_of (node_at ns j) d) (last_of (node_at ns (j + 1)) d)
+abbrev pub merge_event : {T : Type 0} → List (List T) → T → ℕ → ChangeEventUnassigned T
+merge_event ns d j = MergeNodes (last_of (node_at ns j) d) (last_of (node_at ns (j + 1)) d)
 
 -- the item x at place i of the node at place k is removed, and small neighbours are merged
-abbrev pub taking_events : {T : Type 0} → ℕ → List (List T) → ℕ → ℕ → T → List (ChangeEventUnassigned T)
-taking_events size ns k i x = taking_event (node_at ns k) i x ∷ option_map_or (λ j. joining_event (item_removed ns k i) x j ∷ []) (join_after size ns k i) []
+abbrev pub place_removal_events : {T : Type 0} → ℕ → List (List T) → ℕ → ℕ → T → List (ChangeEventUnassigned T)
+place_removal_events size ns k i x = removal_event (node_at ns k) i x ∷ option_map_or (λ j. merge_event (item_removed ns k i) x j ∷ []) (merge_after size ns k i) []
 
 -- how many events that gives, by where nodes are merged
 abbrev pub count_with : Option ℕ → ℕ
@@ -74,15 +74,15 @@ count_with None = 1
 count_with (Some j) = 2
 
 -- how many events the removal of the item at place i of the node at place k gives
-abbrev pub taking_count : {T : Type 0} → ℕ → List (List T) → ℕ → ℕ → ℕ
-taking_count size ns k i = count_with (join_after size ns k i)
+abbrev pub place_removal_count : {T : Type 0} → ℕ → List (List T) → ℕ → ℕ → ℕ
+place_removal_count size ns k i = count_with (merge_after size ns k i)
 
 -- the removal of the item that is found Equal: nothing changes where none is
 unfoldable pub removal_by : {T : Type 0} → (T → Ordering) → ℕ → List (List T) → List (ChangeEventUnassigned T)
 removal_by answer size ns =
     let k = node_for answer ns in
     let n = node_at ns k in
-    option_map_or (λ x. taking_events size ns k (less_count answer n) x) (find (λ x. is_eq (answer x)) n) []
+    option_map_or (λ x. place_removal_events size ns k (less_count answer n) x) (find (λ x. is_eq (answer x)) n) []
 
 -- a removal: nothing changes where no item equals v
 abbrev pub removal_events : {T Q : Type 0} → (T → Q → Ordering) → ℕ → List (List T) → Q → List (ChangeEventUnassigned T)

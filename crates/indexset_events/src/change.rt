@@ -264,9 +264,9 @@ impl<T> ChangeEventUnassigned<T> {
 
 impl<K, V> From<ChangeEvent<MultiPair<K, V>>> for ChangeEvent<Pair<K, V>> {
     ghost use Rattle.std.specs.Prelude.{◌≡◌};
-    ghost use Rattle.indexset_events.specs.Pairs.{of_pairs};
+    ghost use Rattle.indexset_events.specs.Pairs.{without_pair_numbers};
 
-    ghost from_gives = { λ event r. r ≡ of_pairs event };
+    ghost from_gives = { λ event r. r ≡ without_pair_numbers event };
 
     fn from(event: ChangeEvent<MultiPair<K, V>>) -> Self {
         match event {

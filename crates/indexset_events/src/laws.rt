@@ -5,16 +5,16 @@ ghost use Rattle.std.specs.List.{All, list_any};
 ghost use Rattle.std.specs.Option.{option_and_then};
 ghost use Rattle.std.specs.Ordering.{nat_cmp};
 ghost use Rattle.indexset_core.specs.declared.pair.Pair.{Pair};
-ghost use Rattle.indexset_core.specs.Nodes.{joined, node_at, node_lengths, IsLawful, IsNodeList};
-ghost use Rattle.indexset_events.specs.Edits.{with_put, with_taken};
+ghost use Rattle.indexset_core.specs.Nodes.{concat, node_at, node_lengths, IsLawful, IsNodeList};
+ghost use Rattle.indexset_events.specs.Edits.{with_put, with_removed};
 ghost use Rattle.indexset_events.specs.Ends.{removal_events_at};
 ghost use Rattle.indexset_events.specs.EventText.{EventInRange, event_reading, event_text};
-ghost use Rattle.indexset_events.specs.Joining.{IsSpaced, join_after};
+ghost use Rattle.indexset_events.specs.Merging.{IsDense, merge_after};
 ghost use Rattle.indexset_events.specs.Keys.{key_removal_events};
 ghost use Rattle.indexset_events.specs.Nodes.{are_nodes};
 ghost use Rattle.indexset_events.specs.Replay.{earlier_replay, is_joining, step, step_plain, replay, numbered_from, unassigned, IsNumberedFrom};
 ghost use Rattle.indexset_events.specs.Spelling.{lacks};
-ghost use Rattle.indexset_events.specs.Table.{checked_put_events, put_events, removal_events, taking_count};
+ghost use Rattle.indexset_events.specs.Table.{checked_put_events, put_events, removal_events, place_removal_count};
 ghost use Rattle.indexset_events.specs.Text.{event_shown};
 ghost use Rattle.indexset_events.specs.declared.change.ChangeEvent.{ChangeEvent};
 ghost use Rattle.indexset_events.specs.declared.change.ChangeEventUnassigned.{ChangeEventUnassigned};
@@ -47,7 +47,7 @@ pub fn numbered_in_parts<T>()
 pub fn numbered_by_place<T>()
     ensures numbers { (s : ℕ) (events : List (ChangeEventUnassigned T))
         → IsNumberedFrom s (numbered_from s events) }
-    ensures same { (s : ℕ) (events : List (ChangeEventUnassigned T))
+    ensures unassigned { (s : ℕ) (events : List (ChangeEventUnassigned T))
         → map unassigned (numbered_from s events) ≡ events }
     ensures count { (s : ℕ) (events : List (ChangeEventUnassigned T))
         → length (numbered_from s events) ≡ length events }
@@ -88,16 +88,16 @@ pub fn events_at_numbers()
 
 /// What is merged after a removal, and what a merge makes of nodes, at numbers.
 #[tactic(auto, unfolding(crate::specs::Nodes::are_nodes, crate::specs::Replay::step_plain, crate::specs::Table::removal_by))]
-pub fn joins_at_numbers()
+pub fn merges_at_numbers()
     ensures both_too_large { removal_events nat_cmp 4 ((0 ∷ 1 ∷ []) ∷ (2 ∷ 3 ∷ []) ∷
         (4 ∷ 5 ∷ []) ∷ []) 3 ≡ RemoveAt 3 3 1 ∷ [] }
     ensures with_the_next { removal_events nat_cmp 4 ((0 ∷ 1 ∷ []) ∷ (2 ∷ []) ∷ (4 ∷ 5 ∷ []) ∷ []) 1
         ≡ RemoveAt 1 1 1 ∷ MergeNodes 0 2 ∷ [] }
-    ensures next_made_one { with_taken {T = ℕ} 4 ((0 ∷ 1 ∷ []) ∷ (2 ∷ []) ∷ (4 ∷ 5 ∷ []) ∷ []) 0 1
+    ensures next_made_one { with_removed {T = ℕ} 4 ((0 ∷ 1 ∷ []) ∷ (2 ∷ []) ∷ (4 ∷ 5 ∷ []) ∷ []) 0 1
         ≡ (0 ∷ 2 ∷ []) ∷ (4 ∷ 5 ∷ []) ∷ [] }
     ensures with_the_one_before { removal_events nat_cmp 4
         ((2 ∷ 3 ∷ []) ∷ (4 ∷ []) ∷ (6 ∷ 7 ∷ []) ∷ []) 7 ≡ RemoveAt 7 7 1 ∷ MergeNodes 4 6 ∷ [] }
-    ensures one_before_made_one { with_taken {T = ℕ} 4 ((2 ∷ 3 ∷ []) ∷ (4 ∷ []) ∷
+    ensures one_before_made_one { with_removed {T = ℕ} 4 ((2 ∷ 3 ∷ []) ∷ (4 ∷ []) ∷
         (6 ∷ 7 ∷ []) ∷ []) 2 1 ≡ (2 ∷ 3 ∷ []) ∷ (4 ∷ 6 ∷ []) ∷ [] }
     ensures next_first { removal_events nat_cmp 4 ((1 ∷ []) ∷ (2 ∷ 3 ∷ []) ∷ (4 ∷ []) ∷ []) 2
         ≡ RemoveAt 3 2 0 ∷ MergeNodes 3 4 ∷ [] }
@@ -116,25 +116,25 @@ pub fn joins_at_numbers()
 {}
 
 /// Where any two neighbours hold more than h items together, there are few nodes for the items.
-pub fn few_nodes_where_spaced<T>()
-    ensures { (h : ℕ) (ns : List (List T)) → IsSpaced h ns
-        → (length ns - 1) * (h + 1) ≤ 2 * length (joined ns) }
+pub fn node_bound_if_dense<T>()
+    ensures { (h : ℕ) (ns : List (List T)) → IsDense h ns
+        → (length ns - 1) * (h + 1) ≤ 2 * length (concat ns) }
 {}
 
 /// Puts and removals keep neighbours that hold more than half the node size together.
-pub fn spaced_kept<T: Ord>()
+pub fn dense_kept<T: Ord>()
     ensures put { (size : ℕ) (ns : List (List T)) (v : T) → 2 ≤ size → IsLawful T.cmp size ns
-        → IsSpaced (size / 2) ns → IsSpaced (size / 2) (with_put T.cmp size ns v) }
+        → IsDense (size / 2) ns → IsDense (size / 2) (with_put T.cmp size ns v) }
     ensures removal { (size : ℕ) (ns : List (List T)) (k i : ℕ) → 2 ≤ size → IsLawful T.cmp size ns
-        → k < length ns → i < length (node_at ns k) → IsSpaced (size / 2) ns
-        → IsSpaced (size / 2) (with_taken size ns k i) }
+        → k < length ns → i < length (node_at ns k) → IsDense (size / 2) ns
+        → IsDense (size / 2) (with_removed size ns k i) }
 {}
 
 /// Nodes of at most two or three items are never merged.
-pub fn small_sizes_join_nothing<T>()
+pub fn small_sizes_merge_nothing<T>()
     ensures { (size : ℕ) (ns : List (List T)) (k i : ℕ) → size < 4
         → All (λ n. 1 ≤ n) (node_lengths ns) → i < length (node_at ns k)
-        → join_after size ns k i ≡ None }
+        → merge_after size ns k i ≡ None }
 {}
 
 /// No put and no removal gives more than three events.
@@ -147,7 +147,7 @@ pub fn three_events<T: Ord>()
         length (removal_events T.cmp size ns v) ≤ 3 }
     ensures removal_at { (size : ℕ) (ns : List (List T)) (i : ℕ) →
         length (removal_events_at T.cmp size ns i) ≤ 3 }
-    ensures taking { (size : ℕ) (ns : List (List T)) (k i : ℕ) → taking_count size ns k i ≤ 3 }
+    ensures taking { (size : ℕ) (ns : List (List T)) (k i : ℕ) → place_removal_count size ns k i ≤ 3 }
 {}
 
 /// No removal by key gives more than three events.

@@ -6,7 +6,7 @@ mod event;
 mod numbers;
 mod pairs;
 
-pub use event::{NoEvent, read_event};
+pub use event::{ParseEventError, read_event};
 use std::fmt;
 
 /// A type each value of which has one text, by which it is read: the bytes that `{}` writes.

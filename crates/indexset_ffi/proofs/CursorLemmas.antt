@@ -6,9 +6,9 @@ use Rattle.std.proofs.lemmas.Bool.{cases_lt}
 use Rattle.std.proofs.lemmas.List.{length-drop, length-map, take-map, take_all}
 use Rattle.std.proofs.lemmas.List.Sums.{sum_by_more, sum_by_more_le}
 use Rattle.std.specs.declared.vec.Vec.{Vec}
-use Rattle.indexset_core.specs.Nodes.{joined, node_at, node_lengths, vec_items}
+use Rattle.indexset_core.specs.Nodes.{concat, node_at, node_lengths, vec_items}
 use Rattle.indexset_core.specs.Places.{IsPlace, items_before}
-use Rattle.indexset_core.proofs.NodeLemmas.{length-joined, node_read}
+use Rattle.indexset_core.proofs.NodeLemmas.{length-concat, node_read}
 use Rattle.indexset_ffi.specs.Cursors.{cursor_position, items_from}
 use Rattle.indexset_ffi.specs.declared.cursor.Cursor.{Cursor}
 
@@ -24,31 +24,31 @@ module _ {X : Type 0} (ns : List (List X)) (c : Cursor) where
   size : get_or lengths c.node 0 ≡ length (node_at ns c.node)
   size = lists.get_or-map (λ (n : List X). length n) ns c.node []
 
-  before : sum (take c.node lengths) ≡ length (joined (take c.node ns))
-  before = ap sum (take-map (λ (n : List X). length n) c.node ns) ∙ sym (length-joined (take c.node ns))
+  before : sum (take c.node lengths) ≡ length (concat (take c.node ns))
+  before = ap sum (take-map (λ (n : List X). length n) c.node ns) ∙ sym (length-concat (take c.node ns))
 
   -- at a place between items
   pub at_place : IsPlace ns (c.node, c.offset) → cursor_position lengths c ≡ items_before ns (c.node, c.offset)
   at_place place = omega (arith, before, size, place.offset_in)
 
   -- behind all nodes is the end
-  pub ends : length ns ≤ c.node → cursor_position lengths c ≡ length (joined ns)
+  pub ends : length ns ≤ c.node → cursor_position lengths c ≡ length (concat ns)
   ends h =
       let long : length lengths ≤ c.node = omega (arith, h, length-map ns (λ (n : List X). length n)) in
       let none : get_or lengths c.node 0 ≡ 0 = past lengths c.node long in
       let all : sum (take c.node lengths) ≡ sum lengths = ap sum (take_all c.node lengths long) in
-      omega (arith, none, all, length-joined ns)
+      omega (arith, none, all, length-concat ns)
 
   -- no cursor stands behind the end
-  pub within : cursor_position lengths c ≤ length (joined ns)
+  pub within : cursor_position lengths c ≤ length (concat ns)
   within = elim (cases_lt c.node (length lengths)) [
-    | inl inside ↦ omega (arith, sum_by_more_le (λ (n : ℕ). n) lengths c.node 0 inside, length-joined ns)
+    | inl inside ↦ omega (arith, sum_by_more_le (λ (n : ℕ). n) lengths c.node 0 inside, length-concat ns)
     | inr outside ↦ omega (arith, ends (omega (arith, outside, length-map ns (λ (n : List X). length n))))
   ]
 
   -- so many items stand behind it
-  pub few : (count : ℕ) → count ≤ length (items_from lengths c (joined ns)) → min (cursor_position lengths c + count) (length (joined ns)) ≡ cursor_position lengths c + count
-  few count h = omega (arith, h, within, length-drop (cursor_position lengths c) (joined ns))
+  pub few : (count : ℕ) → count ≤ length (items_from lengths c (concat ns)) → min (cursor_position lengths c + count) (length (concat ns)) ≡ cursor_position lengths c + count
+  few count h = omega (arith, h, within, length-drop (cursor_position lengths c) (concat ns))
 
 -- a cursor in a node that was read, whose offset there is o
 module _ {X Z : Type 0} (vs : List (Vec X Z)) (c : Cursor) (v : Vec X Z) (len o : ℕ) (inside : c.node < length vs) (read : v ≡ get_or vs c.node v) (long : len ≡ length v.items) (least : o ≡ min c.offset len) where
@@ -64,7 +64,7 @@ module _ {X Z : Type 0} (vs : List (Vec X Z)) (c : Cursor) (v : Vec X Z) (len o 
   node : length (node_at ns c.node) ≡ len
   node = ap (λ (n : List X). length n) (node_read (λ (w : Vec X Z). w.items) vs c.node v inside read []) ∙ sym long
 
-  pub here : cursor_position ls c ≡ length (joined (take c.node ns)) + o
+  pub here : cursor_position ls c ≡ length (concat (take c.node ns)) + o
   here = omega (arith, before ns c, size ns c, node, least)
 
   pub in_node : o ≤ length (node_at ns c.node)

@@ -6,7 +6,7 @@ use Rattle.std.specs.Ordering.{nat_cmp}
 use Rattle.indexset_core.specs.declared.multipair.MultiPair.{MultiPair}
 use Rattle.indexset_core.specs.declared.pair.Pair.{Pair}
 use Rattle.indexset_core.specs.MultiPairs.{numbered_pair}
-use Rattle.indexset_core.specs.Nodes.{joined}
+use Rattle.indexset_core.specs.Nodes.{concat}
 use Rattle.indexset_core.specs.Pairs.{pair_values}
 use Rattle.indexset_core.proofs.CallerLemmas.{is_some-find}
 use Rattle.indexset_multi.specs.Keys.{entries, equal_pair, pairs_of}
@@ -20,7 +20,7 @@ any_entry w (p ∷ l) = ap (λ b. nat_eq p.value w || b) (any_entry w l)
 pub told_pair : (l : List (MultiPair ℕ ℕ)) (k w : ℕ) → list_any (λ (p : Pair ℕ ℕ). nat_eq p.value w) (entries (pairs_of nat_cmp l k)) ≡ is_some (equal_pair nat_cmp nat_eq l k w)
 told_pair l k w = any_entry w (pairs_of nat_cmp l k) ∙ sym (is_some-find (λ p. nat_eq p.value w) (pairs_of nat_cmp l k))
 
-module _ (m : MultiTree ℕ ℕ) (k w : ℕ) (none : equal_pair nat_cmp nat_eq (joined m.nodes) k w ≡ None) where
+module _ (m : MultiTree ℕ ℕ) (k w : ℕ) (none : equal_pair nat_cmp nat_eq (concat m.nodes) k w ≡ None) where
   -- a value that a key does not have gets the next number
   pub new_pair : inserted_pair nat_cmp nat_eq m k w ≡ numbered_pair k w m.pair_next
   new_pair = ap (λ o. numbered_pair k w (unwrap_or (option_map (λ p. p.discriminator) o) m.pair_next)) none

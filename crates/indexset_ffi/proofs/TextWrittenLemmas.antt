@@ -1,6 +1,6 @@
 -- What a loop leaves in a caller's bytes, where it writes byte strings one behind another.
 use Rattle.std.proofs.Common.{◌≡◌, ℕ, zero, suc, ◌+◌, List, [], ◌∷◌, ◌++◌, length, take, drop, min, slice_get, Some, refl, ap, sym, ◌∙◌, arith, append_assoc, append-nil, add-one}
-use Rattle.indexset_core.specs.Nodes.{joined}
+use Rattle.indexset_core.specs.Nodes.{concat}
 use Rattle.indexset_ffi.specs.Text.{written_over}
 
 over_none : (b : List ℕ) → written_over [] b ≡ b
@@ -23,10 +23,10 @@ over_more (x ∷ xs) ys (c ∷ b) zero h = let no : ⊥ = omega (arith, h) in ab
 over_more (x ∷ xs) ys (c ∷ b) (suc u) h = ap (λ l. x ∷ l) (over_more xs ys b u (omega (arith, h)))
 
 -- one byte string more
-next_joined : (ks : List (List ℕ)) (n : ℕ) (k : List ℕ) → slice_get ks n ≡ Some k → joined (take (suc n) ks) ≡ joined (take n ks) ++ k
+next_joined : (ks : List (List ℕ)) (n : ℕ) (k : List ℕ) → slice_get ks n ≡ Some k → concat (take (suc n) ks) ≡ concat (take n ks) ++ k
 next_joined [] n k h = grind arith
 next_joined (x ∷ ks) zero k h = let same : x ≡ k = grind arith in append-nil x ∙ same
-next_joined (x ∷ ks) (suc n) k h = ap (λ l. x ++ l) (next_joined ks n k h) ∙ sym (append_assoc x (joined (take n ks)) k)
+next_joined (x ∷ ks) (suc n) k h = ap (λ l. x ++ l) (next_joined ks n k h) ∙ sym (append_assoc x (concat (take n ks)) k)
 
-pub joined_more : (ks : List (List ℕ)) (n : ℕ) (k : List ℕ) → slice_get ks n ≡ Some k → joined (take (n + 1) ks) ≡ joined (take n ks) ++ k
-joined_more ks n k h = ap (λ m. joined (take m ks)) (add-one n) ∙ next_joined ks n k h
+pub joined_more : (ks : List (List ℕ)) (n : ℕ) (k : List ℕ) → slice_get ks n ≡ Some k → concat (take (n + 1) ks) ≡ concat (take n ks) ++ k
+joined_more ks n k h = ap (λ m. concat (take m ks)) (add-one n) ∙ next_joined ks n k h

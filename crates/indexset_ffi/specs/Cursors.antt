@@ -3,7 +3,7 @@ use Rattle.std.specs.Prelude.{ℕ, ◌+◌, List, Option, drop, get_or, min, sum
 use Rattle.indexset_core.specs.declared.multipair.MultiPair.{MultiPair}
 use Rattle.indexset_core.specs.declared.pair.Pair.{Pair}
 use Rattle.indexset_core.specs.Nodes.{node_lengths}
-use Rattle.indexset_spine.specs.Cut.{Cut}
+use Rattle.indexset_spine.specs.NodeList.{NodeList}
 use Rattle.indexset_map.specs.Contents.{Contents}
 use Rattle.indexset_log.specs.Tree.{Tree}
 use Rattle.indexset_multi.specs.Tree.{MultiTree}
@@ -23,7 +23,7 @@ abbrev pub items_from : {X : Type 0} → List ℕ → Cursor → List X → List
 items_from lengths c items = drop (cursor_position lengths c) items
 
 -- those of what is behind a handle
-abbrev pub set_from : Option (Cut ℕ) → Cursor → List ℕ
+abbrev pub set_from : Option (NodeList ℕ) → Cursor → List ℕ
 set_from set c = items_from (set_lengths set) c (elements set)
 
 abbrev pub map_from : Option (Contents ℕ ℕ) → Cursor → List (Pair ℕ ℕ)

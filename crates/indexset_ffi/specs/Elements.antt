@@ -6,20 +6,20 @@ use Rattle.std.specs.declared.cmp.Ordering.{Ordering}
 use Rattle.indexset_core.specs.declared.constants.TheConstants.{DEFAULT_INNER_SIZE}
 use Rattle.indexset_core.specs.declared.multipair.MultiPair.{MultiPair}
 use Rattle.indexset_core.specs.declared.pair.Pair.{Pair}
-use Rattle.indexset_core.specs.Nodes.{joined, node_lengths}
+use Rattle.indexset_core.specs.Nodes.{concat, node_lengths}
 use Rattle.indexset_core.specs.Pairs.{entry_of, pair_values, put_value, value_of}
-use Rattle.indexset_spine.specs.Cut.{Cut, items}
+use Rattle.indexset_spine.specs.NodeList.{NodeList, items}
 use Rattle.indexset_map.specs.Contents.{Contents}
 use Rattle.indexset_log.specs.Tree.{Tree}
 use Rattle.indexset_multi.specs.Keys.{entries, pairs_of}
 use Rattle.indexset_multi.specs.Tree.{MultiTree}
 
 -- the elements in order: none where there is no set
-abbrev pub elements : Option (Cut ℕ) → List ℕ
+abbrev pub elements : Option (NodeList ℕ) → List ℕ
 elements set = option_map_or items set []
 
 -- how many elements each node has
-abbrev pub set_lengths : Option (Cut ℕ) → List ℕ
+abbrev pub set_lengths : Option (NodeList ℕ) → List ℕ
 set_lengths set = option_map_or (λ s. node_lengths s.nodes) set []
 
 -- the slice where the first n of the answers went over its first n places
@@ -61,7 +61,7 @@ value_or ps w k = unwrap_or (value_of nat_cmp ps k) w
 
 -- the numbered pairs in order: none where there is no multimap
 abbrev pub numbered_pairs : Option (MultiTree ℕ ℕ) → List (MultiPair ℕ ℕ)
-numbered_pairs multi = option_map_or (λ m. joined m.nodes) multi []
+numbered_pairs multi = option_map_or (λ m. concat m.nodes) multi []
 
 -- how many pairs each node has
 abbrev pub multi_lengths : Option (MultiTree ℕ ℕ) → List ℕ
@@ -80,4 +80,4 @@ abbrev pub logged_nodes : Option (Tree (Pair ℕ ℕ)) → List (List (Pair ℕ 
 logged_nodes log = option_map_or (λ m. m.nodes) log []
 
 abbrev pub logged_pairs : Option (Tree (Pair ℕ ℕ)) → List (Pair ℕ ℕ)
-logged_pairs log = joined (logged_nodes log)
+logged_pairs log = concat (logged_nodes log)

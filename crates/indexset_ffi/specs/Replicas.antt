@@ -5,7 +5,7 @@ use Rattle.std.specs.Ordering.{nat_cmp}
 use Rattle.indexset_core.specs.declared.pair.Pair.{Pair}
 use Rattle.indexset_core.specs.declared.refusal.Refusal.{Refusal}
 use Rattle.indexset_core.specs.declared.refusal.Refusal.TheVariants as refusals
-use Rattle.indexset_core.specs.Nodes.{joined}
+use Rattle.indexset_core.specs.Nodes.{concat}
 use Rattle.indexset_core.specs.Pairs.{by_key}
 use Rattle.indexset_core.specs.Refusal.{number_of}
 use Rattle.indexset_events.specs.Replay.{event_number}
@@ -21,7 +21,7 @@ abbrev pub copied_nodes : Option (ReplicaState (Pair ℕ ℕ)) → List (List (P
 copied_nodes replica = option_map_or (λ r. r.nodes) replica []
 
 abbrev pub copied_pairs : Option (ReplicaState (Pair ℕ ℕ)) → List (Pair ℕ ℕ)
-copied_pairs replica = joined (copied_nodes replica)
+copied_pairs replica = concat (copied_nodes replica)
 
 -- a replica with the nodes of a logged map, which awaits its next change
 abbrev pub replica_of : Tree (Pair ℕ ℕ) → ReplicaState (Pair ℕ ℕ)

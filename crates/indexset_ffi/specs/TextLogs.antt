@@ -2,7 +2,7 @@
 use Rattle.std.specs.Prelude.{ℕ, List, [], length, Option, Some, None}
 use Rattle.std.specs.Option.{option_map, option_map_or}
 use Rattle.indexset_core.specs.declared.pair.Pair.{Pair}
-use Rattle.indexset_core.specs.Nodes.{joined, node_lengths}
+use Rattle.indexset_core.specs.Nodes.{concat, node_lengths}
 use Rattle.indexset_events.specs.declared.change.ChangeEvent.{ChangeEvent}
 use Rattle.indexset_events.specs.declared.change.ChangeEvent.TheVariants.{InsertAt, RemoveAt, CreateNode, RemoveNode, SplitNode, MergeNodes}
 use Rattle.indexset_events.specs.Replay.{event_number, numbered_from}
@@ -30,7 +30,7 @@ after before made = record { tree = made.tree; told = numbered_from before.next 
 
 -- the pairs in order, how many each node has, and the changes that were told: none where there is no map
 abbrev pub logged_texts : Option ToldTree → List TextPair
-logged_texts log = option_map_or (λ t. joined t.tree.nodes) log []
+logged_texts log = option_map_or (λ t. concat t.tree.nodes) log []
 
 abbrev pub logged_lengths : Option ToldTree → List ℕ
 logged_lengths log = option_map_or (λ t. node_lengths t.tree.nodes) log []

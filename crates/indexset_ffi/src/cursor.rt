@@ -1,14 +1,14 @@
 //! Cursors: spots between the items of a collection, from which a walk goes on with no search.
 ghost use Rattle.std.specs.Prelude.{◌≡◌, ◌+◌, ◌≤◌, length, min};
 ghost use Rattle.std.specs.List.{All};
-ghost use Rattle.indexset_core.specs.Nodes.{joined, node_lengths, vec_items};
+ghost use Rattle.indexset_core.specs.Nodes.{concat, node_lengths, vec_items};
 ghost use Rattle.indexset_core.specs.Parted.{IsParted, less_count};
 ghost use Rattle.indexset_core.specs.Places.{IsPlace, items_before};
 ghost use Rattle.indexset_ffi.specs.Cursors.{cursor_position, items_from};
 
+use indexset_core::item_iter::{ItemIter, OfVec};
 use indexset_core::locate::{last_place, place_by};
 use indexset_core::probe::Probe;
-use indexset_core::walk::{ReadVec, Walk};
 
 /// A spot between items: a node, and how many of its items are before the spot. Any two numbers
 /// are a cursor: an offset past the end of its node is that end, and a node that is not there is
@@ -29,11 +29,11 @@ pub const START: Cursor = Cursor { node: 0, offset: 0 };
 /// binary searches.
 pub fn find<T, P: Probe<T> + Drop>(nodes: &[Vec<T>], mut probe: P) -> Cursor
     requires filled { 2 ≤ length nodes.now → All (λ n. 1 ≤ n) (node_lengths (vec_items nodes.now)) }
-    requires parted { IsParted (P.answer probe) (joined (vec_items nodes.now)) }
+    requires parted { IsParted (P.answer probe) (concat (vec_items nodes.now)) }
     ensures { cursor_position (node_lengths (vec_items nodes.now)) result
-        ≡ less_count (P.answer probe) (joined (vec_items nodes.now)) }
+        ≡ less_count (P.answer probe) (concat (vec_items nodes.now)) }
 {
-    let (node, offset) = place_by::<T, Vec<T>, ReadVec, P>(nodes, &mut probe);
+    let (node, offset) = place_by::<T, Vec<T>, OfVec, P>(nodes, &mut probe);
     Cursor { node, offset }
 }
 
@@ -42,7 +42,7 @@ pub fn find<T, P: Probe<T> + Drop>(nodes: &[Vec<T>], mut probe: P) -> Cursor
 pub fn near_to<T>(nodes: &[Vec<T>], near: Cursor, start: usize, position: usize) -> Cursor
     requires { cursor_position (node_lengths (vec_items nodes.now)) near ≡ start }
     ensures { cursor_position (node_lengths (vec_items nodes.now)) result
-        ≡ min position (length (joined (vec_items nodes.now))) }
+        ≡ min position (length (concat (vec_items nodes.now))) }
 {
     if position < start {
         return moved(nodes, START, position);
@@ -53,7 +53,7 @@ pub fn near_to<T>(nodes: &[Vec<T>], near: Cursor, start: usize, position: usize)
 /// Returns a cursor at the end.
 pub fn end<T>(nodes: &[Vec<T>]) -> Cursor
     ensures { cursor_position (node_lengths (vec_items nodes.now)) result
-        ≡ length (joined (vec_items nodes.now)) }
+        ≡ length (concat (vec_items nodes.now)) }
 {
     Cursor {
         node: nodes.len(),
@@ -66,7 +66,7 @@ pub fn end<T>(nodes: &[Vec<T>]) -> Cursor
 pub fn moved<T>(nodes: &[Vec<T>], from: Cursor, count: usize) -> Cursor
     ensures { cursor_position (node_lengths (vec_items nodes.now)) result
         ≡ min (cursor_position (node_lengths (vec_items nodes.now)) from + count)
-        (length (joined (vec_items nodes.now))) }
+        (length (concat (vec_items nodes.now))) }
 {
     let mut at = from;
     let mut left = count;
@@ -85,12 +85,12 @@ pub fn moved<T>(nodes: &[Vec<T>], from: Cursor, count: usize) -> Cursor
 }
 
 /// Returns the items from a cursor on.
-pub fn rest<'a, T>(nodes: &'a [Vec<T>], cursor: Cursor) -> Walk<'a, T, Vec<T>, ReadVec>
+pub fn rest<'a, T>(nodes: &'a [Vec<T>], cursor: Cursor) -> ItemIter<'a, T, Vec<T>, OfVec>
     ensures { result ≡ items_from (node_lengths (vec_items nodes.now)) cursor
-        (joined (vec_items nodes.now)) }
+        (concat (vec_items nodes.now)) }
 {
-    let last = last_place::<T, Vec<T>, ReadVec>(nodes);
-    Walk::between(nodes, place(nodes, cursor), last)
+    let last = last_place::<T, Vec<T>, OfVec>(nodes);
+    ItemIter::between(nodes, place(nodes, cursor), last)
 }
 
 // Returns the place between items where a cursor stands.
@@ -103,5 +103,5 @@ fn place<T>(nodes: &[Vec<T>], cursor: Cursor) -> (usize, usize)
         let offset = cursor.offset.min(nodes[cursor.node].len());
         return (cursor.node, offset);
     }
-    last_place::<T, Vec<T>, ReadVec>(nodes)
+    last_place::<T, Vec<T>, OfVec>(nodes)
 }

@@ -1,7 +1,7 @@
 //! What the calls of a logged map do with it.
 ghost use Rattle.std.specs.Prelude.{◌≡◌, ◌+◌, ◌<◌, ◌≤◌, length, map, IfOk, OnOk, IfErr, OnErr, IsOk, None, Some, min};
 ghost use Rattle.std.specs.Ordering.{nat_cmp};
-ghost use Rattle.indexset_core.specs.Nodes.{joined, node_lengths, vec_items};
+ghost use Rattle.indexset_core.specs.Nodes.{concat, node_lengths, vec_items};
 ghost use Rattle.indexset_core.specs.Pairs.{by_key, key_rank, pair, value_of, pair_keys, pair_values};
 ghost use Rattle.indexset_log.specs.Changed.{Changed, key_removal};
 ghost use Rattle.indexset_events.specs.Edits.{with_put};
@@ -28,10 +28,10 @@ pub fn insert_told(
     events: &mut [Event],
 ) -> Result<(Option<u64>, usize), Refusal>
     requires { 3 ≤ length events.old }
-    ensures before { IfOk result (λ r. r.0 ≡ value_of nat_cmp (joined log.old.nodes) key) }
-    ensures told { IfOk result (λ r. r.1 ≡ length
+    ensures before { IfOk result (λ r. r.0 ≡ value_of nat_cmp (concat log.old.nodes) key) }
+    ensures event_count { IfOk result (λ r. r.1 ≡ length
         (put_events (by_key nat_cmp) log.old.size log.old.nodes (pair key value))) }
-    ensures few { IfOk result (λ r. r.1 ≤ 3) }
+    ensures at_most_three_events { IfOk result (λ r. r.1 ≤ 3) }
     ensures ok { OnOk result (log.new ≡ record {
       nodes = with_put (by_key nat_cmp) log.old.size log.old.nodes (pair key value);
       size = log.old.size;
@@ -67,10 +67,10 @@ pub fn remove_told(
     events: &mut [Event],
 ) -> Result<(Option<u64>, usize), Refusal>
     requires { 3 ≤ length events.old }
-    ensures found { IfOk result (λ r. r.0 ≡ value_of nat_cmp (joined log.old.nodes) key) }
-    ensures told { IfOk result (λ r. r.1 ≡ length
+    ensures found { IfOk result (λ r. r.0 ≡ value_of nat_cmp (concat log.old.nodes) key) }
+    ensures event_count { IfOk result (λ r. r.1 ≡ length
         (key_removal_events nat_cmp log.old.size log.old.nodes key)) }
-    ensures few { IfOk result (λ r. r.1 ≤ 3) }
+    ensures at_most_three_events { IfOk result (λ r. r.1 ≤ 3) }
     ensures changed { OnOk result (Changed (by_key nat_cmp) log.old log.new
         (key_removal nat_cmp log.old key)) }
     ensures events { OnOk result (events.new
@@ -81,7 +81,7 @@ pub fn remove_told(
         ≡ refusal_for log.old.next (length
         (key_removal_events nat_cmp log.old.size log.old.nodes key))) }
     ensures absent { IfOk result (λ r. r.0 ≡ None → (r.1 ≡ 0) × (log.new ≡ log.old)) }
-    ensures no_event { value_of nat_cmp (joined log.old.nodes) key ≡ None → IsOk result }
+    ensures no_event { value_of nat_cmp (concat log.old.nodes) key ≡ None → IsOk result }
     ensures unchanged { OnErr result ((log.new ≡ log.old) × (events.new ≡ events.old)) }
 {
     let (found, changes) = log.remove_cdc(&key)?;
@@ -140,7 +140,7 @@ pub fn nodes(log: &LoggedMap) -> &[Vec<Pair<u64, u64>>]
 /// Returns a cursor at the first pair whose key is not below `from`, or at the end.
 pub fn cursor_from(log: &LoggedMap, from: u64) -> Cursor
     ensures { cursor_position (node_lengths log.now.nodes) result
-        ≡ key_rank nat_cmp (joined log.now.nodes) from }
+        ≡ key_rank nat_cmp (concat log.now.nodes) from }
 {
     // Says that the keys ascend, and that no node is empty.
     let _count = log.node_count();
@@ -150,7 +150,7 @@ pub fn cursor_from(log: &LoggedMap, from: u64) -> Cursor
 /// Returns a cursor at a position, or at the end.
 pub fn cursor_at(log: &LoggedMap, position: usize) -> Cursor
     ensures { cursor_position (node_lengths log.now.nodes) result
-        ≡ min position (length (joined log.now.nodes)) }
+        ≡ min position (length (concat log.now.nodes)) }
 {
     match log.get_index(position) {
         Some((key, _)) => {

@@ -120,7 +120,7 @@ pub fn take_index<K: Ord + Drop, V: Drop>(
 ) -> Option<(K, V)>
     ensures value { result ≡ option_map entry_of (slice_get map.old.pairs position) }
     ensures rest { map.new.pairs ≡ remove map.old.pairs position }
-    ensures same { result ≡ None → map.new ≡ map.old }
+    ensures unchanged { result ≡ None → map.new ≡ map.old }
 {
     if position < map.len() {
         Some(map.pop_index(position))

@@ -2,7 +2,7 @@
 ghost use Rattle.std.specs.Prelude.{◌≡◌, is_some, length, min, nat_eq, ◌∷◌, ◌++◌, [], ℕ, false, IfErr, OnErr, OnOk, None};
 ghost use Rattle.std.specs.List.{count_by, list_any};
 ghost use Rattle.std.specs.Ordering.{nat_cmp, is_eq, is_lt};
-ghost use Rattle.indexset_core.specs.Nodes.{joined, node_lengths, vec_items};
+ghost use Rattle.indexset_core.specs.Nodes.{concat, node_lengths, vec_items};
 ghost use Rattle.indexset_core.specs.Pairs.{pair_values, pair_keys};
 ghost use Rattle.indexset_multi.specs.Keys.{equal_pair, pairs_of};
 ghost use Rattle.indexset_ffi.specs.Cursors.{cursor_position};
@@ -31,25 +31,25 @@ pub fn has_value(mut walk: MultiRange<'_>, value: u64) -> bool
 
 /// Returns whether a key has a value.
 pub fn has_pair(multi: &MultiMap, key: u64, value: u64) -> bool
-    ensures { result ≡ is_some (equal_pair nat_cmp nat_eq (joined multi.now.nodes) key value) }
+    ensures { result ≡ is_some (equal_pair nat_cmp nat_eq (concat multi.now.nodes) key value) }
 {
     has_value(multi.get(&key), value)
 }
 
 /// Adds a value that a key does not have.
 pub fn insert_new(multi: &mut MultiMap, key: u64, value: u64) -> Result<(), Refusal>
-    requires { equal_pair nat_cmp nat_eq (joined multi.old.nodes) key value ≡ None }
+    requires { equal_pair nat_cmp nat_eq (concat multi.old.nodes) key value ≡ None }
     ensures tree { OnOk result (multi.new ≡ after_insertion nat_cmp nat_eq multi.old key value) }
-    ensures ok { OnOk result (joined multi.new.nodes
-        ≡ put (by_number nat_cmp) (joined multi.old.nodes)
+    ensures ok { OnOk result (concat multi.new.nodes
+        ≡ put (by_number nat_cmp) (concat multi.old.nodes)
         (numbered_pair key value multi.old.pair_next)) }
-    ensures last { OnOk result (values_of (joined multi.new.nodes) key
-        ≡ values_of (joined multi.old.nodes) key ++ value ∷ []) }
+    ensures last { OnOk result (values_of (concat multi.new.nodes) key
+        ≡ values_of (concat multi.old.nodes) key ++ value ∷ []) }
     ensures others { OnOk result ((other : ℕ) → is_eq (nat_cmp other key) ≡ false
-        → pairs_of nat_cmp (joined multi.new.nodes) other
-        ≡ pairs_of nat_cmp (joined multi.old.nodes) other) }
+        → pairs_of nat_cmp (concat multi.new.nodes) other
+        ≡ pairs_of nat_cmp (concat multi.old.nodes) other) }
     ensures refusal { IfErr result (λ e. e ≡ insertion_refusal nat_cmp nat_eq multi.old key value) }
-    ensures same { OnErr result (multi.new ≡ multi.old) }
+    ensures unchanged { OnErr result (multi.new ≡ multi.old) }
 {
     match multi.insert(key, value) {
         Ok(_) => Ok(()),
@@ -104,7 +104,7 @@ pub fn nodes(multi: &MultiMap) -> &[Vec<MultiPair<u64, u64>>]
 /// Returns a cursor at the first pair whose key is not below `from`, or at the end.
 pub fn cursor_from(multi: &MultiMap, from: u64) -> Cursor
     ensures { cursor_position (node_lengths multi.now.nodes) result
-        ≡ count_by (λ p. is_lt (nat_cmp p.key from)) (joined multi.now.nodes) }
+        ≡ count_by (λ p. is_lt (nat_cmp p.key from)) (concat multi.now.nodes) }
 {
     // Says that the pairs ascend, and that no node is empty.
     let _count = multi.node_count();
@@ -114,7 +114,7 @@ pub fn cursor_from(multi: &MultiMap, from: u64) -> Cursor
 /// Returns a cursor at a position, or at the end.
 pub fn cursor_at(multi: &MultiMap, position: usize) -> Cursor
     ensures { cursor_position (node_lengths multi.now.nodes) result
-        ≡ min position (length (joined multi.now.nodes)) }
+        ≡ min position (length (concat multi.now.nodes)) }
 {
     match multi.get_index(position) {
         Some((key, _)) => {

@@ -1,6 +1,6 @@
 //! What stands behind a cursor, written where C points.
 ghost use Rattle.std.specs.Prelude.{◌≡◌, ◌+◌, ℕ, length, map, min, take};
-ghost use Rattle.indexset_core.specs.Nodes.{joined, node_lengths, vec_items};
+ghost use Rattle.indexset_core.specs.Nodes.{concat, node_lengths, vec_items};
 ghost use Rattle.indexset_core.specs.Pairs.{pair_keys, pair_values};
 ghost use Rattle.indexset_ffi.specs.Cursors.{cursor_position, items_from};
 ghost use Rattle.indexset_ffi.specs.Elements.{written};
@@ -8,10 +8,10 @@ ghost use Rattle.indexset_ffi.specs.Text.{key_lengths, written_over};
 
 use crate::cursor::{Cursor, moved, rest};
 use crate::text_calls::write_behind;
+use indexset_core::item_iter::{ItemIter, OfVec};
 use indexset_core::multipair::MultiPair;
 use indexset_core::pair::Pair;
 use indexset_core::text::Text;
-use indexset_core::walk::{ReadVec, Walk};
 
 /// A pair of numbers, whatever else it holds.
 pub trait Numbers {
@@ -62,9 +62,9 @@ impl Numbers for MultiPair<u64, u64> {
 /// past them, and returns how many they are.
 pub fn next_elements(nodes: &[Vec<u64>], cursor: &mut Cursor, out: &mut [u64]) -> usize
     ensures count { result ≡ min (length (items_from (node_lengths (vec_items nodes.now)) cursor.old
-        (joined (vec_items nodes.now)))) (length out.old) }
+        (concat (vec_items nodes.now)))) (length out.old) }
     ensures written { out.new ≡ written result (items_from (node_lengths (vec_items nodes.now))
-        cursor.old (joined (vec_items nodes.now))) out.old }
+        cursor.old (concat (vec_items nodes.now))) out.old }
     ensures moved { cursor_position (node_lengths (vec_items nodes.now)) cursor.new
         ≡ cursor_position (node_lengths (vec_items nodes.now)) cursor.old + result }
 {
@@ -82,11 +82,11 @@ pub fn next_pairs<P: Numbers>(
     values: &mut [u64],
 ) -> usize
     ensures count { result ≡ min (length (items_from (node_lengths (vec_items nodes.now)) cursor.old
-        (joined (vec_items nodes.now)))) (min (length keys.old) (length values.old)) }
+        (concat (vec_items nodes.now)))) (min (length keys.old) (length values.old)) }
     ensures keys { keys.new ≡ written result (map P.key_of (items_from
-        (node_lengths (vec_items nodes.now)) cursor.old (joined (vec_items nodes.now)))) keys.old }
+        (node_lengths (vec_items nodes.now)) cursor.old (concat (vec_items nodes.now)))) keys.old }
     ensures values { values.new ≡ written result (map P.value_of (items_from
-        (node_lengths (vec_items nodes.now)) cursor.old (joined (vec_items nodes.now))))
+        (node_lengths (vec_items nodes.now)) cursor.old (concat (vec_items nodes.now))))
         values.old }
     ensures moved { cursor_position (node_lengths (vec_items nodes.now)) cursor.new
         ≡ cursor_position (node_lengths (vec_items nodes.now)) cursor.old + result }
@@ -107,15 +107,15 @@ pub fn next_texts(
     values: &mut [u64],
 ) -> usize
     ensures count { result ≡ min (length (items_from (node_lengths (vec_items nodes.now)) cursor.old
-        (joined (vec_items nodes.now)))) (min (length lengths.old) (length values.old)) }
-    ensures bytes { bytes.new ≡ written_over (joined (take result (pair_keys (items_from
-        (node_lengths (vec_items nodes.now)) cursor.old (joined (vec_items nodes.now))))))
+        (concat (vec_items nodes.now)))) (min (length lengths.old) (length values.old)) }
+    ensures bytes { bytes.new ≡ written_over (concat (take result (pair_keys (items_from
+        (node_lengths (vec_items nodes.now)) cursor.old (concat (vec_items nodes.now))))))
         bytes.old }
     ensures lengths { lengths.new ≡ written result (key_lengths (items_from
-        (node_lengths (vec_items nodes.now)) cursor.old (joined (vec_items nodes.now))))
+        (node_lengths (vec_items nodes.now)) cursor.old (concat (vec_items nodes.now))))
         lengths.old }
     ensures values { values.new ≡ written result (pair_values (items_from
-        (node_lengths (vec_items nodes.now)) cursor.old (joined (vec_items nodes.now))))
+        (node_lengths (vec_items nodes.now)) cursor.old (concat (vec_items nodes.now))))
         values.old }
     ensures moved { cursor_position (node_lengths (vec_items nodes.now)) cursor.new
         ≡ cursor_position (node_lengths (vec_items nodes.now)) cursor.old + result }
@@ -127,13 +127,13 @@ pub fn next_texts(
 
 // Writes the items of a walk, node by node and as far as there is room, and returns how many that
 // are.
-fn write_elements(mut walk: Walk<'_, u64, Vec<u64>, ReadVec>, out: &mut [u64]) -> usize
+fn write_elements(mut walk: ItemIter<'_, u64, Vec<u64>, OfVec>, out: &mut [u64]) -> usize
     ensures count { result ≡ min (length walk.entry) (length out.old) }
     ensures written { out.new ≡ written result walk.entry out.old }
 {
     let mut count = 0;
     while count < out.len() {
-        let run = walk.next_run();
+        let run = walk.next_chunk();
         if run.is_empty() {
             break;
         }
@@ -155,7 +155,7 @@ fn write_elements_of(run: &[u64], out: &mut [u64]) -> usize
 // Writes the keys and the values of a walk, node by node and as far as there is room in both
 // slices, and returns how many that are.
 fn write_numbers<P: Numbers>(
-    mut walk: Walk<'_, P, Vec<P>, ReadVec>,
+    mut walk: ItemIter<'_, P, Vec<P>, OfVec>,
     keys: &mut [u64],
     values: &mut [u64],
 ) -> usize
@@ -166,7 +166,7 @@ fn write_numbers<P: Numbers>(
     let room = keys.len().min(values.len());
     let mut count = 0;
     while count < room {
-        let run = walk.next_run();
+        let run = walk.next_chunk();
         if run.is_empty() {
             break;
         }
@@ -193,14 +193,14 @@ fn write_numbers_of<P: Numbers>(run: &[P], keys: &mut [u64], values: &mut [u64])
 // Writes the lengths of the keys and the values of a walk, as far as there is room in both slices,
 // and the bytes of these keys, as far as there is room. Returns how many pairs that are.
 fn write_texts(
-    mut walk: Walk<'_, Pair<Text, u64>, Vec<Pair<Text, u64>>, ReadVec>,
+    mut walk: ItemIter<'_, Pair<Text, u64>, Vec<Pair<Text, u64>>, OfVec>,
     bytes: &mut [u8],
     lengths: &mut [usize],
     values: &mut [u64],
 ) -> usize
     ensures count { result ≡ min (length walk.entry)
         (min (length lengths.old) (length values.old)) }
-    ensures bytes { bytes.new ≡ written_over (joined (take result (pair_keys walk.entry)))
+    ensures bytes { bytes.new ≡ written_over (concat (take result (pair_keys walk.entry)))
         bytes.old }
     ensures lengths { lengths.new ≡ written result (key_lengths walk.entry) lengths.old }
     ensures values { values.new ≡ written result (pair_values walk.entry) values.old }

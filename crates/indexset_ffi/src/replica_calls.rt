@@ -2,7 +2,7 @@
 ghost use Rattle.std.specs.Prelude.{◌≡◌, ◌≢◌, ◌<◌, ◌≤◌, length, take, unwrap_or, IfSome, None, Some, slice_get, IfOk, min};
 ghost use Rattle.indexset_ffi.specs.Replicas.{applied, applied_all, refused, replica_of};
 ghost use Rattle.std.specs.Ordering.{nat_cmp};
-ghost use Rattle.indexset_core.specs.Nodes.{joined, vec_items, node_lengths};
+ghost use Rattle.indexset_core.specs.Nodes.{concat, vec_items, node_lengths};
 ghost use Rattle.indexset_core.specs.Pairs.{key_rank, pair_keys, pair_values};
 ghost use Rattle.indexset_ffi.specs.Cursors.{cursor_position};
 ghost use Rattle.indexset_ffi.specs.Elements.{written};
@@ -126,7 +126,7 @@ pub fn write_copied(mut walk: ReplicaRange<'_>, keys: &mut [u64], values: &mut [
 /// Returns a cursor at the first pair whose key is not below `from`, or at the end.
 pub fn cursor_from(replica: &MapReplica, from: u64) -> Cursor
     ensures { cursor_position (node_lengths replica.now.nodes) result
-        ≡ key_rank nat_cmp (joined replica.now.nodes) from }
+        ≡ key_rank nat_cmp (concat replica.now.nodes) from }
 {
     cursor::find(replica.nodes(), ByKey::new(&from))
 }
@@ -134,7 +134,7 @@ pub fn cursor_from(replica: &MapReplica, from: u64) -> Cursor
 /// Returns a cursor at a position, or at the end.
 pub fn cursor_at(replica: &MapReplica, position: usize) -> Cursor
     ensures { cursor_position (node_lengths replica.now.nodes) result
-        ≡ min position (length (joined replica.now.nodes)) }
+        ≡ min position (length (concat replica.now.nodes)) }
 {
     match replica.get_index(position) {
         Some(pair) => {

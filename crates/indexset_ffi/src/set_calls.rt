@@ -4,7 +4,7 @@ ghost use Rattle.std.specs.List.{AllWithin, fold};
 ghost use Rattle.std.specs.Ordering.{nat_cmp};
 ghost use Rattle.indexset_core.specs.Order.{has_equal, keep, rank};
 ghost use Rattle.indexset_core.specs.Nodes.{node_lengths};
-ghost use Rattle.indexset_spine.specs.Cut.{items};
+ghost use Rattle.indexset_spine.specs.NodeList.{items};
 ghost use Rattle.indexset_ffi.specs.Cursors.{cursor_position};
 ghost use Rattle.indexset_ffi.specs.Elements.{count_up_to, element_at, written};
 
@@ -64,7 +64,7 @@ pub fn insert_each(set: &mut BTreeSet<u64>, keys: &[u64]) -> usize
 /// has none, and returns how many that are.
 pub fn element_each(set: &BTreeSet<u64>, positions: &[usize], out: &mut [u64]) -> usize
     ensures room { result ≤ min (length positions.now) (length out.old) }
-    ensures there { AllWithin (λ i. i < length (items set.now)) positions.now 0 result }
+    ensures contains { AllWithin (λ i. i < length (items set.now)) positions.now 0 result }
     ensures stop { result < min (length positions.now) (length out.old)
         → length (items set.now) ≤ slice_index_or positions.now result 0 }
     ensures written { out.new ≡ written result (map (element_at (items set.now)) positions.now)
@@ -117,7 +117,7 @@ pub fn cursor_at(set: &BTreeSet<u64>, position: usize) -> Cursor
 pub fn take_index(set: &mut BTreeSet<u64>, position: usize) -> Option<u64>
     ensures value { result ≡ slice_get (items set.old) position }
     ensures rest { items set.new ≡ remove (items set.old) position }
-    ensures same { result ≡ None → set.new ≡ set.old }
+    ensures unchanged { result ≡ None → set.new ≡ set.old }
 {
     if position < set.len() {
         Some(set.pop_index(position))

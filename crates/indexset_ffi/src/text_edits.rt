@@ -14,7 +14,7 @@ fn replace_value(map: &mut TextMap, key: &[u8], value: u64) -> Option<u64>
     ensures before { result ≡ value_of (slice_cmp nat_cmp) map.old.pairs key.now }
     ensures ok { OnSome result (map.new.pairs
         ≡ put_value (slice_cmp nat_cmp) map.old.pairs key.now value) }
-    ensures same { result ≡ None → map.new ≡ map.old }
+    ensures unchanged { result ≡ None → map.new ≡ map.old }
 {
     match map.get_mut(key) {
         Some(place) => Some(replace(place, value)),
@@ -53,7 +53,7 @@ pub fn put(
 pub fn take(map: &mut TextMap, key: &[u8]) -> Option<u64>
     ensures value { result ≡ value_of (slice_cmp nat_cmp) map.old.pairs key.now }
     ensures rest { map.new.pairs ≡ without_key (slice_cmp nat_cmp) map.old.pairs key.now }
-    ensures same { result ≡ None → map.new ≡ map.old }
+    ensures unchanged { result ≡ None → map.new ≡ map.old }
 {
     map.remove(key)
 }

@@ -6,7 +6,7 @@ ghost use Rattle.std.specs.Prelude.{◌≡◌, ◌≢◌, ◌≤◌, Some, None,
 ghost use Rattle.std.specs.Cmp.Lexicographic.{slice_cmp};
 ghost use Rattle.std.specs.Option.{option_copied, option_map};
 ghost use Rattle.std.specs.Ordering.{nat_cmp};
-ghost use Rattle.indexset_core.specs.Nodes.{joined, node_lengths, vec_items};
+ghost use Rattle.indexset_core.specs.Nodes.{concat, node_lengths, vec_items};
 ghost use Rattle.indexset_core.specs.Pairs.{by_key, entry_of, key_rank, pair, value_of};
 ghost use Rattle.indexset_log.specs.Changed.{Changed, key_removal, put_change, refusal_of};
 ghost use Rattle.indexset_ffi.specs.Cursors.{cursor_position};
@@ -61,7 +61,7 @@ impl TextLog {
 
     /// Returns how many pairs there are.
     pub fn len(&self) -> usize
-        ensures { result ≡ length (joined self.now.tree.nodes) }
+        ensures { result ≡ length (concat self.now.tree.nodes) }
     {
         self.tree.len()
     }
@@ -82,14 +82,14 @@ impl TextLog {
 
     /// Returns the value of a key, or `None` where it is not there.
     pub fn get(&self, key: &[u8]) -> Option<u64>
-        ensures { result ≡ value_of (slice_cmp nat_cmp) (joined self.now.tree.nodes) key.now }
+        ensures { result ≡ value_of (slice_cmp nat_cmp) (concat self.now.tree.nodes) key.now }
     {
         Some(self.tree.get(key)?.value)
     }
 
     /// Returns how many keys are below a key.
     pub fn rank(&self, key: &[u8]) -> usize
-        ensures { result ≡ key_rank (slice_cmp nat_cmp) (joined self.now.tree.nodes) key.now }
+        ensures { result ≡ key_rank (slice_cmp nat_cmp) (concat self.now.tree.nodes) key.now }
     {
         self.tree.rank(key)
     }
@@ -97,7 +97,7 @@ impl TextLog {
     /// Returns how many keys are not above a key.
     pub fn count_up_to(&self, key: &[u8]) -> usize
         ensures { result
-            ≡ key_count_up_to (slice_cmp nat_cmp) (joined self.now.tree.nodes) key.now }
+            ≡ key_count_up_to (slice_cmp nat_cmp) (concat self.now.tree.nodes) key.now }
     {
         self.tree.range(..=key).len()
     }
@@ -105,14 +105,14 @@ impl TextLog {
     /// Returns the pair at a position, counted from 0, or `None` past the end.
     pub fn get_index(&self, i: usize) -> Option<(&Text, &u64)>
         ensures { option_map (λ p. (p.0.now, p.1.now)) result
-            ≡ option_map entry_of (slice_get (joined self.now.tree.nodes) i) }
+            ≡ option_map entry_of (slice_get (concat self.now.tree.nodes) i) }
     {
         self.tree.get_index(i)
     }
 
     /// Returns the pairs from a position on, in order.
     pub fn range_from(&self, from: usize) -> TextLogRange<'_>
-        ensures { result ≡ drop from (joined self.now.tree.nodes) }
+        ensures { result ≡ drop from (concat self.now.tree.nodes) }
     {
         self.tree
             .range_idx((Bound::Included(from), Bound::Unbounded))
@@ -128,7 +128,7 @@ impl TextLog {
     /// Returns a cursor at the first pair whose key is not below `from`, or at the end.
     pub fn cursor_from(&self, from: &[u8]) -> Cursor
         ensures { cursor_position (node_lengths self.now.tree.nodes) result
-            ≡ key_rank (slice_cmp nat_cmp) (joined self.now.tree.nodes) from.now }
+            ≡ key_rank (slice_cmp nat_cmp) (concat self.now.tree.nodes) from.now }
     {
         // Says that the keys ascend, and that no node is empty.
         let _count = self.tree.node_count();
@@ -138,7 +138,7 @@ impl TextLog {
     /// Returns a cursor at a position, or at the end.
     pub fn cursor_at(&self, position: usize) -> Cursor
         ensures { cursor_position (node_lengths self.now.tree.nodes) result
-            ≡ min position (length (joined self.now.tree.nodes)) }
+            ≡ min position (length (concat self.now.tree.nodes)) }
     {
         match self.get_index(position) {
             Some((key, _)) => {
@@ -153,7 +153,7 @@ impl TextLog {
     /// are copied. A failed call changes nothing, the changes told before included.
     pub fn insert(&mut self, alloc: Global, key: &[u8], value: u64) -> Result<Option<u64>, Refusal>
         ensures before { IfOk result (λ r. r
-            ≡ value_of (slice_cmp nat_cmp) (joined self.old.tree.nodes) key.now) }
+            ≡ value_of (slice_cmp nat_cmp) (concat self.old.tree.nodes) key.now) }
         ensures ok { OnOk result (self.new ≡ after self.old.tree
             (put_change (by_key (slice_cmp nat_cmp)) self.old.tree (pair key.now value))) }
         ensures changed { OnOk result (Changed (by_key (slice_cmp nat_cmp)) self.old.tree
@@ -179,7 +179,7 @@ impl TextLog {
     /// the changes told before included, nor does it where the call fails.
     pub fn remove(&mut self, key: &[u8]) -> Result<Option<u64>, Refusal>
         ensures found { IfOk result (λ r. r
-            ≡ value_of (slice_cmp nat_cmp) (joined self.old.tree.nodes) key.now) }
+            ≡ value_of (slice_cmp nat_cmp) (concat self.old.tree.nodes) key.now) }
         ensures absent { IfOk result (λ r. r ≡ None → self.new ≡ self.old) }
         ensures ok { IfOk result (λ r. r ≢ None → self.new ≡ after self.old.tree
             (key_removal (slice_cmp nat_cmp) self.old.tree key.now)) }
@@ -188,7 +188,7 @@ impl TextLog {
             (key_removal (slice_cmp nat_cmp) self.old.tree key.now)) }
         ensures refusal { IfErr result (λ e. e ≡ refusal_of self.old.tree
             (key_removal (slice_cmp nat_cmp) self.old.tree key.now)) }
-        ensures no_event { value_of (slice_cmp nat_cmp) (joined self.old.tree.nodes) key.now ≡ None
+        ensures no_event { value_of (slice_cmp nat_cmp) (concat self.old.tree.nodes) key.now ≡ None
             → IsOk result }
         ensures unchanged { OnErr result (self.new ≡ self.old) }
     {

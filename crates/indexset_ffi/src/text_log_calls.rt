@@ -1,6 +1,6 @@
 //! What the calls of a logged map from byte strings write into a caller's slices.
 ghost use Rattle.std.specs.Prelude.{◌≡◌, length, min, take};
-ghost use Rattle.indexset_core.specs.Nodes.{joined};
+ghost use Rattle.indexset_core.specs.Nodes.{concat};
 ghost use Rattle.indexset_core.specs.Pairs.{pair_keys, pair_values};
 ghost use Rattle.indexset_ffi.specs.Elements.{written};
 ghost use Rattle.indexset_ffi.specs.Text.{key_lengths, written_over};
@@ -31,7 +31,7 @@ pub fn write_values(mut walk: TextLogRange<'_>, values: &mut [u64]) -> usize
 pub fn write_keys(mut walk: TextLogRange<'_>, bytes: &mut [u8], lengths: &mut [usize]) -> usize
     ensures count { result ≡ min (length walk.entry) (length lengths.old) }
     ensures lengths { lengths.new ≡ written result (key_lengths walk.entry) lengths.old }
-    ensures bytes { bytes.new ≡ written_over (joined (take result (pair_keys walk.entry)))
+    ensures bytes { bytes.new ≡ written_over (concat (take result (pair_keys walk.entry)))
         bytes.old }
 {
     let room = lengths.len();

@@ -6,14 +6,14 @@ use Rattle.std.specs.List.{find}
 use Rattle.std.specs.Prelude.{IfSome}
 use Rattle.std.specs.Option.{option_map_or}
 use Rattle.std.specs.Ordering.{is_lt}
-use Rattle.indexset_core.specs.Nodes.{joined, node_at}
+use Rattle.indexset_core.specs.Nodes.{concat, node_at}
 use Rattle.indexset_core.specs.Order.{equal_element, has_equal, rank}
 use Rattle.indexset_core.specs.Pairs.{by_key}
 use Rattle.indexset_core.specs.declared.pair.Pair.{Pair}
-use Rattle.indexset_events.specs.Joining.{item_removed, join_after}
+use Rattle.indexset_events.specs.Merging.{item_removed, merge_after}
 use Rattle.indexset_events.specs.Keys.{key_removal_events}
 use Rattle.indexset_events.specs.Nodes.{is_filled, last_of}
-use Rattle.indexset_events.specs.Table.{half_of, halving_events, is_past, joining_event, node_events, part_for, put_events, removal_by, replace_events, taking_events, target, target_events}
+use Rattle.indexset_events.specs.Table.{half_of, halving_events, is_after_last, merge_event, node_events, part_for, put_events, removal_by, replace_events, place_removal_events, target, target_events}
 use Rattle.indexset_events.specs.declared.change.ChangeEventUnassigned.{ChangeEventUnassigned}
 use Rattle.indexset_events.specs.declared.change.ChangeEventUnassigned.TheVariants.{InsertAt, RemoveAt, CreateNode, RemoveNode, SplitNode, MergeNodes}
 use Rattle.indexset_events.proofs.CallerLemmas.{Each, each-append, each-left, each-right}
@@ -55,9 +55,9 @@ module _ {X : Type 0} (Q : X → Type 0) where
       at true rest = h.0
       at false rest = rest
 
-  pub each_apart : (xss : List (List X)) → Each Q (joined xss) → Each (Each Q) xss
+  pub each_apart : (xss : List (List X)) → Each Q (concat xss) → Each (Each Q) xss
   each_apart [] h = tt
-  each_apart (xs ∷ xss) h = (each-left Q xs (joined xss) h, each_apart xss (each-right Q xs (joined xss) h))
+  each_apart (xs ∷ xss) h = (each-left Q xs (concat xss) h, each_apart xss (each-right Q xs (concat xss) h))
 
 half_small : (n : ℕ) → n < 2 ^ 64 → n / 2 < 2 ^ 64
 half_small n small = omega (arith, small)
@@ -128,18 +128,18 @@ module _ {T : Type 0} (cmp : T → T → Ordering) (texts : Texts T) where
     target_fit : (size : ℕ) (n : List (Pair T T)) → Fit texts n → Each (PlainFits texts) (target_events (order cmp) size n v)
     unfolding target_events
     target_fit size n fit =
-        let part : Fit texts (part_for (order cmp) size n v) = (omega (arith, fit.0, half_length (length n == size) (is_past (order cmp) (take (length n / 2) n) v) n), each_half (PairFits texts) (length n == size) (is_past (order cmp) (take (length n / 2) n) v) n fit.1) in
+        let part : Fit texts (part_for (order cmp) size n v) = (omega (arith, fit.0, half_length (length n == size) (is_after_last (order cmp) (take (length n / 2) n) v) n), each_half (PairFits texts) (length n == size) (is_after_last (order cmp) (take (length n / 2) n) v) n fit.1) in
         each-append (PlainFits texts) (halving_events size n v) (node_events (order cmp) (part_for (order cmp) size n v) v) (halving_fit size n fit) (node_fit (part_for (order cmp) size n v) part)
 
   -- ---- nodes
 
   module _ (size : ℕ) (few : size < 2 ^ 64) where
-    at_fit : (ns : List (List (Pair T T))) (k : ℕ) → Each (λ n. length n ≤ size) ns → Each (PairFits texts) (joined ns) → Fit texts (node_at ns k)
+    at_fit : (ns : List (List (Pair T T))) (k : ℕ) → Each (λ n. length n ≤ size) ns → Each (PairFits texts) (concat ns) → Fit texts (node_at ns k)
     at_fit [] k small held = (omega arith, tt)
-    at_fit (n ∷ ns) zero small held = (omega (arith, small.0, few), each-left (PairFits texts) n (joined ns) held)
-    at_fit (n ∷ ns) (suc k) small held = at_fit ns k small.1 (each-right (PairFits texts) n (joined ns) held)
+    at_fit (n ∷ ns) zero small held = (omega (arith, small.0, few), each-left (PairFits texts) n (concat ns) held)
+    at_fit (n ∷ ns) (suc k) small held = at_fit ns k small.1 (each-right (PairFits texts) n (concat ns) held)
 
-    module _ (ns : List (List (Pair T T))) (small : Each (λ n. length n ≤ size) ns) (held : Each (PairFits texts) (joined ns)) where
+    module _ (ns : List (List (Pair T T))) (small : Each (λ n. length n ≤ size) ns) (held : Each (PairFits texts) (concat ns)) where
       pub put_fit : (v : Pair T T) → PairFits texts v → Each (PlainFits texts) (put_events (order cmp) size ns v)
       unfolding put_events
       put_fit v new = at (is_filled ns)
@@ -159,8 +159,8 @@ module _ {T : Type 0} (cmp : T → T → Ordering) (texts : Texts T) where
           at true = each_removed (Each (PairFits texts)) ns k apart
           at false = each_set (Each (PairFits texts)) ns k (remove (node_at ns k) i) apart (each_removed (PairFits texts) (node_at ns k) i (each_got (Each (PairFits texts)) ns k [] apart tt))
 
-      taking_fit : (k i : ℕ) (x : Pair T T) → PairFits texts x → i < 2 ^ 64 → Each (PlainFits texts) (taking_events size ns k i x)
-      taking_fit k i x gone less = (one (length n == 1), two (join_after size ns k i))
+      taking_fit : (k i : ℕ) (x : Pair T T) → PairFits texts x → i < 2 ^ 64 → Each (PlainFits texts) (place_removal_events size ns k i x)
+      taking_fit k i x gone less = (one (length n == 1), two (merge_after size ns k i))
         where
           n : List (Pair T T)
           n = node_at ns k
@@ -172,7 +172,7 @@ module _ {T : Type 0} (cmp : T → T → Ordering) (texts : Texts T) where
           name : (j : ℕ) → PairFits texts (last_of (node_at (item_removed ns k i) j) x)
           name j = each_last_or (PairFits texts) (node_at (item_removed ns k i) j) x (each_got (Each (PairFits texts)) (item_removed ns k i) j [] (left_fit k i) tt) gone
 
-          two : (o : Option ℕ) → Each (PlainFits texts) (option_map_or (λ j. joining_event (item_removed ns k i) x j ∷ []) o [])
+          two : (o : Option ℕ) → Each (PlainFits texts) (option_map_or (λ j. merge_event (item_removed ns k i) x j ∷ []) o [])
           two None = tt
           two (Some j) = ((name j, name (j + 1)), tt)
 
@@ -198,6 +198,6 @@ module _ {T : Type 0} (cmp : T → T → Ordering) (texts : Texts T) where
           place_small : i < 2 ^ 64
           place_small = omega (arith, fit.0, count_by-le-length (λ x. is_lt (by x key)) n)
 
-          at : (o : Option (Pair T T)) → IfSome o (PairFits texts) → Each (PlainFits texts) (option_map_or (λ x. taking_events size ns k i x) o [])
+          at : (o : Option (Pair T T)) → IfSome o (PairFits texts) → Each (PlainFits texts) (option_map_or (λ x. place_removal_events size ns k i x) o [])
           at None h = tt
           at (Some x) h = taking_fit k i x h place_small

@@ -7,7 +7,7 @@ use Rattle.indexset_bench.specs.Pairs.{PairTree, pair_events, pairs_after, told_
 use Rattle.indexset_bench.specs.Told.{nodes_after, tree_after}
 use Rattle.indexset_bench.specs.declared.pair_command.PairCommand.{PairCommand}
 use Rattle.indexset_bench.specs.declared.pair_command.PairCommand.TheVariants.{Put, Cut, Nodes}
-use Rattle.indexset_core.specs.Nodes.{joined, IsLawful}
+use Rattle.indexset_core.specs.Nodes.{concat, IsLawful}
 use Rattle.indexset_core.specs.Pairs.{by_key, pair}
 use Rattle.indexset_core.specs.declared.pair.Pair.{Pair}
 use Rattle.indexset_core.proofs.CallerLemmas.{pairs_total}
@@ -45,7 +45,7 @@ module _ {T : Type 0} (cmp : T → T → Ordering) (texts : Texts T) where
     pub two : 2 ≤ t.size
     pub few : t.size < 2 ^ 64
     pub lawful : IsLawful (order cmp) t.size t.nodes
-    pub held : Each (PairFits texts) (joined t.nodes)
+    pub held : Each (PairFits texts) (concat t.nodes)
 
   -- the events lead from what is held to what is held after them, which has the number after theirs
   pub record Onward (t after : PairTree T) (es : List (Event T)) : Type 0 where
@@ -59,7 +59,7 @@ module _ {T : Type 0} (cmp : T → T → Ordering) (texts : Texts T) where
   tree_onward t g es l plain =
       let made : nodes_after (order cmp) t.nodes t.next es ≡ l.after = ap (λ o. unwrap_or o t.nodes) l.replayed in
       record {
-        good = record { two = g.two; few = g.few; lawful = subst (IsLawful (order cmp) t.size) (sym made) l.lawful; held = subst (λ q. Each (PairFits texts) (joined q)) (sym made) l.kept };
+        good = record { two = g.two; few = g.few; lawful = subst (IsLawful (order cmp) t.size) (sym made) l.lawful; held = subst (λ q. Each (PairFits texts) (concat q)) (sym made) l.kept };
         replayed = l.replayed ∙ ap Some (sym made);
         next = omega (arith, length-numbered t.next es);
         numbered = numbered_is t.next es;

@@ -16,7 +16,7 @@ use Rattle.indexset_bench.specs.declared.reply.Reply.TheVariants.{New, OldValue,
 use Rattle.indexset_bench.specs.Pairs.{PairTree, change_reply}
 use Rattle.indexset_bench.specs.declared.pair_command.PairCommand.{PairCommand}
 use Rattle.indexset_bench.specs.declared.pair_command.PairCommand.TheVariants.{Put, Cut, Nodes}
-use Rattle.indexset_core.specs.Nodes.{joined}
+use Rattle.indexset_core.specs.Nodes.{concat}
 use Rattle.indexset_core.specs.Pairs.{value_of}
 use Rattle.indexset_core.specs.declared.pair.Pair.{Pair}
 use Rattle.indexset_events.proofs.CallerLemmas.{Each}
@@ -78,12 +78,12 @@ module _ {T : Type 0} (cmp : T → T → Ordering) (texts : Texts T) where
 
   -- the reply of a leader to a command
   pub change_passed : (t : PairTree T) (c : PairCommand T) → IsPassedOver cmp texts (reply_text texts (change_reply cmp t c))
-  change_passed t (Put k v) = at (value_of cmp (joined t.nodes) k)
+  change_passed t (Put k v) = at (value_of cmp (concat t.nodes) k)
     where
       at : (o : Option T) → IsPassedOver cmp texts (reply_text texts (option_map_or OldValue o New))
       at None = word_passed (codes "new") (lacks_tested 32 (codes "new") refl) refl
       at (Some w) = old_passed w
-  change_passed t (Cut k) = at (value_of cmp (joined t.nodes) k)
+  change_passed t (Cut k) = at (value_of cmp (concat t.nodes) k)
     where
       at : (o : Option T) → IsPassedOver cmp texts (reply_text texts (option_map_or GoneValue o Nothing))
       at None = word_passed (codes "none") (lacks_tested 32 (codes "none") refl) refl

@@ -13,7 +13,7 @@ use Rattle.indexset_bench.specs.declared.pair_command.PairCommand.{PairCommand}
 use Rattle.indexset_bench.specs.declared.pair_command.PairCommand.TheVariants.{Put, Cut, Nodes}
 use Rattle.indexset_bench.specs.declared.reply.Reply.{Reply}
 use Rattle.indexset_bench.specs.declared.reply.Reply.TheVariants.{New, Old, OldValue, Gone, GoneValue, Yes, No, Count, Item, Nothing, Empty, Bad}
-use Rattle.indexset_core.specs.Nodes.{joined}
+use Rattle.indexset_core.specs.Nodes.{concat}
 use Rattle.indexset_core.specs.Pairs.{pair_of}
 use Rattle.indexset_core.specs.declared.pair.Pair.{Pair}
 use Rattle.indexset_events.specs.declared.change.ChangeEvent.TheVariants as change
@@ -106,12 +106,12 @@ module _ {T : Type 0} (cmp : T → T → Ordering) (texts : Texts T) where
   -- ---- the reply to a command
 
   pub change_fits : (t : PairTree T) → Good cmp texts t → (c : PairCommand T) → ReplyFits texts (change_reply cmp t c)
-  change_fits t g (Put k v) = at (pair_of cmp (joined t.nodes) k) (each_found (PairFits texts) _ (joined t.nodes) g.held)
+  change_fits t g (Put k v) = at (pair_of cmp (concat t.nodes) k) (each_found (PairFits texts) _ (concat t.nodes) g.held)
     where
       at : (o : Option (Pair T T)) → IfSome o (PairFits texts) → ReplyFits texts (option_map_or OldValue (option_map (λ (p : Pair T T). p.value) o) New)
       at None h = tt
       at (Some p) h = h.1
-  change_fits t g (Cut k) = at (pair_of cmp (joined t.nodes) k) (each_found (PairFits texts) _ (joined t.nodes) g.held)
+  change_fits t g (Cut k) = at (pair_of cmp (concat t.nodes) k) (each_found (PairFits texts) _ (concat t.nodes) g.held)
     where
       at : (o : Option (Pair T T)) → IfSome o (PairFits texts) → ReplyFits texts (option_map_or GoneValue (option_map (λ (p : Pair T T). p.value) o) Nothing)
       at None h = tt

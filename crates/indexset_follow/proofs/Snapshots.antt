@@ -15,8 +15,8 @@ use Rattle.indexset_lines.proofs.CallerLemmas.{left_by-append, lines_of-line}
 use Rattle.std.proofs.lemmas.Bool.{eq-eqb, eqb-true}
 use Rattle.indexset_lines.specs.Lines.{HasNoEnd, lines_of}
 use Rattle.indexset_bench.specs.PairText.{ended, lines_for, node_text, pair_text}
-use Rattle.indexset_core.proofs.CallerLemmas.{joined-append}
-use Rattle.indexset_core.specs.Nodes.{IsNodeList, joined}
+use Rattle.indexset_core.proofs.CallerLemmas.{concat-append}
+use Rattle.indexset_core.specs.Nodes.{IsNodeList, concat}
 use Rattle.indexset_core.specs.Pairs.{by_key}
 use Rattle.indexset_core.specs.declared.pair.Pair.{Pair}
 use Rattle.indexset_events.proofs.CallerLemmas.{Each, Ruled, Up, each-left, each-right, nodes_ruled, not_refused, up-between, up-left, up-right, up_true}
@@ -49,9 +49,9 @@ module _ {T : Type 0} (cmp : T → T → Ordering) where
   one_below [] n h = refl
   one_below (x ∷ m) n h = rw (row_below x n h.0) (one_below m n h.1)
 
-  all_below : (done : List (List T)) (n : List T) → Each (λ x. Each (λ y. cmp x y ≡ Less) n) (joined done) → Each (λ m. lies_below cmp m n ≡ true) done
+  all_below : (done : List (List T)) (n : List T) → Each (λ x. Each (λ y. cmp x y ≡ Less) n) (concat done) → Each (λ m. lies_below cmp m n ≡ true) done
   all_below [] n h = tt
-  all_below (m ∷ done) n h = (one_below m n (each-left (λ x. Each (λ y. cmp x y ≡ Less) n) m (joined done) h), all_below done n (each-right (λ x. Each (λ y. cmp x y ≡ Less) n) m (joined done) h))
+  all_below (m ∷ done) n h = (one_below m n (each-left (λ x. Each (λ y. cmp x y ≡ Less) n) m (concat done) h), all_below done n (each-right (λ x. Each (λ y. cmp x y ≡ Less) n) m (concat done) h))
 
   count_all : (done : List (List T)) (n : List T) → Each (λ m. lies_below cmp m n ≡ true) done → attach_index cmp done n ≡ length done
   unfolding attach_index
@@ -69,11 +69,11 @@ module _ {T : Type 0} (cmp : T → T → Ordering) where
 
   -- the node that comes next goes behind the others
   module _ (done rest : List (List T)) (n : List T) (rule : Ruled cmp (done ++ n ∷ rest)) where
-    whole : Up cmp (joined done ++ (n ++ joined rest))
-    whole = subst (Up cmp) (joined-append done (n ∷ rest)) rule.up
+    whole : Up cmp (concat done ++ (n ++ concat rest))
+    whole = subst (Up cmp) (concat-append done (n ∷ rest)) rule.up
 
     below : Each (λ m. lies_below cmp m n ≡ true) done
-    below = all_below done n (front_of n (joined rest) (joined done) (up-between cmp (joined done) (n ++ joined rest) whole))
+    below = all_below done n (front_of n (concat rest) (concat done) (up-between cmp (concat done) (n ++ concat rest) whole))
 
     pub goes_behind : attached cmp done n ≡ done ++ n ∷ []
     goes_behind = ap (λ i. insert done i n) (count_all done n below) ∙ insert_end done n
@@ -81,7 +81,7 @@ module _ {T : Type 0} (cmp : T → T → Ordering) where
     pub fits_behind : attach_refusal cmp (length n) done n ≡ None
     fits_behind =
         let full = (each-right (λ m. is_filled m ≡ true) done (n ∷ rest) rule.filled).0 in
-        let rise = up_true cmp n (up-left cmp n (joined rest) (up-right cmp (joined done) (n ++ joined rest) whole)) in
+        let rise = up_true cmp n (up-left cmp n (concat rest) (up-right cmp (concat done) (n ++ concat rest) whole)) in
         not_refused cmp (length n) done n full (omega arith) rise (all_apart done n below)
 
 module _ {T : Type 0} where

@@ -8,7 +8,7 @@ use Rattle.std.specs.Cmp.{IsTotalOrder, upto}
 use Rattle.std.specs.declared.cmp.Ordering.{Ordering}
 use Rattle.std.specs.declared.cmp.Ordering.TheVariants.{Less, Equal, Greater}
 use Rattle.std.specs.declared.ops.Bound.TheVariants.{Included}
-use Rattle.indexset_core.specs.Bounds.{is_within}
+use Rattle.indexset_core.specs.KeyRange.{is_within}
 use Rattle.indexset_core.specs.Pairs.{by_key, pair}
 use Rattle.indexset_core.specs.declared.pair.Pair.{Pair}
 use Rattle.indexset_core.specs.declared.refusal.Refusal.{Refusal}
@@ -16,8 +16,8 @@ use Rattle.indexset_core.specs.declared.refusal.Refusal.TheVariants.{Gap, Memory
 use Rattle.indexset_events.specs.Replay.{event_number, step, unassigned}
 use Rattle.indexset_replica.specs.Delivery.{delivered}
 use Rattle.indexset_replica.specs.Replica.{apply_refusal, misfit}
-use Rattle.indexset_replica.specs.declared.lookup.Turn.{Turn}
-use Rattle.indexset_replica.specs.declared.lookup.Turn.TheVariants.{Next, Had, Missing}
+use Rattle.indexset_replica.specs.declared.lookup.Delivery.{Delivery}
+use Rattle.indexset_replica.specs.declared.lookup.Delivery.TheVariants.{Next, Had, Missing}
 use Rattle.indexset_follow.specs.EventLine.{Event}
 use Rattle.indexset_follow.specs.Copy.{Copy}
 use Rattle.indexset_follow.specs.Early.{EarlyEvents, Taken, caught_up, copy_after, taken}
@@ -42,7 +42,7 @@ turn_next false true e = absurd (cc)
 turn_next false false e = absurd (cc)
 
 module _ {T : Type 0} where
-  abbrev turn : Copy T → Event T → Turn
+  abbrev turn : Copy T → Event T → Delivery
   turn r e = if event_number e == r.next then Next else if nat_lt (event_number e) r.next then Had else Missing
 
 module _ {T : Type 0} (cmp : T → T → Ordering) where

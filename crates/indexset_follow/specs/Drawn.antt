@@ -4,7 +4,7 @@ use Rattle.indexset_bench.specs.PairText.{event_text}
 use Rattle.indexset_core.specs.Pairs.{by_key}
 use Rattle.indexset_core.specs.declared.pair.Pair.{Pair}
 use Rattle.indexset_events.specs.Replay.{event_number}
-use Rattle.indexset_replica.specs.Delivery.{IsAt, IsFeed}
+use Rattle.indexset_replica.specs.Delivery.{IsAt, IsEventLog}
 use Rattle.indexset_follow.specs.Early.{AscendFrom}
 use Rattle.indexset_follow.specs.EventLine.{Event, event_of}
 use Rattle.indexset_follow.specs.Follow.{State, after_line}
@@ -23,7 +23,7 @@ module _ {T : Type 0} (texts : Texts T) where
 module _ {T : Type 0} (cmp : T → T → Ordering) where
   -- the events are numbered from s on, and lead from these nodes on
   abbrev pub IsFeedOfPairs : ℕ → List (List (Pair T T)) → List (Event T) → Type 0
-  IsFeedOfPairs s ns es = IsFeed (by_key cmp) s ns es
+  IsFeedOfPairs s ns es = IsEventLog (by_key cmp) s ns es
 
   -- the nodes are those that the first k events lead to, and the event after these is awaited
   abbrev pub HoldsFirst : ℕ → List (List (Pair T T)) → List (Event T) → ℕ → State T → Type 0

@@ -5,7 +5,7 @@ use Rattle.std.specs.declared.cmp.Ordering.{Ordering}
 use Rattle.std.specs.declared.ops.Bound.TheVariants.{Included}
 use Rattle.indexset_bench.specs.PairText.{ended, lines_for, node_text, pair_text}
 use Rattle.indexset_bench.specs.Texts.{Texts}
-use Rattle.indexset_core.specs.Nodes.{joined}
+use Rattle.indexset_core.specs.Nodes.{concat}
 use Rattle.indexset_core.specs.Pairs.{entry_of, key_rank, pair, pair_of, pairs_within}
 use Rattle.indexset_core.specs.declared.pair.Pair.{Pair}
 use Rattle.indexset_events.specs.Nodes.{is_filled}
@@ -55,14 +55,14 @@ module _ {T : Type 0} (texts : Texts T) where
 module _ {T : Type 0} (cmp : T → T → Ordering) (texts : Texts T) where
   -- the answer to a read, where d is the greatest number of a command
   abbrev pub query_text : PairNodes T → ℕ → ℕ → Query T → List ℕ
-  query_text ns next d (Get k) = item_text texts (pair_of cmp (joined ns) k)
-  query_text ns next d Len = reply_ended (reply.Count (length (joined ns)))
-  query_text ns next d First = item_text texts (first_item (joined ns))
-  query_text ns next d Last = item_text texts (last_item (joined ns))
-  query_text ns next d (Range a b) = row_text texts (keys_from cmp (joined ns) a b)
-  query_text ns next d (Rank k) = reply_ended (reply.Count (key_rank cmp (joined ns) k))
-  query_text ns next d (At i) = item_text texts (slice_get (joined ns) i)
-  query_text ns next d (Page i n) = row_text texts (page (joined ns) i n)
+  query_text ns next d (Get k) = item_text texts (pair_of cmp (concat ns) k)
+  query_text ns next d Len = reply_ended (reply.Count (length (concat ns)))
+  query_text ns next d First = item_text texts (first_item (concat ns))
+  query_text ns next d Last = item_text texts (last_item (concat ns))
+  query_text ns next d (Range a b) = row_text texts (keys_from cmp (concat ns) a b)
+  query_text ns next d (Rank k) = reply_ended (reply.Count (key_rank cmp (concat ns) k))
+  query_text ns next d (At i) = item_text texts (slice_get (concat ns) i)
+  query_text ns next d (Page i n) = row_text texts (page (concat ns) i n)
   query_text ns next d Nodes = nodes_text texts ns next
   query_text ns next d Next = reply_ended (reply.Next next)
   query_text ns next d (Head m) = reply_ended (head_reply next m)

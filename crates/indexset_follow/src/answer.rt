@@ -19,7 +19,7 @@ use crate::write::{Nodes, write_voiced};
 use indexset_bench::RunFault;
 use indexset_bench::key::Key;
 use indexset_core::refusal::Refusal;
-use indexset_replica::lookup::Turn;
+use indexset_replica::lookup::Delivery;
 use std::alloc::Global;
 use std::io::Write;
 
@@ -76,12 +76,12 @@ fn take_event<T: Key>(
 {
     let next = follower.held.next();
     match follower.held.expects(&event) {
-        Turn::Next => match follower.held.apply(&event) {
+        Delivery::Next => match follower.held.apply(&event) {
             Ok(()) => catch_up(&mut follower.held, &mut follower.early),
             Err(refusal) => reply_unless_memory(refusal, next),
         },
-        Turn::Had => Ok(Reply::Had(next)),
-        Turn::Missing => take_ahead(alloc, follower, event),
+        Delivery::Had => Ok(Reply::Had(next)),
+        Delivery::Missing => take_ahead(alloc, follower, event),
     }
 }
 

@@ -9,7 +9,7 @@ ghost use Rattle.std.specs.Io.KnownBytes.{Appends, Keeps};
 ghost use Rattle.std.specs.List.{between};
 ghost use Rattle.std.specs.Option.{option_map};
 ghost use Rattle.std.specs.Ordering.{is_le};
-ghost use Rattle.indexset_core.specs.Nodes.{joined};
+ghost use Rattle.indexset_core.specs.Nodes.{concat};
 ghost use Rattle.indexset_core.specs.Pairs.{entry_of, key_rank, pair_of};
 ghost use Rattle.indexset_follow.specs.Copy.{body_text, copy, snapshot_text, sum_of, unsummed_text};
 ghost use Rattle.indexset_follow.specs.Reads.{PairNodes, entry_text, head_reply, keys_from, nodes_text, page, query_text, read_reply, row_text};
@@ -42,20 +42,20 @@ pub trait Reads<T: Key> {
     /// Returns a key and its value.
     fn entry(&self, key: &T) -> Option<(&T, &T)>
         ensures { option_map (λ e. (e.0.now, e.1.now)) result
-            ≡ option_map entry_of (pair_of T.cmp (joined (nodes self.now)) key.now) };
+            ≡ option_map entry_of (pair_of T.cmp (concat (nodes self.now)) key.now) };
 
     /// Returns how many pairs there are.
     fn count(&self) -> usize
-        ensures { result ≡ length (joined (nodes self.now)) };
+        ensures { result ≡ length (concat (nodes self.now)) };
 
     /// Returns the key and the value at a position, counted from 0.
     fn entry_at(&self, position: usize) -> Option<(&T, &T)>
         ensures { option_map (λ e. (e.0.now, e.1.now)) result
-            ≡ option_map entry_of (slice_get (joined (nodes self.now)) position) };
+            ≡ option_map entry_of (slice_get (concat (nodes self.now)) position) };
 
     /// Returns how many keys are below this one.
     fn rank_of(&self, key: &T) -> usize
-        ensures { result ≡ key_rank T.cmp (joined (nodes self.now)) key.now };
+        ensures { result ≡ key_rank T.cmp (concat (nodes self.now)) key.now };
 
     /// Returns the number of the next event.
     fn next_number(&self) -> u64
@@ -82,7 +82,7 @@ pub trait Reads<T: Key> {
     fn write_keys<W: Write>(&self, writer: &mut W, low: &T, high: &T) -> Result<(), RunFault>
         requires { is_le (T.cmp low.now high.now) ≡ true }
         ensures told { OnOk result (Appends (W.contents writer.old) (W.contents writer.new)
-            (row_text T.texts (keys_from T.cmp (joined (nodes self.now)) low.now high.now))) }
+            (row_text T.texts (keys_from T.cmp (concat (nodes self.now)) low.now high.now))) }
         ensures fault { IfErr result (λ fault. fault ≡ RunFault.Write) };
 
     /// Writes the pairs from one position on, before another, in one line.
@@ -93,7 +93,7 @@ pub trait Reads<T: Key> {
         to: usize,
     ) -> Result<(), RunFault>
         ensures told { OnOk result (Appends (W.contents writer.old) (W.contents writer.new)
-            (row_text T.texts (between from to (joined (nodes self.now))))) }
+            (row_text T.texts (between from to (concat (nodes self.now))))) }
         ensures fault { IfErr result (λ fault. fault ≡ RunFault.Write) };
 
     /// Writes the nodes, one a line, and then the next number.
@@ -209,7 +209,7 @@ fn write_range<T: Key, R: Reads<T>, W: Write>(
     high: &T,
 ) -> Result<(), RunFault>
     ensures told { OnOk result (Appends (W.contents writer.old) (W.contents writer.new)
-        (row_text T.texts (keys_from T.cmp (joined (R.nodes map.now)) low.now high.now))) }
+        (row_text T.texts (keys_from T.cmp (concat (R.nodes map.now)) low.now high.now))) }
     ensures fault { IfErr result (λ fault. fault ≡ RunFault.Write) }
 {
     match low.cmp(high) {
@@ -226,7 +226,7 @@ fn write_page<T: Key, R: Reads<T>, W: Write>(
     count: usize,
 ) -> Result<(), RunFault>
     ensures told { OnOk result (Appends (W.contents writer.old) (W.contents writer.new)
-        (row_text T.texts (page (joined (R.nodes map.now)) position count))) }
+        (row_text T.texts (page (concat (R.nodes map.now)) position count))) }
     ensures fault { IfErr result (λ fault. fault ≡ RunFault.Write) }
 {
     let end = position.saturating_add(count).min(map.count());

@@ -4,24 +4,24 @@ use Rattle.std.proofs.lemmas.List.FromFn.{fill_by_all}
 use Rattle.std.proofs.lemmas.List.Sums.{sum_by-append, sum_by-set, sum_by-take-drop}
 use Rattle.std.proofs.lemmas.List.{length-take, take-append-le, take-take, get_or_append_left, get_or-take, drop-set-lt, take-set-le, get_or-set_same, get_or-set_other, length-set}
 use Rattle.std.proofs.Math.Seq.{get_or-append_seam}
-use Rattle.indexset_index.specs.Fenwick.{lowbit, prefix_sum, cell_of, cell_in, told_sum, told_within, lengths_of, IsFenwickOf, IsFenwick}
+use Rattle.indexset_index.specs.Fenwick.{lowbit, prefix_sum, cell_of, cell_in, cell_sum, cell_sum_within, lengths_of, IsFenwickOf, IsFenwick}
 use Rattle.indexset_index.proofs.LowbitLemmas.{lowbit-pos, lowbit-of_odd, lowbit-of_two, lowbit-of_four, skipped, taken-in}
 use Rattle.indexset_index.proofs.PrefixLemmas.{prefix-cell, prefix-more, prefix-le, prefix-all}
 
-told_sum-is : (cells ls : List ℕ) → IsFenwickOf (cell_in cells) (length cells) ls → (f k : ℕ) → k ≤ f → k ≤ length ls → told_within f cells k ≡ prefix_sum ls k
-told_sum-is cells ls is zero zero p q = refl
-told_sum-is cells ls is zero (suc k) p q = absurd (omega arith)
-told_sum-is cells ls is (suc f) zero p q = refl
-told_sum-is cells ls is (suc f) (suc k) p q =
+cell_sum-is : (cells ls : List ℕ) → IsFenwickOf (cell_in cells) (length cells) ls → (f k : ℕ) → k ≤ f → k ≤ length ls → cell_sum_within f cells k ≡ prefix_sum ls k
+cell_sum-is cells ls is zero zero p q = refl
+cell_sum-is cells ls is zero (suc k) p q = absurd (omega arith)
+cell_sum-is cells ls is (suc f) zero p q = refl
+cell_sum-is cells ls is (suc f) (suc k) p q =
     let some = lowbit-pos (suc k) (omega arith) in
-    omega (arith, is.count_is, is.each (suc k) (omega arith) (omega (arith, is.count_is)), told_sum-is cells ls is f (suc k - lowbit (suc k)) (omega arith) (omega arith), prefix-cell ls (suc k))
+    omega (arith, is.count_is, is.each (suc k) (omega arith) (omega (arith, is.count_is)), cell_sum-is cells ls is f (suc k - lowbit (suc k)) (omega arith) (omega arith), prefix-cell ls (suc k))
 
 -- the cells tell the lengths
 pub told : (cells ls : List ℕ) → IsFenwickOf (cell_in cells) (length cells) ls → lengths_of cells ≡ ls
 unfolding lengths_of
 told cells ls is =
-    sym (fill_by_all (λ i. told_sum cells (i + 1) - told_sum cells i) ls (length cells) 0 (sym is.count_is)
-    (λ k h. omega (arith, is.count_is, told_sum-is cells ls is (k + 1) (k + 1) (omega arith) (omega (arith, is.count_is)), told_sum-is cells ls is k k (omega arith) (omega (arith, is.count_is)), prefix-more ls k (omega (arith, is.count_is)))))
+    sym (fill_by_all (λ i. cell_sum cells (i + 1) - cell_sum cells i) ls (length cells) 0 (sym is.count_is)
+    (λ k h. omega (arith, is.count_is, cell_sum-is cells ls is (k + 1) (k + 1) (omega arith) (omega (arith, is.count_is)), cell_sum-is cells ls is k k (omega arith) (omega (arith, is.count_is)), prefix-more ls k (omega (arith, is.count_is)))))
 
 pub is_fenwick : (cells ls : List ℕ) → IsFenwickOf (cell_in cells) (length cells) ls → IsFenwick cells
 is_fenwick cells ls is = rw (told cells ls is) is

@@ -35,18 +35,18 @@ abbrev pub cell_in : List ℕ → ℕ → ℕ
 cell_in cells i = slice_index cells (i - 1)
 
 -- the sum of the first k lengths, as the cells tell it; at most f cells are added up
-abbrev pub told_within : ℕ → List ℕ → ℕ → ℕ
-told_within zero cells k = 0
-told_within (suc f) cells zero = 0
-told_within (suc f) cells (suc k) = cell_in cells (suc k) + told_within f cells (suc k - lowbit (suc k))
+abbrev pub cell_sum_within : ℕ → List ℕ → ℕ → ℕ
+cell_sum_within zero cells k = 0
+cell_sum_within (suc f) cells zero = 0
+cell_sum_within (suc f) cells (suc k) = cell_in cells (suc k) + cell_sum_within f cells (suc k - lowbit (suc k))
 
 -- all that it takes are added up
-abbrev pub told_sum : List ℕ → ℕ → ℕ
-told_sum cells k = told_within k cells k
+abbrev pub cell_sum : List ℕ → ℕ → ℕ
+cell_sum cells k = cell_sum_within k cells k
 
 -- the lengths that the cells are of
 unfoldable pub lengths_of : List ℕ → List ℕ
-lengths_of cells = map (λ i. told_sum cells (i + 1) - told_sum cells i) (range_with_len 0 (length cells))
+lengths_of cells = map (λ i. cell_sum cells (i + 1) - cell_sum cells i) (range_with_len 0 (length cells))
 
 -- the cells are those of some lengths
 abbrev pub IsFenwick : List ℕ → Type 0

@@ -5,8 +5,8 @@ ghost use Rattle.indexset_index.specs.Blocks.{block_count, block_sums};
 ghost use Rattle.indexset_index.specs.Fenwick.{prefix_sum};
 
 use crate::fenwick::{Fenwick, length_at};
+use indexset_core::item_iter::NodeItems;
 use indexset_core::refusal::Refusal;
-use indexset_core::walk::ReadNode;
 use std::alloc::Global;
 use std::marker::Model;
 
@@ -35,7 +35,7 @@ impl Blocks {
     }
 
     /// Returns the sums of these nodes.
-    pub fn from_nodes<T, Node, R: ReadNode<T, Node>>(
+    pub fn from_nodes<T, Node, R: NodeItems<T, Node>>(
         alloc: Global,
         nodes: &[Node],
     ) -> Result<Self, Refusal>
@@ -93,7 +93,7 @@ impl Blocks {
     }
 
     /// Writes the sums of these nodes, where there is capacity. It allocates nothing.
-    pub fn rebuild<T, Node, R: ReadNode<T, Node>>(&mut self, nodes: &[Node])
+    pub fn rebuild<T, Node, R: NodeItems<T, Node>>(&mut self, nodes: &[Node])
         requires room { length (block_sums (node_lengths (map R.list nodes.now)))
             ≤ self.old.room }
         requires fits { sum (node_lengths (map R.list nodes.now)) < 2 ^ 64 }
@@ -108,7 +108,7 @@ impl Blocks {
 
     /// Changes the sums for a node that was inserted as node `k` of these, where there is capacity
     /// for a block. It reads two lengths for each block from there on, and allocates nothing.
-    pub fn insert<T, Node, R: ReadNode<T, Node>>(&mut self, k: usize, nodes: &[Node])
+    pub fn insert<T, Node, R: NodeItems<T, Node>>(&mut self, k: usize, nodes: &[Node])
         requires inside { k < length nodes.now }
         requires before { self.old.sums
             ≡ block_sums (remove (node_lengths (map R.list nodes.now)) k) }
@@ -125,7 +125,7 @@ impl Blocks {
 
     /// Changes the sums for node `k` of `n` items, which was removed and left these. It reads two
     /// lengths for each block from there on, and allocates nothing.
-    pub fn remove<T, Node, R: ReadNode<T, Node>>(&mut self, k: usize, n: usize, nodes: &[Node])
+    pub fn remove<T, Node, R: NodeItems<T, Node>>(&mut self, k: usize, n: usize, nodes: &[Node])
         requires inside { k ≤ length nodes.now }
         requires before { self.old.sums
             ≡ block_sums (insert (node_lengths (map R.list nodes.now)) k n) }
@@ -140,7 +140,7 @@ impl Blocks {
 
     /// Returns the sum of the lengths of the first `k` of these nodes: of whole blocks, and of at
     /// most 31 nodes.
-    pub fn prefix<T, Node, R: ReadNode<T, Node>>(&self, k: usize, nodes: &[Node]) -> usize
+    pub fn prefix<T, Node, R: NodeItems<T, Node>>(&self, k: usize, nodes: &[Node]) -> usize
         requires sums { self.now.sums ≡ block_sums (node_lengths (map R.list nodes.now)) }
         requires within { k ≤ length nodes.now }
         ensures { result ≡ prefix_sum (node_lengths (map R.list nodes.now)) k }
@@ -153,7 +153,7 @@ impl Blocks {
 
     /// Returns the node of a position among these, and the offset in it, or `None` past the end: a
     /// search of the blocks, and of at most 32 nodes.
-    pub fn find<T, Node, R: ReadNode<T, Node>>(
+    pub fn find<T, Node, R: NodeItems<T, Node>>(
         &self,
         position: usize,
         nodes: &[Node],
@@ -170,7 +170,7 @@ impl Blocks {
 }
 
 // Returns the sum of a block of these nodes.
-fn sum_of_block<T, Node, R: ReadNode<T, Node>>(nodes: &[Node], block: usize) -> usize
+fn sum_of_block<T, Node, R: NodeItems<T, Node>>(nodes: &[Node], block: usize) -> usize
     requires block { block < block_count (length nodes.now) }
     requires fits { sum (node_lengths (map R.list nodes.now)) < 2 ^ 64 }
     ensures { result ≡ slice_index (block_sums (node_lengths (map R.list nodes.now))) block }
@@ -181,7 +181,7 @@ fn sum_of_block<T, Node, R: ReadNode<T, Node>>(nodes: &[Node], block: usize) -> 
 }
 
 // Returns the sum of the lengths of these nodes from one to before another.
-fn sum_between<T, Node, R: ReadNode<T, Node>>(nodes: &[Node], start: usize, end: usize) -> usize
+fn sum_between<T, Node, R: NodeItems<T, Node>>(nodes: &[Node], start: usize, end: usize) -> usize
     requires order { start ≤ end }
     requires within { end ≤ length nodes.now }
     requires fits { sum (node_lengths (map R.list nodes.now)) < 2 ^ 64 }
@@ -196,7 +196,7 @@ fn sum_between<T, Node, R: ReadNode<T, Node>>(nodes: &[Node], start: usize, end:
 }
 
 // Returns the node of a position that stands in these past the first `start`, and the offset in it.
-fn find_from<T, Node, R: ReadNode<T, Node>>(
+fn find_from<T, Node, R: NodeItems<T, Node>>(
     nodes: &[Node],
     start: usize,
     position: usize,

@@ -9,8 +9,8 @@ mod shift;
 pub mod sums;
 mod table;
 
+use indexset_core::item_iter::NodeItems;
 use indexset_core::refusal::Refusal;
-use indexset_core::walk::ReadNode;
 use std::alloc::Global;
 use std::marker::Model;
 
@@ -142,7 +142,7 @@ impl Fenwick {
     }
 
     /// Writes the lengths of these nodes, where there is capacity. It allocates nothing.
-    pub fn rebuild<T, Node, R: ReadNode<T, Node>>(&mut self, nodes: &[Node])
+    pub fn rebuild<T, Node, R: NodeItems<T, Node>>(&mut self, nodes: &[Node])
         requires room { length nodes.now ≤ self.old.room }
         requires fits { sum (node_lengths (map R.list nodes.now)) < 2 ^ 64 }
         ensures lengths { self.new.lengths ≡ node_lengths (map R.list nodes.now) }
@@ -153,7 +153,7 @@ impl Fenwick {
 
     /// Writes the lengths of these nodes, of which the first `k` are there already. It allocates
     /// nothing.
-    pub fn rebuild_from<T, Node, R: ReadNode<T, Node>>(&mut self, k: usize, nodes: &[Node])
+    pub fn rebuild_from<T, Node, R: NodeItems<T, Node>>(&mut self, k: usize, nodes: &[Node])
         requires same { take k self.old.lengths ≡ take k (node_lengths (map R.list nodes.now)) }
         requires within { k ≤ length nodes.now }
         requires room { length nodes.now ≤ self.old.room }
@@ -168,13 +168,13 @@ impl Fenwick {
     }
 
     // Appends the lengths of the next four nodes, or of one where four do not begin or are not left.
-    fn push_next<T, Node, R: ReadNode<T, Node>>(&mut self, nodes: &[Node])
+    fn push_next<T, Node, R: NodeItems<T, Node>>(&mut self, nodes: &[Node])
         requires same { self.old.lengths
             ≡ take (length self.old.lengths) (node_lengths (map R.list nodes.now)) }
         requires left { length self.old.lengths < length nodes.now }
         requires room { length nodes.now ≤ self.old.room }
         requires fits { sum (node_lengths (map R.list nodes.now)) < 2 ^ 64 }
-        ensures same { self.new.lengths
+        ensures lengths_of_nodes { self.new.lengths
             ≡ take (length self.new.lengths) (node_lengths (map R.list nodes.now)) }
         ensures more { length self.old.lengths < length self.new.lengths }
         ensures room { self.new.room ≡ self.old.room }
@@ -212,7 +212,7 @@ impl Fenwick {
 }
 
 /// Returns the length of a node.
-pub(crate) fn length_at<T, Node, R: ReadNode<T, Node>>(nodes: &[Node], i: usize) -> usize
+pub(crate) fn length_at<T, Node, R: NodeItems<T, Node>>(nodes: &[Node], i: usize) -> usize
     requires { i < length nodes.now }
     ensures { result ≡ slice_index (node_lengths (map R.list nodes.now)) i }
 {

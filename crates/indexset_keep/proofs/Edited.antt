@@ -6,15 +6,15 @@ use Rattle.std.specs.Cmp.{IsTotalOrder}
 use Rattle.std.specs.List.{position_or_len, splice}
 use Rattle.std.specs.Option.{option_and_then, option_map}
 use Rattle.std.specs.Ordering.{is_eq}
-use Rattle.indexset_core.specs.Nodes.{IsNodeList, joined, node_at}
+use Rattle.indexset_core.specs.Nodes.{IsNodeList, concat, node_at}
 use Rattle.indexset_core.specs.declared.pair.Pair.{Pair}
 use Rattle.indexset_core.proofs.CallerLemmas.{pairs_total}
 use Rattle.indexset_events.specs.Attach.{attach_index, attach_refusal, attached}
-use Rattle.indexset_events.specs.Joining.{with_joined}
+use Rattle.indexset_events.specs.Merging.{with_merged}
 use Rattle.indexset_events.specs.Nodes.{are_nodes, last_of}
 use Rattle.indexset_events.specs.Replay.{edit, node_named, reaches, step, step_plain, unassigned}
 use Rattle.indexset_events.specs.declared.change.ChangeEvent.TheVariants.{InsertAt, RemoveAt, CreateNode, RemoveNode, SplitNode, MergeNodes}
-use Rattle.indexset_events.proofs.Attaches.{good}
+use Rattle.indexset_events.proofs.AttachLemmas.{good}
 use Rattle.indexset_events.proofs.CallerLemmas.{Each, attaches_node, each-append, each-left, each-right, last_answer, nodes_ruled, ruled_nodes, tested_ruled}
 use Rattle.indexset_follow.specs.EventLine.{Event, EventFits}
 use Rattle.indexset_bench.specs.Texts.{PairFits, Texts}
@@ -37,9 +37,9 @@ module _ {X : Type 0} (Q : X → Type 0) where
   each_fewer : (xs : List X) (k : ℕ) → Each Q xs → Each Q (remove xs k)
   each_fewer xs k h = each-append Q (take k xs) (drop (suc k) xs) (each_front k xs h) (each_back (suc k) xs h)
 
-  pub each_together : (xss : List (List X)) → Each (Each Q) xss → Each Q (joined xss)
+  pub each_together : (xss : List (List X)) → Each (Each Q) xss → Each Q (concat xss)
   each_together [] h = tt
-  each_together (xs ∷ xss) h = each-append Q xs (joined xss) h.0 (each_together xss h.1)
+  each_together (xs ∷ xss) h = each-append Q xs (concat xss) h.0 (each_together xss h.1)
 
 -- ---- nodes
 
@@ -77,12 +77,12 @@ module _ {T : Type 0} (cmp : T → T → Ordering) (texts : Texts T) where
     named_fit None f made = tt
     named_fit (Some p) f made = parts_fit p (f (node_at ns p)) (made (node_at ns p) (node_fits texts ns p h))
 
-    merged_fit : (first second : Option ℕ) → IfSome (option_and_then (λ p. option_and_then (λ q. if q == p + 1 then Some (with_joined ns p) else None) second) first) (NodesFit texts)
+    merged_fit : (first second : Option ℕ) → IfSome (option_and_then (λ p. option_and_then (λ q. if q == p + 1 then Some (with_merged ns p) else None) second) first) (NodesFit texts)
     merged_fit None second = tt
     merged_fit (Some p) None = tt
     merged_fit (Some p) (Some q) =
         let both = each-append (PairFits texts) (node_at ns p) (node_at ns (p + 1)) (node_fits texts ns p h) (node_fits texts ns (p + 1) h) in
-        tested_fit texts (q == p + 1) (with_joined ns p) (spliced_fit p (p + 2) ((node_at ns p ++ node_at ns (p + 1)) ∷ []) (both, tt))
+        tested_fit texts (q == p + 1) (with_merged ns p) (spliced_fit p (p + 2) ((node_at ns p ++ node_at ns (p + 1)) ∷ []) (both, tt))
 
     edited_fit : (e : Event T) → EventFits texts e → IfSome (edit (order cmp) ns (unassigned e)) (NodesFit texts)
     edited_fit (InsertAt id m v i) fit =

@@ -20,7 +20,7 @@ use Rattle.indexset_events.specs.Spelling.Laws.{none_some, some_inj, then_some}
 use Rattle.indexset_events.proofs.CallerLemmas.{Ruled, nodes_ruled, tested_ruled}
 use Rattle.indexset_replica.specs.Delivery.{delivered}
 use Rattle.indexset_replica.specs.Replica.{apply_refusal}
-use Rattle.indexset_replica.proofs.ReplicaSteps.{refusal_law}
+use Rattle.indexset_replica.proofs.StepLemmas.{refusal_law}
 use Rattle.indexset_follow.specs.Copy.{Copy, copy, unsummed_text}
 use Rattle.indexset_follow.specs.Early.{EarlyEvents, caught_up, consecutive, copy_after, first_number, taken, with_early}
 use Rattle.indexset_follow.specs.EventLine.{Event, EventFits, event_of}

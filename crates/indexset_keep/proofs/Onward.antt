@@ -11,7 +11,7 @@ use Rattle.indexset_lines.specs.Lines.{whole_lines}
 use Rattle.indexset_bench.specs.PairCommand.{CommandFits}
 use Rattle.indexset_bench.specs.PairText.{event_text}
 use Rattle.indexset_bench.specs.Pairs.{PairTree, pairs_after, told_events}
-use Rattle.indexset_core.specs.Nodes.{joined}
+use Rattle.indexset_core.specs.Nodes.{concat}
 use Rattle.indexset_events.specs.Replay.{replay}
 use Rattle.indexset_events.specs.Spelling.Laws.{some_inj}
 use Rattle.indexset_events.proofs.CallerLemmas.{Each, all_each, each_all, none_lawful}
@@ -54,10 +54,10 @@ module _ {T : Type 0} (cmp : T → T → Ordering) (texts : Texts T) where
   -- ---- a sound leader
 
   pub good : (l : Leader T) → IsSound cmp texts l → Good cmp texts l.pairs
-  good l s = record { two = s.two; few = s.few; lawful = s.lawful; held = all_each (PairFits texts) (joined l.pairs.nodes) s.fits }
+  good l s = record { two = s.two; few = s.few; lawful = s.lawful; held = all_each (PairFits texts) (concat l.pairs.nodes) s.fits }
 
   sound : (l : Leader T) → Good cmp texts l.pairs → l.done < 2 ^ 64 → IsSound cmp texts l
-  sound l g known = record { two = g.two; few = g.few; lawful = g.lawful; fits = each_all (PairFits texts) (joined l.pairs.nodes) g.held; done = known }
+  sound l g known = record { two = g.two; few = g.few; lawful = g.lawful; fits = each_all (PairFits texts) (concat l.pairs.nodes) g.held; done = known }
 
   pub begins : (size : ℕ) → 2 ≤ size → size < 2 ^ 64 → IsSound cmp texts (leader_of (fresh size) 0)
   begins size two few = sound (leader_of (fresh size) 0) (record { two = two; few = few; lawful = none_lawful (order cmp) size; held = tt }) (omega arith)

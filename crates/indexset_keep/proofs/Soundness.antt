@@ -11,7 +11,7 @@ use Rattle.std.specs.Prelude.{is_none, nat_le, nat_lt, unwrap_or}
 use Rattle.indexset_lines.specs.Lines.{IsWhole, lines_of, whole_lines}
 use Rattle.indexset_lines.specs.Run.{left_by}
 use Rattle.indexset_lines.proofs.Lines.{IsWhole-end, whole_lines-append}
-use Rattle.indexset_core.specs.Nodes.{joined}
+use Rattle.indexset_core.specs.Nodes.{concat}
 use Rattle.indexset_core.specs.Order.{above, below, put}
 use Rattle.indexset_core.specs.Pairs.{by_key, has_key, pair, put_value, set_value, valued, set_found}
 use Rattle.indexset_core.specs.declared.pair.Pair.{Pair}
@@ -62,10 +62,10 @@ module _ {T : Type 0} (cmp : T → T → Ordering) (texts : Texts T) where
 
   -- what the proof of an edit asks of the nodes
   copy_nodes : (c : Copy T) → IsSoundCopy cmp texts c → SoundNodes cmp texts c.nodes
-  copy_nodes c s = record { nodes = s.nodes; fit = each_apart (PairFits texts) c.nodes (all_each (PairFits texts) (joined c.nodes) s.fits) }
+  copy_nodes c s = record { nodes = s.nodes; fit = each_apart (PairFits texts) c.nodes (all_each (PairFits texts) (concat c.nodes) s.fits) }
 
   copy_made : (ns : Nodes T) (n : ℕ) → SoundNodes cmp texts ns → n < 2 ^ 64 → IsSoundCopy cmp texts (copy ns n)
-  copy_made ns n s small = record { nodes = s.nodes; fits = each_all (PairFits texts) (joined ns) (each_together (PairFits texts) ns s.fit); next = small }
+  copy_made ns n s small = record { nodes = s.nodes; fits = each_all (PairFits texts) (concat ns) (each_together (PairFits texts) ns s.fit); next = small }
 
   no_nodes : (n : ℕ) → n < 2 ^ 64 → IsSoundCopy cmp texts (copy [] n)
   no_nodes n small = record { nodes = (none_lawful (order cmp) 2).nodes; fits = All-nil (PairFits texts); next = small }

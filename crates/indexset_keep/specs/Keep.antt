@@ -1,7 +1,7 @@
 -- What a map keeps of its answers, and what a crash leaves of that.
 use Rattle.std.specs.Prelude.{◌≡◌, ◌⊎◌, ◌≤◌, ◌+◌, ◌-◌, ◌/◌, ◌&&◌, ◌||◌, nat_lt, Bool, Option, OnSome, ℕ, List, [], ◌++◌, length}
 use Rattle.std.specs.Io.KnownBytes.{Appends, Consumes, IsAtEnd}
-use Rattle.indexset_core.specs.Nodes.{joined}
+use Rattle.indexset_core.specs.Nodes.{concat}
 use Rattle.indexset_core.specs.declared.pair.Pair.{Pair}
 use Rattle.indexset_lines.specs.Lines.{IsWhole, lines_of, whole_lines}
 use Rattle.indexset_lines.specs.Run.{left_by, replies_to, text_of}
@@ -35,7 +35,7 @@ module _ {T : Type 0} where
   -- the lines are more than 4,096 and than ten for each pair; or, beside one for each node, more than one for twenty pairs, and more than 1,500,000 less one for ten pairs
   abbrev pub is_long : ℕ → List (List (Pair T T)) → Bool
   is_long lines nodes =
-      let pairs = length (joined nodes) in
+      let pairs = length (concat nodes) in
       let events = lines - length nodes in
       (nat_lt 4096 lines && nat_lt pairs (lines / 10)) || (nat_lt (pairs / 20) events && nat_lt 1500000 (events + pairs / 10))
 

@@ -1,7 +1,7 @@
 -- What a leader can hold.
 use Rattle.std.specs.Prelude.{◌<◌, ◌≤◌, ◌^◌}
 use Rattle.std.specs.List.{All}
-use Rattle.indexset_core.specs.Nodes.{IsLawful, joined}
+use Rattle.indexset_core.specs.Nodes.{IsLawful, concat}
 use Rattle.indexset_core.specs.Pairs.{by_key}
 use Rattle.indexset_bench.specs.Texts.{PairFits, Texts}
 use Rattle.indexset_follow.specs.declared.leader.Leader.{Leader}
@@ -13,5 +13,5 @@ module _ {T : Type 0} (cmp : T → T → Ordering) (texts : Texts T) where
     pub two : 2 ≤ l.pairs.size
     pub few : l.pairs.size < 2 ^ 64
     pub lawful : IsLawful (by_key cmp) l.pairs.size l.pairs.nodes
-    pub fits : All (PairFits texts) (joined l.pairs.nodes)
+    pub fits : All (PairFits texts) (concat l.pairs.nodes)
     pub done : l.done < 2 ^ 64

@@ -1,7 +1,7 @@
 -- What a follower can hold that began from nothing, or from what a leader held.
 use Rattle.std.specs.Prelude.{◌<◌, ◌^◌, IfSome}
 use Rattle.std.specs.List.{All}
-use Rattle.indexset_core.specs.Nodes.{IsNodeList, joined}
+use Rattle.indexset_core.specs.Nodes.{IsNodeList, concat}
 use Rattle.indexset_core.specs.Pairs.{by_key}
 use Rattle.indexset_follow.specs.Copy.{Copy}
 use Rattle.indexset_follow.specs.EventLine.{EventFits}
@@ -13,7 +13,7 @@ module _ {T : Type 0} (cmp : T → T → Ordering) (texts : Texts T) where
   -- the nodes are lawful, and the numbers are of 64 bits
   pub record IsSoundCopy (c : Copy T) : Type 0 where
     pub nodes : IsNodeList (by_key cmp) c.nodes
-    pub fits : All (PairFits texts) (joined c.nodes)
+    pub fits : All (PairFits texts) (concat c.nodes)
     pub next : c.next < 2 ^ 64
 
   -- what is held and what is coming are sound, and so are the numbers of early events

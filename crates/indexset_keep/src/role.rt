@@ -1,7 +1,7 @@
 //! What a map holds, whatever its role.
 
 ghost use Rattle.std.specs.Prelude.{◌≡◌, ◌++◌, IfErr, OnOk, length};
-ghost use Rattle.indexset_core.specs.Nodes.{joined};
+ghost use Rattle.indexset_core.specs.Nodes.{concat};
 ghost use Rattle.indexset_follow.specs.Copy.{unsummed_text};
 ghost use Rattle.indexset_journal.specs.Kept.{texts};
 ghost use Rattle.indexset_keep.specs.Roles.{copy_held, done_held, snapshot_of};
@@ -25,7 +25,7 @@ pub fn next_number<T: Key>(role: &Role<T>) -> u64
 
 /// Returns how many pairs there are.
 pub fn pair_count<T: Key>(role: &Role<T>) -> usize
-    ensures { result ≡ length (joined (copy_held role.now).nodes) }
+    ensures { result ≡ length (concat (copy_held role.now).nodes) }
 {
     match role {
         Role::Following(follower) => follower.held.len(),

@@ -4,19 +4,19 @@ use Rattle.std.below.core.specs.declared.int.u64.TheConstants.{MAX}
 use Rattle.std.specs.declared.cmp.Ordering.{Ordering}
 use Rattle.indexset_core.specs.declared.pair.Pair.{Pair}
 use Rattle.indexset_core.specs.declared.refusal.Refusal.{Refusal}
-use Rattle.indexset_core.specs.Nodes.{joined}
+use Rattle.indexset_core.specs.Nodes.{concat}
 use Rattle.indexset_core.specs.Order.{keep, put, without}
 use Rattle.indexset_core.specs.Pairs.{by_key, without_key}
-use Rattle.indexset_events.specs.Clones.{AreIdentical, IsTold}
-use Rattle.indexset_events.specs.Edits.{with_taken}
-use Rattle.indexset_log.specs.Edits.{after_checked_put, after_put, after_removal, after_taken}
+use Rattle.indexset_events.specs.Clones.{AreIdentical, AreTableEvents}
+use Rattle.indexset_events.specs.Edits.{with_removed}
+use Rattle.indexset_log.specs.Edits.{after_checked_put, after_put, after_removal, after_place_removal}
 use Rattle.indexset_events.specs.Ends.{removal_events_at}
 use Rattle.indexset_log.specs.Ends.{after_removal_at}
-use Rattle.indexset_events.specs.Joining.{IsSpaced}
+use Rattle.indexset_events.specs.Merging.{IsDense}
 use Rattle.indexset_events.specs.Keys.{IsPairClone, key_removal_events}
 use Rattle.indexset_log.specs.Keys.{after_key_removal}
 use Rattle.indexset_events.specs.Replay.{IsNumberedFrom, numbered_from, replay}
-use Rattle.indexset_events.specs.Table.{checked_put_events, put_events, removal_events, taking_events}
+use Rattle.indexset_events.specs.Table.{checked_put_events, put_events, removal_events, place_removal_events}
 use Rattle.indexset_log.specs.Tree.{Tree, refusal_for}
 use Rattle.indexset_events.specs.declared.change.ChangeEvent.{ChangeEvent}
 use Rattle.indexset_events.specs.declared.change.ChangeEventUnassigned.{ChangeEventUnassigned}
@@ -30,33 +30,33 @@ pub record Change (T : Type 0) : Type 0 where
 module _ {T : Type 0} (cmp : T → T → Ordering) (t : Tree T) where
   -- a put
   abbrev pub put_change : T → Change T
-  put_change v = record { tree = after_put cmp t v; items = put cmp (joined t.nodes) v; events = put_events cmp t.size t.nodes v }
+  put_change v = record { tree = after_put cmp t v; items = put cmp (concat t.nodes) v; events = put_events cmp t.size t.nodes v }
 
   -- a checked put
   abbrev pub checked_put_change : T → Change T
-  checked_put_change v = record { tree = after_checked_put cmp t v; items = keep cmp (joined t.nodes) v; events = checked_put_events cmp t.size t.nodes v }
+  checked_put_change v = record { tree = after_checked_put cmp t v; items = keep cmp (concat t.nodes) v; events = checked_put_events cmp t.size t.nodes v }
 
   -- the removal of the first item, where there is one
   abbrev pub first_removal : Change T
-  first_removal = record { tree = after_removal_at cmp t 0; items = drop 1 (joined t.nodes); events = removal_events_at cmp t.size t.nodes 0 }
+  first_removal = record { tree = after_removal_at cmp t 0; items = drop 1 (concat t.nodes); events = removal_events_at cmp t.size t.nodes 0 }
 
   -- the removal of the last item, where there is one
   abbrev pub last_removal : Change T
   last_removal =
-      let last = length (joined t.nodes) - 1 in
-      record { tree = after_removal_at cmp t last; items = take last (joined t.nodes); events = removal_events_at cmp t.size t.nodes last }
+      let last = length (concat t.nodes) - 1 in
+      record { tree = after_removal_at cmp t last; items = take last (concat t.nodes); events = removal_events_at cmp t.size t.nodes last }
 
 -- the removal of the item x at place i of the node at place k
-abbrev pub taken_change : {T : Type 0} → Tree T → ℕ → ℕ → T → Change T
-taken_change t k i x = record { tree = after_taken t k i; items = joined (with_taken t.size t.nodes k i); events = taking_events t.size t.nodes k i x }
+abbrev pub place_removal : {T : Type 0} → Tree T → ℕ → ℕ → T → Change T
+place_removal t k i x = record { tree = after_place_removal t k i; items = concat (with_removed t.size t.nodes k i); events = place_removal_events t.size t.nodes k i x }
 
 -- the removal of the item that equals v, where there is one
 abbrev pub removal_change : {T Q : Type 0} → (T → Q → Ordering) → Tree T → Q → Change T
-removal_change cmp t v = record { tree = after_removal cmp t v; items = without cmp (joined t.nodes) v; events = removal_events cmp t.size t.nodes v }
+removal_change cmp t v = record { tree = after_removal cmp t v; items = without cmp (concat t.nodes) v; events = removal_events cmp t.size t.nodes v }
 
 -- the removal of the pair of the key k, where there is one
 abbrev pub key_removal : {K V Q : Type 0} → (K → Q → Ordering) → Tree (Pair K V) → Q → Change (Pair K V)
-key_removal cmp t k = record { tree = after_key_removal cmp t k; items = without_key cmp (joined t.nodes) k; events = key_removal_events cmp t.size t.nodes k }
+key_removal cmp t k = record { tree = after_key_removal cmp t k; items = without_key cmp (concat t.nodes) k; events = key_removal_events cmp t.size t.nodes k }
 
 -- there are numbers for its events
 abbrev pub Fits : {T : Type 0} → Tree T → Change T → Type 0
@@ -69,27 +69,27 @@ refusal_of t made = refusal_for t.next (length made.events)
 -- the change was made of the old tree
 pub record Changed {T : Type 0} (cmp : T → T → Ordering) (old new : Tree T) (made : Change T) : Type 0 where
   pub tree : new ≡ made.tree
-  pub contents : joined new.nodes ≡ made.items
+  pub contents : concat new.nodes ≡ made.items
   pub nodes : new.nodes ≡ made.tree.nodes
   pub size : new.size ≡ old.size
   pub next : new.next ≡ old.next + length made.events
   pub fits : old.next + length made.events ≤ MAX
   pub table : replay cmp old.nodes (numbered_from old.next made.events) ≡ Some new.nodes
-  pub few : length made.events ≤ 3
-  pub spaced : IsSpaced (old.size / 2) old.nodes → IsSpaced (new.size / 2) new.nodes
+  pub at_most_three_events : length made.events ≤ 3
+  pub dense : IsDense (old.size / 2) old.nodes → IsDense (new.size / 2) new.nodes
 
 -- the events are reported, with clones in the place of their items; where H, the clones are identical
-pub record Told {T : Type 0} (H : Type 0) (cmp : T → T → Ordering) (C : T → T → Type 0) (old new : Tree T) (made : Change T) (told : List (ChangeEvent T)) : Type 0 where
-  pub clones : IsTold C old.next made.events told
+pub record AreEventsOf {T : Type 0} (H : Type 0) (cmp : T → T → Ordering) (C : T → T → Type 0) (old new : Tree T) (made : Change T) (told : List (ChangeEvent T)) : Type 0 where
+  pub clones : AreTableEvents C old.next made.events told
   pub events : H → told ≡ numbered_from old.next made.events
   pub numbered : IsNumberedFrom old.next told
   pub replay : H → replay cmp old.nodes told ≡ Some new.nodes
-  pub few : length told ≤ 3
+  pub at_most_three_events : length told ≤ 3
 
 -- what a set reports
-abbrev pub ItemsTold : {T : Type 0} → (T → T → Ordering) → (T → T → Type 0) → Tree T → Tree T → Change T → List (ChangeEvent T) → Type 0
-ItemsTold cmp C old new made told = Told (AreIdentical C) cmp C old new made told
+abbrev pub ItemEvents : {T : Type 0} → (T → T → Ordering) → (T → T → Type 0) → Tree T → Tree T → Change T → List (ChangeEvent T) → Type 0
+ItemEvents cmp C old new made told = AreEventsOf (AreIdentical C) cmp C old new made told
 
 -- what a map reports
-abbrev pub PairsTold : {K V : Type 0} → (K → K → Ordering) → (K → K → Type 0) → (V → V → Type 0) → Tree (Pair K V) → Tree (Pair K V) → Change (Pair K V) → List (ChangeEvent (Pair K V)) → Type 0
-PairsTold cmp C D old new made told = Told (AreIdentical C × AreIdentical D) (by_key cmp) (IsPairClone C D) old new made told
+abbrev pub PairEvents : {K V : Type 0} → (K → K → Ordering) → (K → K → Type 0) → (V → V → Type 0) → Tree (Pair K V) → Tree (Pair K V) → Change (Pair K V) → List (ChangeEvent (Pair K V)) → Type 0
+PairEvents cmp C D old new made told = AreEventsOf (AreIdentical C × AreIdentical D) (by_key cmp) (IsPairClone C D) old new made told

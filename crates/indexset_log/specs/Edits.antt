@@ -5,8 +5,8 @@ use Rattle.std.specs.List.{list_any}
 use Rattle.std.specs.Ordering.{is_eq}
 use Rattle.indexset_core.specs.Nodes.{node_at, node_for}
 use Rattle.indexset_core.specs.Parted.{less_count}
-use Rattle.indexset_events.specs.Edits.{with_checked_put, with_put, with_taken}
-use Rattle.indexset_events.specs.Table.{put_events, checked_put_events, taking_count}
+use Rattle.indexset_events.specs.Edits.{with_checked_put, with_put, with_removed}
+use Rattle.indexset_events.specs.Table.{put_events, checked_put_events, place_removal_count}
 use Rattle.indexset_log.specs.Tree.{Tree}
 
 module _ {T : Type 0} where
@@ -19,15 +19,15 @@ module _ {T : Type 0} where
   after_checked_put cmp t v = record { nodes = with_checked_put cmp t.size t.nodes v; size = t.size; next = t.next + length (checked_put_events cmp t.size t.nodes v) }
 
   -- the tree after the item at place i of the node at place k is removed
-  abbrev pub after_taken : Tree T → ℕ → ℕ → Tree T
-  after_taken t k i = record { nodes = with_taken t.size t.nodes k i; size = t.size; next = t.next + taking_count t.size t.nodes k i }
+  abbrev pub after_place_removal : Tree T → ℕ → ℕ → Tree T
+  after_place_removal t k i = record { nodes = with_removed t.size t.nodes k i; size = t.size; next = t.next + place_removal_count t.size t.nodes k i }
 
   -- the tree after the removal of the item that is found Equal: it stays where none is
   unfoldable pub after_removal_by : (T → Ordering) → Tree T → Tree T
   after_removal_by answer t =
       let k = node_for answer t.nodes in
       let n = node_at t.nodes k in
-      if list_any (λ x. is_eq (answer x)) n then after_taken t k (less_count answer n) else t
+      if list_any (λ x. is_eq (answer x)) n then after_place_removal t k (less_count answer n) else t
 
   -- the tree after a removal: it stays where no item equals v
   abbrev pub after_removal : {Q : Type 0} → (T → Q → Ordering) → Tree T → Q → Tree T

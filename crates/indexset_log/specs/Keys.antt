@@ -3,7 +3,7 @@ use Rattle.std.specs.Prelude.{◌≡◌, List, false}
 use Rattle.std.specs.Ordering.{is_eq}
 use Rattle.std.specs.declared.cmp.Ordering.{Ordering}
 use Rattle.indexset_core.specs.declared.pair.Pair.{Pair}
-use Rattle.indexset_core.specs.Nodes.{joined}
+use Rattle.indexset_core.specs.Nodes.{concat}
 use Rattle.indexset_core.specs.Pairs.{value_of}
 use Rattle.indexset_log.specs.Edits.{after_removal}
 use Rattle.indexset_log.specs.Tree.{Tree}
@@ -15,4 +15,4 @@ module _ {K V : Type 0} where
 
   -- what was under a key, but for those that order finds Equal to k, in the nodes before is under it in those after
   abbrev pub KeepsOthers : {Q : Type 0} → (K → K → Ordering) → (K → Q → Ordering) → List (List (Pair K V)) → List (List (Pair K V)) → Q → Type 0
-  KeepsOthers cmp order before after k = (other : K) → is_eq (order other k) ≡ false → value_of cmp (joined after) other ≡ value_of cmp (joined before) other
+  KeepsOthers cmp order before after k = (other : K) → is_eq (order other k) ≡ false → value_of cmp (concat after) other ≡ value_of cmp (concat before) other

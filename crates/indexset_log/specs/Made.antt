@@ -2,7 +2,7 @@
 use Rattle.std.specs.Prelude.{not, List, filter, map}
 use Rattle.std.specs.declared.cmp.Ordering.{Ordering}
 use Rattle.std.specs.declared.ops.Bound.{Bound}
-use Rattle.indexset_core.specs.Bounds.{is_within}
+use Rattle.indexset_core.specs.KeyRange.{is_within}
 use Rattle.indexset_events.specs.Nodes.{is_filled}
 
 module _ {T Q : Type 0} (cmp : T → Q → Ordering) where

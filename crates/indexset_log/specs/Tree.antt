@@ -4,7 +4,7 @@ use Rattle.std.below.core.specs.declared.int.u64.TheConstants.{MAX}
 use Rattle.indexset_core.specs.declared.refusal.Refusal.{Refusal}
 use Rattle.indexset_core.specs.declared.refusal.Refusal.TheVariants.{Memory, Numbers}
 use Rattle.std.specs.declared.cmp.Ordering.{Ordering}
-use Rattle.indexset_core.specs.Nodes.{joined, node_lengths, IsLawful}
+use Rattle.indexset_core.specs.Nodes.{concat, node_lengths, IsLawful}
 use Rattle.indexset_index.specs.Blocks.{block_sums}
 
 -- its nodes, their greatest size, and the number of the next event
@@ -22,7 +22,7 @@ pub record IsTree {T : Type 0} (cmp : T → T → Ordering) (most : ℕ) (nodes 
   pub lawful : IsLawful cmp size nodes
   pub two : 2 ≤ size
   pub within : size ≤ most
-  pub counted : len ≡ length (joined nodes)
+  pub counted : len ≡ length (concat nodes)
 
 -- the same, with the sums that the index holds
 pub record IsIndexed {T : Type 0} (cmp : T → T → Ordering) (most : ℕ) (nodes : List (List T)) (size len : ℕ) (index : List ℕ) : Type 0 where

@@ -3,7 +3,7 @@ ghost use Rattle.std.specs.Prelude.{◌≡◌, ◌+◌, ◌-◌, ◌*◌, ◌/�
 ghost use Rattle.std.specs.List.{All};
 ghost use Rattle.indexset_core.specs.Digits.{digits};
 ghost use Rattle.indexset_core.specs.Parted.{IsParted, not_greater_count};
-ghost use Rattle.indexset_core.specs.Nodes.{joined, node_lengths};
+ghost use Rattle.indexset_core.specs.Nodes.{concat, node_lengths};
 
 use indexset_core::node::NodeLike;
 use indexset_core::probe::Probe;
@@ -15,7 +15,7 @@ pub(crate) fn run_end<T, P: Probe<T>>(items: &[T], from: usize, probe: &mut P) -
     requires from { from ≤ not_greater_count (P.answer probe.old) items.now }
     ensures count { result ≡ not_greater_count (P.answer probe.old) items.now }
     ensures fixed { P.answer probe.new ≡ P.answer probe.old }
-    ensures few { P.asked probe.new ≤ P.asked probe.old + (2 * digits (result - from) + 1) }
+    ensures comparisons { P.asked probe.new ≤ P.asked probe.old + (2 * digits (result - from) + 1) }
     ensures unasked { from ≡ length items.now → P.asked probe.new ≡ P.asked probe.old }
 {
     let mut low = from;
@@ -40,17 +40,17 @@ pub(crate) fn last_started<T: Ord + Drop, Node: NodeLike<T>, P: Probe<T>>(
 ) -> usize
     requires node { node < length nodes.now }
     requires filled { All (λ n. 1 ≤ n) (node_lengths (map Node.list nodes.now)) }
-    requires parted { IsParted (P.answer probe.old) (joined (map Node.list nodes.now)) }
-    requires started { length (joined (take node (map Node.list nodes.now)))
-        < not_greater_count (P.answer probe.old) (joined (map Node.list nodes.now)) }
+    requires parted { IsParted (P.answer probe.old) (concat (map Node.list nodes.now)) }
+    requires started { length (concat (take node (map Node.list nodes.now)))
+        < not_greater_count (P.answer probe.old) (concat (map Node.list nodes.now)) }
     ensures node { result < length nodes.now }
     ensures order { node ≤ result }
-    ensures started { length (joined (take result (map Node.list nodes.now)))
-        < not_greater_count (P.answer probe.old) (joined (map Node.list nodes.now)) }
-    ensures ended { not_greater_count (P.answer probe.old) (joined (map Node.list nodes.now))
-        ≤ length (joined (take (result + 1) (map Node.list nodes.now))) }
+    ensures started { length (concat (take result (map Node.list nodes.now)))
+        < not_greater_count (P.answer probe.old) (concat (map Node.list nodes.now)) }
+    ensures ended { not_greater_count (P.answer probe.old) (concat (map Node.list nodes.now))
+        ≤ length (concat (take (result + 1) (map Node.list nodes.now))) }
     ensures fixed { P.answer probe.new ≡ P.answer probe.old }
-    ensures few { P.asked probe.new ≤ P.asked probe.old + (2 * digits (result - node) + 1) }
+    ensures comparisons { P.asked probe.new ≤ P.asked probe.old + (2 * digits (result - node) + 1) }
 {
     let from = node + 1;
     let mut low = from;

@@ -4,7 +4,7 @@ ghost use Rattle.std.specs.Map.Iter.{ShowsInOrder, ShowsInReverse, deref};
 ghost use Rattle.std.specs.Option.{option_copied, unwrap_or};
 ghost use Rattle.std.specs.Ordering.{is_eq};
 ghost use Rattle.indexset_core.specs.Digits.{digits};
-ghost use Rattle.indexset_core.specs.Nodes.{joined, IsLawful};
+ghost use Rattle.indexset_core.specs.Nodes.{concat, IsLawful};
 ghost use Rattle.indexset_core.specs.Order.{IsAscending};
 ghost use Rattle.indexset_core.specs.Parted.{IsParted};
 ghost use Rattle.indexset_core.specs.Pairs.{by_key, has_key, pair_of};
@@ -25,11 +25,11 @@ mod traits;
 use crate::set::BTreeSet;
 use crate::set::nodes::Nodes;
 use indexset_core::constants::DEFAULT_INNER_SIZE;
+use indexset_core::lookup_key::LookupKey;
 use indexset_core::node::NodeLike;
 use indexset_core::pair::Pair;
 use indexset_core::probe::{ByKey, Probe};
 use indexset_core::refusal::Refused;
-use indexset_core::sought::Sought;
 use std::alloc::Global;
 use std::marker::Model;
 
@@ -161,7 +161,7 @@ impl<K: Ord + Clone + Drop, V: Clone + Drop, Node: NodeLike<Pair<K, V>>> BTreeMa
     /// assert!(rt; tree.len() == 2);
     /// ```
     pub fn len(&self) -> usize
-        ensures { result ≡ length (joined self.now.nodes) }
+        ensures { result ≡ length (concat self.now.nodes) }
     {
         self.set.len()
     }
@@ -175,7 +175,7 @@ impl<K: Ord + Clone + Drop, V: Clone + Drop, Node: NodeLike<Pair<K, V>>> BTreeMa
     /// assert!(rt; !tree.is_empty());
     /// ```
     pub fn is_empty(&self) -> bool
-        ensures { result ≡ (length (joined self.now.nodes) == 0) }
+        ensures { result ≡ (length (concat self.now.nodes) == 0) }
     {
         self.set.is_empty()
     }
@@ -191,7 +191,7 @@ impl<K: Ord + Clone + Drop, V: Clone + Drop, Node: NodeLike<Pair<K, V>>> BTreeMa
     /// ```
     pub fn node_count(&self) -> usize
         ensures value { result ≡ length self.now.nodes }
-        ensures few { result ≤ length (joined self.now.nodes) }
+        ensures node_bound { result ≤ length (concat self.now.nodes) }
         ensures lawful { IsLawful (by_key K.cmp) self.now.size self.now.nodes }
     {
         self.set.node_count()
@@ -207,7 +207,7 @@ impl<K: Ord + Clone + Drop, V: Clone + Drop, Node: NodeLike<Pair<K, V>>> BTreeMa
     /// assert!(rt; tree.capacity() >= 2);
     /// ```
     pub fn capacity(&self) -> usize
-        ensures enough { length (joined self.now.nodes) ≤ result }
+        ensures enough { length (concat self.now.nodes) ≤ result }
         ensures sum { AddsUp Node.list Node.room self.now.nodes result }
     {
         self.set.capacity()
@@ -270,9 +270,9 @@ impl<K: Ord + Clone + Drop, V: Clone + Drop, Node: NodeLike<Pair<K, V>>> BTreeMa
     pub fn attach_node(&mut self, node: Node) -> Result<(), Refused<Node>>
         ensures nodes { OnOk result (self.new.nodes ≡ attached (by_key K.cmp) self.old.nodes
             (Node.list node)) }
-        ensures ascending { OnOk result (IsAscending (by_key K.cmp) (joined self.new.nodes)) }
-        ensures count { OnOk result (length (joined self.new.nodes)
-            ≡ length (joined self.old.nodes) + length (Node.list node)) }
+        ensures ascending { OnOk result (IsAscending (by_key K.cmp) (concat self.new.nodes)) }
+        ensures count { OnOk result (length (concat self.new.nodes)
+            ≡ length (concat self.old.nodes) + length (Node.list node)) }
         ensures good { IsOk result → attach_refusal (by_key K.cmp) self.old.size self.old.nodes
             (Node.list node) ≡ None }
         ensures refusal { IfErr result (λ e. e.cause ≡ unwrap_or
@@ -292,8 +292,8 @@ impl<K: Ord + Clone + Drop, V: Clone + Drop, Node: NodeLike<Pair<K, V>>> BTreeMa
     /// tree.insert(1, 10)?;
     /// assert!(rt; tree.get(&1).is_some_and(|pair| pair.value == 10));
     /// ```
-    pub fn get<Q: Sought<K> + Drop>(&self, key: Q) -> Option<&Pair<K, V>>
-        ensures { option_copied result ≡ pair_of Q.order (joined self.now.nodes) key }
+    pub fn get<Q: LookupKey<K> + Drop>(&self, key: Q) -> Option<&Pair<K, V>>
+        ensures { option_copied result ≡ pair_of Q.order (concat self.now.nodes) key }
     {
         self.set.get_by(&mut self.by_key(&key))
     }
@@ -309,11 +309,11 @@ impl<K: Ord + Clone + Drop, V: Clone + Drop, Node: NodeLike<Pair<K, V>>> BTreeMa
     /// assert!(rt; prices.get_by(&mut sought).is_some_and(|pair| pair.value == 120));
     /// ```
     pub fn get_by<P: Probe<Pair<K, V>>>(&self, probe: &mut P) -> Option<&Pair<K, V>>
-        requires { IsParted (P.answer probe.old) (joined self.now.nodes) }
+        requires { IsParted (P.answer probe.old) (concat self.now.nodes) }
         ensures value { option_copied result ≡ find (λ p. is_eq (P.answer probe.old p))
-            (joined self.now.nodes) }
+            (concat self.now.nodes) }
         ensures fixed { P.answer probe.new ≡ P.answer probe.old }
-        ensures few { P.asked probe.new ≤ P.asked probe.old +
+        ensures comparisons { P.asked probe.new ≤ P.asked probe.old +
             (digits (length self.now.nodes) + digits self.now.size + 1) }
     {
         self.set.get_by(probe)
@@ -327,16 +327,16 @@ impl<K: Ord + Clone + Drop, V: Clone + Drop, Node: NodeLike<Pair<K, V>>> BTreeMa
     /// tree.insert(2, 20)?;
     /// assert!(rt; tree.contains_key(&1) && !tree.contains_key(&3));
     /// ```
-    pub fn contains_key<Q: Sought<K> + Drop>(&self, key: Q) -> bool
-        ensures { result ≡ has_key Q.order (joined self.now.nodes) key }
+    pub fn contains_key<Q: LookupKey<K> + Drop>(&self, key: Q) -> bool
+        ensures { result ≡ has_key Q.order (concat self.now.nodes) key }
     {
         self.get(key).is_some()
     }
 
     // Returns a probe for a key, which finds the pairs in order.
-    fn by_key<'a, Q: Sought<K>>(&self, key: &'a Q) -> ByKey<'a, Q>
+    fn by_key<'a, Q: LookupKey<K>>(&self, key: &'a Q) -> ByKey<'a, Q>
         ensures probe { result ≡ (key.now, 0) }
-        ensures parted { IsParted (λ p. Q.order p.key key.now) (joined self.now.nodes) }
+        ensures parted { IsParted (λ p. Q.order p.key key.now) (concat self.now.nodes) }
     {
         // The contract of `node_count` says that the pairs ascend.
         let _nodes = self.set.node_count();
@@ -344,7 +344,7 @@ impl<K: Ord + Clone + Drop, V: Clone + Drop, Node: NodeLike<Pair<K, V>>> BTreeMa
     }
 
     // Returns where a search for a key ends.
-    fn locate<Q: Sought<K> + Drop>(&self, key: Q) -> Result<(usize, usize), (usize, usize)>
+    fn locate<Q: LookupKey<K> + Drop>(&self, key: Q) -> Result<(usize, usize), (usize, usize)>
         ensures place { result ≡ located (λ p. Q.order p.key key) self.now.nodes }
         ensures lawful { IsLawful (by_key K.cmp) self.now.size self.now.nodes }
         ensures two { 2 ≤ self.now.size }

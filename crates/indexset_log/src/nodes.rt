@@ -1,17 +1,17 @@
 //! What is done to the nodes.
 ghost use Rattle.std.specs.Prelude.{◌≡◌, ◌+◌, ◌/◌, ◌<◌, ◌≤◌, ◌++◌, Bool, true, false, IsTrue, [], vec_len, vec_capacity, length, map, set, cond, if◌then◌else◌, min, sum_by, Option, Some, nat_le, ◌⊎◌, insert, remove, slice_get, IfOk, OnOk, IfErr, OnErr, IsOk, is_err};
 ghost use Rattle.std.specs.List.{HoldsAt};
-ghost use Rattle.indexset_core.specs.Nodes.{joined, node_at, node_lengths};
+ghost use Rattle.indexset_core.specs.Nodes.{concat, node_at, node_lengths};
 ghost use Rattle.indexset_core.specs.Order.{IsAscending, IsFoundAt, IsGapFor, put, equal_element};
 ghost use Rattle.indexset_events.specs.Edits.{with_halved};
-ghost use Rattle.indexset_events.specs.Joining.{item_removed, with_joined};
+ghost use Rattle.indexset_events.specs.Merging.{item_removed, with_merged};
 ghost use Rattle.indexset_events.specs.Table.{half_of};
 ghost use Rattle.indexset_index.specs.Blocks.{block_sums};
 
-use crate::aim::Aim;
+use crate::insert_plan::InsertPlan;
+use indexset_core::item_iter::OfNode;
 use indexset_core::node::NodeLike;
 use indexset_core::refusal::{Refusal, Refused};
-use indexset_core::walk::ReadAny;
 use indexset_index::blocks::Blocks;
 use std::alloc::Global;
 
@@ -39,7 +39,7 @@ pub(crate) fn halve_at<T: Ord + Drop, Node: NodeLike<T>>(
     requires place { place < length nodes.old.items }
     requires two { 2 ≤ length (node_at (map Node.list nodes.old.items) place) }
     requires index { index.old.sums ≡ block_sums (node_lengths (map Node.list nodes.old.items)) }
-    requires fits { length (joined (map Node.list nodes.old.items)) ≤ usize.MAX }
+    requires fits { length (concat (map Node.list nodes.old.items)) ≤ usize.MAX }
     ensures nodes { OnOk result (map Node.list nodes.new.items
         ≡ with_halved (map Node.list nodes.old.items) place) }
     ensures left_room { OnOk result (HoldsAt (λ n. length (Node.list n)
@@ -59,7 +59,7 @@ pub(crate) fn halve_at<T: Ord + Drop, Node: NodeLike<T>>(
     match nodes.insert(place + 1, right) {
         Ok(()) => {
             index.sub(place, moved);
-            index.insert::<T, Node, ReadAny>(place + 1, nodes.as_slice());
+            index.insert::<T, Node, OfNode>(place + 1, nodes.as_slice());
             Ok(())
         }
         Err(_) => unreachable!(),
@@ -71,7 +71,7 @@ pub(crate) fn halve_at<T: Ord + Drop, Node: NodeLike<T>>(
 pub(crate) fn make_room<T: Ord + Drop, Node: NodeLike<T>>(
     nodes: &mut Vec<Node>,
     index: &mut Blocks,
-    aim: &Aim,
+    aim: &InsertPlan,
 ) -> Result<usize, Refusal>
     requires place { aim.now.node < length nodes.old.items }
     requires two { (aim.now.full ≡ true) → 2 ≤ length (node_at
@@ -80,7 +80,7 @@ pub(crate) fn make_room<T: Ord + Drop, Node: NodeLike<T>>(
         (map Node.list nodes.old.items) aim.now.node) < Node.most }
     requires right { (aim.now.full ≡ false) → aim.now.right ≡ false }
     requires index { index.old.sums ≡ block_sums (node_lengths (map Node.list nodes.old.items)) }
-    requires fits { length (joined (map Node.list nodes.old.items)) ≤ usize.MAX }
+    requires fits { length (concat (map Node.list nodes.old.items)) ≤ usize.MAX }
     ensures nodes { OnOk result (map Node.list nodes.new.items
         ≡ (if aim.now.full then with_halved
         (map Node.list nodes.old.items) aim.now.node else map Node.list nodes.old.items)) }
@@ -121,7 +121,7 @@ pub(crate) fn put_in<T: Ord + Drop, Node: NodeLike<T>>(
     requires room { is_err at ≡ true → HoldsAt (λ n. length (Node.list n)
         < Node.room n) nodes.old.items place }
     requires index { index.old.sums ≡ block_sums (node_lengths (map Node.list nodes.old.items)) }
-    requires fits { is_err at ≡ true → length (joined (map Node.list nodes.old.items))
+    requires fits { is_err at ≡ true → length (concat (map Node.list nodes.old.items))
         < usize.MAX }
     ensures answer { result ≡ equal_element T.cmp
         (node_at (map Node.list nodes.old.items) place) value }
@@ -160,7 +160,7 @@ pub(crate) fn first_node<T: Ord + Drop, Node: NodeLike<T>>(
 }
 
 /// Returns whether two nodes of these lengths hold no more than `most` items together.
-pub(crate) fn fit_together(left: usize, right: usize, most: usize) -> bool
+pub(crate) fn fit_in_one_node(left: usize, right: usize, most: usize) -> bool
     ensures { result ≡ nat_le (left + right) most }
 {
     left <= most && right <= most - left
@@ -175,7 +175,7 @@ pub(crate) fn insert_node<T: Ord + Drop, Node: NodeLike<T>>(
 ) -> Result<(), Refused<Node>>
     requires place { place ≤ length nodes.old.items }
     requires index { index.old.sums ≡ block_sums (node_lengths (map Node.list nodes.old.items)) }
-    requires fits { length (joined (map Node.list nodes.old.items)) + length (Node.list node)
+    requires fits { length (concat (map Node.list nodes.old.items)) + length (Node.list node)
         ≤ usize.MAX }
     ensures nodes { OnOk result (map Node.list nodes.new.items
         ≡ insert (map Node.list nodes.old.items) place (Node.list node)) }
@@ -192,7 +192,7 @@ pub(crate) fn insert_node<T: Ord + Drop, Node: NodeLike<T>>(
     }
     match nodes.insert(place, node) {
         Ok(()) => {
-            index.insert::<T, Node, ReadAny>(place, nodes.as_slice());
+            index.insert::<T, Node, OfNode>(place, nodes.as_slice());
             Ok(())
         }
         Err(refused) => Err(Refused {
@@ -203,7 +203,7 @@ pub(crate) fn insert_node<T: Ord + Drop, Node: NodeLike<T>>(
 }
 
 /// Removes the item at a place, and a node that it leaves empty.
-pub(crate) fn take_out<T: Ord + Drop, Node: NodeLike<T>>(
+pub(crate) fn remove_item<T: Ord + Drop, Node: NodeLike<T>>(
     nodes: &mut Vec<Node>,
     index: &mut Blocks,
     node: usize,
@@ -219,7 +219,7 @@ pub(crate) fn take_out<T: Ord + Drop, Node: NodeLike<T>>(
 {
     if nodes[node].len() == 1 {
         let mut emptied = nodes.remove(node);
-        index.remove::<T, Node, ReadAny>(node, 1, nodes.as_slice());
+        index.remove::<T, Node, OfNode>(node, 1, nodes.as_slice());
         return emptied.remove_at(offset);
     }
     index.sub(node, 1);
@@ -228,7 +228,7 @@ pub(crate) fn take_out<T: Ord + Drop, Node: NodeLike<T>>(
 
 /// Removes the item at a place, and merges the node at `left` with the one after it: the item is in
 /// either. Room is reserved first. A failed call leaves the items as they are.
-pub(crate) fn take_and_join<T: Ord + Drop, Node: NodeLike<T>>(
+pub(crate) fn remove_and_merge<T: Ord + Drop, Node: NodeLike<T>>(
     nodes: &mut Vec<Node>,
     index: &mut Blocks,
     node: usize,
@@ -248,7 +248,7 @@ pub(crate) fn take_and_join<T: Ord + Drop, Node: NodeLike<T>>(
     ensures item { IfOk result (λ item. slice_get (node_at
         (map Node.list nodes.old.items) node) offset ≡ Some item) }
     ensures nodes { OnOk result (map Node.list nodes.new.items
-        ≡ with_joined (set (map Node.list nodes.old.items) node
+        ≡ with_merged (set (map Node.list nodes.old.items) node
         (remove (node_at (map Node.list nodes.old.items) node) offset)) left) }
     ensures index { index.new.sums ≡ block_sums (node_lengths (map Node.list nodes.new.items)) }
     ensures refusal { IfErr result (λ e. e ≡ Refusal.Memory) }
@@ -262,7 +262,7 @@ pub(crate) fn take_and_join<T: Ord + Drop, Node: NodeLike<T>>(
     let mut next = nodes.remove(left + 1);
     // The sum of all lengths fits.
     let _count = index.len();
-    index.remove::<T, Node, ReadAny>(left + 1, more, nodes.as_slice());
+    index.remove::<T, Node, OfNode>(left + 1, more, nodes.as_slice());
     index.add(left, more);
     index.sub(left, 1);
     let first = &mut nodes[left];
@@ -280,18 +280,18 @@ pub(crate) fn index_of<T: Ord + Drop, Node: NodeLike<T>>(
     alloc: Global,
     nodes: &[Node],
 ) -> Result<Blocks, Refusal>
-    requires { length (joined (map Node.list nodes.now)) ≤ usize.MAX }
+    requires { length (concat (map Node.list nodes.now)) ≤ usize.MAX }
     ensures index { IfOk result (λ index. index.sums ≡ block_sums (node_lengths
         (map Node.list nodes.now))) }
     ensures refusal { IfErr result (λ e. e ≡ Refusal.Memory) }
 {
-    Blocks::from_nodes::<T, Node, ReadAny>(alloc, nodes)
+    Blocks::from_nodes::<T, Node, OfNode>(alloc, nodes)
 }
 
 /// Returns how many items the nodes have room for, up to `usize::MAX`.
 pub(crate) fn capacity_of<T: Ord + Drop, Node: NodeLike<T>>(nodes: &[Node]) -> usize
     ensures value { result ≡ min usize.MAX (sum_by Node.room nodes.now) }
-    ensures enough { min usize.MAX (length (joined (map Node.list nodes.now))) ≤ result }
+    ensures enough { min usize.MAX (length (concat (map Node.list nodes.now))) ≤ result }
 {
     let mut room: usize = 0;
     for node in nodes {

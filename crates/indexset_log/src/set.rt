@@ -2,7 +2,7 @@
 ghost use Rattle.std.specs.Prelude.{◌≡◌, ◌==◌, ◌+◌, ◌≤◌, [], length, None, MatchOption, find};
 ghost use Rattle.std.specs.Ordering.{is_eq};
 ghost use Rattle.std.specs.Option.{option_copied};
-ghost use Rattle.indexset_core.specs.Nodes.{joined, IsLawful};
+ghost use Rattle.indexset_core.specs.Nodes.{concat, IsLawful};
 ghost use Rattle.indexset_core.specs.Digits.{digits};
 ghost use Rattle.indexset_core.specs.Order.{has_equal, equal_element};
 ghost use Rattle.indexset_core.specs.Parted.{IsParted};
@@ -26,11 +26,11 @@ mod remove_range;
 mod traits;
 
 use indexset_core::constants::DEFAULT_INNER_SIZE;
+use indexset_core::item_iter::OfNode;
 use indexset_core::locate::locate_by;
+use indexset_core::lookup_key::LookupKey;
 use indexset_core::node::NodeLike;
 use indexset_core::probe::{ByItem, Probe};
-use indexset_core::sought::Sought;
-use indexset_core::walk::ReadAny;
 use indexset_index::blocks::Blocks;
 use std::alloc::Global;
 use std::marker::{Model, PhantomData};
@@ -146,7 +146,7 @@ impl<T: Ord + Clone + Drop, Node: NodeLike<T>> BTreeSet<T, Node> {
     /// assert!(rt; tree.len() == 3);
     /// ```
     pub fn len(&self) -> usize
-        ensures { result ≡ length (joined self.now.nodes) }
+        ensures { result ≡ length (concat self.now.nodes) }
     {
         self.len
     }
@@ -160,7 +160,7 @@ impl<T: Ord + Clone + Drop, Node: NodeLike<T>> BTreeSet<T, Node> {
     /// assert!(rt; !tree.is_empty());
     /// ```
     pub fn is_empty(&self) -> bool
-        ensures { result ≡ (length (joined self.now.nodes) == 0) }
+        ensures { result ≡ (length (concat self.now.nodes) == 0) }
     {
         self.len == 0
     }
@@ -178,7 +178,7 @@ impl<T: Ord + Clone + Drop, Node: NodeLike<T>> BTreeSet<T, Node> {
     /// ```
     pub fn node_count(&self) -> usize
         ensures value { result ≡ length self.now.nodes }
-        ensures few { result ≤ length (joined self.now.nodes) }
+        ensures node_bound { result ≤ length (concat self.now.nodes) }
         ensures lawful { IsLawful T.cmp self.now.size self.now.nodes }
     {
         self.nodes.len()
@@ -235,10 +235,10 @@ impl<T: Ord + Clone + Drop, Node: NodeLike<T>> BTreeSet<T, Node> {
     /// assert!(rt; tree.locate_by(&mut ByItem::new(&12)) == Err((0, 2)));
     /// ```
     pub fn locate_by<P: Probe<T>>(&self, probe: &mut P) -> Result<(usize, usize), (usize, usize)>
-        requires { IsParted (P.answer probe.old) (joined self.now.nodes) }
+        requires { IsParted (P.answer probe.old) (concat self.now.nodes) }
         ensures place { result ≡ located (P.answer probe.old) self.now.nodes }
         ensures fixed { P.answer probe.new ≡ P.answer probe.old }
-        ensures few { P.asked probe.new ≤ P.asked probe.old +
+        ensures comparisons { P.asked probe.new ≤ P.asked probe.old +
             (digits (length self.now.nodes) + digits self.now.size + 1) }
         ensures unasked { self.now.nodes ≡ [] → P.asked probe.new ≡ P.asked probe.old }
     {
@@ -250,22 +250,22 @@ impl<T: Ord + Clone + Drop, Node: NodeLike<T>> BTreeSet<T, Node> {
         &self,
         probe: &mut P,
     ) -> Result<(usize, usize), (usize, usize)>
-        requires { IsParted (P.answer probe.old) (joined self.now.nodes) }
+        requires { IsParted (P.answer probe.old) (concat self.now.nodes) }
         ensures place { result ≡ located (P.answer probe.old) self.now.nodes }
         ensures lawful { IsLawful T.cmp self.now.size self.now.nodes }
         ensures two { 2 ≤ self.now.size }
         ensures fixed { P.answer probe.new ≡ P.answer probe.old }
-        ensures few { P.asked probe.new ≤ P.asked probe.old +
+        ensures comparisons { P.asked probe.new ≤ P.asked probe.old +
             (digits (length self.now.nodes) + digits self.now.size + 1) }
         ensures unasked { self.now.nodes ≡ [] → P.asked probe.new ≡ P.asked probe.old }
     {
-        locate_by::<T, Node, ReadAny, P>(self.nodes.as_slice(), probe)
+        locate_by::<T, Node, OfNode, P>(self.nodes.as_slice(), probe)
     }
 
     // Returns a probe for an item, which finds the items in order.
-    fn by_item<'a, Q: Sought<T>>(&self, value: &'a Q) -> ByItem<'a, Q>
+    fn by_item<'a, Q: LookupKey<T>>(&self, value: &'a Q) -> ByItem<'a, Q>
         ensures probe { result ≡ (value.now, 0) }
-        ensures parted { IsParted (λ x. Q.order x value.now) (joined self.now.nodes) }
+        ensures parted { IsParted (λ x. Q.order x value.now) (concat self.now.nodes) }
     {
         // The nodes are lawful.
         let _nodes = &self.nodes;
@@ -273,8 +273,8 @@ impl<T: Ord + Clone + Drop, Node: NodeLike<T>> BTreeSet<T, Node> {
     }
 
     // Returns where the equal item is: its node, and the offset in it.
-    fn place_of<Q: Sought<T> + Drop>(&self, value: Q) -> Option<(usize, usize)>
-        ensures place { MatchOption result (equal_element Q.order (joined self.now.nodes) value
+    fn place_of<Q: LookupKey<T> + Drop>(&self, value: Q) -> Option<(usize, usize)>
+        ensures place { MatchOption result (equal_element Q.order (concat self.now.nodes) value
             ≡ None) (λ p. IsFoundIn Q.order self.now.nodes value p.0 p.1) }
         ensures lawful { IsLawful T.cmp self.now.size self.now.nodes }
         ensures two { 2 ≤ self.now.size }
@@ -288,8 +288,8 @@ impl<T: Ord + Clone + Drop, Node: NodeLike<T>> BTreeSet<T, Node> {
     /// let tree: set::BTreeSet<u64, Vec<u64>> = set::BTreeSet::from_iter(alloc, [5, 10, 15])?;
     /// assert!(rt; tree.contains(&10) && !tree.contains(&12));
     /// ```
-    pub fn contains<Q: Sought<T> + Drop>(&self, value: Q) -> bool
-        ensures { result ≡ has_equal Q.order (joined self.now.nodes) value }
+    pub fn contains<Q: LookupKey<T> + Drop>(&self, value: Q) -> bool
+        ensures { result ≡ has_equal Q.order (concat self.now.nodes) value }
     {
         self.get(value).is_some()
     }
@@ -300,8 +300,8 @@ impl<T: Ord + Clone + Drop, Node: NodeLike<T>> BTreeSet<T, Node> {
     /// let tree: set::BTreeSet<u64, Vec<u64>> = set::BTreeSet::from_iter(alloc, [5, 10, 15])?;
     /// assert!(rt; tree.get(&10) == Some(&10) && tree.get(&12).is_none());
     /// ```
-    pub fn get<Q: Sought<T> + Drop>(&self, value: Q) -> Option<&T>
-        ensures { option_copied result ≡ equal_element Q.order (joined self.now.nodes) value }
+    pub fn get<Q: LookupKey<T> + Drop>(&self, value: Q) -> Option<&T>
+        ensures { option_copied result ≡ equal_element Q.order (concat self.now.nodes) value }
     {
         self.get_by(&mut self.by_item(&value))
     }
@@ -316,11 +316,11 @@ impl<T: Ord + Clone + Drop, Node: NodeLike<T>> BTreeSet<T, Node> {
     /// assert!(rt; names.get_by(&mut ByStr::new("pear")).is_some());
     /// ```
     pub fn get_by<P: Probe<T>>(&self, probe: &mut P) -> Option<&T>
-        requires { IsParted (P.answer probe.old) (joined self.now.nodes) }
+        requires { IsParted (P.answer probe.old) (concat self.now.nodes) }
         ensures value { option_copied result ≡ find (λ x. is_eq (P.answer probe.old x))
-            (joined self.now.nodes) }
+            (concat self.now.nodes) }
         ensures fixed { P.answer probe.new ≡ P.answer probe.old }
-        ensures few { P.asked probe.new ≤ P.asked probe.old +
+        ensures comparisons { P.asked probe.new ≤ P.asked probe.old +
             (digits (length self.now.nodes) + digits self.now.size + 1) }
     {
         match self.locate_by(probe) {

@@ -9,7 +9,7 @@ use Rattle.std.proofs.lemmas.Bool.{false≢true}
 use Rattle.std.proofs.lemmas.List.{append-nil}
 use Rattle.indexset_core.specs.declared.pair.Pair.{Pair}
 use Rattle.indexset_core.specs.Nodes.{node_lengths}
-use Rattle.indexset_spine.specs.Cut.{Cut, items, with_item_at}
+use Rattle.indexset_spine.specs.NodeList.{NodeList, items, with_item_at}
 use Rattle.indexset_core.specs.Order.{IsGapFor, put}
 use Rattle.indexset_core.specs.Pairs.{pair, valued, by_key, set_value_at, has_key, pair_of, value_of, set_value, put_value}
 use Rattle.indexset_set.specs.SetPairs as cut
@@ -19,14 +19,14 @@ use Rattle.indexset_map.specs.Contents.{Contents, contents, with_written}
 use Rattle.indexset_spine.proofs.CallerLemmas.{node_lengths-set_joined}
 
 module _ {K V : Type 0} where
-  node_lengths-with_value_at : (s : Cut (Pair K V)) (i : ℕ) (w : V) → node_lengths (cut.with_value_at s i w).nodes ≡ node_lengths s.nodes
+  node_lengths-with_value_at : (s : NodeList (Pair K V)) (i : ℕ) (w : V) → node_lengths (cut.with_value_at s i w).nodes ≡ node_lengths s.nodes
   node_lengths-with_value_at s i w = elim (slice_get (items s) i) as (λ o. node_lengths (option_map_or (λ p. with_item_at s i (valued p w)) o s).nodes ≡ node_lengths s.nodes) [
     | Some p ↦ node_lengths-set_joined s.nodes i (valued p w)
     | None ↦ refl
   ]
 
   -- a write in the set is one in the map
-  pub contents_written : (s : Cut (Pair K V)) (m : Contents K V) (i : ℕ) (w : V) → contents s ≡ m → contents (cut.with_value_at s i w) ≡ with_written m i w
+  pub contents_written : (s : NodeList (Pair K V)) (m : Contents K V) (i : ℕ) (w : V) → contents s ≡ m → contents (cut.with_value_at s i w) ≡ with_written m i w
   contents_written s m i w e = (λ j. record { pairs = items-with_value_at s i w j; lengths = node_lengths-with_value_at s i w j; size = size-with_value_at s i w j }) ∙ ap (λ (n : Contents K V). with_written n i w) e
 
   pub set_cons : (q : Pair K V) (l : List (Pair K V)) (j : ℕ) (w : V) → q ∷ set_value_at l j w ≡ set_value_at (q ∷ l) (suc j) w

@@ -7,10 +7,10 @@ use Rattle.std.specs.Ordering.{is_eq, is_lt}
 use Rattle.std.specs.declared.cmp.Ordering.TheVariants.{Less}
 use Rattle.indexset_core.specs.declared.pair.Pair.{Pair}
 use Rattle.indexset_core.specs.Nodes.{node_lengths}
-use Rattle.indexset_spine.specs.Cut.{Cut, items}
+use Rattle.indexset_spine.specs.NodeList.{NodeList, items}
 use Rattle.indexset_core.specs.Order.{IsAscending, has_equal}
 use Rattle.indexset_core.specs.Pairs.{by_key, has_key, key_rank, value_of, without_key}
-use Rattle.indexset_core.specs.Sought.{ActsAsKey, ActsAsOne, one_on}
+use Rattle.indexset_core.specs.LookupKey.{OrdersAsItem, EqualsAtMostOne, one_on}
 use Rattle.indexset_core.proofs.CallerLemmas.{Parts, count_parts, front-is_lt, less_from, pairs_total, rank-slice_get, slice_get-rank_equal, found_key, found_rank, parted_by_sought_key, key_there, key_written, absent_without, sought_without}
 use Rattle.indexset_map.specs.Contents.{Contents, contents, with_entry, with_written, without_at, without_entry}
 use Rattle.indexset_spine.specs.Lengths.{lengths_with, lengths_without}
@@ -19,10 +19,10 @@ use Rattle.indexset_spine.proofs.CallerLemmas.{node_lengths-without}
 use Rattle.indexset_set.specs.SetNodes.{IsWithoutAt}
 
 -- the pair of a key, taken out
-pub key_taken : {K V Q : Type 0} {cmp : K → K → Ordering} {among : Q → Q → Ordering} (order : K → Q → Ordering) (l : List (Pair K V)) (k : Q) → IsTotalOrder cmp → ActsAsKey cmp order among → ActsAsOne cmp order → IsAscending (by_key cmp) l → (i : ℕ) → position (λ p. is_eq (order p.key k)) l ≡ Some i → remove l i ≡ without_key order l k
+pub key_taken : {K V Q : Type 0} {cmp : K → K → Ordering} {among : Q → Q → Ordering} (order : K → Q → Ordering) (l : List (Pair K V)) (k : Q) → IsTotalOrder cmp → OrdersAsItem cmp order among → EqualsAtMostOne cmp order → IsAscending (by_key cmp) l → (i : ℕ) → position (λ p. is_eq (order p.key k)) l ≡ Some i → remove l i ≡ without_key order l k
 key_taken {K = K} {V = V} {cmp = cmp} order l k o acts one up i h = sym (sought_without (on_total (λ (p : Pair K V). p.key) o) (one_on (λ (p : Pair K V). p.key) one) l k i up (found_key order l k i h (parted_by_sought_key acts l up k)))
 
-module _ {K V Q : Type 0} {cmp : K → K → Ordering} {among : Q → Q → Ordering} (order : K → Q → Ordering) (acts : ActsAsKey cmp order among) (l : List (Pair K V)) (up : IsAscending (by_key cmp) l) where
+module _ {K V Q : Type 0} {cmp : K → K → Ordering} {among : Q → Q → Ordering} (order : K → Q → Ordering) (acts : OrdersAsItem cmp order among) (l : List (Pair K V)) (up : IsAscending (by_key cmp) l) where
   -- the keys at the places before a key's rank are below it
   pub key_before : (k : Q) (i : ℕ) → i ≡ key_rank order l k → AllWithin (λ p. order p.key k ≡ Less) l 0 i
   key_before k i place n d low high =
@@ -37,7 +37,7 @@ module _ {K V : Type 0} (cmp : K → K → Ordering) (o : IsTotalOrder cmp) (l :
       ap (option_map (λ q. q.value)) (sym (slice_get-rank_equal (by_key cmp) total l up p has) ∙ (ap (slice_get l) (rank-slice_get (by_key cmp) total l up i p is) ∙ is))
 
 -- what is removed from the set is removed from the map
-pub contents_removed : {K V : Type 0} (s t : Cut (Pair K V)) (m : Contents K V) (i : ℕ) → contents s ≡ m → items t ≡ remove (items s) i
+pub contents_removed : {K V : Type 0} (s t : NodeList (Pair K V)) (m : Contents K V) (i : ℕ) → contents s ≡ m → items t ≡ remove (items s) i
     → IsWithoutAt s.nodes i t.nodes → t.size ≡ s.size → contents t ≡ without_at m i
 contents_removed {K = K} {V = V} s t m i e is nodes size =
     let lengths : node_lengths t.nodes ≡ lengths_without (node_lengths s.nodes) i = ap node_lengths nodes.3 ∙ node_lengths-without s.nodes nodes.0 i nodes.1 nodes.2 in
@@ -49,13 +49,13 @@ module _ {K V Q : Type 0} (order : K → Q → Ordering) (m : Contents K V) (k :
     there : has_key order m.pairs k ≡ true
     there = key_there order m.pairs k i h
 
-    module _ {cmp : K → K → Ordering} {among : Q → Q → Ordering} (acts : ActsAsKey cmp order among) (up : IsAscending (by_key cmp) m.pairs) where
+    module _ {cmp : K → K → Ordering} {among : Q → Q → Ordering} (acts : OrdersAsItem cmp order among) (up : IsAscending (by_key cmp) m.pairs) where
       pub key_place : key_rank order m.pairs k ≡ i
       key_place =
           let parted = parted_by_sought_key acts m.pairs up k in
           found_rank (λ (p : Pair K V). order p.key) m.pairs k i (found_key order m.pairs k i h parted) parted
 
-      pub without_found : IsTotalOrder cmp → ActsAsOne cmp order → without_at m i ≡ without_entry order m k
+      pub without_found : IsTotalOrder cmp → EqualsAtMostOne cmp order → without_at m i ≡ without_entry order m k
       without_found o one =
           let pairs = key_taken order m.pairs k o acts one up i h in
           let lengths = ap (λ (b : Bool). if b then lengths_without m.lengths (key_rank order m.pairs k) else m.lengths) there ∙ ap (lengths_without m.lengths) key_place in

@@ -6,11 +6,11 @@ use Rattle.std.proofs.lemmas.List.{length-map, map-append, take_all}
 use Rattle.std.proofs.lemmas.List.Edits.{insert_end}
 use Rattle.std.proofs.lemmas.List.Sums.{fold-append}
 use Rattle.indexset_core.specs.declared.pair.Pair.{Pair}
-use Rattle.indexset_core.specs.Nodes.{joined, node_lengths}
+use Rattle.indexset_core.specs.Nodes.{concat, node_lengths}
 use Rattle.indexset_core.specs.Order.{IsAscending}
 use Rattle.indexset_core.specs.Pairs.{by_key, entry_of}
-use Rattle.indexset_core.proofs.CallerLemmas.{gap_has_equal, gap_rank, length-joined-more}
-use Rattle.indexset_spine.specs.Cut.{Cut, IsCut, cut, end_spot, items, position_of, with_all_last, with_last}
+use Rattle.indexset_core.proofs.CallerLemmas.{gap_has_equal, gap_rank, length-concat-more}
+use Rattle.indexset_spine.specs.NodeList.{NodeList, AreNodeLengths, node_list, end_spot, items, position_of, with_all_last, with_last}
 use Rattle.indexset_spine.specs.Lengths.{IsPlace}
 use Rattle.indexset_spine.proofs.CallerLemmas.{cut_last, joined_last, place_position, spot_place}
 use Rattle.indexset_set.proofs.CallerLemmas.{all_nodes, front_ascending, gap_behind, still_up}
@@ -19,8 +19,8 @@ use Rattle.indexset_map.proofs.SpotLemmas.{put_in}
 
 -- the end of a list is where an item may go
 module _ {X : Type 0} (ns : List (List X)) (some : 1 ≤ length ns) where
-  behind_all : position_of ns (end_spot ns) ≡ length (joined ns)
-  behind_all = omega (arith, length-joined-more ns (length ns - 1) (omega arith), ap (λ (l : List (List X)). length (joined l)) (take_all (length ns - 1 + 1) ns (omega arith)))
+  behind_all : position_of ns (end_spot ns) ≡ length (concat ns)
+  behind_all = omega (arith, length-concat-more ns (length ns - 1) (omega arith), ap (λ (l : List (List X)). length (concat l)) (take_all (length ns - 1 + 1) ns (omega arith)))
 
   behind_place : IsPlace (node_lengths ns) (end_spot ns)
   behind_place = spot_place ns (end_spot ns) (record { node_in = omega arith; offset_in = omega arith }) (λ _. omega arith)
@@ -28,17 +28,17 @@ module _ {X : Type 0} (ns : List (List X)) (some : 1 ≤ length ns) where
 module _ {K V : Type 0} (cmp : K → K → Ordering) (total : IsTotalOrder cmp) where
   module _ (size : ℕ) where
     -- a pair above all goes behind the last
-    one_behind : (ns : List (List (Pair K V))) (p : Pair K V) (rest : List (Pair K V)) → IsCut (node_lengths ns) size → IsAscending (by_key cmp) (joined ns ++ p ∷ rest) → contents (cut (with_last size ns p) size) ≡ with_entry cmp (contents (cut ns size)) p.key p.value
+    one_behind : (ns : List (List (Pair K V))) (p : Pair K V) (rest : List (Pair K V)) → AreNodeLengths (node_lengths ns) size → IsAscending (by_key cmp) (concat ns ++ p ∷ rest) → contents (node_list (with_last size ns p) size) ≡ with_entry cmp (contents (node_list ns size)) p.key p.value
     one_behind ns p rest is up =
         let some : 1 ≤ length ns = omega (arith, is.some, length-map ns (λ (n : List (Pair K V)). length n)) in
-        let gap = gap_behind (by_key cmp) (joined ns) p rest up in
+        let gap = gap_behind (by_key cmp) (concat ns) p rest up in
         let at = behind_all ns some in
-        put_in cmp total (contents (cut ns size)) p.key (end_spot ns) (gap_has_equal (by_key cmp) (joined ns) p _ gap) (front_ascending (by_key cmp) [] (joined ns) (p ∷ rest) up)
-        (behind_place ns some) (place_position ns (end_spot ns) ∙ (at ∙ sym (gap_rank (by_key cmp) (joined ns) p _ gap))) (cut ns size) (cut (with_last size ns p) size) p.value refl
-        (joined_last size ns p some ∙ (sym (insert_end (joined ns) p) ∙ ap (λ i. insert (joined ns) i p) (sym at))) refl refl
+        put_in cmp total (contents (node_list ns size)) p.key (end_spot ns) (gap_has_equal (by_key cmp) (concat ns) p _ gap) (front_ascending (by_key cmp) [] (concat ns) (p ∷ rest) up)
+        (behind_place ns some) (place_position ns (end_spot ns) ∙ (at ∙ sym (gap_rank (by_key cmp) (concat ns) p _ gap))) (node_list ns size) (node_list (with_last size ns p) size) p.value refl
+        (joined_last size ns p some ∙ (sym (insert_end (concat ns) p) ∙ ap (λ i. insert (concat ns) i p) (sym at))) refl refl
 
     -- and so do those of a run, one by one
-    run_behind : (ns : List (List (Pair K V))) (run : List (Pair K V)) → IsCut (node_lengths ns) size → IsAscending (by_key cmp) (joined ns ++ run) → contents (cut (with_all_last size ns run) size) ≡ with_all cmp (contents (cut ns size)) (map entry_of run)
+    run_behind : (ns : List (List (Pair K V))) (run : List (Pair K V)) → AreNodeLengths (node_lengths ns) size → IsAscending (by_key cmp) (concat ns ++ run) → contents (node_list (with_all_last size ns run) size) ≡ with_all cmp (contents (node_list ns size)) (map entry_of run)
     unfolding with_all_last
     run_behind ns [] is up = refl
     run_behind ns (p ∷ run) is up =
@@ -46,9 +46,9 @@ module _ {K V : Type 0} (cmp : K → K → Ordering) (total : IsTotalOrder cmp) 
         ∙ ap (λ (m : Contents K V). with_all cmp m (map entry_of run)) (one_behind ns p run is up)
 
   -- the set s of a map, with a run behind it, became t
-  module _ (s t : Cut (Pair K V)) (m : Contents K V) (e : contents s ≡ m) (sizes : t.size ≡ s.size) (run others : List (Pair K V)) (is : IsCut (node_lengths s.nodes) s.size) where
-    resized : (ns : List (List (Pair K V))) → t.nodes ≡ ns → contents t ≡ contents (cut ns s.size)
-    resized ns same = ap (λ n. contents (cut t.nodes n)) sizes ∙ ap (λ z. contents (cut z s.size)) same
+  module _ (s t : NodeList (Pair K V)) (m : Contents K V) (e : contents s ≡ m) (sizes : t.size ≡ s.size) (run others : List (Pair K V)) (is : AreNodeLengths (node_lengths s.nodes) s.size) where
+    resized : (ns : List (List (Pair K V))) → t.nodes ≡ ns → contents t ≡ contents (node_list ns s.size)
+    resized ns same = ap (λ n. contents (node_list t.nodes n)) sizes ∙ ap (λ z. contents (node_list z s.size)) same
 
     -- with nothing left of the run
     pub run_moved : IsAscending (by_key cmp) (items s ++ run) → t.nodes ≡ with_all_last s.size s.nodes run → contents t ≡ with_all cmp m (map entry_of run)
@@ -59,12 +59,12 @@ module _ {K V : Type 0} (cmp : K → K → Ordering) (total : IsTotalOrder cmp) 
     run_taken up none same = run_moved up (all_nodes others none s.size t.nodes _ same)
 
     -- with p behind the run, some first ones of which may have gone in
-    pub run_joined : (p : Pair K V) → IsCut (node_lengths t.nodes) t.size → IsAscending (by_key cmp) (items t ++ others) → items t ++ others ≡ items s ++ (run ++ p ∷ []) → with_all_last s.size t.nodes others ≡ with_all_last s.size s.nodes (run ++ p ∷ [])
+    pub run_joined : (p : Pair K V) → AreNodeLengths (node_lengths t.nodes) t.size → IsAscending (by_key cmp) (items t ++ others) → items t ++ others ≡ items s ++ (run ++ p ∷ []) → with_all_last s.size t.nodes others ≡ with_all_last s.size s.nodes (run ++ p ∷ [])
         → with_all cmp (contents t) (map entry_of others) ≡ with_entry cmp (with_all cmp m (map entry_of run)) p.key p.value
     run_joined p still up all same =
         ap (λ (n : Contents K V). with_all cmp n (map entry_of others)) (resized t.nodes refl)
-        ∙ (sym (run_behind s.size t.nodes others (subst (IsCut (node_lengths t.nodes)) sizes still) up)
-        ∙ (ap (λ z. contents (cut z s.size)) same
+        ∙ (sym (run_behind s.size t.nodes others (subst (AreNodeLengths (node_lengths t.nodes)) sizes still) up)
+        ∙ (ap (λ z. contents (node_list z s.size)) same
         ∙ (run_behind s.size s.nodes (run ++ p ∷ []) is (subst (IsAscending (by_key cmp)) all up)
         ∙ (ap (λ l. with_all cmp (contents s) l) (map-append entry_of run (p ∷ []))
         ∙ (fold-append (λ n e. with_entry cmp n e.0 e.1) (contents s) (map entry_of run) (entry_of p ∷ [])

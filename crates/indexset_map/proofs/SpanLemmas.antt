@@ -3,11 +3,11 @@ use Rattle.std.proofs.Common.{◌≡◌, ℕ, zero, suc, ◌+◌, ◌-◌, ◌�
 use Rattle.std.specs.declared.ops.Bound.{Bound}
 use Rattle.std.specs.List.{AllWithin, between, count_by, position_or_len}
 use Rattle.indexset_core.specs.declared.pair.Pair.{Pair}
-use Rattle.indexset_core.specs.Bounds.{IfBounded, is_before, is_from_start, is_up_to_end, is_within}
+use Rattle.indexset_core.specs.KeyRange.{IfBounded, is_before, is_from_start, is_up_to_end, is_within}
 use Rattle.indexset_core.specs.Order.{IsAscending}
 use Rattle.indexset_core.specs.Pairs.{by_key}
 use Rattle.indexset_core.specs.Parted.{IsParted}
-use Rattle.indexset_core.specs.Sought.{ActsAsKey}
+use Rattle.indexset_core.specs.LookupKey.{OrdersAsItem}
 use Rattle.indexset_core.proofs.CallerLemmas.{Parts, before_parts, each_bounded, not_before, parted_by_sought_key, up_to_parts}
 use Rattle.indexset_set.specs.SetProbes.{FindsInOrder}
 use Rattle.indexset_set.proofs.CallerLemmas.{in_order}
@@ -56,7 +56,7 @@ module _ {X : Type 0} where
         rw (before 0 x (omega arith) (omega arith)) (t.0, ap (λ ys. x ∷ ys) t.1)
 
 -- keys between two bounds
-module _ {K V Q : Type 0} {cmp : K → K → Ordering} {among : Q → Q → Ordering} (order : K → Q → Ordering) (acts : ActsAsKey cmp order among) (l : List (Pair K V)) (up : IsAscending (by_key cmp) l) where
+module _ {K V Q : Type 0} {cmp : K → K → Ordering} {among : Q → Q → Ordering} (order : K → Q → Ordering) (acts : OrdersAsItem cmp order among) (l : List (Pair K V)) (up : IsAscending (by_key cmp) l) where
   parted : (k : Q) → IsParted (λ p. order p.key k) l
   parted k = parted_by_sought_key acts l up k
 

@@ -7,7 +7,7 @@ use Rattle.std.proofs.Common.{ap, Some, None, length-set}
 use Rattle.std.specs.declared.cmp.Ordering.{Ordering}
 use Rattle.indexset_core.specs.declared.pair.Pair.{Pair}
 use Rattle.indexset_core.specs.Nodes.{node_lengths}
-use Rattle.indexset_spine.specs.Cut.{Cut, cut, items}
+use Rattle.indexset_spine.specs.NodeList.{NodeList, node_list, items}
 use Rattle.indexset_core.specs.Pairs.{by_key, pair, entry_of, valued, has_key, key_rank, set_value_at, set_value, put_value, without_key}
 use Rattle.indexset_spine.specs.Lengths.{lengths_with, lengths_without}
 use Rattle.indexset_set.specs.SetNodes.{nodes_put_all}
@@ -24,12 +24,12 @@ parts (n ∷ ns) l = take n l ∷ parts ns (drop n l)
 
 module _ {K V : Type 0} where
   -- the map of a set of pairs
-  abbrev pub contents : Cut (Pair K V) → Contents K V
+  abbrev pub contents : NodeList (Pair K V) → Contents K V
   contents s = record { pairs = items s; lengths = node_lengths s.nodes; size = s.size }
 
   -- the set that holds the pairs of a map
-  abbrev pub set_of : Contents K V → Cut (Pair K V)
-  set_of m = cut (parts m.lengths m.pairs) m.size
+  abbrev pub set_of : Contents K V → NodeList (Pair K V)
+  set_of m = node_list (parts m.lengths m.pairs) m.size
 
   -- no pairs, in one empty node
   abbrev pub no_pairs : ℕ → Contents K V
@@ -75,11 +75,11 @@ module _ {K V : Type 0} where
 
     -- the map, once the pairs of ps were inserted in order, replacing pairs of equal keys
     abbrev pub with_pairs_put : Contents K V → List (Pair K V) → Contents K V
-    with_pairs_put m ps = contents (cut (nodes_put_all (by_key cmp) (set_of m) ps) m.size)
+    with_pairs_put m ps = contents (node_list (nodes_put_all (by_key cmp) (set_of m) ps) m.size)
 
     -- a prefix of ps was inserted in order, which made n of the map, and the others remain
-    abbrev pub PutsSomePairs : Contents K V → List (Pair K V) → Contents K V → List (Pair K V) → Type 0
-    PutsSomePairs m ps n rest = (k : ℕ) × (n ≡ with_pairs_put m (take k ps)) × (rest ≡ drop k ps)
+    abbrev pub PutsPairPrefix : Contents K V → List (Pair K V) → Contents K V → List (Pair K V) → Type 0
+    PutsPairPrefix m ps n rest = (k : ℕ) × (n ≡ with_pairs_put m (take k ps)) × (rest ≡ drop k ps)
 
   pub pairs_back : (l : List (Pair K V)) → map (λ e. pair e.0 e.1) (map entry_of l) ≡ l
   pairs_back [] = refl

@@ -6,7 +6,7 @@ use Rattle.std.specs.declared.cmp.Ordering.TheVariants.{Equal}
 use Rattle.indexset_core.specs.declared.pair.Pair.{Pair}
 use Rattle.indexset_core.specs.Order.{IsAscending, keep}
 use Rattle.indexset_core.specs.Pairs.{by_key}
-use Rattle.indexset_spine.specs.Cut.{cut}
+use Rattle.indexset_spine.specs.NodeList.{node_list}
 use Rattle.indexset_set.specs.SetNodes.{nodes_kept_all}
 use Rattle.indexset_map.specs.Contents.{Contents, contents, with_pairs}
 
@@ -20,7 +20,7 @@ module _ {K V : Type 0} (C : K → K → Type 0) (D : V → V → Type 0) where
     pub clones : List (Pair K V)
     pub cloned : AllZip IsPairClone m.pairs clones
     pub in_place : IsAscending (by_key cmp) clones → copy ≡ with_pairs m clones
-    pub in_turn : (IsAscending (by_key cmp) clones → ⊥) → copy ≡ contents (cut (nodes_kept_all (by_key cmp) (cut ([] ∷ []) m.size) clones) m.size)
+    pub in_turn : (IsAscending (by_key cmp) clones → ⊥) → copy ≡ contents (node_list (nodes_kept_all (by_key cmp) (node_list ([] ∷ []) m.size) clones) m.size)
     pub pairs : copy.pairs ≡ fold (keep (by_key cmp)) [] clones
     pub size : copy.size ≡ m.size
 

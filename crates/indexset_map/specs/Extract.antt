@@ -8,7 +8,7 @@ use Rattle.std.specs.declared.cmp.PartialEq as eq
 use Rattle.std.specs.declared.cmp.PartialOrd as partial
 use Rattle.indexset_core.specs.declared.pair.Pair.{Pair}
 use Rattle.indexset_core.specs.Pairs.{CalledOnPair, pair}
-use Rattle.indexset_spine.specs.Extract.{Extracts, InThree, in_three}
+use Rattle.indexset_spine.specs.Extract.{Extracts, ExtractState, extract_state}
 use Rattle.indexset_spine.specs.Lengths.{lengths_without}
 use Rattle.indexset_map.specs.Contents.{Contents}
 use Rattle.indexset_map.specs.declared.extract.ExtractIfMap.{ExtractIfMap}
@@ -19,8 +19,8 @@ module _ {K V F : Type 0} {g : ord.Ghosts K} {g' : eq.Ghosts K} {g'' : partial.G
   extract_map s = s.map
 
   -- the pairs that stay, those that the closure has yet to be asked about, and those after them
-  abbrev pub extract_pairs : ExtractIfMap K V F g g' g'' → InThree (Pair K V)
-  extract_pairs s = in_three s.map.now.pairs s.at.front s.at.back
+  abbrev pub extract_pairs : ExtractIfMap K V F g g' g'' → ExtractState (Pair K V)
+  extract_pairs s = extract_state s.map.now.pairs s.at.front s.at.back
 
   -- the closure
   abbrev pub extract_map_pred : ExtractIfMap K V F g g' g'' → F

@@ -3,12 +3,12 @@ ghost use Rattle.std.specs.Prelude.{◌≡◌, ◌<◌, [], true, false, IfOk, O
 ghost use Rattle.std.specs.List.{All};
 ghost use Rattle.std.specs.Ordering.{is_lt};
 ghost use Rattle.indexset_core.specs.Pairs.{by_key, pair_keys, pairs_below, pairs_from};
-ghost use Rattle.indexset_map.specs.Contents.{with_pairs_put, PutsSomePairs};
-ghost use Rattle.indexset_set.specs.SetAlgebra.{put_all, MovesSome};
+ghost use Rattle.indexset_map.specs.Contents.{with_pairs_put, PutsPairPrefix};
+ghost use Rattle.indexset_set.specs.SetAlgebra.{put_all, MovesPrefix};
 
 use super::BTreeMap;
+use indexset_core::lookup_key::LookupKey;
 use indexset_core::refusal::Refusal;
-use indexset_core::sought::Sought;
 
 impl<K: Ord + Drop, V: Drop> BTreeMap<K, V> {
     /// Removes the pairs whose keys are not below the key, and returns them as a map of the same
@@ -19,7 +19,7 @@ impl<K: Ord + Drop, V: Drop> BTreeMap<K, V> {
     /// let high = low.split_off(&2)?;
     /// assert!(rt; low.len() == 1 && high.len() == 2);
     /// ```
-    pub fn split_off<Q: Sought<K> + Drop>(&mut self, key: Q) -> Result<Self, Refusal>
+    pub fn split_off<Q: LookupKey<K> + Drop>(&mut self, key: Q) -> Result<Self, Refusal>
         ensures below { OnOk result (self.new.pairs ≡ pairs_below Q.order self.old.pairs key) }
         ensures rest { IfOk result (λ m. m.pairs ≡ pairs_from Q.order self.old.pairs key) }
         ensures all_below { OnOk result (All (λ k. is_lt (Q.order k key) ≡ true)
@@ -56,9 +56,9 @@ impl<K: Ord + Drop, V: Drop> BTreeMap<K, V> {
         ensures size { self.new.size ≡ self.old.size }
         ensures other_size { other.new.size ≡ other.old.size }
         ensures refusal { IfErr result (λ e. e ≡ Refusal.Memory) }
-        ensures err { OnErr result (MovesSome (by_key K.cmp) self.old.pairs other.old.pairs
+        ensures err { OnErr result (MovesPrefix (by_key K.cmp) self.old.pairs other.old.pairs
             self.new.pairs other.new.pairs) }
-        ensures err_nodes { OnErr result (PutsSomePairs K.cmp self.old other.old.pairs self.new
+        ensures err_nodes { OnErr result (PutsPairPrefix K.cmp self.old other.old.pairs self.new
             other.new.pairs) }
         ensures some_left { OnErr result (0 < length other.new.pairs) }
     {

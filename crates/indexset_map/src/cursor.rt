@@ -2,14 +2,14 @@
 ghost use Rattle.std.specs.Prelude.{◌≡◌, ◌-◌, ◌==◌, None, not, slice_get, if◌then◌else◌};
 ghost use Rattle.std.specs.List.{position_or_len};
 ghost use Rattle.std.specs.Option.{option_copied, option_map};
-ghost use Rattle.indexset_core.specs.Bounds.{is_from_start, is_up_to_end};
+ghost use Rattle.indexset_core.specs.KeyRange.{is_from_start, is_up_to_end};
 ghost use Rattle.indexset_core.specs.Pairs.{entry_of};
-ghost use Rattle.indexset_set.specs.SetCursor.{item_at, one_back, one_on, standing_at};
+ghost use Rattle.indexset_set.specs.SetCursor.{item_at, previous_state, next_state, cursor_state_at};
 
 use super::BTreeMap;
+use indexset_core::lookup_key::LookupKey;
 use indexset_core::pair::Pair;
 use indexset_core::probe::ByKey;
-use indexset_core::sought::Sought;
 use indexset_set::Cursor;
 use std::marker::Model;
 use std::ops::Bound;
@@ -31,10 +31,10 @@ pub struct CursorMap<'a, K: Ord, V> {
 
 impl<'a, K: Ord, V> Model for CursorMap<'a, K, V> {
     ghost use Rattle.indexset_core.specs.declared.pair.Pair.{Pair};
-    ghost use Rattle.indexset_set.specs.SetCursor.{Standing};
+    ghost use Rattle.indexset_set.specs.SetCursor.{CursorState};
     ghost use Rattle.indexset_map.specs.Contents.{pairs_code};
 
-    ghost Value = { Standing (Pair K V) };
+    ghost Value = { CursorState (Pair K V) };
 
     ghost view = { λ c. c.cursor };
 }
@@ -48,7 +48,7 @@ impl<K: Ord, V> BTreeMap<K, V> {
     /// let cursor = map.lower_bound(Bound::Included(&15));
     /// assert_eq!(rt; cursor.key_value(), Some((&20, &'b')));
     /// ```
-    pub fn lower_bound<Q: Sought<K> + Drop>(&self, bound: Bound<Q>) -> CursorMap<'_, K, V>
+    pub fn lower_bound<Q: LookupKey<K> + Drop>(&self, bound: Bound<Q>) -> CursorMap<'_, K, V>
         ensures pairs { result.list ≡ self.now.pairs }
         ensures position { result.position
             ≡ position_or_len (λ p. is_from_start Q.order bound p.key) self.now.pairs }
@@ -69,7 +69,7 @@ impl<K: Ord, V> BTreeMap<K, V> {
     /// let cursor = map.upper_bound(Bound::Included(&10));
     /// assert_eq!(rt; cursor.key_value(), Some((&20, &'b')));
     /// ```
-    pub fn upper_bound<Q: Sought<K> + Drop>(&self, bound: Bound<Q>) -> CursorMap<'_, K, V>
+    pub fn upper_bound<Q: LookupKey<K> + Drop>(&self, bound: Bound<Q>) -> CursorMap<'_, K, V>
         ensures pairs { result.list ≡ self.now.pairs }
         ensures position { result.position
             ≡ position_or_len (λ p. not (is_up_to_end Q.order bound p.key)) self.now.pairs }
@@ -93,7 +93,7 @@ impl<'a, K: Ord, V> CursorMap<'a, K, V> {
     /// assert_eq!(rt; cursor.key(), Some(&3));
     /// ```
     pub fn move_next(&mut self)
-        ensures { self.new ≡ one_on self.old }
+        ensures { self.new ≡ next_state self.old }
     {
         self.cursor.move_next();
     }
@@ -107,7 +107,7 @@ impl<'a, K: Ord, V> CursorMap<'a, K, V> {
     /// assert!(rt; cursor.key().is_none());
     /// ```
     pub fn move_prev(&mut self)
-        ensures { self.new ≡ one_back self.old }
+        ensures { self.new ≡ previous_state self.old }
     {
         self.cursor.move_prev();
     }
@@ -121,7 +121,7 @@ impl<'a, K: Ord, V> CursorMap<'a, K, V> {
     /// assert_eq!(rt; cursor.key(), Some(&3));
     /// ```
     pub fn move_index(&mut self, i: usize)
-        ensures { self.new ≡ standing_at self.old.list i }
+        ensures { self.new ≡ cursor_state_at self.old.list i }
     {
         self.cursor.move_index(i);
     }
@@ -177,7 +177,7 @@ impl<'a, K: Ord, V> CursorMap<'a, K, V> {
     /// ```
     pub fn peek_next(&self) -> Option<(&'a K, &'a V)>
         ensures { option_map (λ p. (p.0.now, p.1.now)) result
-            ≡ option_map entry_of (item_at (one_on self.now)) }
+            ≡ option_map entry_of (item_at (next_state self.now)) }
     {
         let pair = self.cursor.peek_next()?;
         Some((&pair.key, &pair.value))

@@ -7,9 +7,9 @@ ghost use Rattle.indexset_core.specs.Pairs.{CalledOnPair, entry_of, has_key, pai
 ghost use Rattle.indexset_map.specs.Contents.{no_pairs, with_entry, without_at, without_entry};
 
 use super::BTreeMap;
+use indexset_core::lookup_key::UniqueKey;
 use indexset_core::pair::Pair;
 use indexset_core::refusal::{Refusal, Refused};
-use indexset_core::sought::Names;
 use std::mem;
 
 impl<K: Ord + Drop, V: Drop> BTreeMap<K, V> {
@@ -27,7 +27,7 @@ impl<K: Ord + Drop, V: Drop> BTreeMap<K, V> {
     pub fn insert(&mut self, key: K, value: V) -> Result<Option<V>, Refused<(K, V)>>
         ensures old { IfOk result (λ o. o ≡ value_of K.cmp self.old.pairs key) }
         ensures ok { OnOk result (self.new ≡ with_entry K.cmp self.old key value) }
-        ensures there { OnOk result (value_of K.cmp self.new.pairs key ≡ Some value) }
+        ensures contains { OnOk result (value_of K.cmp self.new.pairs key ≡ Some value) }
         ensures others { OnOk result ((other : K) → is_eq (K.cmp other key) ≡ false
             → value_of K.cmp self.new.pairs other ≡ value_of K.cmp self.old.pairs other) }
         ensures no_memory { has_key K.cmp self.old.pairs key ≡ true → IsOk result }
@@ -50,7 +50,7 @@ impl<K: Ord + Drop, V: Drop> BTreeMap<K, V> {
     /// let mut prices = BTreeMap::from_iter(alloc, [("pear", 120), ("fig", 45)])?;
     /// assert_eq!(rt; prices.remove_entry(&"fig"), Some(("fig", 45)));
     /// ```
-    pub fn remove_entry<Q: Names<K> + Drop>(&mut self, key: Q) -> Option<(K, V)>
+    pub fn remove_entry<Q: UniqueKey<K> + Drop>(&mut self, key: Q) -> Option<(K, V)>
         ensures value { result ≡ option_map entry_of (pair_of Q.order self.old.pairs key) }
         ensures rest { self.new ≡ without_entry Q.order self.old key }
         ensures gone { has_key Q.order self.new.pairs key ≡ false }
@@ -73,7 +73,7 @@ impl<K: Ord + Drop, V: Drop> BTreeMap<K, V> {
     /// let mut prices = BTreeMap::from_iter(alloc, [("pear", 120)])?;
     /// assert!(rt; prices.remove(&"pear") == Some(120) && prices.remove(&"pear").is_none());
     /// ```
-    pub fn remove<Q: Names<K> + Drop>(&mut self, key: Q) -> Option<V>
+    pub fn remove<Q: UniqueKey<K> + Drop>(&mut self, key: Q) -> Option<V>
         ensures value { result ≡ value_of Q.order self.old.pairs key }
         ensures rest { self.new ≡ without_entry Q.order self.old key }
         ensures gone { has_key Q.order self.new.pairs key ≡ false }

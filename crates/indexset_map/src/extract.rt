@@ -5,16 +5,16 @@ ghost use Rattle.std.specs.Iterator.{at_most};
 ghost use Rattle.std.specs.List.{between};
 ghost use Rattle.std.specs.Option.{option_map};
 ghost use Rattle.std.specs.Range.Bound.{bound_map};
-ghost use Rattle.indexset_core.specs.Bounds.{are_ordered};
+ghost use Rattle.indexset_core.specs.KeyRange.{are_ordered};
 ghost use Rattle.indexset_core.specs.Pairs.{CalledOnPair, pair, pairs_within};
-ghost use Rattle.indexset_spine.specs.Extract.{Extracts, IsStretch, in_three};
+ghost use Rattle.indexset_spine.specs.Extract.{Extracts, IsExtractRange, extract_state};
 ghost use Rattle.indexset_spine.specs.Lengths.{lengths_without};
 
 use super::BTreeMap;
-use indexset_core::bounds::Bounds;
+use indexset_core::key_range::KeyRange;
+use indexset_core::lookup_key::LookupKey;
 use indexset_core::pair::Pair;
-use indexset_core::sought::Sought;
-use indexset_spine::stretch::Stretch;
+use indexset_spine::extract_range::ExtractRange;
 use std::iter::FusedIterator;
 use std::ops::Bound;
 
@@ -25,9 +25,9 @@ use std::ops::Bound;
 #[must_use]
 pub struct ExtractIfMap<'a, K: Ord, V, F> {
     map: &'a mut BTreeMap<K, V>,
-    at: Stretch,
+    at: ExtractRange,
     pred: F,
-    ghost stretch: { IsStretch map.now.lengths (length map.now.pairs) at },
+    ghost stretch: { IsExtractRange map.now.lengths (length map.now.pairs) at },
 }
 
 impl<K: Ord + Drop, V: Drop> BTreeMap<K, V> {
@@ -44,7 +44,7 @@ impl<K: Ord + Drop, V: Drop> BTreeMap<K, V> {
     /// assert!(rt; dear.eq([("pear", 120), ("plum", 80)]));
     /// assert!(rt; prices.len() == 1 && prices.contains_key(&"fig"));
     /// ```
-    pub fn extract_if<F: FnMut(&K, &mut V) -> bool, R: Bounds<K> + Drop>(
+    pub fn extract_if<F: FnMut(&K, &mut V) -> bool, R: KeyRange<K> + Drop>(
         &mut self,
         range: R,
         pred: F,
@@ -66,10 +66,10 @@ impl<K: Ord + Drop, V: Drop> BTreeMap<K, V> {
     }
 
     // Returns the stretch of the pairs between two bounds.
-    fn stretch<Q: Sought<K>>(&self, start: Bound<&Q>, end: Bound<&Q>) -> Stretch
+    fn stretch<Q: LookupKey<K>>(&self, start: Bound<&Q>, end: Bound<&Q>) -> ExtractRange
         requires { IsTrue (are_ordered Q.cmp (bound_map (λ k. k.now) start)
             (bound_map (λ k. k.now) end)) }
-        ensures at { IsStretch self.now.lengths (length self.now.pairs) result }
+        ensures at { IsExtractRange self.now.lengths (length self.now.pairs) result }
         ensures rest { between result.front result.back self.now.pairs ≡ pairs_within Q.order
             self.now.pairs (bound_map (λ k. k.now) start.entry)
             (bound_map (λ k. k.now) end.entry) }
@@ -78,7 +78,7 @@ impl<K: Ord + Drop, V: Drop> BTreeMap<K, V> {
         let _len = self.len();
         let (spot, from) = self.start_spot(start);
         let back = self.end_position(end);
-        Stretch {
+        ExtractRange {
             front: from.min(back),
             back,
             node: spot.node,
@@ -90,18 +90,18 @@ impl<K: Ord + Drop, V: Drop> BTreeMap<K, V> {
     // true, and removes that one and returns it.
     fn extract<F: FnMut(&K, &mut V) -> bool>(
         &mut self,
-        at: &mut Stretch,
+        at: &mut ExtractRange,
         pred: &mut F,
     ) -> Option<(K, V)>
         requires callable { F.IsAlwaysCallable pred.old }
-        requires at { IsStretch self.old.lengths (length self.old.pairs) at.old }
+        requires at { IsExtractRange self.old.lengths (length self.old.pairs) at.old }
         ensures extracted { Extracts (CalledOnPair F.FnMut) pred.old
-            (in_three self.old.pairs at.old.front at.old.back)
+            (extract_state self.old.pairs at.old.front at.old.back)
             (option_map (λ entry. pair entry.0 entry.1) result) pred.new
-            (in_three self.new.pairs at.new.front at.new.back) }
+            (extract_state self.new.pairs at.new.front at.new.back) }
         ensures lengths { MatchOption result (self.new.lengths ≡ self.old.lengths)
             (λ _. self.new.lengths ≡ lengths_without self.old.lengths at.new.front) }
-        ensures at { IsStretch self.new.lengths (length self.new.pairs) at.new }
+        ensures at { IsExtractRange self.new.lengths (length self.new.pairs) at.new }
         ensures callable { F.IsAlwaysCallable pred.new }
         ensures size { self.new.size ≡ self.old.size }
     {

@@ -1,14 +1,14 @@
 //! Iterators with mutable references to the values between two bounds on keys, or two positions.
 ghost use Rattle.std.specs.Prelude.{◌≡◌, IsTrue, length, min};
 ghost use Rattle.std.specs.Range.Bound.{bound_map, end_index, start_index};
-ghost use Rattle.indexset_core.specs.Bounds.{are_ordered, in_positions, is_within};
+ghost use Rattle.indexset_core.specs.KeyRange.{are_ordered, in_positions, is_within};
 ghost use Rattle.indexset_core.specs.Pairs.{pairs_within};
 
 use super::BTreeMap;
 use super::iter_mut::IterMut;
-use indexset_core::bounds::Bounds;
-use indexset_core::positions::{Positions, end_position, first_position};
-use indexset_core::sought::Sought;
+use indexset_core::key_range::KeyRange;
+use indexset_core::lookup_key::LookupKey;
+use indexset_core::position_range::{PositionRange, end_position, first_position};
 use std::ops::Bound;
 
 /// The remaining pairs of a part of a map, with mutable references to the values, from both ends.
@@ -19,7 +19,7 @@ impl<K: Ord, V> BTreeMap<K, V> {
 
     /// Returns a double-ended iterator over the pairs whose keys are within the range, in order,
     /// with mutable references to the values. The start must not be past the end, nor at it where
-    /// both are excluded (see `base::bounds::bounds_are_ordered`).
+    /// both are excluded (see `base::key_range::bounds_are_ordered`).
     ///
     /// ```
     /// let mut map = BTreeMap::from_iter(alloc, [(5, 1), (10, 1), (15, 1)])?;
@@ -29,7 +29,7 @@ impl<K: Ord, V> BTreeMap<K, V> {
     /// }
     /// assert!(rt; map.values().copied().eq([1, 2, 2]));
     /// ```
-    pub fn range_mut<R: Bounds<K> + Drop>(&mut self, range: R) -> RangeMut<'_, K, V>
+    pub fn range_mut<R: KeyRange<K> + Drop>(&mut self, range: R) -> RangeMut<'_, K, V>
         requires { IsTrue (are_ordered R.Key.cmp (R.start range) (R.end range)) }
         ensures same_map { (walk_map result).ghost_name ≡ self.entry.ghost_name }
         ensures unchanged { (walk_map result).now ≡ self.old }
@@ -42,7 +42,11 @@ impl<K: Ord, V> BTreeMap<K, V> {
     }
 
     // Returns the same for two bounds.
-    fn within_mut<Q: Sought<K>>(&mut self, start: Bound<&Q>, end: Bound<&Q>) -> RangeMut<'_, K, V>
+    fn within_mut<Q: LookupKey<K>>(
+        &mut self,
+        start: Bound<&Q>,
+        end: Bound<&Q>,
+    ) -> RangeMut<'_, K, V>
         requires { IsTrue (are_ordered Q.cmp (bound_map (λ k. k.now) start)
             (bound_map (λ k. k.now) end)) }
         ensures same_map { (walk_map result).ghost_name ≡ self.entry.ghost_name }
@@ -78,7 +82,7 @@ impl<K: Ord, V> BTreeMap<K, V> {
     /// }
     /// assert!(rt; map.values().copied().eq([1, 1, 2]));
     /// ```
-    pub fn range_mut_idx<R: Positions + Drop>(&mut self, range: R) -> RangeMut<'_, K, V>
+    pub fn range_mut_idx<R: PositionRange + Drop>(&mut self, range: R) -> RangeMut<'_, K, V>
         ensures same_map { (walk_map result).ghost_name ≡ self.entry.ghost_name }
         ensures unchanged { (walk_map result).now ≡ self.old }
         ensures rest { walk_rest result

@@ -26,9 +26,9 @@ impl<K: Ord + Drop, V: Drop> BTreeMap<K, V> {
     {
         // A set says here how long its nodes are, before and after.
         let _count = self.set.node_count();
-        let joined = inner::join_run(&mut self.set, run, Pair { key, value });
+        let concat = inner::join_run(&mut self.set, run, Pair { key, value });
         let _left = self.set.node_count();
-        match joined {
+        match concat {
             Ok(None) => Ok(()),
             Ok(Some(Pair { key, value })) => {
                 self.insert(key, value)?;

@@ -1,2 +1,2 @@
 -- What crates above this one may cite of its proofs.
-pub use Rattle.indexset_multi.proofs.Searches.{lawful_keys}
+pub use Rattle.indexset_multi.proofs.SearchLemmas.{lawful_keys}

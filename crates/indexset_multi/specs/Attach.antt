@@ -7,7 +7,7 @@ use Rattle.indexset_core.specs.declared.multipair.MultiPair.{MultiPair}
 use Rattle.indexset_core.specs.declared.refusal.Refusal.{Refusal}
 use Rattle.indexset_core.specs.declared.refusal.Refusal.TheVariants.{PairNumber}
 use Rattle.indexset_core.specs.MultiPairs.{by_number}
-use Rattle.indexset_core.specs.Nodes.{joined}
+use Rattle.indexset_core.specs.Nodes.{concat}
 use Rattle.indexset_core.specs.Order.{IsAscending}
 use Rattle.indexset_events.specs.Attach.{attach_refusal, attached, nodes_refusal}
 use Rattle.indexset_multi.specs.Tree.{MultiTree}
@@ -29,12 +29,12 @@ module _ {K V : Type 0} where
   -- n was put among the nodes: no event, and the number of the next new pair is above those of n
   pub record IsAttached (cmp : K → K → Ordering) (old new : MultiTree K V) (n : List (MultiPair K V)) : Type 0 where
     pub nodes : new.nodes ≡ attached (by_number cmp) old.nodes n
-    pub ascending : IsAscending (by_number cmp) (joined new.nodes)
-    pub count : length (joined new.nodes) ≡ length (joined old.nodes) + length n
+    pub ascending : IsAscending (by_number cmp) (concat new.nodes)
+    pub count : length (concat new.nodes) ≡ length (concat old.nodes) + length n
     pub size : new.size ≡ old.size
     pub next : new.next ≡ old.next
     pub pair_next : new.pair_next ≡ max old.pair_next (free_number n)
 
   -- why the nodes are refused as those of a multimap: the first cause that applies, where one does
   abbrev pub pair_nodes_refusal : (K → K → Ordering) → ℕ → List (List (MultiPair K V)) → Option Refusal
-  pair_nodes_refusal cmp size ns = if has_greatest (joined ns) then Some PairNumber else nodes_refusal (by_number cmp) size ns
+  pair_nodes_refusal cmp size ns = if has_greatest (concat ns) then Some PairNumber else nodes_refusal (by_number cmp) size ns

@@ -6,17 +6,17 @@ use Rattle.std.specs.declared.cmp.Ordering.{Ordering}
 use Rattle.indexset_core.specs.declared.multipair.MultiPair.{MultiPair}
 use Rattle.indexset_core.specs.declared.refusal.Refusal.{Refusal}
 use Rattle.indexset_core.specs.MultiPairs.{by_number, numbered_pair}
-use Rattle.indexset_core.specs.Nodes.{joined}
+use Rattle.indexset_core.specs.Nodes.{concat}
 use Rattle.indexset_core.specs.Order.{put}
-use Rattle.indexset_log.specs.Changed.{Change, Told}
-use Rattle.indexset_events.specs.Clones.{AreIdentical, IsTold}
-use Rattle.indexset_events.specs.Joining.{IsSpaced}
+use Rattle.indexset_log.specs.Changed.{Change, AreEventsOf}
+use Rattle.indexset_events.specs.Clones.{AreIdentical, AreTableEvents}
+use Rattle.indexset_events.specs.Merging.{IsDense}
 use Rattle.indexset_events.specs.Replay.{IsNumberedFrom, numbered_from, replay}
 use Rattle.indexset_log.specs.Tree.{Tree, refusal_for}
 use Rattle.indexset_events.specs.declared.change.ChangeEvent.{ChangeEvent}
 use Rattle.indexset_events.specs.declared.change.ChangeEventUnassigned.{ChangeEventUnassigned}
 use Rattle.indexset_multi.specs.Keys.{equal_pair, first_pair, pairs_of, without_key, without_named}
-use Rattle.indexset_multi.specs.Tree.{IsLedBy, IsLedTo, IsPairClone, MultiTree, after_insertion, after_removal, after_removals, inserted_pair, insertion_events, insertion_refusal, key_events, pair_removal_events, takes_number}
+use Rattle.indexset_multi.specs.Tree.{EvolvesBy, EvolvesTo, IsPairClone, MultiTree, after_insertion, after_removal, after_removals, inserted_pair, insertion_events, insertion_refusal, key_events, pair_removal_events, takes_number}
 
 -- a change of a multimap: the multimap afterwards, its pairs, and the events that lead to it
 pub record MultiChange (K V : Type 0) : Type 0 where
@@ -26,7 +26,7 @@ pub record MultiChange (K V : Type 0) : Type 0 where
 
 -- an insertion
 abbrev pub insertion : {K V : Type 0} → (K → K → Ordering) → (V → V → Bool) → MultiTree K V → K → V → MultiChange K V
-insertion cmp eq m k w = record { tree = after_insertion cmp eq m k w; items = put (by_number cmp) (joined m.nodes) (inserted_pair cmp eq m k w); events = insertion_events cmp eq m k w }
+insertion cmp eq m k w = record { tree = after_insertion cmp eq m k w; items = put (by_number cmp) (concat m.nodes) (inserted_pair cmp eq m k w); events = insertion_events cmp eq m k w }
 
 module _ {K V : Type 0} (cmp : K → K → Ordering) (m : MultiTree K V) (k : K) (w : V) where
   -- an insertion that takes no two values for equal: its pair is new
@@ -40,28 +40,28 @@ module _ {K V : Type 0} (cmp : K → K → Ordering) (m : MultiTree K V) (k : K)
 module _ {K V : Type 0} (cmp : K → K → Ordering) where
   -- the removal of the pair that is named, where one is
   abbrev pub named_removal : MultiTree K V → Option (MultiPair K V) → MultiChange K V
-  named_removal m pair = record { tree = after_removal cmp m pair; items = without_named cmp (joined m.nodes) pair; events = pair_removal_events cmp m.size m.nodes pair }
+  named_removal m pair = record { tree = after_removal cmp m pair; items = without_named cmp (concat m.nodes) pair; events = pair_removal_events cmp m.size m.nodes pair }
 
   -- the removal of the key's first pair
   abbrev pub some_removal : {Q : Type 0} → (K → Q → Ordering) → MultiTree K V → Q → MultiChange K V
-  some_removal order m k = named_removal m (first_pair order (joined m.nodes) k)
+  some_removal order m k = named_removal m (first_pair order (concat m.nodes) k)
 
   -- the removal of the key's first pair with an equal value
   abbrev pub equal_removal : {Q : Type 0} → (K → Q → Ordering) → (V → V → Bool) → MultiTree K V → Q → V → MultiChange K V
-  equal_removal order eq m k w = named_removal m (equal_pair order eq (joined m.nodes) k w)
+  equal_removal order eq m k w = named_removal m (equal_pair order eq (concat m.nodes) k w)
 
   -- the removal of the first pair of all
   abbrev pub first_removal : MultiTree K V → MultiChange K V
   first_removal m =
-      let pair = slice_get (joined m.nodes) 0 in
-      record { tree = after_removal cmp m pair; items = drop 1 (joined m.nodes); events = pair_removal_events cmp m.size m.nodes pair }
+      let pair = slice_get (concat m.nodes) 0 in
+      record { tree = after_removal cmp m pair; items = drop 1 (concat m.nodes); events = pair_removal_events cmp m.size m.nodes pair }
 
   -- the removal of the last pair of all
   abbrev pub last_removal : MultiTree K V → MultiChange K V
   last_removal m =
-      let last = length (joined m.nodes) - 1 in
-      let pair = slice_get (joined m.nodes) last in
-      record { tree = after_removal cmp m pair; items = take last (joined m.nodes); events = pair_removal_events cmp m.size m.nodes pair }
+      let last = length (concat m.nodes) - 1 in
+      let pair = slice_get (concat m.nodes) last in
+      record { tree = after_removal cmp m pair; items = take last (concat m.nodes); events = pair_removal_events cmp m.size m.nodes pair }
 
 -- there are numbers for its events
 abbrev pub Fits : {K V : Type 0} → MultiTree K V → MultiChange K V → Type 0
@@ -74,15 +74,15 @@ refusal_of m made = refusal_for m.next (length made.events)
 -- the change was made of the old multimap
 pub record MultiChanged {K V : Type 0} (cmp : K → K → Ordering) (old new : MultiTree K V) (made : MultiChange K V) : Type 0 where
   pub tree : new ≡ made.tree
-  pub contents : joined new.nodes ≡ made.items
+  pub contents : concat new.nodes ≡ made.items
   pub nodes : new.nodes ≡ made.tree.nodes
   pub size : new.size ≡ old.size
   pub next : new.next ≡ old.next + length made.events
   pub pair_next : new.pair_next ≡ made.tree.pair_next
   pub fits : old.next + length made.events ≤ MAX
   pub table : replay (by_number cmp) old.nodes (numbered_from old.next made.events) ≡ Some new.nodes
-  pub few : length made.events ≤ 3
-  pub spaced : IsSpaced (old.size / 2) old.nodes → IsSpaced (new.size / 2) new.nodes
+  pub at_most_three_events : length made.events ≤ 3
+  pub dense : IsDense (old.size / 2) old.nodes → IsDense (new.size / 2) new.nodes
 
 -- the tree of the set that a multimap is
 abbrev pub set_tree : {K V : Type 0} → MultiTree K V → Tree (MultiPair K V)
@@ -93,39 +93,39 @@ abbrev pub set_change : {K V : Type 0} → MultiChange K V → Change (MultiPair
 set_change made = record { tree = set_tree made.tree; items = made.items; events = made.events }
 
 -- what a multimap reports
-abbrev pub MultiTold : {K V : Type 0} → (K → K → Ordering) → (K → K → Type 0) → (V → V → Type 0) → MultiTree K V → MultiTree K V → MultiChange K V → List (ChangeEvent (MultiPair K V)) → Type 0
-MultiTold cmp C D old new made told = Told (AreIdentical C × AreIdentical D) (by_number cmp) (IsPairClone C D) (set_tree old) (set_tree new) (set_change made) told
+abbrev pub MultiPairEvents : {K V : Type 0} → (K → K → Ordering) → (K → K → Type 0) → (V → V → Type 0) → MultiTree K V → MultiTree K V → MultiChange K V → List (ChangeEvent (MultiPair K V)) → Type 0
+MultiPairEvents cmp C D old new made told = AreEventsOf (AreIdentical C × AreIdentical D) (by_number cmp) (IsPairClone C D) (set_tree old) (set_tree new) (set_change made) told
 
 module _ {K V : Type 0} (cmp : K → K → Ordering) where
   -- what was under a key, but for those that order finds Equal to k, is under it
   abbrev pub KeepsOthers : {Q : Type 0} → (K → Q → Ordering) → MultiTree K V → MultiTree K V → Q → Type 0
-  KeepsOthers order old new k = (other : K) → is_eq (order other k) ≡ false → pairs_of cmp (joined new.nodes) other ≡ pairs_of cmp (joined old.nodes) other
+  KeepsOthers order old new k = (other : K) → is_eq (order other k) ≡ false → pairs_of cmp (concat new.nodes) other ≡ pairs_of cmp (concat old.nodes) other
 
   -- an insertion put its pair under the key: the pair is the last of the key where it took a new number
   pub record IsInserted (eq : V → V → Bool) (old new : MultiTree K V) (k : K) (w : V) : Type 0 where
-    pub there : equal_pair cmp eq (joined new.nodes) k w ≡ Some (inserted_pair cmp eq old k w)
-    pub last : takes_number cmp eq old k w ≡ true → pairs_of cmp (joined new.nodes) k ≡ pairs_of cmp (joined old.nodes) k ++ inserted_pair cmp eq old k w ∷ []
+    pub contains : equal_pair cmp eq (concat new.nodes) k w ≡ Some (inserted_pair cmp eq old k w)
+    pub last : takes_number cmp eq old k w ≡ true → pairs_of cmp (concat new.nodes) k ≡ pairs_of cmp (concat old.nodes) k ++ inserted_pair cmp eq old k w ∷ []
     pub others : KeepsOthers cmp old new k
 
   -- a new pair is the last of the key
   pub record IsAdded (old new : MultiTree K V) (k : K) (w : V) : Type 0 where
-    pub last : pairs_of cmp (joined new.nodes) k ≡ pairs_of cmp (joined old.nodes) k ++ numbered_pair k w old.pair_next ∷ []
+    pub last : pairs_of cmp (concat new.nodes) k ≡ pairs_of cmp (concat old.nodes) k ++ numbered_pair k w old.pair_next ∷ []
     pub others : KeepsOthers cmp old new k
 
   -- pairs of the key were removed, the first of them again and again
   pub record AreRemoved {Q : Type 0} (order : K → Q → Ordering) (old new : MultiTree K V) (k : Q) : Type 0 where
-    pub tree : new ≡ after_removals cmp order old k (length (pairs_of order (joined old.nodes) k) - length (pairs_of order (joined new.nodes) k))
-    pub left : pairs_of order (joined new.nodes) k ≡ drop (length (pairs_of order (joined old.nodes) k) - length (pairs_of order (joined new.nodes) k)) (pairs_of order (joined old.nodes) k)
-    pub rest : without_key order (joined new.nodes) k ≡ without_key order (joined old.nodes) k
+    pub tree : new ≡ after_removals cmp order old k (length (pairs_of order (concat old.nodes) k) - length (pairs_of order (concat new.nodes) k))
+    pub left : pairs_of order (concat new.nodes) k ≡ drop (length (pairs_of order (concat old.nodes) k) - length (pairs_of order (concat new.nodes) k)) (pairs_of order (concat old.nodes) k)
+    pub rest : without_key order (concat new.nodes) k ≡ without_key order (concat old.nodes) k
     pub others : KeepsOthers order old new k
-    pub led : IsLedTo cmp old new
+    pub led : EvolvesTo cmp old new
     pub table : replay (by_number cmp) old.nodes (numbered_from old.next (key_events cmp order old new k)) ≡ Some new.nodes
     pub size : new.size ≡ old.size
-    pub spaced : IsSpaced (old.size / 2) old.nodes → IsSpaced (new.size / 2) new.nodes
+    pub dense : IsDense (old.size / 2) old.nodes → IsDense (new.size / 2) new.nodes
     pub pair_next : new.pair_next ≡ old.pair_next
 
   -- what is reported of that
-  pub record RemovalsTold {Q : Type 0} (order : K → Q → Ordering) (C : K → K → Type 0) (D : V → V → Type 0) (old new : MultiTree K V) (k : Q) (told : List (ChangeEvent (MultiPair K V))) : Type 0 where
-    pub clones : IsTold (IsPairClone C D) old.next (key_events cmp order old new k) told
+  pub record RemovalEvents {Q : Type 0} (order : K → Q → Ordering) (C : K → K → Type 0) (D : V → V → Type 0) (old new : MultiTree K V) (k : Q) (told : List (ChangeEvent (MultiPair K V))) : Type 0 where
+    pub clones : AreTableEvents (IsPairClone C D) old.next (key_events cmp order old new k) told
     pub numbered : IsNumberedFrom old.next told
-    pub replay : AreIdentical C × AreIdentical D → IsLedBy cmp old new told
+    pub replay : AreIdentical C × AreIdentical D → EvolvesBy cmp old new told

@@ -8,7 +8,7 @@ use Rattle.std.specs.declared.cmp.Ordering.{Ordering}
 use Rattle.std.specs.declared.ops.Bound.{Bound}
 use Rattle.indexset_core.specs.declared.multipair.MultiPair.{MultiPair}
 use Rattle.indexset_core.specs.declared.pair.Pair.{Pair}
-use Rattle.indexset_core.specs.Bounds.{is_within}
+use Rattle.indexset_core.specs.KeyRange.{is_within}
 use Rattle.indexset_core.specs.MultiPairs.{by_number, numbered_pair, unnumbered}
 use Rattle.indexset_core.specs.Order.{without}
 

@@ -2,5 +2,5 @@ pub mod Attach
 pub mod Changed
 pub mod Keys
 pub mod Places
-pub mod Told
+pub mod Appended
 pub mod Tree

@@ -7,7 +7,7 @@ use Rattle.indexset_core.specs.declared.multipair.MultiPair.{MultiPair}
 use Rattle.indexset_core.specs.declared.refusal.Refusal.{Refusal}
 use Rattle.indexset_core.specs.declared.refusal.Refusal.TheVariants.{Numbers}
 use Rattle.indexset_core.specs.MultiPairs.{by_number, numbered_pair}
-use Rattle.indexset_core.specs.Nodes.{joined}
+use Rattle.indexset_core.specs.Nodes.{concat}
 use Rattle.indexset_events.specs.declared.change.ChangeEventUnassigned.{ChangeEventUnassigned}
 use Rattle.indexset_events.specs.declared.change.ChangeEvent.{ChangeEvent}
 use Rattle.indexset_events.specs.Edits.{with_put}
@@ -41,11 +41,11 @@ after_removal cmp m pair =
 -- the tree after the first pair of the key is removed, n times
 abbrev pub after_removals : {K V Q : Type 0} → (K → K → Ordering) → (K → Q → Ordering) → MultiTree K V → Q → ℕ → MultiTree K V
 after_removals cmp order m k zero = m
-after_removals cmp order m k (suc n) = let t = after_removals cmp order m k n in after_removal cmp t (first_pair order (joined t.nodes) k)
+after_removals cmp order m k (suc n) = let t = after_removals cmp order m k n in after_removal cmp t (first_pair order (concat t.nodes) k)
 
 -- the events of the removal of the key's first pair
 abbrev pub first_events : {K V Q : Type 0} → (K → K → Ordering) → (K → Q → Ordering) → MultiTree K V → Q → List (ChangeEventUnassigned (MultiPair K V))
-first_events cmp order m k = pair_removal_events cmp m.size m.nodes (first_pair order (joined m.nodes) k)
+first_events cmp order m k = pair_removal_events cmp m.size m.nodes (first_pair order (concat m.nodes) k)
 
 -- the events of those n removals, one after another
 abbrev pub removals_events : {K V Q : Type 0} → (K → K → Ordering) → (K → Q → Ordering) → MultiTree K V → Q → ℕ → List (ChangeEventUnassigned (MultiPair K V))
@@ -54,20 +54,20 @@ removals_events cmp order m k (suc n) = removals_events cmp order m k n ++ first
 
 -- the events of the removals of a key's first pairs that lead from the first tree to the second
 abbrev pub key_events : {K V Q : Type 0} → (K → K → Ordering) → (K → Q → Ordering) → MultiTree K V → MultiTree K V → Q → List (ChangeEventUnassigned (MultiPair K V))
-key_events cmp order m n k = removals_events cmp order m k (length (pairs_of order (joined m.nodes) k) - length (pairs_of order (joined n.nodes) k))
+key_events cmp order m n k = removals_events cmp order m k (length (pairs_of order (concat m.nodes) k) - length (pairs_of order (concat n.nodes) k))
 
 -- q is p, with clones of its key and of its value
 abbrev pub IsPairClone : {K V : Type 0} → (K → K → Type 0) → (V → V → Type 0) → MultiPair K V → MultiPair K V → Type 0
 IsPairClone C D p q = C p.key q.key × (D p.value q.value × (q.discriminator ≡ p.discriminator))
 
 -- the events, numbered from the first's next one, lead from its nodes to the second's, whose next number comes after them
-pub record IsLedBy {K V : Type 0} (cmp : K → K → Ordering) (m n : MultiTree K V) (events : List (ChangeEvent (MultiPair K V))) : Type 0 where
+pub record EvolvesBy {K V : Type 0} (cmp : K → K → Ordering) (m n : MultiTree K V) (events : List (ChangeEvent (MultiPair K V))) : Type 0 where
   pub numbered : IsNumberedFrom m.next events
   pub replayed : replay (by_number cmp) m.nodes events ≡ Some n.nodes
   pub next : n.next ≡ m.next + length events
 
 -- some events, numbered from the first's next one, lead from its nodes to the second's, whose next number comes after them
-pub record IsLedTo {K V : Type 0} (cmp : K → K → Ordering) (m n : MultiTree K V) : Type 0 where
+pub record EvolvesTo {K V : Type 0} (cmp : K → K → Ordering) (m n : MultiTree K V) : Type 0 where
   pub events : List (ChangeEvent (MultiPair K V))
   pub numbered : IsNumberedFrom m.next events
   pub replayed : replay (by_number cmp) m.nodes events ≡ Some n.nodes
@@ -77,11 +77,11 @@ module _ {K V : Type 0} (cmp : K → K → Ordering) (eq : V → V → Bool) whe
   module _ (m : MultiTree K V) (k : K) (w : V) where
     -- an insertion takes a new number
     abbrev pub takes_number : Bool
-    takes_number = is_none (kept_number cmp eq (joined m.nodes) k w)
+    takes_number = is_none (kept_number cmp eq (concat m.nodes) k w)
 
     -- the pair that it puts: it keeps the number of the pair that it replaces
     abbrev pub inserted_pair : MultiPair K V
-    inserted_pair = numbered_pair k w (unwrap_or (kept_number cmp eq (joined m.nodes) k w) m.pair_next)
+    inserted_pair = numbered_pair k w (unwrap_or (kept_number cmp eq (concat m.nodes) k w) m.pair_next)
 
     -- its events, which are those of a put
     abbrev pub insertion_events : List (ChangeEventUnassigned (MultiPair K V))

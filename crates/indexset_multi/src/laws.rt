@@ -1,6 +1,6 @@
 //! Laws of the iterators over a multimap. Each function does nothing; its contract is the law.
-ghost use Rattle.indexset_core.specs.Pairs.{pair_shown};
-ghost use Rattle.indexset_core.specs.Pulls.{IsWalk};
+ghost use Rattle.indexset_core.specs.Pairs.{pair_deref};
+ghost use Rattle.indexset_core.specs.DoubleEnded.{IsDoubleEnded};
 ghost use Rattle.indexset_multi.specs.Keys.{number_shown};
 
 use crate::multimap::iter::Iter;
@@ -16,10 +16,10 @@ pub fn iterators_yield_each_pair_once<
     V: Eq + Clone + Drop + 'a,
     Node: NodeLike<MultiPair<K, V>> + 'a,
 >()
-    ensures pairs { IsWalk pair_shown ⟦<Iter<'a, K, V, Node> as Iterator>⟧.next_gives
+    ensures pairs { IsDoubleEnded pair_deref ⟦<Iter<'a, K, V, Node> as Iterator>⟧.next_gives
         ⟦<Iter<'a, K, V, Node> as DoubleEndedIterator>⟧.next_back_gives }
-    ensures range { IsWalk pair_shown ⟦<Range<'a, K, V, Node> as Iterator>⟧.next_gives
+    ensures range { IsDoubleEnded pair_deref ⟦<Range<'a, K, V, Node> as Iterator>⟧.next_gives
         ⟦<Range<'a, K, V, Node> as DoubleEndedIterator>⟧.next_back_gives }
-    ensures raw_range { IsWalk number_shown ⟦<RawRange<'a, K, V, Node> as Iterator>⟧.next_gives
+    ensures raw_range { IsDoubleEnded number_shown ⟦<RawRange<'a, K, V, Node> as Iterator>⟧.next_gives
         ⟦<RawRange<'a, K, V, Node> as DoubleEndedIterator>⟧.next_back_gives }
 {}

@@ -2,7 +2,7 @@
 ghost use Rattle.std.specs.Prelude.{◌≡◌, ◌==◌, ◌≤◌, [], length, map, IfSome};
 ghost use Rattle.std.specs.Map.Iter.{ShowsInOrder, ShowsInReverse, deref};
 ghost use Rattle.indexset_core.specs.MultiPairs.{by_number};
-ghost use Rattle.indexset_core.specs.Nodes.{joined, IsLawful};
+ghost use Rattle.indexset_core.specs.Nodes.{concat, IsLawful};
 ghost use Rattle.indexset_events.specs.Nodes.{AddsUp};
 ghost use Rattle.indexset_log.specs.Tree.{IsTree};
 ghost use Rattle.indexset_multi.specs.Keys.{AreNumberedBelow, has_pair_of};
@@ -20,10 +20,10 @@ mod remove_all;
 mod traits;
 
 use indexset_core::constants::DEFAULT_INNER_SIZE;
+use indexset_core::lookup_key::LookupKey;
 use indexset_core::multipair::MultiPair;
 use indexset_core::node::NodeLike;
 use indexset_core::probe::ByKey;
-use indexset_core::sought::Sought;
 use indexset_log::set::BTreeSet;
 use indexset_log::set::nodes::Nodes;
 use std::alloc::Global;
@@ -53,7 +53,7 @@ pub struct BTreeMultiMap<
 
 impl<K: Ord + Clone + Drop, V: Eq + Clone + Drop, Node: NodeLike<MultiPair<K, V>>> Model
     for BTreeMultiMap<K, V, Node> {
-    ghost use Rattle.indexset_core.specs.Nodes.{joined};
+    ghost use Rattle.indexset_core.specs.Nodes.{concat};
     ghost use Rattle.indexset_multi.specs.Keys.{AreNumberedBelow};
     ghost use Rattle.indexset_multi.specs.Tree.{MultiTree};
 
@@ -66,7 +66,7 @@ impl<K: Ord + Clone + Drop, V: Eq + Clone + Drop, Node: NodeLike<MultiPair<K, V>
       pair_next = m.pair_next;
     } };
 
-    ghost invariant = { λ m. AreNumberedBelow m.pair_next (joined m.set.nodes) };
+    ghost invariant = { λ m. AreNumberedBelow m.pair_next (concat m.set.nodes) };
 }
 
 impl<K: Ord + Clone + Drop, V: Eq + Clone + Drop, Node: NodeLike<MultiPair<K, V>>> BTreeMultiMap<
@@ -155,7 +155,7 @@ impl<K: Ord + Clone + Drop, V: Eq + Clone + Drop, Node: NodeLike<MultiPair<K, V>
     /// assert!(rt; tags.len() == 3);
     /// ```
     pub fn len(&self) -> usize
-        ensures { result ≡ length (joined self.now.nodes) }
+        ensures { result ≡ length (concat self.now.nodes) }
     {
         self.set.len()
     }
@@ -169,7 +169,7 @@ impl<K: Ord + Clone + Drop, V: Eq + Clone + Drop, Node: NodeLike<MultiPair<K, V>
     /// assert!(rt; !tags.is_empty());
     /// ```
     pub fn is_empty(&self) -> bool
-        ensures { result ≡ (length (joined self.now.nodes) == 0) }
+        ensures { result ≡ (length (concat self.now.nodes) == 0) }
     {
         self.set.is_empty()
     }
@@ -187,9 +187,9 @@ impl<K: Ord + Clone + Drop, V: Eq + Clone + Drop, Node: NodeLike<MultiPair<K, V>
     /// ```
     pub fn node_count(&self) -> usize
         ensures value { result ≡ length self.now.nodes }
-        ensures few { result ≤ length (joined self.now.nodes) }
+        ensures node_bound { result ≤ length (concat self.now.nodes) }
         ensures lawful { IsLawful (by_number K.cmp) self.now.size self.now.nodes }
-        ensures numbers { AreNumberedBelow self.now.pair_next (joined self.now.nodes) }
+        ensures numbers { AreNumberedBelow self.now.pair_next (concat self.now.nodes) }
     {
         self.set.node_count()
     }
@@ -205,7 +205,7 @@ impl<K: Ord + Clone + Drop, V: Eq + Clone + Drop, Node: NodeLike<MultiPair<K, V>
     /// assert!(rt; tags.capacity() >= 3);
     /// ```
     pub fn capacity(&self) -> usize
-        ensures enough { length (joined self.now.nodes) ≤ result }
+        ensures enough { length (concat self.now.nodes) ≤ result }
         ensures sum { AddsUp Node.list Node.room self.now.nodes result }
     {
         self.set.capacity()
@@ -252,8 +252,8 @@ impl<K: Ord + Clone + Drop, V: Eq + Clone + Drop, Node: NodeLike<MultiPair<K, V>
     /// }
     /// assert!(rt; tags.contains_key(&1) && !tags.contains_key(&3));
     /// ```
-    pub fn contains_key<Q: Sought<K> + Drop>(&self, key: Q) -> bool
-        ensures { result ≡ has_pair_of Q.order (joined self.now.nodes) key }
+    pub fn contains_key<Q: LookupKey<K> + Drop>(&self, key: Q) -> bool
+        ensures { result ≡ has_pair_of Q.order (concat self.now.nodes) key }
     {
         self.locate(&key).is_ok()
     }
@@ -261,7 +261,7 @@ impl<K: Ord + Clone + Drop, V: Eq + Clone + Drop, Node: NodeLike<MultiPair<K, V>
     // Says what holds of the nodes, and that the counter fits.
     fn rule(&self)
         ensures tree { IsTree (by_number K.cmp) Node.most self.now.nodes self.now.size
-            (length (joined self.now.nodes)) }
+            (length (concat self.now.nodes)) }
         ensures number { self.now.next ≤ u64.MAX }
     {
         let _nodes = self.set.node_count();
@@ -270,7 +270,7 @@ impl<K: Ord + Clone + Drop, V: Eq + Clone + Drop, Node: NodeLike<MultiPair<K, V>
     }
 
     // Returns where a search for a key ends.
-    fn locate<Q: Sought<K>>(&self, key: &Q) -> Result<(usize, usize), (usize, usize)>
+    fn locate<Q: LookupKey<K>>(&self, key: &Q) -> Result<(usize, usize), (usize, usize)>
         ensures place { result ≡ located (λ p. Q.order p.key key.now) self.now.nodes }
         ensures lawful { IsLawful (by_number K.cmp) self.now.size self.now.nodes }
     {

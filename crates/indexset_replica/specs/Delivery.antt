@@ -22,7 +22,7 @@ numbers_from j zero = []
 numbers_from j (suc n) = j ∷ numbers_from (j + 1) n
 
 -- m is the greatest number from j on for which j, j + 1, .. m - 1 are among the places, in this order
-pub record IsReached (j : ℕ) (order : List ℕ) (m : ℕ) : Type 0 where
+pub record IsDeliveredUpTo (j : ℕ) (order : List ℕ) (m : ℕ) : Type 0 where
   pub from : j ≤ m
   pub came : IsSubsequence (numbers_from j (m - j)) order
   pub greatest : (n : ℕ) → j ≤ n → IsSubsequence (numbers_from j (n - j)) order → n ≤ m
@@ -69,7 +69,7 @@ module _ {T : Type 0} (cmp : T → T → Ordering) where
     pub at : IsSomeAnd (slice_get order count) (λ p. IsSomeAnd (slice_get es p) (λ e. (event_number e ≡ new.next) × (cause ≡ failure new e)))
 
   -- the events are numbered from s on, they lead from these nodes, and a number is left after them
-  pub record IsFeed (s : ℕ) (ns : List (List T)) (es : List (ChangeEvent T)) : Type 0 where
+  pub record IsEventLog (s : ℕ) (ns : List (List T)) (es : List (ChangeEvent T)) : Type 0 where
     pub numbered : IsNumberedFrom s es
     pub defined : is_some (replay cmp ns es) ≡ true
     pub fits : s + length es ≤ MAX
@@ -81,11 +81,11 @@ module _ {T : Type 0} (cmp : T → T → Ordering) where
     pub next : r.next ≡ s + j
 
   -- the replica holds what a beginning of the events leads to, and awaits the event after it
-  abbrev pub IsBeginning : ℕ → List (List T) → List (ChangeEvent T) → ReplicaState T → Type 0
-  IsBeginning s ns es r = IsAt s ns es (r.next - s) r
+  abbrev pub IsPrefix : ℕ → List (List T) → List (ChangeEvent T) → ReplicaState T → Type 0
+  IsPrefix s ns es r = IsAt s ns es (r.next - s) r
 
   -- the replica holds what all events lead to, and awaits the event after them
-  pub record HoldsAll (s : ℕ) (ns : List (List T)) (es : List (ChangeEvent T)) (r : ReplicaState T) : Type 0 where
+  pub record IsCaughtUp (s : ℕ) (ns : List (List T)) (es : List (ChangeEvent T)) (r : ReplicaState T) : Type 0 where
     pub nodes : replay cmp ns es ≡ Some r.nodes
     pub next : r.next ≡ s + length es
 
@@ -96,13 +96,13 @@ module _ {T : Type 0} (cmp : T → T → Ordering) where
       pub next : q.next ≡ r.next
 
     -- the replica holds copies of what a beginning of the events leads to, and awaits the event after it
-    abbrev pub CopiesBeginning : ℕ → List (List T) → List (ChangeEvent T) → ReplicaState T → Type 0
-    CopiesBeginning s ns es q = (r : ReplicaState T) × IsBeginning s ns es r × IsAlike r q
+    abbrev pub CopiesPrefix : ℕ → List (List T) → List (ChangeEvent T) → ReplicaState T → Type 0
+    CopiesPrefix s ns es q = (r : ReplicaState T) × IsPrefix s ns es r × IsAlike r q
 
     -- the replica holds copies of what all events lead to, and awaits the event after them
     abbrev pub CopiesAll : ℕ → List (List T) → List (ChangeEvent T) → ReplicaState T → Type 0
-    CopiesAll s ns es q = (r : ReplicaState T) × HoldsAll s ns es r × IsAlike r q
+    CopiesAll s ns es q = (r : ReplicaState T) × IsCaughtUp s ns es r × IsAlike r q
 
   -- the replica holds what the longest beginning leads to whose events came in turn, from event j on
   abbrev pub IsDelivered : ℕ → List (List T) → List (ChangeEvent T) → ℕ → List ℕ → ReplicaState T → Type 0
-  IsDelivered s ns es j order r = (m : ℕ) → IsReached j order m → IsAt s ns es m r
+  IsDelivered s ns es j order r = (m : ℕ) → IsDeliveredUpTo j order m → IsAt s ns es m r

@@ -5,7 +5,7 @@ use Rattle.std.specs.Option.{option_map_or}
 use Rattle.std.specs.Ordering.{is_lt, is_eq}
 use Rattle.std.specs.declared.cmp.Ordering.{Ordering}
 use Rattle.std.specs.declared.cmp.Ordering.TheVariants.{Equal}
-use Rattle.indexset_core.specs.Nodes.{joined, node_at, node_lengths, IsNodeList}
+use Rattle.indexset_core.specs.Nodes.{concat, node_at, node_lengths, IsNodeList}
 use Rattle.indexset_core.specs.declared.refusal.Refusal.{Refusal}
 use Rattle.indexset_core.specs.declared.refusal.Refusal.TheVariants.{Numbers, Gap, NoSuchNode, IndexOutside, ValueDiffers, WouldBeEmpty, OutOfOrder, BadSplit, NotNeighbours}
 use Rattle.indexset_index.specs.Blocks.{block_sums}
@@ -35,7 +35,7 @@ pub record IsIndexed {T : Type 0} (cmp : T → T → Ordering) (ns : List (List 
 module _ {T : Type 0} (cmp : T → T → Ordering) where
   -- the nodes that an edit leads to would not be ascending as a whole
   abbrev pub disorder : Option (List (List T)) → Option Refusal
-  disorder edited = option_map_or (λ ns. if is_ascending cmp (joined ns) then None else Some OutOfOrder) edited None
+  disorder edited = option_map_or (λ ns. if is_ascending cmp (concat ns) then None else Some OutOfOrder) edited None
 
   -- what speaks against an edit of the node named m, where f tells it of that node
   abbrev pub in_named : List (List T) → T → (List T → Option Refusal) → Option Refusal

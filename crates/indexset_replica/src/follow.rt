@@ -1,7 +1,7 @@
 //! Events that are delivered with losses, repeats and in any order.
 ghost use Rattle.std.specs.Prelude.{◌≡◌, ◌<◌, ◌≤◌, ◌+◌, ◌-◌, ℕ, List, Some, IfErr, OnOk, OnErr, length, take};
 ghost use Rattle.std.specs.List.{All};
-ghost use Rattle.indexset_replica.specs.Delivery.{failure, followed, numbers_from, CopiesAll, CopiesBeginning, HasStopped, HoldsAll, IsAlike, IsAt, IsBeginning, IsDelivered, IsDelivery, IsFeed, IsFollowed, IsStopped, IsSubsequence};
+ghost use Rattle.indexset_replica.specs.Delivery.{failure, followed, numbers_from, CopiesAll, CopiesPrefix, HasStopped, IsCaughtUp, IsAlike, IsAt, IsPrefix, IsDelivered, IsDelivery, IsEventLog, IsFollowed, IsStopped, IsSubsequence};
 ghost use Rattle.indexset_replica.specs.Replica.{ReplicaState};
 ghost use Rattle.indexset_events.specs.Replay.{event_number, replay};
 
@@ -43,20 +43,20 @@ impl<T: Ord + Clone + Drop> Replica<T> {
         ensures stopped { ((x y : T) → T.is_clone x y → y ≡ x)
             → IfErr result (λ e. IsStopped T.cmp events.now self.old order.now e self.new) }
         ensures delivery { ((x y : T) → T.is_clone x y → y ≡ x) → (s j : ℕ) (ns : List (List T))
-            → IsFeed T.cmp s ns events.now → IsAt T.cmp s ns events.now j self.old
+            → IsEventLog T.cmp s ns events.now → IsAt T.cmp s ns events.now j self.old
             → OnOk result (IsDelivered T.cmp s ns events.now j order.now self.new) }
-        ensures alike { (s j : ℕ) (ns : List (List T)) → IsFeed T.cmp s ns events.now
+        ensures alike { (s j : ℕ) (ns : List (List T)) → IsEventLog T.cmp s ns events.now
             → IsAt T.cmp s ns events.now j self.old
             → OnOk result ((r : ReplicaState T) × IsDelivered T.cmp s ns events.now j order.now r
             × IsAlike T.cmp T.is_clone r self.new) }
-        ensures memory_alone { (s j : ℕ) (ns : List (List T)) → IsFeed T.cmp s ns events.now
+        ensures memory_alone { (s j : ℕ) (ns : List (List T)) → IsEventLog T.cmp s ns events.now
             → IsAt T.cmp s ns events.now j self.old
             → IfErr result (λ e. e ≡ Refusal.Memory) }
         ensures partly { ((x y : T) → T.is_clone x y → y ≡ x) → (s j : ℕ) (ns : List (List T))
-            → IsFeed T.cmp s ns events.now → IsAt T.cmp s ns events.now j self.old
+            → IsEventLog T.cmp s ns events.now → IsAt T.cmp s ns events.now j self.old
             → OnErr result ((k : ℕ) × (k ≤ length order.now)
             × IsDelivered T.cmp s ns events.now j (take k order.now) self.new) }
-        ensures partly_alike { (s j : ℕ) (ns : List (List T)) → IsFeed T.cmp s ns events.now
+        ensures partly_alike { (s j : ℕ) (ns : List (List T)) → IsEventLog T.cmp s ns events.now
             → IsAt T.cmp s ns events.now j self.old
             → OnErr result ((k : ℕ) × (r : ReplicaState T) × (k ≤ length order.now)
             × IsDelivered T.cmp s ns events.now j (take k order.now) r
@@ -65,30 +65,30 @@ impl<T: Ord + Clone + Drop> Replica<T> {
         // From a prefix of a feed it goes on to a prefix.
         ensures onwards { self.old.next ≤ self.new.next }
         ensures beginning { ((x y : T) → T.is_clone x y → y ≡ x) → (s : ℕ) (ns : List (List T))
-            → IsFeed T.cmp s ns events.now
-            → IsBeginning T.cmp s ns events.now self.old
-            → IsBeginning T.cmp s ns events.now self.new }
+            → IsEventLog T.cmp s ns events.now
+            → IsPrefix T.cmp s ns events.now self.old
+            → IsPrefix T.cmp s ns events.now self.new }
         ensures all_came { ((x y : T) → T.is_clone x y → y ≡ x) → (s : ℕ) (ns : List (List T))
-            → IsFeed T.cmp s ns events.now → IsBeginning T.cmp s ns events.now self.old
+            → IsEventLog T.cmp s ns events.now → IsPrefix T.cmp s ns events.now self.old
             → IsSubsequence (numbers_from (self.old.next - s)
             (length events.now - (self.old.next - s))) order.now
-            → OnOk result (HoldsAll T.cmp s ns events.now self.new) }
+            → OnOk result (IsCaughtUp T.cmp s ns events.now self.new) }
         ensures all_held { ((x y : T) → T.is_clone x y → y ≡ x) → (s : ℕ) (ns : List (List T))
-            → IsFeed T.cmp s ns events.now → IsBeginning T.cmp s ns events.now self.old
+            → IsEventLog T.cmp s ns events.now → IsPrefix T.cmp s ns events.now self.old
             → self.new.next ≡ s + length events.now
             → replay T.cmp ns events.now ≡ Some self.new.nodes }
 
         // At every type, of copies.
-        ensures copied_beginning { (s : ℕ) (ns : List (List T)) → IsFeed T.cmp s ns events.now
-            → CopiesBeginning T.cmp T.is_clone s ns events.now self.old
-            → CopiesBeginning T.cmp T.is_clone s ns events.now self.new }
-        ensures copied_all { (s : ℕ) (ns : List (List T)) → IsFeed T.cmp s ns events.now
-            → CopiesBeginning T.cmp T.is_clone s ns events.now self.old
+        ensures copied_beginning { (s : ℕ) (ns : List (List T)) → IsEventLog T.cmp s ns events.now
+            → CopiesPrefix T.cmp T.is_clone s ns events.now self.old
+            → CopiesPrefix T.cmp T.is_clone s ns events.now self.new }
+        ensures copied_all { (s : ℕ) (ns : List (List T)) → IsEventLog T.cmp s ns events.now
+            → CopiesPrefix T.cmp T.is_clone s ns events.now self.old
             → IsSubsequence (numbers_from (self.old.next - s)
             (length events.now - (self.old.next - s))) order.now
             → OnOk result (CopiesAll T.cmp T.is_clone s ns events.now self.new) }
-        ensures copied_held { (s : ℕ) (ns : List (List T)) → IsFeed T.cmp s ns events.now
-            → CopiesBeginning T.cmp T.is_clone s ns events.now self.old
+        ensures copied_held { (s : ℕ) (ns : List (List T)) → IsEventLog T.cmp s ns events.now
+            → CopiesPrefix T.cmp T.is_clone s ns events.now self.old
             → self.new.next ≡ s + length events.now
             → CopiesAll T.cmp T.is_clone s ns events.now self.new }
     {

@@ -1,11 +1,11 @@
 //! The index of a replica: the lengths of its nodes by blocks, and how many items there are.
 ghost use Rattle.std.specs.Prelude.{◌≡◌, ◌+◌, ◌-◌, ◌/◌, ◌<◌, ◌≤◌, ◌^◌, [], insert, length, remove, sum, slice_index, slice_set, IfOk, IfErr, IfSome, OnOk, MatchOption};
-ghost use Rattle.indexset_core.specs.Nodes.{joined, node_at, node_lengths, vec_items};
+ghost use Rattle.indexset_core.specs.Nodes.{concat, node_at, node_lengths, vec_items};
 ghost use Rattle.indexset_core.specs.Places.{IsPlace, items_before};
 ghost use Rattle.indexset_index.specs.Blocks.{block_sums};
 
+use indexset_core::item_iter::OfVec;
 use indexset_core::refusal::Refusal;
-use indexset_core::walk::ReadVec;
 use indexset_index::blocks::Blocks;
 use std::alloc::Global;
 use std::marker::Model;
@@ -49,7 +49,7 @@ impl NodeIndex {
         let Some(total) = total_of(nodes) else {
             return Err(Refusal::Memory);
         };
-        let blocks = Blocks::from_nodes::<T, Vec<T>, ReadVec>(alloc, nodes)?;
+        let blocks = Blocks::from_nodes::<T, Vec<T>, OfVec>(alloc, nodes)?;
         Ok(NodeIndex { blocks, total })
     }
 
@@ -116,7 +116,7 @@ impl NodeIndex {
         requires fits { sum (node_lengths (vec_items nodes.now)) < 2 ^ 64 }
         ensures { self.new.sums ≡ block_sums (node_lengths (vec_items nodes.now)) }
     {
-        self.blocks.insert::<T, Vec<T>, ReadVec>(place, nodes);
+        self.blocks.insert::<T, Vec<T>, OfVec>(place, nodes);
         self.total += nodes[place].len();
     }
 
@@ -127,8 +127,7 @@ impl NodeIndex {
             ≡ block_sums (insert (node_lengths (vec_items nodes.now)) place count) }
         ensures { self.new.sums ≡ block_sums (node_lengths (vec_items nodes.now)) }
     {
-        self.blocks
-            .remove::<T, Vec<T>, ReadVec>(place, count, nodes);
+        self.blocks.remove::<T, Vec<T>, OfVec>(place, count, nodes);
         self.total -= count;
     }
 
@@ -140,25 +139,25 @@ impl NodeIndex {
     {
         // The sum of all lengths fits, so each sum of some does.
         let _count = self.blocks.len();
-        self.blocks.prefix::<T, Vec<T>, ReadVec>(place.0, nodes) + place.1
+        self.blocks.prefix::<T, Vec<T>, OfVec>(place.0, nodes) + place.1
     }
 
     /// Returns the place of the item at a position in these nodes, or `None` past the end, by a
     /// search of the index.
     pub(super) fn place<T>(&self, nodes: &[Vec<T>], position: usize) -> Option<(usize, usize)>
         requires { self.now.sums ≡ block_sums (node_lengths (vec_items nodes.now)) }
-        ensures { MatchOption result (length (joined (vec_items nodes.now)) ≤ position)
+        ensures { MatchOption result (length (concat (vec_items nodes.now)) ≤ position)
             (λ p. (p.0 < length (vec_items nodes.now))
             × (p.1 < length (node_at (vec_items nodes.now) p.0))
             × (items_before (vec_items nodes.now) p ≡ position)) }
     {
-        self.blocks.find::<T, Vec<T>, ReadVec>(position, nodes)
+        self.blocks.find::<T, Vec<T>, OfVec>(position, nodes)
     }
 
     /// Returns the place after the first `count` items of these nodes, by a search of the index.
     pub(super) fn place_after<T>(&self, nodes: &[Vec<T>], count: usize) -> (usize, usize)
         requires sums { self.now.sums ≡ block_sums (node_lengths (vec_items nodes.now)) }
-        requires within { count ≤ length (joined (vec_items nodes.now)) }
+        requires within { count ≤ length (concat (vec_items nodes.now)) }
         ensures place { IsPlace (vec_items nodes.now) result }
         ensures before { items_before (vec_items nodes.now) result ≡ count }
     {
@@ -174,7 +173,7 @@ impl NodeIndex {
 
 // Returns how many items these nodes hold, if that is a usize.
 fn total_of<T>(nodes: &[Vec<T>]) -> Option<usize>
-    ensures total { IfSome result (λ total. total ≡ length (joined (vec_items nodes.now))) }
+    ensures total { IfSome result (λ total. total ≡ length (concat (vec_items nodes.now))) }
     ensures fits { IfSome result (λ total. total < 2 ^ 64) }
 {
     let mut total: usize = 0;

@@ -4,12 +4,12 @@ ghost use Rattle.std.specs.Iterator.{UpTo, at_most};
 ghost use Rattle.std.specs.Iterator.SizeHint.{IsWithinCount};
 ghost use Rattle.std.specs.List.{between};
 ghost use Rattle.std.specs.Map.Iter.{TakesFirst, TakesLast, ShowsInOrder, ShowsInReverse, deref};
-ghost use Rattle.indexset_core.specs.Nodes.{joined, vec_items};
+ghost use Rattle.indexset_core.specs.Nodes.{concat, vec_items};
 ghost use Rattle.indexset_core.specs.Places.{IsPlace, items_before};
 ghost use Rattle.indexset_replica.specs.Count.{counted, hint_for};
 
 use super::Replica;
-use indexset_core::walk::{ReadVec, Walk};
+use indexset_core::item_iter::{ItemIter, OfVec};
 use std::alloc::AllocError;
 use std::iter::FusedIterator;
 use std::marker::Model;
@@ -17,7 +17,7 @@ use std::marker::Model;
 /// The remaining items of a replica, from both ends.
 #[derive(Drop)]
 pub struct Iter<'a, T> {
-    rest: Walk<'a, T, Vec<T>, ReadVec>,
+    rest: ItemIter<'a, T, Vec<T>, OfVec>,
 }
 
 impl<'a, T> Model for Iter<'a, T> {
@@ -31,10 +31,10 @@ impl<'a, T> Model for Iter<'a, T> {
 impl<'a, T> Iter<'a, T> {
     // Returns the items of all nodes.
     fn over(nodes: &'a [Vec<T>]) -> Self
-        ensures { result ≡ joined (vec_items nodes.now) }
+        ensures { result ≡ concat (vec_items nodes.now) }
     {
         Iter {
-            rest: Walk::over(nodes),
+            rest: ItemIter::over(nodes),
         }
     }
 
@@ -45,10 +45,10 @@ impl<'a, T> Iter<'a, T> {
         requires order { items_before (vec_items nodes.now) from
             ≤ items_before (vec_items nodes.now) to }
         ensures { result ≡ between (items_before (vec_items nodes.now) from)
-            (items_before (vec_items nodes.now) to) (joined (vec_items nodes.now)) }
+            (items_before (vec_items nodes.now) to) (concat (vec_items nodes.now)) }
     {
         Iter {
-            rest: Walk::between(nodes, from, to),
+            rest: ItemIter::between(nodes, from, to),
         }
     }
 }
@@ -78,13 +78,13 @@ impl<'a, T> Iterator for Iter<'a, T> {
 }
 
 // Returns how many items an iterator yields, or `None` where they are more than a usize can say.
-fn count_left<T>(walk: Walk<'_, T, Vec<T>, ReadVec>) -> Option<usize>
+fn count_left<T>(walk: ItemIter<'_, T, Vec<T>, OfVec>) -> Option<usize>
     ensures { result ≡ counted (length walk.entry) }
 {
     let mut rest = walk;
     let mut count: usize = 0;
     loop {
-        let run = rest.next_run();
+        let run = rest.next_chunk();
         if run.is_empty() {
             return Some(count);
         }
@@ -125,7 +125,7 @@ impl<T: Ord + Clone + Drop> Replica<T> {
     /// assert!(rt; replica.iter().rev().copied().eq([30, 20, 10]));
     /// ```
     pub fn iter(&self) -> Iter<'_, T>
-        ensures rest { result ≡ joined self.now.nodes }
+        ensures rest { result ≡ concat self.now.nodes }
         ensures runs { ShowsInOrder (deref {X = T}) }
         ensures runs_back { ShowsInReverse (deref {X = T}) }
     {
@@ -138,7 +138,7 @@ impl<'a, T: Ord + Clone + Drop> IntoIterator for &'a Replica<T> {
 
     type IntoIter = Iter<'a, T>;
 
-    ghost into_iter_gives = { λ r i. (i ≡ joined r.now.nodes) × ShowsInOrder (deref {X = T})
+    ghost into_iter_gives = { λ r i. (i ≡ concat r.now.nodes) × ShowsInOrder (deref {X = T})
         × ShowsInReverse (deref {X = T}) };
 
     fn into_iter(self) -> Iter<'a, T> {

@@ -2,12 +2,12 @@
 
 ghost use Rattle.std.specs.Prelude.{◌≡◌, ◌≢◌, ◌↔◌, ◌-◌, ℕ, List, None, Some, map, true, is_some};
 ghost use Rattle.indexset_core.specs.Nodes.{IsNodeList};
-ghost use Rattle.indexset_core.specs.Pulls.{IsWalk};
+ghost use Rattle.indexset_core.specs.DoubleEnded.{IsDoubleEnded};
 ghost use Rattle.std.specs.List.{AllZip, fold};
 ghost use Rattle.std.specs.Map.Iter.{deref};
 ghost use Rattle.std.specs.declared.cmp.Ordering.TheVariants.{Equal};
 ghost use Rattle.indexset_replica.specs.Copies.{AreClonesEqual, AreCopies, LeadsToCopies};
-ghost use Rattle.indexset_replica.specs.Delivery.{awaited, numbers_from, IsReached, IsSubsequence};
+ghost use Rattle.indexset_replica.specs.Delivery.{awaited, numbers_from, IsDeliveredUpTo, IsSubsequence};
 ghost use Rattle.indexset_replica.specs.Replica.{apply_refusal, IsClonedStep};
 ghost use Rattle.indexset_events.specs.Clones.{IsEventClone};
 ghost use Rattle.indexset_events.specs.Replay.{event_number, replay, step, unassigned};
@@ -29,8 +29,8 @@ pub fn refused_unless_a_step<T: Ord>()
 /// One pass over the places finds the greatest number that is reached: the number expected goes up
 /// by one at each place that equals it. There is no other.
 pub fn reached_in_one_pass()
-    ensures found { (j : ℕ) (order : List ℕ) → IsReached j order (fold awaited j order) }
-    ensures once { (j m n : ℕ) (order : List ℕ) → IsReached j order m → IsReached j order n
+    ensures found { (j : ℕ) (order : List ℕ) → IsDeliveredUpTo j order (fold awaited j order) }
+    ensures once { (j m n : ℕ) (order : List ℕ) → IsDeliveredUpTo j order m → IsDeliveredUpTo j order n
         → m ≡ n }
 {}
 
@@ -86,6 +86,6 @@ pub fn all_places_in_turn()
 /// An iterator over a replica, or over a range of one, yields each item once, whatever calls of
 /// `next` and `next_back`, and then `None`.
 pub fn iterators_yield_each_item_once<'a, T: 'a>()
-    ensures { IsWalk deref ⟦<Iter<'a, T> as Iterator>⟧.next_gives
+    ensures { IsDoubleEnded deref ⟦<Iter<'a, T> as Iterator>⟧.next_gives
         ⟦<Iter<'a, T> as DoubleEndedIterator>⟧.next_back_gives }
 {}

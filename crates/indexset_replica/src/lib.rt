@@ -6,7 +6,7 @@
 //! a `Refusal` that says why where an event is not the next or does not apply to the nodes. Once the events of
 //! the tree's calls are applied, the nodes are those of the tree, boundaries included; `nodes`,
 //! `contains`, `next`, `range` and the calls of [`lookup`], [`positions`] and [`iter`] read them. Items
-//! are sought by what a look-up takes (`base::sought`), of pairs by the key too. `follow` is for events
+//! are sought by what a look-up takes (`base::lookup_key`), of pairs by the key too. `follow` is for events
 //! that are delivered with losses, repeats and in any order. [`laws`] states what the definitions mean,
 //! whatever the code: memory aside, an event is refused exactly where it is no step from the nodes. What
 //! each kind of event changes is in `edits`, the searches among the nodes are in `places`, and the

@@ -5,7 +5,7 @@ ghost use Rattle.std.specs.List.{All};
 ghost use Rattle.std.specs.Option.{option_copied};
 ghost use Rattle.std.specs.Ordering.{is_eq};
 ghost use Rattle.indexset_core.specs.Digits.{digits};
-ghost use Rattle.indexset_core.specs.Nodes.{joined, node_lengths};
+ghost use Rattle.indexset_core.specs.Nodes.{concat, node_lengths};
 ghost use Rattle.indexset_core.specs.Parted.{IsParted};
 ghost use Rattle.indexset_core.specs.Order.{equal_element, has_equal};
 ghost use Rattle.indexset_replica.specs.Replica.{first_item, last_item};
@@ -13,22 +13,22 @@ ghost use Rattle.indexset_events.specs.Replay.{event_number};
 
 use super::Replica;
 use super::places::{item_before, item_from};
+use indexset_core::item_iter::OfVec;
 use indexset_core::locate::locate_by;
+use indexset_core::lookup_key::LookupKey;
 use indexset_core::probe::{ByItem, Probe};
-use indexset_core::sought::Sought;
-use indexset_core::walk::ReadVec;
 use indexset_events::change::ChangeEvent;
 
 /// Whether an event is the one that a replica expects.
 ///
 /// ```
-/// # use indexset::replica::lookup::Turn;
+/// # use indexset::replica::lookup::Delivery;
 /// let copy: Replica<u64> = Replica::new(alloc, 4);
 /// let event = ChangeEvent::CreateNode { event_id: Id::from(6), max_value: 5 };
-/// assert_eq!(rt; copy.expects(&event), Turn::Missing);
+/// assert_eq!(rt; copy.expects(&event), Delivery::Missing);
 /// ```
 #[derive(Clone, Copy, Debug, PartialEq, Eq)]
-pub enum Turn {
+pub enum Delivery {
     /// The event is the next one.
     Next,
     /// An event of that number was applied, or stands before the first: the event may be dropped.
@@ -47,9 +47,9 @@ impl<T: Ord + Clone + Drop> Replica<T> {
     /// copy.apply(&ChangeEvent::CreateNode { event_id: Id::from(0), max_value: Pair { key: 5, value: 50 } })?;
     /// assert!(rt; copy.get(&5).is_some() && copy.get(&6).is_none());
     /// ```
-    pub fn get<Q: Sought<T> + Drop>(&self, value: Q) -> Option<&T>
+    pub fn get<Q: LookupKey<T> + Drop>(&self, value: Q) -> Option<&T>
         ensures { option_copied result
-            ≡ equal_element Q.order (joined self.now.nodes) value }
+            ≡ equal_element Q.order (concat self.now.nodes) value }
     {
         // The nodes ascend, so a search by a key may go by them.
         let _nodes = &self.nodes;
@@ -64,8 +64,8 @@ impl<T: Ord + Clone + Drop> Replica<T> {
     /// let replica = Replica::from_nodes(nodes, 3)?;
     /// assert!(rt; replica.contains(&20) && !replica.contains(&25));
     /// ```
-    pub fn contains<Q: Sought<T> + Drop>(&self, value: Q) -> bool
-        ensures { result ≡ has_equal Q.order (joined self.now.nodes) value }
+    pub fn contains<Q: LookupKey<T> + Drop>(&self, value: Q) -> bool
+        ensures { result ≡ has_equal Q.order (concat self.now.nodes) value }
     {
         self.get(value).is_some()
     }
@@ -80,15 +80,15 @@ impl<T: Ord + Clone + Drop> Replica<T> {
     /// assert!(rt; replica.get_by(&mut ByItem::new(&20)) == Some(&20));
     /// ```
     pub fn get_by<P: Probe<T>>(&self, probe: &mut P) -> Option<&T>
-        requires { IsParted (P.answer probe.old) (joined self.now.nodes) }
+        requires { IsParted (P.answer probe.old) (concat self.now.nodes) }
         ensures value { option_copied result
-            ≡ find (λ x. is_eq (P.answer probe.old x)) (joined self.now.nodes) }
+            ≡ find (λ x. is_eq (P.answer probe.old x)) (concat self.now.nodes) }
         ensures fixed { P.answer probe.new ≡ P.answer probe.old }
-        ensures few { (size : ℕ) → All (λ n. n ≤ size) (node_lengths self.now.nodes)
+        ensures comparisons { (size : ℕ) → All (λ n. n ≤ size) (node_lengths self.now.nodes)
             → P.asked probe.new ≤ P.asked probe.old
             + (digits (length self.now.nodes) + digits size + 1) }
     {
-        match locate_by::<T, Vec<T>, ReadVec, P>(self.nodes.as_slice(), probe) {
+        match locate_by::<T, Vec<T>, OfVec, P>(self.nodes.as_slice(), probe) {
             Ok((node, offset)) => {
                 let items = self.nodes[node].as_slice();
                 Some(&items[offset])
@@ -104,7 +104,7 @@ impl<T: Ord + Clone + Drop> Replica<T> {
     /// assert!(rt; replica.is_empty());
     /// ```
     pub fn is_empty(&self) -> bool
-        ensures { result ≡ (length (joined self.now.nodes) == 0) }
+        ensures { result ≡ (length (concat self.now.nodes) == 0) }
     {
         self.nodes.is_empty()
     }
@@ -117,7 +117,7 @@ impl<T: Ord + Clone + Drop> Replica<T> {
     /// assert!(rt; replica.first() == Some(&10));
     /// ```
     pub fn first(&self) -> Option<&T>
-        ensures { option_copied result ≡ first_item (joined self.now.nodes) }
+        ensures { option_copied result ≡ first_item (concat self.now.nodes) }
     {
         item_from(self.nodes.as_slice(), 0)
     }
@@ -130,7 +130,7 @@ impl<T: Ord + Clone + Drop> Replica<T> {
     /// assert!(rt; replica.last() == Some(&30));
     /// ```
     pub fn last(&self) -> Option<&T>
-        ensures { option_copied result ≡ last_item (joined self.now.nodes) }
+        ensures { option_copied result ≡ last_item (concat self.now.nodes) }
     {
         let nodes = self.nodes.as_slice();
         item_before(nodes, nodes.len())
@@ -141,24 +141,24 @@ impl<T: Ord + Clone + Drop> Replica<T> {
     /// the two last. It looks at the number alone, not at whether the event applies.
     ///
     /// ```
-    /// # use indexset::replica::lookup::Turn;
+    /// # use indexset::replica::lookup::Delivery;
     /// let replica: Replica<u64> = Replica::new(alloc, 3);
     /// let late = ChangeEvent::CreateNode { event_id: Id::from(2), max_value: 5 };
     /// let early = ChangeEvent::CreateNode { event_id: Id::from(4), max_value: 5 };
-    /// assert!(rt; replica.expects(&late) == Turn::Had && replica.expects(&early) == Turn::Missing);
+    /// assert!(rt; replica.expects(&late) == Delivery::Had && replica.expects(&early) == Delivery::Missing);
     /// ```
-    pub fn expects(&self, event: &ChangeEvent<T>) -> Turn
+    pub fn expects(&self, event: &ChangeEvent<T>) -> Delivery
         ensures { result ≡ (if event_number event.now
-            == self.now.next then Turn.Next else if nat_lt (event_number event.now) self.now.next
-            then Turn.Had else Turn.Missing) }
+            == self.now.next then Delivery.Next else if nat_lt (event_number event.now) self.now.next
+            then Delivery.Had else Delivery.Missing) }
     {
         let number = event.id().inner();
         if number == self.next {
-            Turn::Next
+            Delivery::Next
         } else if number < self.next {
-            Turn::Had
+            Delivery::Had
         } else {
-            Turn::Missing
+            Delivery::Missing
         }
     }
 }

@@ -2,16 +2,16 @@
 ghost use Rattle.std.specs.Prelude.{◌≡◌, ◌+◌, ◌<◌, ◌≤◌, Some, None, not, [], ◌∷◌, length, take, drop, insert, IfOk, OnOk, IfErr};
 ghost use Rattle.std.specs.Option.{option_copied};
 ghost use Rattle.std.specs.List.{All, position_or_len, splice};
-ghost use Rattle.indexset_core.specs.Nodes.{joined, node_at, node_lengths, IsNodeList, vec_items};
+ghost use Rattle.indexset_core.specs.Nodes.{concat, node_at, node_lengths, IsNodeList, vec_items};
 ghost use Rattle.indexset_replica.specs.Replica.{first_item, is_between, last_item};
 ghost use Rattle.indexset_events.specs.Attach.{attach_index, attach_refusal};
 ghost use Rattle.indexset_events.specs.Nodes.{is_ascending};
 ghost use Rattle.indexset_events.specs.Replay.{has_name, node_named, reaches};
 
+use indexset_core::item_iter::OfVec;
 use indexset_core::locate::node_by;
 use indexset_core::probe::ByItem;
 use indexset_core::refusal::Refusal;
-use indexset_core::walk::ReadVec;
 
 /// Returns the place of the first node whose last item is not below the value, or the number of
 /// nodes.
@@ -23,7 +23,7 @@ pub(super) fn first_reaching<T: Ord>(nodes: &[Vec<T>], value: &T) -> usize
     if nodes.is_empty() {
         return 0;
     }
-    let place = node_by::<T, Vec<T>, ReadVec, ByItem<'_, T>>(nodes, &mut ByItem::new(value));
+    let place = node_by::<T, Vec<T>, OfVec, ByItem<'_, T>>(nodes, &mut ByItem::new(value));
     if ends_less(nodes[place].as_slice(), value) {
         place + 1
     } else {
@@ -52,7 +52,7 @@ pub(super) fn place_named<T: Ord>(nodes: &[Vec<T>], name: &T) -> Result<usize, R
     if nodes.is_empty() {
         return Err(Refusal::NoSuchNode);
     }
-    let place = node_by::<T, Vec<T>, ReadVec, ByItem<'_, T>>(nodes, &mut ByItem::new(name));
+    let place = node_by::<T, Vec<T>, OfVec, ByItem<'_, T>>(nodes, &mut ByItem::new(name));
     if is_named(nodes[place].as_slice(), name) {
         Ok(place)
     } else {
@@ -102,7 +102,7 @@ pub(super) fn place_of_node<T: Ord>(nodes: &[Vec<T>], node: &[T]) -> Result<usiz
 pub(super) fn item_before<T>(nodes: &[Vec<T>], place: usize) -> Option<&T>
     requires filled { All (λ n. 1 ≤ n) (node_lengths (vec_items nodes.now)) }
     requires place { place ≤ length nodes.now }
-    ensures { option_copied result ≡ last_item (joined (take place (vec_items nodes.now))) }
+    ensures { option_copied result ≡ last_item (concat (take place (vec_items nodes.now))) }
 {
     nodes[..place].last()?.last()
 }
@@ -110,7 +110,7 @@ pub(super) fn item_before<T>(nodes: &[Vec<T>], place: usize) -> Option<&T>
 /// Returns the first item of the nodes from a place on.
 pub(super) fn item_from<T>(nodes: &[Vec<T>], place: usize) -> Option<&T>
     requires { All (λ n. 1 ≤ n) (node_lengths (vec_items nodes.now)) }
-    ensures { option_copied result ≡ first_item (joined (drop place (vec_items nodes.now))) }
+    ensures { option_copied result ≡ first_item (concat (drop place (vec_items nodes.now))) }
 {
     nodes.get(place)?.first()
 }
@@ -121,7 +121,7 @@ pub(super) fn fits_at<T: Ord>(nodes: &[Vec<T>], place: usize, index: usize, valu
     requires place { place < length nodes.now }
     requires index { index ≤ length (node_at (vec_items nodes.now) place) }
     ensures { result ≡ is_ascending T.cmp
-        (joined (splice (vec_items nodes.now) place (place + 1)
+        (concat (splice (vec_items nodes.now) place (place + 1)
         (insert (node_at (vec_items nodes.now) place) index value.now ∷ []))) }
 {
     let node = nodes[place].as_slice();
@@ -135,7 +135,7 @@ pub(super) fn fits_before<T: Ord>(nodes: &[Vec<T>], place: usize, value: &T) -> 
     requires nodes { IsNodeList T.cmp (vec_items nodes.now) }
     requires place { place ≤ length nodes.now }
     ensures { result ≡ is_ascending T.cmp
-        (joined (insert (vec_items nodes.now) place (value.now ∷ []))) }
+        (concat (insert (vec_items nodes.now) place (value.now ∷ []))) }
 {
     is_between(item_before(nodes, place), value, item_from(nodes, place))
 }

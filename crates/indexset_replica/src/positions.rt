@@ -4,19 +4,19 @@ ghost use Rattle.std.specs.declared.cmp.Ordering.TheVariants.{Less};
 ghost use Rattle.std.specs.List.{AllWithin, count_by};
 ghost use Rattle.std.specs.Map.Iter.{ShowsInOrder, ShowsInReverse, deref};
 ghost use Rattle.std.specs.Option.{option_copied};
-ghost use Rattle.indexset_core.specs.Bounds.{IfBounded, in_positions, is_before, is_up_to_end};
-ghost use Rattle.indexset_core.specs.Nodes.{joined};
+ghost use Rattle.indexset_core.specs.KeyRange.{IfBounded, in_positions, is_before, is_up_to_end};
+ghost use Rattle.indexset_core.specs.Nodes.{concat};
 ghost use Rattle.indexset_core.specs.Parted.{IsParted};
 ghost use Rattle.indexset_core.specs.Order.{equal_element, has_equal, index_of, rank};
 ghost use Rattle.indexset_replica.specs.Keyed.{count_equal};
 
 use super::Replica;
 use super::iter::Iter;
+use indexset_core::item_iter::OfVec;
 use indexset_core::locate::{locate_by, place_from, place_to};
-use indexset_core::positions::{Positions, end_position, first_position};
+use indexset_core::lookup_key::LookupKey;
+use indexset_core::position_range::{PositionRange, end_position, first_position};
 use indexset_core::probe::{ByItem, Probe};
-use indexset_core::sought::Sought;
-use indexset_core::walk::ReadVec;
 use std::ops::Bound;
 
 impl<T: Ord + Clone + Drop> Replica<T> {
@@ -28,7 +28,7 @@ impl<T: Ord + Clone + Drop> Replica<T> {
     /// assert!(rt; replica.len() == 3);
     /// ```
     pub fn len(&self) -> usize
-        ensures { result ≡ length (joined self.now.nodes) }
+        ensures { result ≡ length (concat self.now.nodes) }
     {
         self.lengths.total()
     }
@@ -46,15 +46,15 @@ impl<T: Ord + Clone + Drop> Replica<T> {
     /// let replica: Replica<MultiPair<u64, u64>> = Replica::from_nodes(nodes, 2)?;
     /// assert!(rt; replica.rank(&1) == 0 && replica.rank(&MultiPair::new(1, 101, 1)) == 1);
     /// ```
-    pub fn rank<Q: Sought<T> + Drop>(&self, value: Q) -> usize
-        ensures value { result ≡ rank Q.order (joined self.now.nodes) value }
-        ensures there { has_equal Q.order (joined self.now.nodes) value ≡ true
-            → slice_get (joined self.now.nodes) result
-            ≡ equal_element Q.order (joined self.now.nodes) value }
-        ensures inside { has_equal Q.order (joined self.now.nodes) value ≡ true
-            → result < length (joined self.now.nodes) }
+    pub fn rank<Q: LookupKey<T> + Drop>(&self, value: Q) -> usize
+        ensures value { result ≡ rank Q.order (concat self.now.nodes) value }
+        ensures at_rank { has_equal Q.order (concat self.now.nodes) value ≡ true
+            → slice_get (concat self.now.nodes) result
+            ≡ equal_element Q.order (concat self.now.nodes) value }
+        ensures inside { has_equal Q.order (concat self.now.nodes) value ≡ true
+            → result < length (concat self.now.nodes) }
         ensures before { AllWithin (λ x. Q.order x value ≡ Less)
-            (joined self.now.nodes) 0 result }
+            (concat self.now.nodes) 0 result }
     {
         // The nodes ascend, so a search by a key may go by them.
         let _nodes = &self.nodes;
@@ -69,15 +69,15 @@ impl<T: Ord + Clone + Drop> Replica<T> {
     /// let board = Replica::from_nodes(nodes, 3)?;
     /// assert!(rt; board.index_of(&20) == Some(1) && board.index_of(&25).is_none());
     /// ```
-    pub fn index_of<Q: Sought<T> + Drop>(&self, value: Q) -> Option<usize>
-        ensures value { result ≡ index_of Q.order (joined self.now.nodes) value }
-        ensures there { IfSome result (λ i. slice_get (joined self.now.nodes) i
-            ≡ equal_element Q.order (joined self.now.nodes) value) }
-        ensures inside { IfSome result (λ i. i < length (joined self.now.nodes)) }
+    pub fn index_of<Q: LookupKey<T> + Drop>(&self, value: Q) -> Option<usize>
+        ensures value { result ≡ index_of Q.order (concat self.now.nodes) value }
+        ensures at_index { IfSome result (λ i. slice_get (concat self.now.nodes) i
+            ≡ equal_element Q.order (concat self.now.nodes) value) }
+        ensures inside { IfSome result (λ i. i < length (concat self.now.nodes)) }
     {
         // The nodes ascend, so a search by a key may go by them.
         let _nodes = &self.nodes;
-        match locate_by::<T, Vec<T>, ReadVec, ByItem<'_, Q>>(
+        match locate_by::<T, Vec<T>, OfVec, ByItem<'_, Q>>(
             self.nodes.as_slice(),
             &mut ByItem::new(&value),
         ) {
@@ -94,8 +94,8 @@ impl<T: Ord + Clone + Drop> Replica<T> {
     /// let replica: Replica<MultiPair<u64, u64>> = Replica::from_nodes(nodes, 2)?;
     /// assert!(rt; replica.count(&1) == 2 && replica.count(&2) == 0);
     /// ```
-    pub fn count<Q: Sought<T> + Drop>(&self, value: Q) -> usize
-        ensures { result ≡ count_equal Q.order (joined self.now.nodes) value }
+    pub fn count<Q: LookupKey<T> + Drop>(&self, value: Q) -> usize
+        ensures { result ≡ count_equal Q.order (concat self.now.nodes) value }
     {
         // The nodes ascend, so a search by a key may go by them.
         let _nodes = &self.nodes;
@@ -111,7 +111,7 @@ impl<T: Ord + Clone + Drop> Replica<T> {
     /// assert!(rt; board.get_index(2) == Some(&30) && board.get_index(3).is_none());
     /// ```
     pub fn get_index(&self, i: usize) -> Option<&T>
-        ensures { option_copied result ≡ slice_get (joined self.now.nodes) i }
+        ensures { option_copied result ≡ slice_get (concat self.now.nodes) i }
     {
         let (node, offset) = self.lengths.place(self.nodes.as_slice(), i)?;
         let items = self.nodes[node].as_slice();
@@ -128,8 +128,8 @@ impl<T: Ord + Clone + Drop> Replica<T> {
     /// let page = copy.range_idx(2..4);
     /// assert!(rt; page.copied().eq([15, 20]));
     /// ```
-    pub fn range_idx<R: Positions + Drop>(&self, range: R) -> Iter<'_, T>
-        ensures rest { result ≡ in_positions (joined self.now.nodes) (R.start range)
+    pub fn range_idx<R: PositionRange + Drop>(&self, range: R) -> Iter<'_, T>
+        ensures rest { result ≡ in_positions (concat self.now.nodes) (R.start range)
             (R.end range) }
         ensures runs { ShowsInOrder (deref {X = T}) }
         ensures runs_back { ShowsInReverse (deref {X = T}) }
@@ -155,12 +155,12 @@ impl<T: Ord + Clone + Drop> Replica<T> {
     /// assert!(rt; replica.count_before(Bound::Included(ByItem::new(&20))) == 1);
     /// ```
     pub fn count_before<P: Probe<T> + Drop>(&self, start: Bound<P>) -> usize
-        requires { IfBounded (λ p. IsParted (P.answer p) (joined self.now.nodes)) start }
+        requires { IfBounded (λ p. IsParted (P.answer p) (concat self.now.nodes)) start }
         ensures { result ≡ count_by (is_before (λ x p. P.answer p x) start)
-            (joined self.now.nodes) }
+            (concat self.now.nodes) }
     {
         let nodes = self.nodes.as_slice();
-        let place = place_from::<T, Vec<T>, ReadVec, P>(nodes, start);
+        let place = place_from::<T, Vec<T>, OfVec, P>(nodes, start);
         self.lengths.position(nodes, place)
     }
 
@@ -174,12 +174,12 @@ impl<T: Ord + Clone + Drop> Replica<T> {
     /// assert!(rt; replica.count_up_to(Bound::Included(ByItem::new(&20))) == 2);
     /// ```
     pub fn count_up_to<P: Probe<T> + Drop>(&self, end: Bound<P>) -> usize
-        requires { IfBounded (λ p. IsParted (P.answer p) (joined self.now.nodes)) end }
+        requires { IfBounded (λ p. IsParted (P.answer p) (concat self.now.nodes)) end }
         ensures { result ≡ count_by (is_up_to_end (λ x p. P.answer p x) end)
-            (joined self.now.nodes) }
+            (concat self.now.nodes) }
     {
         let nodes = self.nodes.as_slice();
-        let place = place_to::<T, Vec<T>, ReadVec, P>(nodes, end);
+        let place = place_to::<T, Vec<T>, OfVec, P>(nodes, end);
         self.lengths.position(nodes, place)
     }
 }

@@ -10,8 +10,8 @@ use Rattle.std.proofs.lemmas.List.Kept.{AllPairs-cons}
 use Rattle.std.proofs.lemmas.Bool.{false≢true}
 use Rattle.indexset_core.specs.Order.{IsAscending, below, above, has_equal, keep, put}
 use Rattle.std.specs.List.{cons_option}
-use Rattle.indexset_set.specs.declared.algebra.merge.Side.{Side}
-use Rattle.indexset_set.specs.declared.algebra.merge.Side.TheVariants.{Left, Right, Both}
+use Rattle.indexset_set.specs.declared.algebra.merge.MergeItem.{MergeItem}
+use Rattle.indexset_set.specs.declared.algebra.merge.MergeItem.TheVariants.{Left, Right, Both}
 use Rattle.indexset_set.specs.Merge.{read, merged, of_either, of_both, of_left_alone, of_one_alone}
 use Rattle.indexset_set.specs.SetAlgebra.{union, intersection, difference, symmetric_difference}
 use Rattle.indexset_set.proofs.MergeLemmas.{merged_by, read_all, read_none}
@@ -212,7 +212,7 @@ module _ {T : Type 0} (cmp : T → T → Ordering) where
 
 -- a reading of merged lists is a list of two ascending ones, if it is at each first item
 module _ {T : Type 0} (cmp : T → T → Ordering) where
-  pub record Reads (f : Side T → Option T) (whole : List T → List T → List T) : Type 0 where
+  pub record Reads (f : MergeItem T → Option T) (whole : List T → List T → List T) : Type 0 where
     pub left_ended : (r : List T) → Up cmp r → read f (map Right r) ≡ whole [] r
     pub right_ended : (l : List T) → read f (map Left l) ≡ whole l []
     pub at_left : (x : T) (l r : List T) → IsUnder cmp x r → cons_option (f (Left x)) (whole l r) ≡ whole (x ∷ l) r
@@ -220,10 +220,10 @@ module _ {T : Type 0} (cmp : T → T → Ordering) where
     pub at_right : (y : T) (l r : List T) → IsUnder cmp y l → IsUnder cmp y r → cons_option (f (Right y)) (whole l r) ≡ whole l (y ∷ r)
 
   module _ (o : IsTotalOrder cmp) where
-    abbrev pub IsWhole : (Side T → Option T) → (List T → List T → List T) → List T → List T → List (Side T) → Type 0
+    abbrev pub IsWhole : (MergeItem T → Option T) → (List T → List T → List T) → List T → List T → List (MergeItem T) → Type 0
     IsWhole f whole l r m = Up cmp l → Up cmp r → read f m ≡ whole l r
 
-    pub merged_reads : (f : Side T → Option T) (whole : List T → List T → List T) → Reads f whole → (l r : List T) → IsWhole f whole l r (merged cmp l r)
+    pub merged_reads : (f : MergeItem T → Option T) (whole : List T → List T → List T) → Reads f whole → (l r : List T) → IsWhole f whole l r (merged cmp l r)
     merged_reads f whole reads =
         merged_by cmp (IsWhole f whole) (λ r up vp. reads.left_ended r vp) (λ l up vp. reads.right_ended l)
         (λ x xs y ys m e rest up vp. ap (cons_option (f (Left x))) (rest up.1 vp) ∙ reads.at_left x xs (y ∷ ys) (under_less cmp o x y ys e vp.0))

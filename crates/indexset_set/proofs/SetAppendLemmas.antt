@@ -11,14 +11,14 @@ use Rattle.std.proofs.lemmas.List.Elements.{All-append}
 use Rattle.std.proofs.lemmas.List.Kept.{AllPairs-cons}
 use Rattle.std.proofs.lemmas.List.Sums.{fold-append}
 use Rattle.std.proofs.lemmas.Option.{get_or_from_slice_get, slice_get_within}
-use Rattle.indexset_core.specs.Nodes.{joined, node_lengths}
+use Rattle.indexset_core.specs.Nodes.{concat, node_lengths}
 use Rattle.indexset_core.specs.Order.{IsAscending, IsGapFor, has_equal, keep, put}
 use Rattle.indexset_core.proofs.CallerLemmas.{gap_has_equal, gap_put, less_from, slice_get-right}
-use Rattle.indexset_spine.specs.Cut.{Cut, IsCut, cut, end_spot, with_all_last, with_last}
-use Rattle.indexset_spine.specs.Edits.{TakesSome}
+use Rattle.indexset_spine.specs.NodeList.{NodeList, AreNodeLengths, node_list, end_spot, with_all_last, with_last}
+use Rattle.indexset_spine.specs.Edits.{FoldsPrefix}
 use Rattle.indexset_spine.proofs.CallerLemmas.{cut_all_last, cut_last, empty_cut, end_node, end_offset, joined_all_last, joined_last, takes_all}
 use Rattle.indexset_set.specs.SetAlgebra.{put_all}
-use Rattle.indexset_set.specs.SetNodes.{PutsSome, nodes_kept, nodes_kept_all, nodes_put, nodes_put_all, spot_of}
+use Rattle.indexset_set.specs.SetNodes.{PutsPrefix, nodes_kept, nodes_kept_all, nodes_put, nodes_put_all, spot_of}
 use Rattle.indexset_set.proofs.SetCloneLemmas.{gap_behind, keep_behind}
 use Rattle.indexset_set.proofs.SetNodeLemmas.{kept_new, put_new, spot_told}
 
@@ -100,87 +100,87 @@ before_none cmp l (x ∷ r) none up = absurd (omega arith)
 
 -- where v is above all elements of the nodes ns, it goes behind the last
 module _ {T : Type 0} (cmp : T → T → Ordering) (size : ℕ) where
-  module _ (ns : List (List T)) (v : T) (rest : List T) (is : IsCut (node_lengths ns) size) (up : IsAscending cmp (joined ns ++ v ∷ rest)) where
-    gap : IsGapFor cmp (joined ns) v (length (joined ns))
-    gap = gap_behind cmp (joined ns) v rest up
+  module _ (ns : List (List T)) (v : T) (rest : List T) (is : AreNodeLengths (node_lengths ns) size) (up : IsAscending cmp (concat ns ++ v ∷ rest)) where
+    gap : IsGapFor cmp (concat ns) v (length (concat ns))
+    gap = gap_behind cmp (concat ns) v rest up
 
-    none : has_equal cmp (joined ns) v ≡ false
-    none = gap_has_equal cmp (joined ns) v _ gap
+    none : has_equal cmp (concat ns) v ≡ false
+    none = gap_has_equal cmp (concat ns) v _ gap
 
-    all : All (λ x. cmp x v ≡ Less) (joined ns)
+    all : All (λ x. cmp x v ≡ Less) (concat ns)
     all k d lt = gap.below_before k d (omega arith) lt
 
     place : end_spot ns ≡ spot_of cmp ns v
     place = spot_told cmp ns v v (end_spot ns) refl (end_node (λ x. cmp x v) size ns is all) (end_offset (λ x. cmp x v) size ns is all) (sym none)
 
-    pub put_last : nodes_put cmp (cut ns size) v ≡ with_last size ns v
-    put_last = sym (put_new cmp (cut ns size) v (end_spot ns) (with_last size ns v) place none refl)
+    pub put_last : nodes_put cmp (node_list ns size) v ≡ with_last size ns v
+    put_last = sym (put_new cmp (node_list ns size) v (end_spot ns) (with_last size ns v) place none refl)
 
-    pub kept_last : nodes_kept cmp (cut ns size) v ≡ with_last size ns v
-    kept_last = sym (kept_new cmp (cut ns size) v (end_spot ns) (with_last size ns v) place none refl)
+    pub kept_last : nodes_kept cmp (node_list ns size) v ≡ with_last size ns v
+    kept_last = sym (kept_new cmp (node_list ns size) v (end_spot ns) (with_last size ns v) place none refl)
 
-    pub still_up : IsAscending cmp (joined (with_last size ns v) ++ rest)
-    still_up = rw (joined_last size ns v (omega (arith, is.some, length-map ns (λ (n : List T). length n))), append_assoc (joined ns) (v ∷ []) rest) up
+    pub still_up : IsAscending cmp (concat (with_last size ns v) ++ rest)
+    still_up = rw (joined_last size ns v (omega (arith, is.some, length-map ns (λ (n : List T). length n))), append_assoc (concat ns) (v ∷ []) rest) up
 
-  pub put_all_last : (ns : List (List T)) (xs : List T) → IsCut (node_lengths ns) size → IsAscending cmp (joined ns ++ xs) → fold (λ ms x. nodes_put cmp (cut ms size) x) ns xs ≡ fold (with_last size) ns xs
+  pub put_all_last : (ns : List (List T)) (xs : List T) → AreNodeLengths (node_lengths ns) size → IsAscending cmp (concat ns ++ xs) → fold (λ ms x. nodes_put cmp (node_list ms size) x) ns xs ≡ fold (with_last size) ns xs
   put_all_last ns [] is up = refl
   put_all_last ns (x ∷ xs) is up =
-      ap (λ ms. fold (λ ms x. nodes_put cmp (cut ms size) x) ms xs) (put_last ns x xs is up)
+      ap (λ ms. fold (λ ms x. nodes_put cmp (node_list ms size) x) ms xs) (put_last ns x xs is up)
       ∙ put_all_last (with_last size ns x) xs (cut_last size ns x is) (still_up ns x xs is up)
 
-  pub kept_all_last : (ns : List (List T)) (xs : List T) → IsCut (node_lengths ns) size → IsAscending cmp (joined ns ++ xs) → fold (λ ms x. nodes_kept cmp (cut ms size) x) ns xs ≡ fold (with_last size) ns xs
+  pub kept_all_last : (ns : List (List T)) (xs : List T) → AreNodeLengths (node_lengths ns) size → IsAscending cmp (concat ns ++ xs) → fold (λ ms x. nodes_kept cmp (node_list ms size) x) ns xs ≡ fold (with_last size) ns xs
   kept_all_last ns [] is up = refl
   kept_all_last ns (x ∷ xs) is up =
-      ap (λ ms. fold (λ ms x. nodes_kept cmp (cut ms size) x) ms xs) (kept_last ns x xs is up)
+      ap (λ ms. fold (λ ms x. nodes_kept cmp (node_list ms size) x) ms xs) (kept_last ns x xs is up)
       ∙ kept_all_last (with_last size ns x) xs (cut_last size ns x is) (still_up ns x xs is up)
 
   -- a set of ascending elements, made by blocks
   module _ (two : 2 ≤ size) (xs : List T) (ns : List (List T)) (made : ns ≡ with_all_last size ([] ∷ []) xs) where
-    pub blocks_items : joined ns ≡ xs
+    pub blocks_items : concat ns ≡ xs
     unfolding with_all_last
-    blocks_items = ap joined made ∙ joined_all_last size ([] ∷ []) xs (empty_cut size two)
+    blocks_items = ap concat made ∙ joined_all_last size ([] ∷ []) xs (empty_cut size two)
 
-    pub blocks_nodes : IsAscending cmp xs → ns ≡ nodes_kept_all cmp (cut ([] ∷ []) size) xs
+    pub blocks_nodes : IsAscending cmp xs → ns ≡ nodes_kept_all cmp (node_list ([] ∷ []) size) xs
     unfolding with_all_last nodes_kept_all
     blocks_nodes up = made ∙ sym (kept_all_last ([] ∷ []) xs (empty_cut size two) up)
 
   -- some first ones of those above
-  module _ (ns ms : List (List T)) (xs rest : List T) (is : IsCut (node_lengths ns) size) (up : IsAscending cmp (joined ns ++ xs)) (taken : TakesSome (with_last size) ns xs ms rest) where
-    front_up : IsAscending cmp (joined ns ++ taken.0)
-    front_up = front_ascending cmp (joined ns) taken.0 rest (rw taken.1 at up)
+  module _ (ns ms : List (List T)) (xs rest : List T) (is : AreNodeLengths (node_lengths ns) size) (up : IsAscending cmp (concat ns ++ xs)) (taken : FoldsPrefix (with_last size) ns xs ms rest) where
+    front_up : IsAscending cmp (concat ns ++ taken.0)
+    front_up = front_ascending cmp (concat ns) taken.0 rest (rw taken.1 at up)
 
-    made : joined ms ≡ joined ns ++ taken.0
-    made = ap joined taken.2 ∙ joined_all_last size ns taken.0 is
+    made : concat ms ≡ concat ns ++ taken.0
+    made = ap concat taken.2 ∙ joined_all_last size ns taken.0 is
 
-    pub taken_ascending : IsAscending cmp (joined ms)
+    pub taken_ascending : IsAscending cmp (concat ms)
     taken_ascending = rw made front_up
 
-    pub taken_put : TakesSome (put cmp) (joined ns) xs (joined ms) rest
+    pub taken_put : FoldsPrefix (put cmp) (concat ns) xs (concat ms) rest
     unfolding put_all
-    taken_put = (taken.0, taken.1, made ∙ put_all_behind cmp (joined ns) taken.0 front_up)
+    taken_put = (taken.0, taken.1, made ∙ put_all_behind cmp (concat ns) taken.0 front_up)
 
-    pub taken_nodes : TakesSome (λ ms x. nodes_put cmp (cut ms size) x) ns xs ms rest
+    pub taken_nodes : FoldsPrefix (λ ms x. nodes_put cmp (node_list ms size) x) ns xs ms rest
     taken_nodes = (taken.0, taken.1, taken.2 ∙ sym (put_all_last ns taken.0 is front_up))
 
   -- the nodes, once all were put, or some
-  pub nodes_all : (s : Cut T) (xs rest : List T) (ms : List (List T)) → size ≡ s.size → TakesSome (λ ms x. nodes_put cmp (cut ms size) x) s.nodes xs ms rest → rest ≡ [] → ms ≡ nodes_put_all cmp s xs
+  pub nodes_all : (s : NodeList T) (xs rest : List T) (ms : List (List T)) → size ≡ s.size → FoldsPrefix (λ ms x. nodes_put cmp (node_list ms size) x) s.nodes xs ms rest → rest ≡ [] → ms ≡ nodes_put_all cmp s xs
   unfolding nodes_put_all
-  nodes_all s xs rest ms same h none = rw (← same) (takes_all (λ ms x. nodes_put cmp (cut ms size) x) s.nodes ms xs rest h none)
+  nodes_all s xs rest ms same h none = rw (← same) (takes_all (λ ms x. nodes_put cmp (node_list ms size) x) s.nodes ms xs rest h none)
 
-  pub puts_some : (s : Cut T) (xs rest : List T) (ms : List (List T)) → size ≡ s.size → TakesSome (λ ms x. nodes_put cmp (cut ms size) x) s.nodes xs ms rest → PutsSome cmp s xs ms rest
+  pub puts_some : (s : NodeList T) (xs rest : List T) (ms : List (List T)) → size ≡ s.size → FoldsPrefix (λ ms x. nodes_put cmp (node_list ms size) x) s.nodes xs ms rest → PutsPrefix cmp s xs ms rest
   unfolding nodes_put_all
   puts_some s xs rest ms same (front, is, made) =
-      (length front, rw (← same) (made ∙ ap (fold (λ ms x. nodes_put cmp (cut ms size) x) s.nodes) (sym (ap (take (length front)) is ∙ take_at front rest (length front) refl))), sym (ap (drop (length front)) is ∙ drop_at front rest (length front) refl))
+      (length front, rw (← same) (made ∙ ap (fold (λ ms x. nodes_put cmp (node_list ms size) x) s.nodes) (sym (ap (take (length front)) is ∙ take_at front rest (length front) refl))), sym (ap (drop (length front)) is ∙ drop_at front rest (length front) refl))
 
   -- v above the nodes ns and a run behind them
-  module _ (ns : List (List T)) (run : List T) (v : T) (is : IsCut (node_lengths ns) size) (up : IsAscending cmp (joined ns ++ (run ++ v ∷ []))) where
-    run_up : IsAscending cmp ((joined ns ++ run) ++ v ∷ [])
-    run_up = rw (append_assoc (joined ns) run (v ∷ [])) up
+  module _ (ns : List (List T)) (run : List T) (v : T) (is : AreNodeLengths (node_lengths ns) size) (up : IsAscending cmp (concat ns ++ (run ++ v ∷ []))) where
+    run_up : IsAscending cmp ((concat ns ++ run) ++ v ∷ [])
+    run_up = rw (append_assoc (concat ns) run (v ∷ [])) up
 
-    pub run_kept : joined ns ++ (run ++ v ∷ []) ≡ keep cmp (joined ns ++ run) v
-    run_kept = sym (append_assoc (joined ns) run (v ∷ [])) ∙ sym (keep_behind cmp (joined ns ++ run) v [] run_up)
+    pub run_kept : concat ns ++ (run ++ v ∷ []) ≡ keep cmp (concat ns ++ run) v
+    run_kept = sym (append_assoc (concat ns) run (v ∷ [])) ∙ sym (keep_behind cmp (concat ns ++ run) v [] run_up)
 
-    pub run_nodes : with_all_last size ns (run ++ v ∷ []) ≡ nodes_kept cmp (cut (with_all_last size ns run) size) v
+    pub run_nodes : with_all_last size ns (run ++ v ∷ []) ≡ nodes_kept cmp (node_list (with_all_last size ns run) size) v
     unfolding with_all_last
     run_nodes =
         fold-append (with_last size) ns run (v ∷ [])
@@ -188,16 +188,16 @@ module _ {T : Type 0} (cmp : T → T → Ordering) (size : ℕ) where
 
   -- all of the run went in, and then w, which is v
   module _ (ns ms : List (List T)) (run others : List T) (v w : T) (none : others ≡ []) (moved : ms ≡ with_all_last size ns run) (same : w ≡ v) where
-    pub run_then_kept : (l : List T) → IsCut (node_lengths ns) size → l ≡ keep cmp (joined ms) w → l ++ others ≡ keep cmp (joined ns ++ run) v
+    pub run_then_kept : (l : List T) → AreNodeLengths (node_lengths ns) size → l ≡ keep cmp (concat ms) w → l ++ others ≡ keep cmp (concat ns ++ run) v
     unfolding with_all_last
     run_then_kept l is kept =
-        ap (λ xs. l ++ xs) none ∙ (append-nil l ∙ (kept ∙ (ap (keep cmp (joined ms)) same ∙ ap (λ m. keep cmp m v) (ap joined moved ∙ joined_all_last size ns run is))))
+        ap (λ xs. l ++ xs) none ∙ (append-nil l ∙ (kept ∙ (ap (keep cmp (concat ms)) same ∙ ap (λ m. keep cmp m v) (ap concat moved ∙ joined_all_last size ns run is))))
 
-    pub run_then_nodes : (n : ℕ) (all : List (List T)) → n ≡ size → all ≡ nodes_kept cmp (cut ms n) w → with_all_last size all others ≡ nodes_kept cmp (cut (with_all_last size ns run) size) v
+    pub run_then_nodes : (n : ℕ) (all : List (List T)) → n ≡ size → all ≡ nodes_kept cmp (node_list ms n) w → with_all_last size all others ≡ nodes_kept cmp (node_list (with_all_last size ns run) size) v
     unfolding with_all_last
     run_then_nodes n all sizes kept =
         ap (λ xs. fold (with_last size) all xs) none
-        ∙ (kept ∙ (ap (λ i. nodes_kept cmp (cut ms i) w) sizes ∙ (ap (nodes_kept cmp (cut ms size)) same ∙ ap (λ z. nodes_kept cmp (cut z size) v) moved)))
+        ∙ (kept ∙ (ap (λ i. nodes_kept cmp (node_list ms i) w) sizes ∙ (ap (nodes_kept cmp (node_list ms size)) same ∙ ap (λ z. nodes_kept cmp (node_list z size) v) moved)))
 
 -- v behind a run, some first ones of which may have gone in
 module _ {T : Type 0} (run others : List T) (v : T) where

@@ -10,9 +10,9 @@ use Rattle.std.proofs.lemmas.List.Elements.{filter_passes}
 use Rattle.std.proofs.lemmas.List.Kept.{AllPairs-cons}
 use Rattle.indexset_core.specs.Order.{IsAscending, below, rank, put}
 use Rattle.indexset_core.specs.Parted.{IsParted}
-use Rattle.indexset_spine.specs.Edits.{TakesSome}
+use Rattle.indexset_spine.specs.Edits.{FoldsPrefix}
 use Rattle.indexset_spine.proofs.CallerLemmas.{takes_all}
-use Rattle.indexset_set.specs.SetAlgebra.{put_all, MovesSome}
+use Rattle.indexset_set.specs.SetAlgebra.{put_all, MovesPrefix}
 use Rattle.indexset_set.specs.SetRanges.{not_below}
 use Rattle.indexset_core.proofs.CallerLemmas.{parted_by_item, Parts, count_parts, front-is_lt, filter_front, filter_back}
 
@@ -67,12 +67,12 @@ rest_ascending cmp (x ∷ xs) up i j d lt inside = up (suc i) (suc j) d (omega a
 
 -- elements inserted one after another
 module _ {T : Type 0} (cmp : T → T → Ordering) where
-  pub moves_some : (l xs m rest : List T) → TakesSome (put cmp) l xs m rest → MovesSome cmp l xs m rest
+  pub moves_some : (l xs m rest : List T) → FoldsPrefix (put cmp) l xs m rest → MovesPrefix cmp l xs m rest
   unfolding put_all
   moves_some l xs m rest (front, is, made) =
       (length front, made ∙ ap (fold (put cmp) l) (sym (ap (take (length front)) is ∙ take_at front rest (length front) refl)), sym (ap (drop (length front)) is ∙ drop_at front rest (length front) refl))
 
-  pub moved_all : (l xs m rest : List T) → TakesSome (put cmp) l xs m rest → rest ≡ [] → m ≡ put_all cmp l xs
+  pub moved_all : (l xs m rest : List T) → FoldsPrefix (put cmp) l xs m rest → rest ≡ [] → m ≡ put_all cmp l xs
   unfolding put_all
   moved_all l xs m rest h none = takes_all (put cmp) l m xs rest h none
 

@@ -11,10 +11,10 @@ use Rattle.std.proofs.lemmas.List.{append-nil, get_or-append-add}
 use Rattle.std.proofs.lemmas.List.Elements.{AllZip-get_or, length_all_zip}
 use Rattle.std.proofs.lemmas.Option.{slice_get-get_or}
 use Rattle.std.proofs.Math.Seq.{get_or-append_seam}
-use Rattle.indexset_core.specs.Nodes.{joined}
+use Rattle.indexset_core.specs.Nodes.{concat}
 use Rattle.indexset_core.specs.Order.{IsAscending, keep}
 use Rattle.indexset_core.proofs.CallerLemmas.{less_from}
-use Rattle.indexset_spine.specs.Cut.{Cut, cut, items}
+use Rattle.indexset_spine.specs.NodeList.{NodeList, node_list, items}
 use Rattle.indexset_set.specs.SetCopy.{IsSetCopy}
 use Rattle.indexset_set.specs.SetNodes.{nodes_kept_all}
 use Rattle.indexset_set.proofs.SetAppendLemmas.{appended_ascending}
@@ -112,19 +112,19 @@ module _ {T : Type 0} (cmp : T → T → Ordering) where
       ∙ up i j d lt (omega (arith, long))
 
 -- a copy whose clones are those of the nodes
-module _ {T : Type 0} (cmp : T → T → Ordering) (C : T → T → Type 0) (s : Cut T) (clones : List (List T)) (cloned : AllZip (AllZip C) s.nodes clones) where
-  pub copy_in_place : (copy : Cut T) → copy.nodes ≡ clones → copy.size ≡ s.size → IsAscending cmp (joined clones) → IsSetCopy cmp C s copy
+module _ {T : Type 0} (cmp : T → T → Ordering) (C : T → T → Type 0) (s : NodeList T) (clones : List (List T)) (cloned : AllZip (AllZip C) s.nodes clones) where
+  pub copy_in_place : (copy : NodeList T) → copy.nodes ≡ clones → copy.size ≡ s.size → IsAscending cmp (concat clones) → IsSetCopy cmp C s copy
   copy_in_place copy nodes size up = record {
     clones = clones;
     cloned = cloned;
     in_place = λ _. nodes;
     in_turn = λ other. absurd (other up);
-    elements = ap joined nodes ∙ sym (kept_all_behind cmp [] (joined clones) up);
+    elements = ap concat nodes ∙ sym (kept_all_behind cmp [] (concat clones) up);
     size = size;
   }
 
-  pub copy_in_turn : {E : Type 0} (r : Result (Cut T) E) → (IsAscending cmp (joined clones) → ⊥) → IfOk r (λ copy. items copy ≡ fold (keep cmp) [] (joined clones))
-      → IfOk r (λ copy. copy.nodes ≡ nodes_kept_all cmp (cut ([] ∷ []) s.size) (joined clones)) → IfOk r (λ copy. copy.size ≡ s.size) → IfOk r (λ copy. IsSetCopy cmp C s copy)
+  pub copy_in_turn : {E : Type 0} (r : Result (NodeList T) E) → (IsAscending cmp (concat clones) → ⊥) → IfOk r (λ copy. items copy ≡ fold (keep cmp) [] (concat clones))
+      → IfOk r (λ copy. copy.nodes ≡ nodes_kept_all cmp (node_list ([] ∷ []) s.size) (concat clones)) → IfOk r (λ copy. copy.size ≡ s.size) → IfOk r (λ copy. IsSetCopy cmp C s copy)
   copy_in_turn (Ok copy) other elements nodes size = record {
     clones = clones;
     cloned = cloned;

@@ -8,7 +8,7 @@ use Rattle.std.proofs.lemmas.List.{append-nil, length-take-le, map-append}
 use Rattle.std.proofs.lemmas.List.Edits.{length-between, split_between}
 use Rattle.std.proofs.lemmas.List.Elements.{filter-append}
 use Rattle.std.proofs.lemmas.Bool.Decides.{nat_tests}
-use Rattle.indexset_core.specs.Bounds.{is_at_position, in_positions}
+use Rattle.indexset_core.specs.KeyRange.{is_at_position, in_positions}
 use Rattle.indexset_core.proofs.CallerLemmas.{at_position, clipped}
 
 -- what passes by its position, counted from k

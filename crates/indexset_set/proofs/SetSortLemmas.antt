@@ -13,7 +13,7 @@ use Rattle.std.proofs.lemmas.List.Kept.{IsStrictlySortedBy-dedup}
 use Rattle.indexset_core.specs.Order.{IsAscending, equal_element, has_equal, keep, put, rank}
 use Rattle.indexset_core.proofs.CallerLemmas.{is_some-find}
 use Rattle.indexset_set.specs.SetNodes.{nodes_kept_all}
-use Rattle.indexset_spine.specs.Cut.{Cut, items}
+use Rattle.indexset_spine.specs.NodeList.{NodeList, items}
 use Rattle.indexset_set.proofs.SetAlgebraLaws.{has_alike, keep_ascending, put_absent, equal_is}
 use Rattle.indexset_set.proofs.SetAlgebraLemmas.{IsUnder, Up, ascending_from, under_map, up_from}
 
@@ -192,6 +192,6 @@ module _ {T : Type 0} (cmp : T → T → Ordering) (o : IsTotalOrder cmp) where
         (λ v. found_dedup ys v ∙ (found_stable xs ys stable v ∙ sym (found_all_kept [] xs none_ascend v)))
 
 -- nodes that are those of a list are those of the items, where these are the list
-pub nodes_of_items : {T E : Type 0} (cmp : T → T → Ordering) (s : Cut T) (l : List T) (r : Result (Cut T) E) → IfOk r (λ made. items made ≡ l) → IfOk r (λ made. made.nodes ≡ nodes_kept_all cmp s l) → IfOk r (λ made. made.nodes ≡ nodes_kept_all cmp s (items made))
+pub nodes_of_items : {T E : Type 0} (cmp : T → T → Ordering) (s : NodeList T) (l : List T) (r : Result (NodeList T) E) → IfOk r (λ made. items made ≡ l) → IfOk r (λ made. made.nodes ≡ nodes_kept_all cmp s l) → IfOk r (λ made. made.nodes ≡ nodes_kept_all cmp s (items made))
 nodes_of_items cmp s l (Ok made) is nodes = nodes ∙ ap (nodes_kept_all cmp s) (sym is)
 nodes_of_items cmp s l (Err e) is nodes = tt

@@ -26,5 +26,5 @@ module _ {T : Type 0} (cmp : T → T → Ordering) where
   put_all l xs = fold (put cmp) l xs
 
   -- a prefix of xs was inserted into l in order, which gave m, and the others remain
-  abbrev pub MovesSome : List T → List T → List T → List T → Type 0
-  MovesSome l xs m rest = (k : ℕ) × (m ≡ put_all l (take k xs)) × (rest ≡ drop k xs)
+  abbrev pub MovesPrefix : List T → List T → List T → List T → Type 0
+  MovesPrefix l xs m rest = (k : ℕ) × (m ≡ put_all l (take k xs)) × (rest ≡ drop k xs)

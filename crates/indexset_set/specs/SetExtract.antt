@@ -5,10 +5,10 @@ use Rattle.std.specs.Fn.{CalledAt, Mut}
 use Rattle.std.specs.declared.cmp.Ord as ord
 use Rattle.std.specs.declared.cmp.PartialEq as eq
 use Rattle.std.specs.declared.cmp.PartialOrd as partial
-use Rattle.indexset_spine.specs.Cut.{Cut, items}
+use Rattle.indexset_spine.specs.NodeList.{NodeList, items}
 use Rattle.indexset_core.specs.Nodes.{node_lengths}
 use Rattle.indexset_spine.specs.Lengths.{lengths_without}
-use Rattle.indexset_spine.specs.Extract.{Extracts, InThree, in_three}
+use Rattle.indexset_spine.specs.Extract.{Extracts, ExtractState, extract_state}
 use Rattle.indexset_set.specs.declared.extract.ExtractIf.{ExtractIf}
 
 module _ {T F : Type 0} where
@@ -18,12 +18,12 @@ module _ {T F : Type 0} where
 
   module _ {g : ord.Ghosts T} {g' : eq.Ghosts T} {g'' : partial.Ghosts T} where
     -- the reference to the set
-    abbrev pub extract_set : ExtractIf T F g g' g'' → MutBor (Cut T)
+    abbrev pub extract_set : ExtractIf T F g g' g'' → MutBor (NodeList T)
     extract_set s = s.set
 
     -- the elements that stay, those that the closure has yet to be asked about, and those after them
-    abbrev pub extract_items : ExtractIf T F g g' g'' → InThree T
-    extract_items s = in_three (items s.set.now) s.at.front s.at.back
+    abbrev pub extract_items : ExtractIf T F g g' g'' → ExtractState T
+    extract_items s = extract_state (items s.set.now) s.at.front s.at.back
 
     -- the closure
     abbrev pub extract_pred : ExtractIf T F g g' g'' → F

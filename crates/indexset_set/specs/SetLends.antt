@@ -3,7 +3,7 @@ use mathlib.Core.Option as maybe
 use Rattle.std.specs.Prelude.{ℕ, Option, Some, None}
 use Rattle.std.specs.Borrow.{Fml, RattleType, Bor, MutBor, GName, Lends, LendsIf, follows, follows_if}
 use Rattle.std.specs.BTreeMap.Lent.{OrdMembers}
-use Rattle.indexset_spine.specs.Cut.{Cut}
+use Rattle.indexset_spine.specs.NodeList.{NodeList}
 use Rattle.indexset_core.specs.declared.pair.Pair.{Pair}
 use Rattle.indexset_core.specs.Pairs.{by_key}
 use Rattle.indexset_set.specs.SetPairs.{with_value_at}
@@ -18,7 +18,7 @@ abbrev pub name_of_pair : {A B : Type 0} → Option (A × MutBor B) → maybe.Op
 name_of_pair (Some p) = maybe.some p.1.ghost_name
 name_of_pair None = maybe.none
 
-module _ (K V : RattleType) (o : OrdMembers K.Denot) (s : MutBor (Cut (Pair K.Denot V.Denot))) (i : ℕ) where
+module _ (K V : RattleType) (o : OrdMembers K.Denot) (s : MutBor (NodeList (Pair K.Denot V.Denot))) (i : ℕ) where
   -- once the borrow r ends, the value at the position is the last value written through r
   abbrev pub lends_value : MutBor V.Denot → Fml
   lends_value r = Lends (pairs_row K V o) V s r (with_value_at s.now i)

@@ -4,8 +4,8 @@ use Rattle.std.specs.List.{fold, list_any}
 use Rattle.std.specs.Ordering.{is_eq}
 use Rattle.std.specs.declared.cmp.Ordering.{Ordering}
 use Rattle.indexset_spine.specs.declared.spot.Spot.{Spot}
-use Rattle.indexset_core.specs.Nodes.{joined, node_at, node_for}
-use Rattle.indexset_spine.specs.Cut.{Cut, cut, IsItemSpot, items, position_of, with_inserted, with_replaced, without_item}
+use Rattle.indexset_core.specs.Nodes.{concat, node_at, node_for}
+use Rattle.indexset_spine.specs.NodeList.{NodeList, node_list, IsItemSpot, items, position_of, with_inserted, with_replaced, without_item}
 use Rattle.indexset_core.specs.Order.{has_equal}
 use Rattle.indexset_core.specs.Parted.{less_count}
 
@@ -15,45 +15,45 @@ IsWithoutAt ns i ms = (s : Spot) × IsItemSpot ns s × (position_of ns s ≡ i) 
 
 module _ {T : Type 0} where
   -- where the first element found Equal is, or else where one would go: in the first node whose last element is not found Less, else in the last node, after the elements found Less
-  abbrev pub sought_spot : (T → Ordering) → List (List T) → Spot
-  sought_spot answer ns =
+  abbrev pub search_spot : (T → Ordering) → List (List T) → Spot
+  search_spot answer ns =
       let node = node_for answer ns in record {
         node = node;
         offset = less_count answer (node_at ns node);
-        found = list_any (λ x. is_eq (answer x)) (joined ns);
+        found = list_any (λ x. is_eq (answer x)) (concat ns);
       }
 
   -- without the first element found Equal
-  unfoldable pub nodes_unequal : (T → Ordering) → Cut T → List (List T)
-  nodes_unequal answer s = if list_any (λ x. is_eq (answer x)) (items s) then without_item s.nodes (sought_spot answer s.nodes) else s.nodes
+  unfoldable pub nodes_unequal : (T → Ordering) → NodeList T → List (List T)
+  nodes_unequal answer s = if list_any (λ x. is_eq (answer x)) (items s) then without_item s.nodes (search_spot answer s.nodes) else s.nodes
 
 -- v is compared with elements, of which it may be one
 module _ {T Q : Type 0} (cmp : T → Q → Ordering) where
   -- where the element equal to v is, or else where v would go
   abbrev pub spot_of : List (List T) → Q → Spot
-  spot_of ns v = sought_spot (λ x. cmp x v) ns
+  spot_of ns v = search_spot (λ x. cmp x v) ns
 
   -- without the element equal to v
-  abbrev pub nodes_without : Cut T → Q → List (List T)
+  abbrev pub nodes_without : NodeList T → Q → List (List T)
   nodes_without s v = nodes_unequal (λ x. cmp x v) s
 
 module _ {T : Type 0} (cmp : T → T → Ordering) where
   -- v inserted, unless an equal element is present
-  unfoldable pub nodes_kept : Cut T → T → List (List T)
+  unfoldable pub nodes_kept : NodeList T → T → List (List T)
   nodes_kept s v = if has_equal cmp (items s) v then s.nodes else with_inserted s.size s.nodes (spot_of cmp s.nodes v) v
 
   -- v inserted, replacing any equal element
-  unfoldable pub nodes_put : Cut T → T → List (List T)
+  unfoldable pub nodes_put : NodeList T → T → List (List T)
   nodes_put s v = if has_equal cmp (items s) v then with_replaced s.nodes (spot_of cmp s.nodes v) v else with_inserted s.size s.nodes (spot_of cmp s.nodes v) v
 
   -- each of xs in order, unless an equal element is present
-  unfoldable pub nodes_kept_all : Cut T → List T → List (List T)
-  nodes_kept_all s xs = fold (λ ns x. nodes_kept (cut ns s.size) x) s.nodes xs
+  unfoldable pub nodes_kept_all : NodeList T → List T → List (List T)
+  nodes_kept_all s xs = fold (λ ns x. nodes_kept (node_list ns s.size) x) s.nodes xs
 
   -- each of xs in order, replacing any equal element
-  unfoldable pub nodes_put_all : Cut T → List T → List (List T)
-  nodes_put_all s xs = fold (λ ns x. nodes_put (cut ns s.size) x) s.nodes xs
+  unfoldable pub nodes_put_all : NodeList T → List T → List (List T)
+  nodes_put_all s xs = fold (λ ns x. nodes_put (node_list ns s.size) x) s.nodes xs
 
   -- a prefix of xs was inserted in order, which gave the nodes, and the others remain
-  abbrev pub PutsSome : Cut T → List T → List (List T) → List T → Type 0
-  PutsSome s xs ns rest = (k : ℕ) × (ns ≡ nodes_put_all s (take k xs)) × (rest ≡ drop k xs)
+  abbrev pub PutsPrefix : NodeList T → List T → List (List T) → List T → Type 0
+  PutsPrefix s xs ns rest = (k : ℕ) × (ns ≡ nodes_put_all s (take k xs)) × (rest ≡ drop k xs)

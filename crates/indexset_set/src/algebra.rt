@@ -2,7 +2,7 @@
 ghost use Rattle.std.specs.Prelude.{◌≡◌, ◌+◌, ◌≤◌, length, not};
 ghost use Rattle.std.specs.List.{list_all};
 ghost use Rattle.std.specs.Map.Iter.{ShowsInOrder, deref};
-ghost use Rattle.indexset_spine.specs.Cut.{items};
+ghost use Rattle.indexset_spine.specs.NodeList.{items};
 ghost use Rattle.indexset_core.specs.Order.{IsAscending, has_equal};
 ghost use Rattle.indexset_set.specs.Merge.{merged};
 ghost use Rattle.indexset_set.specs.SetAlgebra.{difference, intersection, symmetric_difference, union};
@@ -33,7 +33,7 @@ impl<T: Ord> BTreeSet<T> {
     /// ```
     pub fn union<'a>(&'a self, other: &'a BTreeSet<T>) -> Union<'a, T>
         ensures rest { result ≡ union T.cmp (items self.now) (items other.now) }
-        ensures few { length result ≤ length (items self.now) + length (items other.now) }
+        ensures length_bound { length result ≤ length (items self.now) + length (items other.now) }
         ensures runs { ShowsInOrder (deref {X = T}) }
     {
         Union {
@@ -51,7 +51,7 @@ impl<T: Ord> BTreeSet<T> {
     /// ```
     pub fn intersection<'a>(&'a self, other: &'a BTreeSet<T>) -> Intersection<'a, T>
         ensures rest { result ≡ intersection T.cmp (items self.now) (items other.now) }
-        ensures few { length result ≤ length (items self.now) }
+        ensures length_bound { length result ≤ length (items self.now) }
         ensures runs { ShowsInOrder (deref {X = T}) }
     {
         Intersection {
@@ -69,7 +69,7 @@ impl<T: Ord> BTreeSet<T> {
     /// ```
     pub fn difference<'a>(&'a self, other: &'a BTreeSet<T>) -> Difference<'a, T>
         ensures rest { result ≡ difference T.cmp (items self.now) (items other.now) }
-        ensures few { length result ≤ length (items self.now) }
+        ensures length_bound { length result ≤ length (items self.now) }
         ensures runs { ShowsInOrder (deref {X = T}) }
     {
         Difference {
@@ -87,7 +87,7 @@ impl<T: Ord> BTreeSet<T> {
     /// ```
     pub fn symmetric_difference<'a>(&'a self, other: &'a BTreeSet<T>) -> SymmetricDifference<'a, T>
         ensures rest { result ≡ symmetric_difference T.cmp (items self.now) (items other.now) }
-        ensures few { length result ≤ length (items self.now) + length (items other.now) }
+        ensures length_bound { length result ≤ length (items self.now) + length (items other.now) }
         ensures runs { ShowsInOrder (deref {X = T}) }
     {
         SymmetricDifference {

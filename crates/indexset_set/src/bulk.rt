@@ -4,17 +4,17 @@ ghost use Rattle.std.specs.Fn.{CalledAt};
 ghost use Rattle.std.specs.List.{All};
 ghost use Rattle.std.specs.List.Retain.{IsFiltered};
 ghost use Rattle.std.specs.Ordering.{is_lt};
-ghost use Rattle.indexset_spine.specs.Cut.{items, cut};
-ghost use Rattle.indexset_spine.specs.Edits.{TakesSome};
+ghost use Rattle.indexset_spine.specs.NodeList.{items, node_list};
+ghost use Rattle.indexset_spine.specs.Edits.{FoldsPrefix};
 ghost use Rattle.indexset_core.specs.Order.{IsAscending, below, put};
-ghost use Rattle.indexset_set.specs.SetAlgebra.{put_all, MovesSome};
-ghost use Rattle.indexset_set.specs.SetNodes.{PutsSome, nodes_put, nodes_put_all};
+ghost use Rattle.indexset_set.specs.SetAlgebra.{put_all, MovesPrefix};
+ghost use Rattle.indexset_set.specs.SetNodes.{PutsPrefix, nodes_put, nodes_put_all};
 ghost use Rattle.indexset_set.specs.SetRanges.{not_below};
 
 use super::BTreeSet;
 use super::lookup::{locate, locate_near};
+use indexset_core::lookup_key::LookupKey;
 use indexset_core::refusal::Refusal;
-use indexset_core::sought::Sought;
 
 impl<T: Ord + Drop> BTreeSet<T> {
     /// Retains the elements for which the closure returns true. It is called once for each element,
@@ -35,7 +35,7 @@ impl<T: Ord + Drop> BTreeSet<T> {
                 requires { F.IsAlwaysCallable f }
                 ensures called { CalledAt F.FnMut f.entry x.old result f.exit }
                 ensures again { F.IsAlwaysCallable f.exit }
-                ensures same { x.new ≡ x.old }
+                ensures unchanged { x.new ≡ x.old }
             { f(x) },
         );
     }
@@ -48,7 +48,7 @@ impl<T: Ord + Drop> BTreeSet<T> {
     /// let high = low.split_off(&3)?;
     /// assert!(rt; low.last() == Some(&2) && high.first() == Some(&3));
     /// ```
-    pub fn split_off<Q: Sought<T> + Drop>(&mut self, value: Q) -> Result<Self, Refusal>
+    pub fn split_off<Q: LookupKey<T> + Drop>(&mut self, value: Q) -> Result<Self, Refusal>
         ensures below { OnOk result (items self.new ≡ below Q.order (items self.old) value) }
         ensures rest { IfOk result (λ s. items s ≡ not_below Q.order (items self.old) value) }
         ensures all_below { OnOk result (All (λ x. is_lt (Q.order x value) ≡ true)
@@ -107,9 +107,9 @@ impl<T: Ord + Drop> BTreeSet<T> {
         ensures size { self.new.size ≡ self.old.size }
         ensures other_size { other.new.size ≡ other.old.size }
         ensures refusal { IfErr result (λ e. e ≡ Refusal.Memory) }
-        ensures err { OnErr result (MovesSome T.cmp (items self.old) (items other.old)
+        ensures err { OnErr result (MovesPrefix T.cmp (items self.old) (items other.old)
             (items self.new) (items other.new)) }
-        ensures err_nodes { OnErr result (PutsSome T.cmp self.old (items other.old) self.new.nodes
+        ensures err_nodes { OnErr result (PutsPrefix T.cmp self.old (items other.old) self.new.nodes
             (items other.new)) }
         ensures some_left { OnErr result (0 < length (items other.new)) }
     {
@@ -135,9 +135,9 @@ impl<T: Ord + Drop> BTreeSet<T> {
     // moved a prefix.
     fn append_above(&mut self, other: &mut Self) -> Result<(), Refusal>
         requires order { IsAscending T.cmp (items self.old ++ items other.old) }
-        ensures moved { TakesSome (put T.cmp) (items self.old) (items other.old) (items self.new)
+        ensures moved { FoldsPrefix (put T.cmp) (items self.old) (items other.old) (items self.new)
             (items other.new) }
-        ensures nodes { TakesSome (λ ns x. nodes_put T.cmp (cut ns self.old.size) x) self.old.nodes
+        ensures nodes { FoldsPrefix (λ ns x. nodes_put T.cmp (node_list ns self.old.size) x) self.old.nodes
             (items other.old) self.new.nodes (items other.new) }
         ensures emptied { OnOk result (items other.new ≡ []) }
         ensures size { self.new.size ≡ self.old.size }
@@ -154,9 +154,9 @@ impl<T: Ord + Drop> BTreeSet<T> {
     // failed call changes neither.
     fn put_some_of(&mut self, other: &mut Self, near: usize) -> Result<usize, Refusal>
         requires some { 0 < length (items other.old) }
-        ensures moved { OnOk result (TakesSome (put T.cmp) (items self.old) (items other.old)
+        ensures moved { OnOk result (FoldsPrefix (put T.cmp) (items self.old) (items other.old)
             (items self.new) (items other.new)) }
-        ensures nodes { OnOk result (TakesSome (λ ns x. nodes_put T.cmp (cut ns self.old.size) x)
+        ensures nodes { OnOk result (FoldsPrefix (λ ns x. nodes_put T.cmp (node_list ns self.old.size) x)
             self.old.nodes (items other.old) self.new.nodes (items other.new)) }
         ensures fewer { OnOk result (length (items other.new) < length (items other.old)) }
         ensures size { self.new.size ≡ self.old.size }

@@ -2,9 +2,9 @@
 ghost use Rattle.std.specs.Prelude.{◌≡◌, ◌+◌, ◌-◌, ◌≤◌, ◌==◌, None, length, min, slice_get, if◌then◌else◌};
 ghost use Rattle.std.specs.List.{count_by};
 ghost use Rattle.std.specs.Option.{option_copied};
-ghost use Rattle.indexset_core.specs.Bounds.{IfBounded, is_before, is_up_to_end};
-ghost use Rattle.indexset_spine.specs.Cut.{IsSpot, items, position_of};
-ghost use Rattle.indexset_set.specs.SetCursor.{item_at, one_back, one_on, standing_at};
+ghost use Rattle.indexset_core.specs.KeyRange.{IfBounded, is_before, is_up_to_end};
+ghost use Rattle.indexset_spine.specs.NodeList.{IsSpot, items, position_of};
+ghost use Rattle.indexset_set.specs.SetCursor.{item_at, previous_state, next_state, cursor_state_at};
 ghost use Rattle.indexset_set.specs.SetProbes.{FindsInOrder};
 
 use super::BTreeSet;
@@ -38,10 +38,10 @@ pub struct Cursor<'a, T: Ord> {
 impl<'a, T: Ord> Model for Cursor<'a, T> {
     ghost use Rattle.std.specs.Prelude.{◌≡◌, ◌≤◌, length, sum, take};
     ghost use Rattle.indexset_core.specs.Nodes.{node_lengths};
-    ghost use Rattle.indexset_spine.specs.Cut.{items};
-    ghost use Rattle.indexset_set.specs.SetCursor.{Standing, standing_code};
+    ghost use Rattle.indexset_spine.specs.NodeList.{items};
+    ghost use Rattle.indexset_set.specs.SetCursor.{CursorState, cursor_state_code};
 
-    ghost Value = { Standing T };
+    ghost Value = { CursorState T };
 
     ghost view = { λ c. record { list = items c.set.now; position = c.position } };
 
@@ -57,7 +57,7 @@ impl<T: Ord> BTreeSet<T> {
     /// assert!(rt; set.cursor_at(1).item() == Some(&20) && set.cursor_at(3).item().is_none());
     /// ```
     pub fn cursor_at(&self, i: usize) -> Cursor<'_, T>
-        ensures { result ≡ standing_at (items self.now) i }
+        ensures { result ≡ cursor_state_at (items self.now) i }
     {
         let mut cursor = Cursor {
             set: self,
@@ -80,7 +80,7 @@ impl<T: Ord> BTreeSet<T> {
     /// ```
     pub fn cursor_from<P: Probe<T> + Drop>(&self, start: Bound<P>) -> Cursor<'_, T>
         requires { IfBounded (λ p. FindsInOrder (P.answer p) (items self.now)) start }
-        ensures { result ≡ standing_at (items self.now)
+        ensures { result ≡ cursor_state_at (items self.now)
             (count_by (is_before (λ x p. P.answer p x) start) (items self.now)) }
     {
         self.cursor_in(self.spine.start_of(start))
@@ -97,7 +97,7 @@ impl<T: Ord> BTreeSet<T> {
     /// ```
     pub fn cursor_past<P: Probe<T> + Drop>(&self, end: Bound<P>) -> Cursor<'_, T>
         requires { IfBounded (λ p. FindsInOrder (P.answer p) (items self.now)) end }
-        ensures { result ≡ standing_at (items self.now)
+        ensures { result ≡ cursor_state_at (items self.now)
             (count_by (is_up_to_end (λ x p. P.answer p x) end) (items self.now)) }
     {
         self.cursor_in(self.spine.end_of(end))
@@ -106,7 +106,7 @@ impl<T: Ord> BTreeSet<T> {
     // Returns a cursor at a spot.
     fn cursor_in(&self, spot: Spot) -> Cursor<'_, T>
         requires { IsSpot self.now.nodes spot }
-        ensures { result ≡ standing_at (items self.now) (position_of self.now.nodes spot) }
+        ensures { result ≡ cursor_state_at (items self.now) (position_of self.now.nodes spot) }
     {
         let position = self.spine.position(&spot);
         Cursor {
@@ -131,7 +131,7 @@ impl<'a, T: Ord> Cursor<'a, T> {
     /// assert_eq!(rt; cursor.item(), Some(&10));
     /// ```
     pub fn move_next(&mut self)
-        ensures { self.new ≡ one_on self.old }
+        ensures { self.new ≡ next_state self.old }
     {
         self.stand_at(self.next_position());
     }
@@ -145,7 +145,7 @@ impl<'a, T: Ord> Cursor<'a, T> {
     /// assert_eq!(rt; cursor.item(), Some(&10));
     /// ```
     pub fn move_prev(&mut self)
-        ensures { self.new ≡ one_back self.old }
+        ensures { self.new ≡ previous_state self.old }
     {
         let before = match self.position.checked_sub(1) {
             Some(before) => before,
@@ -163,7 +163,7 @@ impl<'a, T: Ord> Cursor<'a, T> {
     /// assert_eq!(rt; cursor.item(), Some(&30));
     /// ```
     pub fn move_index(&mut self, i: usize)
-        ensures { self.new ≡ standing_at self.old.list i }
+        ensures { self.new ≡ cursor_state_at self.old.list i }
     {
         let at = i.min(self.set.len());
         self.stand_at(at);
@@ -190,7 +190,7 @@ impl<'a, T: Ord> Cursor<'a, T> {
     /// assert!(rt; set.cursor_at(2).peek_next().is_none());
     /// ```
     pub fn peek_next(&self) -> Option<&'a T>
-        ensures { option_copied result ≡ item_at (one_on self.now) }
+        ensures { option_copied result ≡ item_at (next_state self.now) }
     {
         self.element_at(self.next_position())
     }
@@ -248,7 +248,7 @@ impl<'a, T: Ord> Cursor<'a, T> {
 
     // The next position; past the end, the first.
     fn next_position(&self) -> usize
-        ensures value { result ≡ (one_on self.now).position }
+        ensures value { result ≡ (next_state self.now).position }
         ensures inside { result ≤ length self.now.list }
     {
         if self.position == self.set.len() {

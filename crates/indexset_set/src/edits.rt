@@ -1,13 +1,13 @@
 //! Insertion and removal of one element.
 ghost use Rattle.std.specs.Prelude.{◌≡◌, [], ◌∷◌, true, false, not, IfOk, OnOk, IfErr, OnErr, IsOk};
-ghost use Rattle.indexset_spine.specs.Cut.{items};
+ghost use Rattle.indexset_spine.specs.NodeList.{items};
 ghost use Rattle.indexset_core.specs.Order.{has_equal, keep, put, without, equal_element};
 ghost use Rattle.indexset_set.specs.SetNodes.{nodes_kept, nodes_put, nodes_without};
 
 use super::BTreeSet;
 use super::lookup::{locate, locate_from_end};
+use indexset_core::lookup_key::UniqueKey;
 use indexset_core::refusal::{Refusal, Refused};
-use indexset_core::sought::Names;
 
 impl<T: Ord + Drop> BTreeSet<T> {
     /// Inserts `value` and returns true. If an equal element is present, keeps it, drops `value`,
@@ -24,9 +24,9 @@ impl<T: Ord + Drop> BTreeSet<T> {
     pub fn insert(&mut self, value: T) -> Result<bool, Refused<T>>
         ensures added { IfOk result (λ b. b ≡ not (has_equal T.cmp (items self.old) value)) }
         ensures ok { OnOk result (items self.new ≡ keep T.cmp (items self.old) value) }
-        ensures there { OnOk result (has_equal T.cmp (items self.new) value ≡ true) }
+        ensures contains { OnOk result (has_equal T.cmp (items self.new) value ≡ true) }
         ensures nodes { OnOk result (self.new.nodes ≡ nodes_kept T.cmp self.old value) }
-        ensures same { has_equal T.cmp (items self.old) value ≡ true → self.new ≡ self.old }
+        ensures if_present { has_equal T.cmp (items self.old) value ≡ true → self.new ≡ self.old }
         ensures size { self.new.size ≡ self.old.size }
         ensures no_memory { has_equal T.cmp (items self.old) value ≡ true → IsOk result }
         ensures given_back { IfErr result (λ e. (e.value ≡ value) × (e.cause ≡ Refusal.Memory)) }
@@ -52,7 +52,7 @@ impl<T: Ord + Drop> BTreeSet<T> {
     pub fn replace(&mut self, value: T) -> Result<Option<T>, Refused<T>>
         ensures old { IfOk result (λ o. o ≡ equal_element T.cmp (items self.old) value) }
         ensures ok { OnOk result (items self.new ≡ put T.cmp (items self.old) value) }
-        ensures there { OnOk result (has_equal T.cmp (items self.new) value ≡ true) }
+        ensures contains { OnOk result (has_equal T.cmp (items self.new) value ≡ true) }
         ensures nodes { OnOk result (self.new.nodes ≡ nodes_put T.cmp self.old value) }
         ensures size { self.new.size ≡ self.old.size }
         ensures no_memory { has_equal T.cmp (items self.old) value ≡ true → IsOk result }
@@ -74,7 +74,7 @@ impl<T: Ord + Drop> BTreeSet<T> {
     /// let mut set = BTreeSet::from_iter(alloc, [7, 8])?;
     /// assert!(rt; set.take(&7) == Some(7) && set.take(&7).is_none());
     /// ```
-    pub fn take<Q: Names<T> + Drop>(&mut self, value: Q) -> Option<T>
+    pub fn take<Q: UniqueKey<T> + Drop>(&mut self, value: Q) -> Option<T>
         ensures value { result ≡ equal_element Q.order (items self.old) value }
         ensures rest { items self.new ≡ without Q.order (items self.old) value }
         ensures gone { has_equal Q.order (items self.new) value ≡ false }
@@ -96,7 +96,7 @@ impl<T: Ord + Drop> BTreeSet<T> {
     /// let mut set = BTreeSet::from_iter(alloc, [7, 8])?;
     /// assert!(rt; set.remove(&7) && !set.remove(&7));
     /// ```
-    pub fn remove<Q: Names<T> + Drop>(&mut self, value: Q) -> bool
+    pub fn remove<Q: UniqueKey<T> + Drop>(&mut self, value: Q) -> bool
         ensures removed { result ≡ has_equal Q.order (items self.old) value }
         ensures rest { items self.new ≡ without Q.order (items self.old) value }
         ensures gone { has_equal Q.order (items self.new) value ≡ false }

@@ -4,17 +4,17 @@ ghost use Rattle.std.specs.Fn.{CalledAt, always_mut};
 ghost use Rattle.std.specs.Iterator.{at_most};
 ghost use Rattle.std.specs.List.{between};
 ghost use Rattle.std.specs.Range.Bound.{bound_map};
-ghost use Rattle.indexset_core.specs.Bounds.{are_ordered, in_range};
+ghost use Rattle.indexset_core.specs.KeyRange.{are_ordered, in_range};
 ghost use Rattle.indexset_core.specs.Nodes.{node_lengths};
-ghost use Rattle.indexset_spine.specs.Cut.{items};
-ghost use Rattle.indexset_spine.specs.Extract.{Extracts, IsStretch, in_three};
+ghost use Rattle.indexset_spine.specs.NodeList.{items};
+ghost use Rattle.indexset_spine.specs.Extract.{Extracts, IsExtractRange, extract_state};
 ghost use Rattle.indexset_spine.specs.Lengths.{lengths_without};
 
 use super::BTreeSet;
-use indexset_core::bounds::Bounds;
+use indexset_core::key_range::KeyRange;
+use indexset_core::lookup_key::LookupKey;
 use indexset_core::probe::ByItem;
-use indexset_core::sought::Sought;
-use indexset_spine::stretch::Stretch;
+use indexset_spine::extract_range::ExtractRange;
 use std::iter::FusedIterator;
 use std::ops::Bound;
 
@@ -24,9 +24,9 @@ use std::ops::Bound;
 #[must_use]
 pub struct ExtractIf<'a, T: Ord, F> {
     set: &'a mut BTreeSet<T>,
-    at: Stretch,
+    at: ExtractRange,
     pred: F,
-    ghost stretch: { IsStretch (node_lengths set.now.nodes) (length (items set.now)) at },
+    ghost stretch: { IsExtractRange (node_lengths set.now.nodes) (length (items set.now)) at },
 }
 
 impl<T: Ord + Drop> BTreeSet<T> {
@@ -42,7 +42,7 @@ impl<T: Ord + Drop> BTreeSet<T> {
     /// assert!(rt; set.extract_if(..5, |element| element % 2 == 0).eq([2, 4]));
     /// assert!(rt; set.iter().copied().eq([1, 3, 5, 6]));
     /// ```
-    pub fn extract_if<F: FnMut(&T) -> bool, R: Bounds<T> + Drop>(
+    pub fn extract_if<F: FnMut(&T) -> bool, R: KeyRange<T> + Drop>(
         &mut self,
         range: R,
         pred: F,
@@ -64,10 +64,10 @@ impl<T: Ord + Drop> BTreeSet<T> {
     }
 
     // Returns the stretch of the elements between two bounds.
-    fn stretch<Q: Sought<T>>(&self, start: Bound<&Q>, end: Bound<&Q>) -> Stretch
+    fn stretch<Q: LookupKey<T>>(&self, start: Bound<&Q>, end: Bound<&Q>) -> ExtractRange
         requires { IsTrue (are_ordered Q.cmp (bound_map (λ v. v.now) start)
             (bound_map (λ v. v.now) end)) }
-        ensures at { IsStretch (node_lengths self.now.nodes) (length (items self.now)) result }
+        ensures at { IsExtractRange (node_lengths self.now.nodes) (length (items self.now)) result }
         ensures rest { between result.front result.back (items self.now) ≡ in_range Q.order
             (items self.now) (bound_map (λ v. v.now) start.entry)
             (bound_map (λ v. v.now) end.entry) }
@@ -75,7 +75,7 @@ impl<T: Ord + Drop> BTreeSet<T> {
         let from = self.spine.start_of(start.map(ByItem::new));
         let to = self.spine.end_of(end.map(ByItem::new));
         let front = self.spine.position(&from);
-        Stretch {
+        ExtractRange {
             front,
             back: self.spine.position(&to),
             node: from.node,
@@ -85,17 +85,17 @@ impl<T: Ord + Drop> BTreeSet<T> {
 
     // Calls the closure for each element of a stretch in turn, up to the first for which it returns
     // true, and removes that one and returns it.
-    fn extract<F: FnMut(&T) -> bool>(&mut self, at: &mut Stretch, pred: &mut F) -> Option<T>
+    fn extract<F: FnMut(&T) -> bool>(&mut self, at: &mut ExtractRange, pred: &mut F) -> Option<T>
         requires callable { F.IsAlwaysCallable pred.old }
-        requires at { IsStretch (node_lengths self.old.nodes) (length (items self.old)) at.old }
+        requires at { IsExtractRange (node_lengths self.old.nodes) (length (items self.old)) at.old }
         ensures extracted { Extracts (CalledOn F.FnMut) pred.old
-            (in_three (items self.old) at.old.front at.old.back) result pred.new
-            (in_three (items self.new) at.new.front at.new.back) }
+            (extract_state (items self.old) at.old.front at.old.back) result pred.new
+            (extract_state (items self.new) at.new.front at.new.back) }
         ensures lengths { MatchOption result
             (node_lengths self.new.nodes ≡ node_lengths self.old.nodes)
             (λ _. node_lengths self.new.nodes
             ≡ lengths_without (node_lengths self.old.nodes) at.new.front) }
-        ensures at { IsStretch (node_lengths self.new.nodes) (length (items self.new)) at.new }
+        ensures at { IsExtractRange (node_lengths self.new.nodes) (length (items self.new)) at.new }
         ensures callable { F.IsAlwaysCallable pred.new }
         ensures size { self.new.size ≡ self.old.size }
     {
@@ -103,7 +103,7 @@ impl<T: Ord + Drop> BTreeSet<T> {
             requires { F.IsAlwaysCallable pred.now }
             ensures called { CalledAt F.FnMut pred.entry.now x.old result pred.exit.now }
             ensures again { F.IsAlwaysCallable pred.exit.now }
-            ensures same { x.new ≡ x.old }
+            ensures unchanged { x.new ≡ x.old }
             ensures held { pred.exit.ghost_name ≡ pred.entry.ghost_name }
         { pred(x) };
         self.spine.extract(at, &mut ask)

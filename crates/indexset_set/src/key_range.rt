@@ -2,24 +2,24 @@
 ghost use Rattle.std.specs.Prelude.{◌≡◌, IsTrue};
 ghost use Rattle.std.specs.Map.Iter.{ShowsInOrder, ShowsInReverse, deref};
 ghost use Rattle.std.specs.Range.Bound.{bound_map};
-ghost use Rattle.indexset_core.specs.Bounds.{are_ordered};
+ghost use Rattle.indexset_core.specs.KeyRange.{are_ordered};
 ghost use Rattle.indexset_core.specs.Order.{IsAscending};
 ghost use Rattle.indexset_core.specs.Pairs.{by_key, pairs_within};
 ghost use Rattle.indexset_core.specs.declared.pair.Pair.{Pair};
-ghost use Rattle.indexset_spine.specs.Cut.{items};
+ghost use Rattle.indexset_spine.specs.NodeList.{items};
 
 use super::BTreeSet;
 use super::iter::Iter;
 use super::range::Range;
+use indexset_core::lookup_key::LookupKey;
 use indexset_core::pair::Pair;
 use indexset_core::probe::ByKey;
-use indexset_core::sought::Sought;
 use std::ops::Bound;
 
 impl<K: Ord, V> BTreeSet<Pair<K, V>> {
     /// Returns a double-ended iterator over the pairs whose keys are within the range, in order.
     /// The start must not be past the end, nor at it where both are excluded (see
-    /// `base::bounds::bounds_are_ordered`).
+    /// `base::key_range::bounds_are_ordered`).
     ///
     /// ```
     /// let (one, two) = (Pair { key: 1, value: 10 }, Pair { key: 2, value: 20 });
@@ -27,7 +27,10 @@ impl<K: Ord, V> BTreeSet<Pair<K, V>> {
     /// let range = pairs.range_by_key((Bound::Excluded(&1), Bound::Unbounded));
     /// assert!(rt; range.map(|pair| pair.value).eq([20]));
     /// ```
-    pub fn range_by_key<Q: Sought<K>>(&self, range: (Bound<&Q>, Bound<&Q>)) -> Range<'_, Pair<K, V>>
+    pub fn range_by_key<Q: LookupKey<K>>(
+        &self,
+        range: (Bound<&Q>, Bound<&Q>),
+    ) -> Range<'_, Pair<K, V>>
         requires { IsTrue (are_ordered Q.cmp (bound_map (λ k. k.now) range.0)
             (bound_map (λ k. k.now) range.1)) }
         ensures rest { result ≡ pairs_within Q.order (items self.now)

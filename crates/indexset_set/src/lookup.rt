@@ -5,7 +5,7 @@ ghost use Rattle.std.specs.declared.cmp.Ordering.TheVariants.{Less};
 ghost use Rattle.std.specs.List.{AllWithin};
 ghost use Rattle.std.specs.Option.{option_copied, option_map};
 ghost use Rattle.std.specs.Ordering.{is_eq};
-ghost use Rattle.indexset_spine.specs.Cut.{items, IsSpot, IsItemSpot, position_of};
+ghost use Rattle.indexset_spine.specs.NodeList.{items, IsSpot, IsItemSpot, position_of};
 ghost use Rattle.indexset_core.specs.Digits.{digits};
 ghost use Rattle.indexset_core.specs.Order.{IsAscending, IsFoundAt, IsGapFor, has_equal, index_of, rank, equal_element, lower_element};
 ghost use Rattle.indexset_core.specs.Parted.{less_count};
@@ -14,15 +14,15 @@ ghost use Rattle.indexset_set.specs.SetProbes.{FindsInOrder};
 ghost use Rattle.indexset_set.specs.SetRanges.{upper_element};
 
 use super::BTreeSet;
+use indexset_core::lookup_key::LookupKey;
 use indexset_core::probe::{ByItem, Probe};
-use indexset_core::sought::Sought;
 use indexset_spine::spine::Spine;
 use indexset_spine::spot::Spot;
 use std::ops::Bound;
 
 // Returns where the element equal to the value is, or where the value would go.
 #[inline(always)]
-pub(super) fn locate<T: Ord, Q: Sought<T> + Drop>(spine: &Spine<T>, value: Q) -> Spot
+pub(super) fn locate<T: Ord, Q: LookupKey<T> + Drop>(spine: &Spine<T>, value: Q) -> Spot
     requires { IsAscending T.cmp (items spine.now) }
     ensures spot { IsSpot spine.now.nodes result }
     ensures item { IsTrue result.found → IsItemSpot spine.now.nodes result }
@@ -73,7 +73,7 @@ impl<T: Ord> BTreeSet<T> {
     /// let set = BTreeSet::from_iter(alloc, [10, 20])?;
     /// assert!(rt; set.get(&20) == Some(&20) && set.get(&15).is_none());
     /// ```
-    pub fn get<Q: Sought<T> + Drop>(&self, value: Q) -> Option<&T>
+    pub fn get<Q: LookupKey<T> + Drop>(&self, value: Q) -> Option<&T>
         ensures { option_copied result ≡ equal_element Q.order (items self.now) value }
     {
         let spot = locate(&self.spine, value);
@@ -89,7 +89,7 @@ impl<T: Ord> BTreeSet<T> {
     /// let set = BTreeSet::from_iter(alloc, [10, 20])?;
     /// assert!(rt; set.contains(&20) && !set.contains(&15));
     /// ```
-    pub fn contains<Q: Sought<T> + Drop>(&self, value: Q) -> bool
+    pub fn contains<Q: LookupKey<T> + Drop>(&self, value: Q) -> bool
         ensures { result ≡ has_equal Q.order (items self.now) value }
     {
         locate(&self.spine, value).found
@@ -102,9 +102,9 @@ impl<T: Ord> BTreeSet<T> {
     /// let board = BTreeSet::from_iter(alloc, [10, 20, 30])?;
     /// assert!(rt; board.rank(&30) == 2 && board.rank(&25) == 2);
     /// ```
-    pub fn rank<Q: Sought<T> + Drop>(&self, value: Q) -> usize
+    pub fn rank<Q: LookupKey<T> + Drop>(&self, value: Q) -> usize
         ensures value { result ≡ rank Q.order (items self.now) value }
-        ensures there { has_equal Q.order (items self.now) value ≡ true
+        ensures at_rank { has_equal Q.order (items self.now) value ≡ true
             → slice_get (items self.now) result ≡ equal_element Q.order (items self.now) value }
         ensures inside { has_equal Q.order (items self.now) value ≡ true
             → result < length (items self.now) }
@@ -120,9 +120,9 @@ impl<T: Ord> BTreeSet<T> {
     /// let set = BTreeSet::from_iter(alloc, [10, 20, 30])?;
     /// assert!(rt; set.index_of(&20) == Some(1) && set.index_of(&25).is_none());
     /// ```
-    pub fn index_of<Q: Sought<T> + Drop>(&self, value: Q) -> Option<usize>
+    pub fn index_of<Q: LookupKey<T> + Drop>(&self, value: Q) -> Option<usize>
         ensures value { result ≡ index_of Q.order (items self.now) value }
-        ensures there { IfSome result (λ i. slice_get (items self.now) i
+        ensures at_index { IfSome result (λ i. slice_get (items self.now) i
             ≡ equal_element Q.order (items self.now) value) }
         ensures inside { IfSome result (λ i. i < length (items self.now)) }
     {
@@ -141,7 +141,7 @@ impl<T: Ord> BTreeSet<T> {
     /// let set = BTreeSet::from_iter(alloc, [10, 20, 30])?;
     /// assert!(rt; set.get_full(&20) == Some((1, &20)) && set.get_full(&25).is_none());
     /// ```
-    pub fn get_full<Q: Sought<T> + Drop>(&self, value: Q) -> Option<(usize, &T)>
+    pub fn get_full<Q: LookupKey<T> + Drop>(&self, value: Q) -> Option<(usize, &T)>
         ensures index { option_map (λ r. r.0) result ≡ index_of Q.order (items self.now) value }
         ensures element { option_map (λ r. r.1.now) result
             ≡ equal_element Q.order (items self.now) value }
@@ -160,7 +160,7 @@ impl<T: Ord> BTreeSet<T> {
     /// let set = BTreeSet::from_iter(alloc, [10, 20, 30])?;
     /// assert!(rt; set.lower_bound(&15) == Some(&20) && set.lower_bound(&31).is_none());
     /// ```
-    pub fn lower_bound<Q: Sought<T> + Drop>(&self, value: Q) -> Option<&T>
+    pub fn lower_bound<Q: LookupKey<T> + Drop>(&self, value: Q) -> Option<&T>
         ensures { option_copied result ≡ lower_element Q.order (items self.now) value }
     {
         self.spine.item_from(&locate(&self.spine, value))
@@ -172,7 +172,7 @@ impl<T: Ord> BTreeSet<T> {
     /// let set = BTreeSet::from_iter(alloc, [10, 20, 30])?;
     /// assert!(rt; set.upper_bound(&20) == Some(&30) && set.upper_bound(&30).is_none());
     /// ```
-    pub fn upper_bound<Q: Sought<T> + Drop>(&self, value: Q) -> Option<&T>
+    pub fn upper_bound<Q: LookupKey<T> + Drop>(&self, value: Q) -> Option<&T>
         ensures { option_copied result ≡ upper_element Q.order (items self.now) value }
     {
         let spot = self.spine.start_of(Bound::Excluded(ByItem::new(&value)));
@@ -193,7 +193,7 @@ impl<T: Ord> BTreeSet<T> {
         ensures value { option_copied result
             ≡ find (λ x. is_eq (P.answer probe.old x)) (items self.now) }
         ensures fixed { P.answer probe.new ≡ P.answer probe.old }
-        ensures few { P.asked probe.new ≤ P.asked probe.old
+        ensures comparisons { P.asked probe.new ≤ P.asked probe.old
             + (digits (length self.now.nodes) + digits self.now.size + 1) }
     {
         let spot = self.spine.locate_by(probe);
@@ -222,7 +222,7 @@ impl<T: Ord> BTreeSet<T> {
         ensures gap { IfErr result (λ i. i ≡ less_count (P.answer probe.old) (items self.now)) }
         ensures ascending { IsAscending T.cmp (items self.now) }
         ensures fixed { P.answer probe.new ≡ P.answer probe.old }
-        ensures few { P.asked probe.new ≤ P.asked probe.old
+        ensures comparisons { P.asked probe.new ≤ P.asked probe.old
             + (digits (length self.now.nodes) + digits self.now.size + 1) }
     {
         let spot = self.spine.locate_by(probe);

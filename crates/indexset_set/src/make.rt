@@ -4,14 +4,14 @@ ghost use Rattle.std.specs.declared.cmp.Ordering.TheVariants.{Equal};
 ghost use Rattle.std.specs.List.{AllZip};
 ghost use Rattle.std.specs.Iterator.{IsFiniteIterable};
 ghost use Rattle.std.specs.Iterator.Runs.{WholeRun};
-ghost use Rattle.indexset_spine.specs.Cut.{cut, items};
+ghost use Rattle.indexset_spine.specs.NodeList.{node_list, items};
 ghost use Rattle.indexset_core.specs.Order.{IsAscending, keep};
 ghost use Rattle.indexset_set.specs.SetCopy.{IsSetCopy};
 ghost use Rattle.indexset_set.specs.SetNodes.{nodes_kept_all};
 
 use super::BTreeSet;
 use super::inner::take_run;
-use super::listed::Listed;
+use super::into_vec::IntoVec;
 use indexset_core::constants::DEFAULT_INNER_SIZE;
 use indexset_core::refusal::{Refusal, Refused};
 use indexset_spine::spine::Spine;
@@ -77,7 +77,7 @@ impl<T: Ord + Drop> BTreeSet<T> {
             × WholeRun I.IntoIter.next_gives it (λ run. items s ≡ fold (keep T.cmp) [] run.items)) }
         ensures nodes { IfOk result (λ s. (it : I.IntoIter) × I.into_iter_gives iter it
             × WholeRun I.IntoIter.next_gives it
-            (λ run. s.nodes ≡ nodes_kept_all T.cmp (cut ([] ∷ []) DEFAULT_INNER_SIZE) run.items)) }
+            (λ run. s.nodes ≡ nodes_kept_all T.cmp (node_list ([] ∷ []) DEFAULT_INNER_SIZE) run.items)) }
         ensures size { IfOk result (λ s. s.size ≡ DEFAULT_INNER_SIZE) }
         ensures refusal { IfErr result (λ e. e ≡ Refusal.Memory) }
     {
@@ -97,7 +97,7 @@ impl<T: Ord + Drop> BTreeSet<T> {
             × WholeRun I.IntoIter.next_gives it (λ run. items s ≡ fold (keep T.cmp) [] run.items)) }
         ensures nodes { IfOk result (λ s. (it : I.IntoIter) × I.into_iter_gives iter it
             × WholeRun I.IntoIter.next_gives it
-            (λ run. s.nodes ≡ nodes_kept_all T.cmp (cut ([] ∷ []) size) run.items)) }
+            (λ run. s.nodes ≡ nodes_kept_all T.cmp (node_list ([] ∷ []) size) run.items)) }
         ensures size { IfOk result (λ s. s.size ≡ size) }
         ensures refusal { IfErr result (λ e. e ≡ Refusal.Memory) }
     {
@@ -119,10 +119,10 @@ impl<T: Ord + Drop> BTreeSet<T> {
     /// let same = BTreeSet::from(alloc, vec![in alloc; 10, 20, 30]?)?;
     /// assert!(rt; set.first() == Some(&10) && set == same);
     /// ```
-    pub fn from<L: Listed<Item = T>>(alloc: Global, values: L) -> Result<Self, Refusal>
+    pub fn from<L: IntoVec<Item = T>>(alloc: Global, values: L) -> Result<Self, Refusal>
         ensures kept { IfOk result (λ s. items s ≡ fold (keep T.cmp) [] (L.values values)) }
         ensures nodes { IfOk result (λ s. s.nodes
-            ≡ nodes_kept_all T.cmp (cut ([] ∷ []) DEFAULT_INNER_SIZE) (L.values values)) }
+            ≡ nodes_kept_all T.cmp (node_list ([] ∷ []) DEFAULT_INNER_SIZE) (L.values values)) }
         ensures size { IfOk result (λ s. s.size ≡ DEFAULT_INNER_SIZE) }
         ensures refusal { IfErr result (λ e. e ≡ Refusal.Memory) }
     {
@@ -138,7 +138,7 @@ impl<T: Ord + Drop> BTreeSet<T> {
         requires order { IsAscending T.cmp values.items }
         ensures elements { IfOk result (λ s. items s ≡ values.items) }
         ensures nodes { IfOk result (λ s. s.nodes
-            ≡ nodes_kept_all T.cmp (cut ([] ∷ []) DEFAULT_INNER_SIZE) values.items) }
+            ≡ nodes_kept_all T.cmp (node_list ([] ∷ []) DEFAULT_INNER_SIZE) values.items) }
         ensures size { IfOk result (λ s. s.size ≡ DEFAULT_INNER_SIZE) }
         ensures refusal { IfErr result (λ e. e ≡ Refusal.Memory) }
     {
@@ -150,7 +150,7 @@ impl<T: Ord + Drop> BTreeSet<T> {
     pub(crate) fn made_like(&self, values: Vec<T>) -> Result<Self, Refusal>
         ensures kept { IfOk result (λ s. items s ≡ fold (keep T.cmp) [] values.items) }
         ensures nodes { IfOk result (λ s. s.nodes
-            ≡ nodes_kept_all T.cmp (cut ([] ∷ []) self.now.size) values.items) }
+            ≡ nodes_kept_all T.cmp (node_list ([] ∷ []) self.now.size) values.items) }
         ensures size { IfOk result (λ s. s.size ≡ self.now.size) }
         ensures refusal { IfErr result (λ e. e ≡ Refusal.Memory) }
     {
@@ -169,7 +169,7 @@ impl<T: Ord + Drop> BTreeSet<T> {
     pub fn from_sorted(alloc: Global, values: Vec<T>) -> Result<Self, Refused<Vec<T>>>
         ensures elements { IfOk result (λ s. items s ≡ values.items) }
         ensures nodes { IfOk result (λ s. s.nodes
-            ≡ nodes_kept_all T.cmp (cut ([] ∷ []) DEFAULT_INNER_SIZE) values.items) }
+            ≡ nodes_kept_all T.cmp (node_list ([] ∷ []) DEFAULT_INNER_SIZE) values.items) }
         ensures size { IfOk result (λ s. s.size ≡ DEFAULT_INNER_SIZE) }
         ensures ascending { OnOk result (IsAscending T.cmp values.items) }
         ensures unsorted { IfErr result (λ e. (IsAscending T.cmp values.items → ⊥)
@@ -203,7 +203,7 @@ impl<T: Ord + Drop> BTreeSet<T> {
     pub fn from_unsorted(alloc: Global, mut values: Vec<T>) -> Result<Self, Refusal>
         ensures kept { IfOk result (λ s. items s ≡ fold (keep T.cmp) [] values.items) }
         ensures nodes { IfOk result (λ s. s.nodes
-            ≡ nodes_kept_all T.cmp (cut ([] ∷ []) DEFAULT_INNER_SIZE) (items s)) }
+            ≡ nodes_kept_all T.cmp (node_list ([] ∷ []) DEFAULT_INNER_SIZE) (items s)) }
         ensures size { IfOk result (λ s. s.size ≡ DEFAULT_INNER_SIZE) }
         ensures refusal { IfErr result (λ e. e ≡ Refusal.Memory) }
     {

@@ -5,12 +5,12 @@ ghost use Rattle.std.specs.Option.{option_copied_mut, option_map};
 ghost use Rattle.std.specs.Borrow.{sem};
 ghost use Rattle.std.specs.List.Retain.{RetainsInTurn};
 ghost use Rattle.std.specs.Ordering.{is_eq};
-ghost use Rattle.indexset_spine.specs.Cut.{items};
+ghost use Rattle.indexset_spine.specs.NodeList.{items};
 ghost use Rattle.indexset_core.specs.Digits.{digits};
 ghost use Rattle.indexset_core.specs.Nodes.{node_lengths};
 ghost use Rattle.indexset_core.specs.Parted.{less_count};
 ghost use Rattle.indexset_set.specs.SetProbes.{FindsInOrder};
-ghost use Rattle.indexset_spine.specs.Extract.{Extracts, IsStretch, in_three};
+ghost use Rattle.indexset_spine.specs.Extract.{Extracts, IsExtractRange, extract_state};
 ghost use Rattle.indexset_spine.specs.Lengths.{lengths_without};
 ghost use Rattle.indexset_core.specs.Pairs.{entry_of, CalledOnPair};
 
@@ -18,7 +18,7 @@ use super::BTreeSet;
 use super::inner::value_in;
 use indexset_core::pair::Pair;
 use indexset_core::probe::Probe;
-use indexset_spine::stretch::Stretch;
+use indexset_spine::extract_range::ExtractRange;
 
 impl<K: Ord, V> BTreeSet<Pair<K, V>> {
     ghost use Rattle.indexset_set.specs.SetLends.{lends_value, lends_pair, lends_pair_if, lends_value_if};
@@ -63,7 +63,7 @@ impl<K: Ord, V> BTreeSet<Pair<K, V>> {
             ≡ option_map (λ p. p.value) (find (λ x. is_eq (P.answer probe.old x))
             (items self.old)) }
         ensures fixed { P.answer probe.new ≡ P.answer probe.old }
-        ensures few { P.asked probe.new ≤ P.asked probe.old
+        ensures comparisons { P.asked probe.new ≤ P.asked probe.old
             + (digits (length self.old.nodes) + digits self.old.size + 1) }
     {
         let spot = self.spine.locate_by(probe);
@@ -152,19 +152,19 @@ impl<K: Ord + Drop, V: Drop> BTreeSet<Pair<K, V>> {
     /// it stay, with the values that it left, and are no longer of the stretch. It allocates nothing.
     pub fn extract_pair<F: FnMut(&K, &mut V) -> bool>(
         &mut self,
-        at: &mut Stretch,
+        at: &mut ExtractRange,
         f: &mut F,
     ) -> Option<Pair<K, V>>
         requires callable { F.IsAlwaysCallable f.old }
-        requires at { IsStretch (node_lengths self.old.nodes) (length (items self.old)) at.old }
+        requires at { IsExtractRange (node_lengths self.old.nodes) (length (items self.old)) at.old }
         ensures extracted { Extracts (CalledOnPair F.FnMut) f.old
-            (in_three (items self.old) at.old.front at.old.back) result f.new
-            (in_three (items self.new) at.new.front at.new.back) }
+            (extract_state (items self.old) at.old.front at.old.back) result f.new
+            (extract_state (items self.new) at.new.front at.new.back) }
         ensures lengths { MatchOption result
             (node_lengths self.new.nodes ≡ node_lengths self.old.nodes)
             (λ _. node_lengths self.new.nodes
             ≡ lengths_without (node_lengths self.old.nodes) at.new.front) }
-        ensures at { IsStretch (node_lengths self.new.nodes) (length (items self.new)) at.new }
+        ensures at { IsExtractRange (node_lengths self.new.nodes) (length (items self.new)) at.new }
         ensures callable { F.IsAlwaysCallable f.new }
         ensures size { self.new.size ≡ self.old.size }
     {

@@ -4,7 +4,7 @@ ghost use Rattle.std.specs.Option.{option_copied, option_to_list};
 ghost use Rattle.std.specs.List.{All};
 ghost use Rattle.std.specs.Ordering.{is_gt, is_lt};
 ghost use Rattle.indexset_core.specs.Order.{above, below, has_equal};
-ghost use Rattle.indexset_spine.specs.Cut.{items};
+ghost use Rattle.indexset_spine.specs.NodeList.{items};
 ghost use Rattle.indexset_set.specs.SetNodes.{IsWithoutAt};
 
 use super::BTreeSet;

@@ -3,17 +3,17 @@ ghost use Rattle.std.specs.Prelude.{◌≡◌, IsTrue};
 ghost use Rattle.std.specs.List.{count_by};
 ghost use Rattle.std.specs.Map.Iter.{ShowsInOrder, ShowsInReverse, deref};
 ghost use Rattle.std.specs.Range.Bound.{bound_map};
-ghost use Rattle.indexset_core.specs.Bounds.{IfBounded, are_ordered, in_positions, in_range, is_before, is_up_to_end};
+ghost use Rattle.indexset_core.specs.KeyRange.{IfBounded, are_ordered, in_positions, in_range, is_before, is_up_to_end};
 ghost use Rattle.indexset_core.specs.Order.{IsAscending};
-ghost use Rattle.indexset_spine.specs.Cut.{items};
+ghost use Rattle.indexset_spine.specs.NodeList.{items};
 ghost use Rattle.indexset_set.specs.SetProbes.{FindsInOrder};
 
 use super::BTreeSet;
 use super::iter::Iter;
-use indexset_core::bounds::Bounds;
-use indexset_core::positions::{Positions, end_position, first_position};
+use indexset_core::key_range::KeyRange;
+use indexset_core::lookup_key::LookupKey;
+use indexset_core::position_range::{PositionRange, end_position, first_position};
 use indexset_core::probe::{ByItem, Probe};
-use indexset_core::sought::Sought;
 use std::ops::Bound;
 
 /// The remaining elements of a part of a set, from both ends.
@@ -22,7 +22,7 @@ pub type Range<'a, T> = Iter<'a, T>;
 impl<T: Ord> BTreeSet<T> {
     /// Returns a double-ended iterator over the elements within the range, in order. The start must
     /// not be past the end, nor at it where both are excluded (see
-    /// `base::bounds::bounds_are_ordered`).
+    /// `base::key_range::bounds_are_ordered`).
     ///
     /// ```
     /// let set = BTreeSet::from_iter(alloc, [5, 10, 15, 20])?;
@@ -30,7 +30,7 @@ impl<T: Ord> BTreeSet<T> {
     /// let above = set.range((Bound::Excluded(&10), Bound::Unbounded));
     /// assert!(rt; teens.copied().eq([10, 15]) && above.copied().eq([15, 20]));
     /// ```
-    pub fn range<R: Bounds<T> + Drop>(&self, range: R) -> Range<'_, T>
+    pub fn range<R: KeyRange<T> + Drop>(&self, range: R) -> Range<'_, T>
         requires { IsTrue (are_ordered R.Key.cmp (R.start range) (R.end range)) }
         ensures rest { result ≡ in_range R.Key.order (items self.now) (R.start range)
             (R.end range) }
@@ -42,7 +42,7 @@ impl<T: Ord> BTreeSet<T> {
     }
 
     // Returns the same for two bounds.
-    fn within<Q: Sought<T>>(&self, start: Bound<&Q>, end: Bound<&Q>) -> Range<'_, T>
+    fn within<Q: LookupKey<T>>(&self, start: Bound<&Q>, end: Bound<&Q>) -> Range<'_, T>
         requires { IsTrue (are_ordered Q.cmp (bound_map (λ v. v.now) start)
             (bound_map (λ v. v.now) end)) }
         ensures rest { result ≡ in_range Q.order (items self.now)
@@ -65,7 +65,7 @@ impl<T: Ord> BTreeSet<T> {
     /// let page = set.range_idx(2..4);
     /// assert!(rt; page.copied().eq([15, 20]));
     /// ```
-    pub fn range_idx<R: Positions + Drop>(&self, range: R) -> Range<'_, T>
+    pub fn range_idx<R: PositionRange + Drop>(&self, range: R) -> Range<'_, T>
         ensures rest { result ≡ in_positions (items self.now) (R.start range) (R.end range) }
         ensures ascending { IsAscending T.cmp result }
         ensures runs { ShowsInOrder (deref {X = T}) }

@@ -1,7 +1,7 @@
 //! Values inserted one by one, ascending runs of them by blocks.
 ghost use Rattle.std.specs.Prelude.{◌≡◌, ◌++◌, OnOk, IfErr};
 ghost use Rattle.indexset_core.specs.Order.{IsAscending, keep};
-ghost use Rattle.indexset_spine.specs.Cut.{cut, items, with_all_last};
+ghost use Rattle.indexset_spine.specs.NodeList.{node_list, items, with_all_last};
 ghost use Rattle.indexset_set.specs.SetNodes.{nodes_kept};
 
 use super::BTreeSet;
@@ -18,7 +18,7 @@ impl<T: Ord + Drop> BTreeSet<T> {
         ensures kept { OnOk result (items self.new ++ run.new.items
             ≡ keep T.cmp (items self.old ++ run.old.items) value) }
         ensures nodes { OnOk result (with_all_last self.old.size self.new.nodes run.new.items
-            ≡ nodes_kept T.cmp (cut (with_all_last self.old.size self.old.nodes run.old.items)
+            ≡ nodes_kept T.cmp (node_list (with_all_last self.old.size self.old.nodes run.old.items)
             self.old.size) value) }
         ensures size { self.new.size ≡ self.old.size }
         ensures refusal { IfErr result (λ e. e ≡ Refusal.Memory) }

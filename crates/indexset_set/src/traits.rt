@@ -4,7 +4,7 @@ ghost use Rattle.std.specs.Prelude.{◌≡◌, List, [], ◌∷◌, fold, map};
 ghost use Rattle.indexset_core.specs.Order.{keep};
 ghost use Rattle.indexset_core.specs.declared.constants.TheConstants.{DEFAULT_INNER_SIZE};
 ghost use Rattle.indexset_set.specs.SetCopy.{IsSetClone};
-ghost use Rattle.indexset_spine.specs.Cut.{items};
+ghost use Rattle.indexset_spine.specs.NodeList.{items};
 
 use super::BTreeSet;
 use std::alloc::{AllocError, Global};

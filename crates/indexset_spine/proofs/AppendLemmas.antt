@@ -6,14 +6,14 @@ use Rattle.std.proofs.lemmas.List.Elements.{All-set}
 use Rattle.std.specs.List.{All, fold, insert, splice}
 use Rattle.indexset_spine.specs.declared.spot.Spot.{Spot}
 use Rattle.std.specs.declared.vec.Vec.{Vec}
-use Rattle.indexset_core.specs.Nodes.{joined, node_at, node_lengths, vec_items}
-use Rattle.indexset_core.proofs.CallerLemmas.{joined-append, joined_around, last_before, length-joined}
-use Rattle.indexset_spine.specs.Cut.{IsCut, IsSpine, IsSpot, end_spot, position_of, with_last, with_inserted}
-use Rattle.indexset_spine.specs.Edits.{IsShortEnd, TakesSome, or_one_empty, with_halved, with_item_in, without_all_emptied}
+use Rattle.indexset_core.specs.Nodes.{concat, node_at, node_lengths, vec_items}
+use Rattle.indexset_core.proofs.CallerLemmas.{concat-append, joined_around, last_before, length-concat}
+use Rattle.indexset_spine.specs.NodeList.{AreNodeLengths, IsSpine, IsSpot, end_spot, position_of, with_last, with_inserted}
+use Rattle.indexset_spine.specs.Edits.{IsShortEnd, FoldsPrefix, or_one_empty, with_halved, with_item_in, without_all_emptied}
 use Rattle.indexset_spine.proofs.EditSteps.{get_right, node_is, put_short}
-use Rattle.indexset_spine.proofs.CutEdits.{cut_inserted, joined_inserted, joined_set, node_bounded, spine_of}
+use Rattle.indexset_spine.proofs.NodeListEdits.{cut_inserted, joined_inserted, joined_set, node_bounded, spine_of}
 use Rattle.indexset_index.proofs.CallerLemmas.{count-lengths, length-at}
-use Rattle.indexset_spine.proofs.TakenLemmas.{takes_within}
+use Rattle.indexset_spine.proofs.FoldPrefixLemmas.{takes_within}
 use Rattle.indexset_spine.proofs.VecNodes.{length-vec_items, vec_items-set}
 
 module _ {X : Type 0} where
@@ -92,33 +92,33 @@ module _ {X : Type 0} where
   pub end_in : (ns : List (List X)) → 1 ≤ length ns → IsSpot ns (end_spot ns)
   end_in ns some = record { node_in = omega arith; offset_in = omega arith }
 
-  pub end_position : (ns : List (List X)) → 1 ≤ length ns → position_of ns (end_spot ns) ≡ length (joined ns)
+  pub end_position : (ns : List (List X)) → 1 ≤ length ns → position_of ns (end_spot ns) ≡ length (concat ns)
   end_position ns some = last_before ns (length ns - 1) (length (node_at ns (length ns - 1))) (omega arith) refl
 
-  pub cut_last : (size : ℕ) (ns : List (List X)) (v : X) → IsCut (node_lengths ns) size → IsCut (node_lengths (with_last size ns v)) size
+  pub cut_last : (size : ℕ) (ns : List (List X)) (v : X) → AreNodeLengths (node_lengths ns) size → AreNodeLengths (node_lengths (with_last size ns v)) size
   cut_last size ns v is = cut_inserted size ns (end_spot ns) v (end_in ns (omega (arith, is.some, count-lengths ns))) is
 
-  pub joined_last : (size : ℕ) (ns : List (List X)) (v : X) → 1 ≤ length ns → joined (with_last size ns v) ≡ joined ns ++ v ∷ []
+  pub joined_last : (size : ℕ) (ns : List (List X)) (v : X) → 1 ≤ length ns → concat (with_last size ns v) ≡ concat ns ++ v ∷ []
   joined_last size ns v some =
-      joined_inserted size ns (end_spot ns) v (end_in ns some) ∙ (ap (λ i. insert (joined ns) i v) (end_position ns some) ∙ insert_end (joined ns) v)
+      joined_inserted size ns (end_spot ns) v (end_in ns some) ∙ (ap (λ i. insert (concat ns) i v) (end_position ns some) ∙ insert_end (concat ns) v)
 
-  pub cut_all_last : (size : ℕ) (ns : List (List X)) (xs : List X) → IsCut (node_lengths ns) size → IsCut (node_lengths (fold (with_last size) ns xs)) size
+  pub cut_all_last : (size : ℕ) (ns : List (List X)) (xs : List X) → AreNodeLengths (node_lengths ns) size → AreNodeLengths (node_lengths (fold (with_last size) ns xs)) size
   cut_all_last size ns [] is = is
   cut_all_last size ns (x ∷ xs) is = cut_all_last size (with_last size ns x) xs (cut_last size ns x is)
 
-  pub joined_all_last : (size : ℕ) (ns : List (List X)) (xs : List X) → IsCut (node_lengths ns) size → joined (fold (with_last size) ns xs) ≡ joined ns ++ xs
-  joined_all_last size ns [] is = sym (append-nil (joined ns))
+  pub joined_all_last : (size : ℕ) (ns : List (List X)) (xs : List X) → AreNodeLengths (node_lengths ns) size → concat (fold (with_last size) ns xs) ≡ concat ns ++ xs
+  joined_all_last size ns [] is = sym (append-nil (concat ns))
   joined_all_last size ns (x ∷ xs) is =
       joined_all_last size (with_last size ns x) xs (cut_last size ns x is)
-      ∙ (ap (λ l. l ++ xs) (joined_last size ns x (omega (arith, is.some, count-lengths ns))) ∙ append_assoc (joined ns) (x ∷ []) xs)
+      ∙ (ap (λ l. l ++ xs) (joined_last size ns x (omega (arith, is.some, count-lengths ns))) ∙ append_assoc (concat ns) (x ∷ []) xs)
 
   -- nothing is lost
-  pub takes_items : (size : ℕ) (ns ms : List (List X)) (xs rest : List X) → IsCut (node_lengths ns) size → TakesSome (with_last size) ns xs ms rest → joined ms ++ rest ≡ joined ns ++ xs
+  pub takes_items : (size : ℕ) (ns ms : List (List X)) (xs rest : List X) → AreNodeLengths (node_lengths ns) size → FoldsPrefix (with_last size) ns xs ms rest → concat ms ++ rest ≡ concat ns ++ xs
   takes_items size ns ms xs rest is h =
-      ap (λ l. joined l ++ rest) h.2 ∙ (ap (λ l. l ++ rest) (joined_all_last size ns h.0 is) ∙ (append_assoc (joined ns) h.0 rest ∙ ap (λ l. joined ns ++ l) (sym h.1)))
+      ap (λ l. concat l ++ rest) h.2 ∙ (ap (λ l. l ++ rest) (joined_all_last size ns h.0 is) ∙ (append_assoc (concat ns) h.0 rest ∙ ap (λ l. concat ns ++ l) (sym h.1)))
 
   -- the end of a cut list, where a full node may be
-  pub short_end : (size : ℕ) (ns : List (List X)) (s : Spot) → IsCut (node_lengths ns) size → s ≡ end_spot ns → IsShortEnd (size + 1) ns s
+  pub short_end : (size : ℕ) (ns : List (List X)) (s : Spot) → AreNodeLengths (node_lengths ns) size → s ≡ end_spot ns → IsShortEnd (size + 1) ns s
   short_end size ns s is e =
       let some : 1 ≤ length ns = omega (arith, is.some, count-lengths ns) in
       rw e (record { last = omega arith; end = refl; short = omega (arith, node_bounded ns (length ns - 1) size (omega arith) is) })
@@ -127,7 +127,7 @@ module _ {X : Type 0} where
   pub spine_all_last : (size total sum : ℕ) (ns : List (List X)) (xs : List X) → IsSpine (node_lengths ns) size total → sum ≡ total + length xs → IsSpine (node_lengths (fold (with_last size) ns xs)) size sum
   spine_all_last size total sum ns xs is e =
       spine_of (fold (with_last size) ns xs) size sum (cut_all_last size ns xs is.is_cut)
-      (omega (arith, e, is.total_is, length-joined ns, ap (λ (l : List X). length l) (joined_all_last size ns xs is.is_cut), length-append (joined ns) xs))
+      (omega (arith, e, is.total_is, length-concat ns, ap (λ (l : List X). length l) (joined_all_last size ns xs is.is_cut), length-append (concat ns) xs))
 
   -- the nodes as the code holds them
   pub block_writes : {Z : Type 0} (vs : List (Vec X Z)) (k : ℕ) (u w : Vec X Z) (xs : List X) → k < length (vec_items vs) → u ≡ get_or vs k u → w.items ≡ u.items ++ xs → vec_items (slice_set vs k w) ≡ slice_set (vec_items vs) k (node_at (vec_items vs) k ++ xs)
@@ -150,21 +150,21 @@ module _ {X Z : Type 0} (vs : List (Vec X Z)) (k : ℕ) (u w : Vec X Z) (h : k <
   unfolding ns
   node_at_is = node_is vs k u inside at
 
-  pub takes_node : {B : Type 0} (f : B → X → B) (a b : B) → TakesSome f a u.items b w.items → joined (take k (vec_items vs)) ≡ [] → TakesSome f a (joined (vec_items vs)) b (joined (vec_items (slice_set vs k w)))
+  pub takes_node : {B : Type 0} (f : B → X → B) (a b : B) → FoldsPrefix f a u.items b w.items → concat (take k (vec_items vs)) ≡ [] → FoldsPrefix f a (concat (vec_items vs)) b (concat (vec_items (slice_set vs k w)))
   unfolding ns
   takes_node f a b taken none =
-      let bs = joined (drop (k + 1) ns) in
-      let before : joined ns ≡ u.items ++ bs = joined_around ns k inside ∙ (ap (λ l. l ++ (node_at ns k ++ bs)) none ∙ ap (λ n. n ++ bs) node_at_is) in
-      let after : joined (vec_items (slice_set vs k w)) ≡ w.items ++ bs = ap joined set_is ∙ (joined_set ns k w.items inside ∙ ap (λ l. l ++ (w.items ++ bs)) none) in
+      let bs = concat (drop (k + 1) ns) in
+      let before : concat ns ≡ u.items ++ bs = joined_around ns k inside ∙ (ap (λ l. l ++ (node_at ns k ++ bs)) none ∙ ap (λ n. n ++ bs) node_at_is) in
+      let after : concat (vec_items (slice_set vs k w)) ≡ w.items ++ bs = ap concat set_is ∙ (joined_set ns k w.items inside ∙ ap (λ l. l ++ (w.items ++ bs)) none) in
       let whole = takes_within f a b u.items w.items bs taken in
       (whole.0, before ∙ (whole.1 ∙ ap (λ l. whole.0 ++ l) (sym after)), whole.2)
 
-  pub emptied_more : joined (take k (vec_items vs)) ≡ [] → w.items ≡ [] → joined (take (k + 1) (vec_items (slice_set vs k w))) ≡ []
+  pub emptied_more : concat (take k (vec_items vs)) ≡ [] → w.items ≡ [] → concat (take (k + 1) (vec_items (slice_set vs k w))) ≡ []
   unfolding ns
   emptied_more none empty =
-      ap (λ l. joined (take (k + 1) l)) set_is
-      ∙ (ap joined (take_more_set ns k w.items inside)
-      ∙ (joined-append (take k ns) (w.items ∷ []) ∙ (ap (λ l. l ++ (w.items ++ [])) none ∙ (append-nil w.items ∙ empty))))
+      ap (λ l. concat (take (k + 1) l)) set_is
+      ∙ (ap concat (take_more_set ns k w.items inside)
+      ∙ (concat-append (take k ns) (w.items ∷ []) ∙ (ap (λ l. l ++ (w.items ++ [])) none ∙ (append-nil w.items ∙ empty))))
 
   pub lower_set : (n : ℕ) → length w.items ≤ length u.items → All (λ i. i ≤ n) (node_lengths (vec_items vs)) → All (λ i. i ≤ n) (node_lengths (vec_items (slice_set vs k w)))
   unfolding ns
@@ -173,11 +173,11 @@ module _ {X Z : Type 0} (vs : List (Vec X Z)) (k : ℕ) (u w : Vec X Z) (h : k <
       omega (arith, low k 0 (omega (arith, inside, count-lengths ns)), length-at ns k inside, ap (λ (l : List X). length l) node_at_is) in
       rw (ap node_lengths set_is ∙ map-set (λ (l : List X). length l) ns k w.items) (All-set (λ i. i ≤ n) (node_lengths ns) k (length w.items) (omega arith) low)
 
-  pub some_in : joined (take k (vec_items vs)) ≡ [] → 0 < length w.items → 0 < length (joined (vec_items (slice_set vs k w)))
+  pub some_in : concat (take k (vec_items vs)) ≡ [] → 0 < length w.items → 0 < length (concat (vec_items (slice_set vs k w)))
   unfolding ns
   some_in none some =
-      let bs = joined (drop (k + 1) ns) in
-      let after : joined (vec_items (slice_set vs k w)) ≡ w.items ++ bs = ap joined set_is ∙ (joined_set ns k w.items inside ∙ ap (λ l. l ++ (w.items ++ bs)) none) in
+      let bs = concat (drop (k + 1) ns) in
+      let after : concat (vec_items (slice_set vs k w)) ≡ w.items ++ bs = ap concat set_is ∙ (joined_set ns k w.items inside ∙ ap (λ l. l ++ (w.items ++ bs)) none) in
       omega (arith, ap (λ (l : List X). length l) after, length-append w.items bs)
 
 -- the nodes that are not empty
@@ -200,11 +200,11 @@ module _ {X Z : Type 0} where
   some_kept vs (w ∷ ws) is some = ap or_one_empty (ap vec_items is ∙ filter_lists vs)
 
 -- where nothing is left, one empty node is
-no_some : {X : Type 0} (ns : List (List X)) → joined ns ≡ [] → filter (λ n. not (length n == 0)) ns ≡ []
+no_some : {X : Type 0} (ns : List (List X)) → concat ns ≡ [] → filter (λ n. not (length n == 0)) ns ≡ []
 no_some [] e = refl
 no_some ([] ∷ ns) e = no_some ns e
 no_some ((x ∷ n) ∷ ns) e = absurd (cc)
 
-pub emptied_all : {X : Type 0} (ns : List (List X)) → joined ns ≡ [] → without_all_emptied ns ≡ [] ∷ []
+pub emptied_all : {X : Type 0} (ns : List (List X)) → concat ns ≡ [] → without_all_emptied ns ≡ [] ∷ []
 unfolding without_all_emptied
 emptied_all ns none = ap or_one_empty (no_some ns none)

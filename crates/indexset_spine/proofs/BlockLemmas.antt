@@ -10,11 +10,11 @@ use Rattle.std.specs.List.{fold, insert, splice}
 use Rattle.std.specs.declared.vec.Vec.{Vec}
 use Rattle.indexset_core.specs.Nodes.{node_lengths, vec_items}
 use Rattle.indexset_index.proofs.CallerLemmas.{count-lengths}
-use Rattle.indexset_spine.specs.Cut.{IsCut, IsSpine, parts_with, with_all_last, with_inserted, with_last}
+use Rattle.indexset_spine.specs.NodeList.{AreNodeLengths, IsSpine, parts_with, with_all_last, with_inserted, with_last}
 use Rattle.indexset_spine.proofs.AppendLemmas.{block_more, cut_all_last, cut_last, spine_all_last}
 
 -- one empty node is lawful
-pub empty_cut : (size : ℕ) → 2 ≤ size → IsCut (0 ∷ []) size
+pub empty_cut : (size : ℕ) → 2 ≤ size → AreNodeLengths (0 ∷ []) size
 empty_cut size two = record {
   two = two;
   some = omega arith;
@@ -41,7 +41,7 @@ module _ {X : Type 0} (size : ℕ) (two : 2 ≤ size) where
       let past : length ms + 1 ≡ suc (length ms) = omega arith in
       rw (more, one, next, past) refl
 
-  before_all : (n : List X) (ns : List (List X)) (xs : List X) → IsCut (node_lengths ns) size → put_all (n ∷ ns) xs ≡ n ∷ put_all ns xs
+  before_all : (n : List X) (ns : List (List X)) (xs : List X) → AreNodeLengths (node_lengths ns) size → put_all (n ∷ ns) xs ≡ n ∷ put_all ns xs
   before_all n ns [] is = refl
   before_all n ns (x ∷ xs) is =
       ap (λ ms. put_all ms xs) (before_last n ns x (omega (arith, is.some, count-lengths ns)))
@@ -64,7 +64,7 @@ module _ {X : Type 0} (size : ℕ) (two : 2 ≤ size) where
   halved_before : (us cs rest : List X) (v : X) → length us ≡ size / 2 → length us + length cs ≡ size → put_all ([] ∷ []) ((us ++ cs) ++ v ∷ rest) ≡ us ∷ put_all ([] ∷ []) ((cs ++ v ∷ []) ++ rest)
   halved_before us cs rest v half full =
       let right : put_all ([] ∷ []) (cs ++ v ∷ []) ≡ (cs ++ v ∷ []) ∷ [] = one_node (cs ++ v ∷ []) (omega (arith, half, full, two, length-append cs (v ∷ []))) in
-      let is : IsCut (node_lengths ((cs ++ v ∷ []) ∷ [])) size = subst (λ ns. IsCut (node_lengths ns) size) right (cut_all_last size ([] ∷ []) (cs ++ v ∷ []) (empty_cut size two)) in
+      let is : AreNodeLengths (node_lengths ((cs ++ v ∷ []) ∷ [])) size = subst (λ ns. AreNodeLengths (node_lengths ns) size) right (cut_all_last size ([] ∷ []) (cs ++ v ∷ []) (empty_cut size two)) in
       fold-append (with_last size) ([] ∷ []) (us ++ cs) (v ∷ rest)
       ∙ (ap (λ ns. put_all (with_last size ns v) rest) (one_node (us ++ cs) (omega (arith, full, length-append us cs)))
       ∙ (ap (λ ns. put_all ns rest) (full_halved us cs v half full)

@@ -4,7 +4,7 @@ use Rattle.std.proofs.lemmas.List.{map_push, take_all}
 use Rattle.std.proofs.lemmas.List.Elements.{all_zip_more, length_all_zip, same_from_all_zip}
 use Rattle.std.specs.List.{AllZip}
 use Rattle.std.specs.declared.vec.Vec.{Vec}
-use Rattle.indexset_core.specs.Nodes.{joined, node_lengths, vec_items}
+use Rattle.indexset_core.specs.Nodes.{concat, node_lengths, vec_items}
 use Rattle.indexset_spine.proofs.VecNodes.{length-vec_items, node_read}
 
 module _ {T : Type 0} (C : T → T → Type 0) where
@@ -37,8 +37,8 @@ module _ {T : Type 0} (C : T → T → Type 0) where
   cloned_both (x ∷ xs) (y ∷ ys) zs ws front back = (front.0, cloned_both xs ys zs ws front.1 back)
 
   -- their items, one after another
-  pub copies_joined : (ns ms : List (List T)) → AllZip (AllZip C) ns ms → AllZip C (joined ns) (joined ms)
+  pub copies_joined : (ns ms : List (List T)) → AllZip (AllZip C) ns ms → AllZip C (concat ns) (concat ms)
   copies_joined [] [] copied = tt
   copies_joined [] (m ∷ ms) copied = absurd copied
   copies_joined (n ∷ ns) [] copied = absurd copied
-  copies_joined (n ∷ ns) (m ∷ ms) copied = cloned_both n m (joined ns) (joined ms) copied.0 (copies_joined ns ms copied.1)
+  copies_joined (n ∷ ns) (m ∷ ms) copied = cloned_both n m (concat ns) (concat ms) copied.0 (copies_joined ns ms copied.1)

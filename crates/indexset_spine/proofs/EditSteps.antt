@@ -9,7 +9,7 @@ use Rattle.std.specs.Vec.{vec_len, vec_capacity}
 use Rattle.std.specs.declared.vec.Vec.{Vec}
 use Rattle.indexset_spine.specs.declared.spot.Spot.{Spot}
 use Rattle.indexset_core.specs.Nodes.{node_at, vec_items}
-use Rattle.indexset_spine.specs.Cut.{Cut, cut, IsSpot, IsItemSpot, with_inserted, parts_with}
+use Rattle.indexset_spine.specs.NodeList.{NodeList, node_list, IsSpot, IsItemSpot, with_inserted, parts_with}
 use Rattle.indexset_spine.specs.Edits.{with_item_in, with_halved}
 use Rattle.indexset_spine.proofs.VecNodes.{length-vec_items, vec_items-set, vec_items-splice, node_read}
 
@@ -115,26 +115,26 @@ module _ {X Z : Type 0} where
     pub left : w.items ≡ take (length u.items / 2) u.items
     pub right : r.items ≡ drop (length u.items / 2) u.items
 
-  module _ {ns : List (List X)} {vs : List (Vec X Z)} {s : Spot} {u w r : Vec X Z} (cut : IsHalved ns vs s u w r) where
+  module _ {ns : List (List X)} {vs : List (Vec X Z)} {s : Spot} {u w r : Vec X Z} (node_list : IsHalved ns vs s u w r) where
     half_is : vec_len w ≡ length u.items / 2
-    half_is = w.ok.0 ∙ (ap (λ (l : List X). length l) cut.left ∙ length-take-le (length u.items / 2) u.items (omega arith))
+    half_is = w.ok.0 ∙ (ap (λ (l : List X). length l) node_list.left ∙ length-take-le (length u.items / 2) u.items (omega arith))
 
     pub half_of : vec_len w ≡ length (node_at ns s.node) / 2
-    half_of = half_is ∙ (ap (λ n. length n / 2) (sym (node_is vs s.node u cut.node_in cut.node)) ∙ ap (λ ms. length (node_at ms s.node) / 2) cut.same)
+    half_of = half_is ∙ (ap (λ n. length n / 2) (sym (node_is vs s.node u node_list.node_in node_list.node)) ∙ ap (λ ms. length (node_at ms s.node) / 2) node_list.same)
 
     inside : s.node < length ns
-    inside = subst (λ (ms : List (List X)). s.node < length ms) cut.same cut.node_in
+    inside = subst (λ (ms : List (List X)). s.node < length ms) node_list.same node_list.node_in
 
     cut_lists : vec_items (insert (slice_set vs s.node w) (s.node + 1) r) ≡ splice ns s.node (s.node + 1) (take (vec_len w) (node_at ns s.node) ∷ drop (vec_len w) (node_at ns s.node) ∷ [])
     cut_lists =
-        let h = cut.node_in in
+        let h = node_list.node_in in
         ap vec_items (insert_after vs s.node w r (omega (arith, length-vec_items vs)))
         ∙ (vec_items-splice vs (w ∷ r ∷ []) s.node (s.node + 1)
-        ∙ (ap (λ l. splice (vec_items vs) s.node (s.node + 1) (l ∷ r.items ∷ [])) cut.left
-        ∙ (ap (λ l. splice (vec_items vs) s.node (s.node + 1) (take (length u.items / 2) u.items ∷ l ∷ [])) cut.right
+        ∙ (ap (λ l. splice (vec_items vs) s.node (s.node + 1) (l ∷ r.items ∷ [])) node_list.left
+        ∙ (ap (λ l. splice (vec_items vs) s.node (s.node + 1) (take (length u.items / 2) u.items ∷ l ∷ [])) node_list.right
         ∙ (ap (λ i. splice (vec_items vs) s.node (s.node + 1) (take i u.items ∷ drop i u.items ∷ [])) (sym half_is)
-        ∙ (ap (λ n. splice (vec_items vs) s.node (s.node + 1) (take (vec_len w) n ∷ drop (vec_len w) n ∷ [])) (sym (node_is vs s.node u h cut.node))
-        ∙ ap (λ ms. splice ms s.node (s.node + 1) (take (vec_len w) (node_at ms s.node) ∷ drop (vec_len w) (node_at ms s.node) ∷ [])) cut.same)))))
+        ∙ (ap (λ n. splice (vec_items vs) s.node (s.node + 1) (take (vec_len w) n ∷ drop (vec_len w) n ∷ [])) (sym (node_is vs s.node u h node_list.node))
+        ∙ ap (λ ms. splice ms s.node (s.node + 1) (take (vec_len w) (node_at ms s.node) ∷ drop (vec_len w) (node_at ms s.node) ∷ [])) node_list.same)))))
 
     pub halved_lists : vec_items (insert (slice_set vs s.node w) (s.node + 1) r) ≡ with_halved ns s.node
     unfolding with_halved
@@ -150,31 +150,31 @@ module _ {X Z : Type 0} where
     left_puts v upto = ap (λ ms. with_item_in ms s v) cut_lists ∙ put_left ns s (vec_len w) v inside half_of upto
 
     two_in : 2 ≤ length (node_at ns s.node) → 2 ≤ vec_len u
-    two_in two = omega (arith, two, node_len vs s.node u cut.node_in cut.node, ap (λ (ms : List (List X)). length (node_at ms s.node)) cut.same)
+    two_in two = omega (arith, two, node_len vs s.node u node_list.node_in node_list.node, ap (λ (ms : List (List X)). length (node_at ms s.node)) node_list.same)
 
     pub right_room : 2 ≤ length (node_at ns s.node) → length u.items ≤ vec_capacity r → HoldsAt (λ v. vec_len v < vec_capacity v) (insert (slice_set vs s.node w) (s.node + 1) r) (s.node + 1)
     right_room two room d =
         let long = length-set vs s.node w in
-        let e : get_or (insert (slice_set vs s.node w) (s.node + 1) r) (s.node + 1) d ≡ r = get_or-insert_at (slice_set vs s.node w) (s.node + 1) r d (omega (arith, cut.node_in, length-vec_items vs)) in
-        let n : vec_len r ≡ length (drop (length u.items / 2) u.items) = r.ok.0 ∙ ap (λ (l : List X). length l) cut.right in
+        let e : get_or (insert (slice_set vs s.node w) (s.node + 1) r) (s.node + 1) d ≡ r = get_or-insert_at (slice_set vs s.node w) (s.node + 1) r d (omega (arith, node_list.node_in, length-vec_items vs)) in
+        let n : vec_len r ≡ length (drop (length u.items / 2) u.items) = r.ok.0 ∙ ap (λ (l : List X). length l) node_list.right in
         subst (λ (v : Vec X Z). vec_len v < vec_capacity v) (sym e) (omega (arith, n, room, two_in two, u.ok, length-drop (length u.items / 2) u.items))
 
     pub left_room : 2 ≤ length (node_at ns s.node) → length u.items ≤ vec_capacity w → HoldsAt (λ v. vec_len v < vec_capacity v) (insert (slice_set vs s.node w) (s.node + 1) r) s.node
     left_room two room d =
-        let h = cut.node_in in
+        let h = node_list.node_in in
         let long = length-set vs s.node w in
         let e : get_or (insert (slice_set vs s.node w) (s.node + 1) r) s.node d ≡ w =
         get_or-insert_below (slice_set vs s.node w) (s.node + 1) r d s.node (omega arith) (omega (arith, length-vec_items vs)) ∙ get_or-set_same vs s.node w d (omega (arith, length-vec_items vs)) in
-        let n : vec_len w ≡ length (take (length u.items / 2) u.items) = w.ok.0 ∙ ap (λ (l : List X). length l) cut.left in
+        let n : vec_len w ≡ length (take (length u.items / 2) u.items) = w.ok.0 ∙ ap (λ (l : List X). length l) node_list.left in
         subst (λ (v : Vec X Z). vec_len v < vec_capacity v) (sym e) (omega (arith, n, room, two_in two, u.ok, length-take (length u.items / 2) u.items))
 
 -- a spot, in the nodes as the code holds them
 module _ {X : Type 0} where
-  pub spot_in : (ns : List (List X)) (n : ℕ) (t : Cut X) (s : Spot) → cut ns n ≡ t → IsSpot t.nodes s → IsSpot ns s
-  spot_in ns n t s e h = subst (λ (t : Cut X). IsSpot t.nodes s) (sym e) h
+  pub spot_in : (ns : List (List X)) (n : ℕ) (t : NodeList X) (s : Spot) → node_list ns n ≡ t → IsSpot t.nodes s → IsSpot ns s
+  spot_in ns n t s e h = subst (λ (t : NodeList X). IsSpot t.nodes s) (sym e) h
 
-  pub item_spot_in : (ns : List (List X)) (n : ℕ) (t : Cut X) (s : Spot) → cut ns n ≡ t → IsItemSpot t.nodes s → IsItemSpot ns s
-  item_spot_in ns n t s e h = subst (λ (t : Cut X). IsItemSpot t.nodes s) (sym e) h
+  pub item_spot_in : (ns : List (List X)) (n : ℕ) (t : NodeList X) (s : Spot) → node_list ns n ≡ t → IsItemSpot t.nodes s → IsItemSpot ns s
+  item_spot_in ns n t s e h = subst (λ (t : NodeList X). IsItemSpot t.nodes s) (sym e) h
 
 pub some_is : {T : Type 0} (o : Option T) (x : T) (P : T → Type 0) → o ≡ Some x → P x → IfSome o P
 some_is (Some y) x P e p = let same : x ≡ y = cc in subst P same p

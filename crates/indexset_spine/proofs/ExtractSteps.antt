@@ -7,20 +7,20 @@ use Rattle.std.specs.Bool.{MatchBool}
 use Rattle.std.specs.Iterator.{MakesProgress, at_most}
 use Rattle.std.specs.List.{between}
 use Rattle.std.specs.List.Retain.{ExtractsNext, RetainsInTurn}
-use Rattle.indexset_core.specs.Nodes.{joined, node_at, node_lengths}
+use Rattle.indexset_core.specs.Nodes.{concat, node_at, node_lengths}
 use Rattle.indexset_spine.specs.declared.spot.Spot.{Spot}
-use Rattle.indexset_spine.specs.Cut.{IsItemSpot, position_of, set_joined, without_item}
-use Rattle.indexset_spine.specs.Extract.{Extracts, InThree, IsStretch, in_three}
+use Rattle.indexset_spine.specs.NodeList.{IsItemSpot, position_of, set_joined, without_item}
+use Rattle.indexset_spine.specs.Extract.{Extracts, ExtractState, IsExtractRange, extract_state}
 use Rattle.indexset_spine.specs.Lengths.{lengths_without}
-use Rattle.indexset_spine.proofs.CutLemmas.{joined-set}
-use Rattle.indexset_spine.proofs.CutEdits.{joined_without}
+use Rattle.indexset_spine.proofs.NodeListLemmas.{concat-set}
+use Rattle.indexset_spine.proofs.NodeListEdits.{joined_without}
 use Rattle.indexset_spine.proofs.IndexLemmas.{emptied_keeps, lengths-less}
 use Rattle.indexset_spine.proofs.NodeLengthLemmas.{node_lengths-set_joined, node_lengths-without}
 use Rattle.indexset_spine.proofs.PlaceLemmas.{item_place, item_spot, place_position}
 use Rattle.indexset_spine.proofs.RemoveSteps.{item_goes}
 
 module _ {X : Type 0} where
-  abbrev three : List X → List X → List X → InThree X
+  abbrev three : List X → List X → List X → ExtractState X
   three a b c = record { stay = a; unasked = b; after = c }
 
   module _ (l : List X) (p j : ℕ) (x : X) (below : p < j) (is : slice_get l p ≡ Some x) where
@@ -35,14 +35,14 @@ module _ {X : Type 0} where
         ap (take (j - p)) here ∙ ap (λ n. take n (x ∷ drop (p + 1) l)) one
 
     -- it stays as y
-    pub stays_here : (y : X) → in_three (slice_set l p y) (p + 1) j ≡ three (take p l ++ y ∷ []) (between (p + 1) j l) (drop j l)
+    pub stays_here : (y : X) → extract_state (slice_set l p y) (p + 1) j ≡ three (take p l ++ y ∷ []) (between (p + 1) j l) (drop j l)
     stays_here y =
         ap (λ a. three a (between (p + 1) j (slice_set l p y)) (drop j (slice_set l p y))) (take_more_set l p y inside)
         ∙ (ap (λ d. three (take p l ++ y ∷ []) (take (j - (p + 1)) d) (drop j (slice_set l p y))) (drop-set-lt (p + 1) l p y (omega arith))
         ∙ ap (λ d. three (take p l ++ y ∷ []) (between (p + 1) j l) d) (drop-set-lt j l p y below))
 
     -- it goes as y
-    pub goes_here : (y : X) → in_three (remove (slice_set l p y) p) p (j - 1) ≡ three (take p l) (between (p + 1) j l) (drop j l)
+    pub goes_here : (y : X) → extract_state (remove (slice_set l p y) p) p (j - 1) ≡ three (take p l) (between (p + 1) j l) (drop j l)
     goes_here y =
         let left : remove (slice_set l p y) p ≡ take p l ++ drop (p + 1) l =
         ap (λ a. a ++ drop (suc p) (slice_set l p y)) (take-set l p y) ∙ ap (λ d. take p l ++ d) (drop-set-lt (suc p) l p y (omega arith) ∙ ap (λ n. drop n l) {x = suc p} {y = p + 1} (omega arith)) in
@@ -53,7 +53,7 @@ module _ {X : Type 0} where
         ∙ (sym (drop-drop (j - 1 - p) p (take p l ++ drop (p + 1) l))
         ∙ (ap (drop (j - 1 - p)) rest
         ∙ (drop-drop (j - 1 - p) (p + 1) l ∙ ap (λ n. drop n l) {x = p + 1 + (j - 1 - p)} {y = j} (omega arith)))) in
-        ap (λ m. in_three m p (j - 1)) left
+        ap (λ m. extract_state m p (j - 1)) left
         ∙ (ap (λ a. three a (between p (j - 1) (take p l ++ drop (p + 1) l)) (drop (j - 1) (take p l ++ drop (p + 1) l))) (take_at (take p l) (drop (p + 1) l) p long)
         ∙ (ap (λ d. three (take p l) (take (j - 1 - p) d) (drop (j - 1) (take p l ++ drop (p + 1) l))) rest
         ∙ (ap (λ n. three (take p l) (take n (drop (p + 1) l)) (drop (j - 1) (take p l ++ drop (p + 1) l))) {x = j - 1 - p} {y = j - (p + 1)} (omega arith)
@@ -61,15 +61,15 @@ module _ {X : Type 0} where
 
   module _ {S : Type 0} (R : S → X → Bool → S → X → Type 0) where
     -- what comes out from here came out from the start
-    pub record ExtractedTo (s : S) (a : InThree X) (t : S) (b : InThree X) : Type 0 where
-      pub run : (r : Option X) (u : S) (c : InThree X) → Extracts R t b r u c → Extracts R s a r u c
+    pub record ExtractedTo (s : S) (a : ExtractState X) (t : S) (b : ExtractState X) : Type 0 where
+      pub run : (r : Option X) (u : S) (c : ExtractState X) → Extracts R t b r u c → Extracts R s a r u c
 
-    pub none_asked : (s : S) (a : InThree X) → ExtractedTo s a s a
+    pub none_asked : (s : S) (a : ExtractState X) → ExtractedTo s a s a
     none_asked s a = record { run = λ r u c h. h }
 
     -- the closure turned an item down
-    pub turned_down : (t : S) (l : List X) (p j : ℕ) (x y : X) (u : S) (first : S) (a : InThree X) → p < j → slice_get l p ≡ Some x → R t x false u y
-        → ExtractedTo first a t (in_three l p j) → ExtractedTo first a u (in_three (slice_set l p y) (p + 1) j)
+    pub turned_down : (t : S) (l : List X) (p j : ℕ) (x y : X) (u : S) (first : S) (a : ExtractState X) → p < j → slice_get l p ≡ Some x → R t x false u y
+        → ExtractedTo first a t (extract_state l p j) → ExtractedTo first a u (extract_state (slice_set l p y) (p + 1) j)
     turned_down t l p j x y u first a below is called h = record {
       run = λ r v c next.
           let from : Extracts R u (three (take p l ++ y ∷ []) (between (p + 1) j l) (drop j l)) r v c = subst (λ b. Extracts R u b r v c) (stays_here l p j x below is y) next in
@@ -82,7 +82,7 @@ module _ {X : Type 0} where
     }
 
     -- the closure picked an item
-    pub picked : (t : S) (l : List X) (p j : ℕ) (x y : X) (u : S) → p < j → slice_get l p ≡ Some x → R t x true u y → Extracts R t (in_three l p j) (Some y) u (in_three (remove (slice_set l p y) p) p (j - 1))
+    pub picked : (t : S) (l : List X) (p j : ℕ) (x y : X) (u : S) → p < j → slice_get l p ≡ Some x → R t x true u y → Extracts R t (extract_state l p j) (Some y) u (extract_state (remove (slice_set l p y) p) p (j - 1))
     picked t l p j x y u below is called =
         rw (goes_here l p j x below is y) (record {
           kept = [];
@@ -92,7 +92,7 @@ module _ {X : Type 0} where
         })
 
     -- none was left
-    pub none_left : (t : S) (l : List X) (p j : ℕ) → j ≤ p → Extracts R t (in_three l p j) None t (in_three l p j)
+    pub none_left : (t : S) (l : List X) (p j : ℕ) → j ≤ p → Extracts R t (extract_state l p j) None t (extract_state l p j)
     none_left t l p j past =
         let none : between p j l ≡ [] = ap (λ n. take n (drop p l)) {x = j - p} {y = 0} (omega arith) in
         record {
@@ -129,17 +129,17 @@ module _ {X : Type 0} where
     start_is : p - s.offset ≡ sum (take s.node (node_lengths ns))
     start_is = omega (arith, place_position ns s, at)
 
-    module _ (j : ℕ) (below : p < j) (inside : j ≤ length (joined ns)) where
-      asked_inside : j ≤ length (joined asked)
-      asked_inside = omega (arith, inside, ap (λ (l : List X). length l) (joined-set ns p y), length-set (joined ns) p y)
+    module _ (j : ℕ) (below : p < j) (inside : j ≤ length (concat ns)) where
+      asked_inside : j ≤ length (concat asked)
+      asked_inside = omega (arith, inside, ap (λ (l : List X). length l) (concat-set ns p y), length-set (concat ns) p y)
 
-      pub stretch_after : IsStretch (node_lengths asked) (length (joined asked)) record { front = p + 1; back = j; node = s.node; start = p - s.offset }
+      pub stretch_after : IsExtractRange (node_lengths asked) (length (concat asked)) record { front = p + 1; back = j; node = s.node; start = p - s.offset }
       stretch_after = record { order = omega arith; inside = asked_inside; start = rw same start_is }
 
-      pub stretch_without : IsStretch (node_lengths (without_item asked s)) (length (joined (without_item asked s))) record { front = p; back = j - 1; node = s.node; start = p - s.offset }
+      pub stretch_without : IsExtractRange (node_lengths (without_item asked s)) (length (concat (without_item asked s))) record { front = p; back = j - 1; node = s.node; start = p - s.offset }
       stretch_without = record {
         order = omega arith;
-        inside = omega (arith, asked_inside, asked_at, ap (λ (l : List X). length l) (joined_without asked s asked_spot), length-remove (joined asked) (position_of asked s) (omega (arith, asked_inside, asked_at)));
+        inside = omega (arith, asked_inside, asked_at, ap (λ (l : List X). length l) (joined_without asked s asked_spot), length-remove (concat asked) (position_of asked s) (omega (arith, asked_inside, asked_at)));
         start = start_is ∙ ap sum (sym (starts_without asked s asked_spot ∙ ap (take s.node) same));
       }
 
@@ -156,7 +156,7 @@ module _ {S F X : Type 0} (now : S → F) (R : S → X → Bool → S → X → 
   next_through s (x ∷ xs) r t kept rest (b, u, y, called, out) =
       (b, now u, y, says s x b u y called, match_both (λ h. (h.0, ap now h.1, h.2, h.3)) (λ h. (h.0, next_through u xs r t h.0 rest h.1, h.2)) b out)
 
-  pub extracts_through : (s : S) (a : InThree X) (r : Option X) (t : S) (b : InThree X) → Extracts R s a r t b → Extracts Q (now s) a r (now t) b
+  pub extracts_through : (s : S) (a : ExtractState X) (r : Option X) (t : S) (b : ExtractState X) → Extracts R s a r t b → Extracts Q (now s) a r (now t) b
   extracts_through s a r t b h = record { kept = h.kept; step = next_through s a.unasked r t h.kept b.unasked h.step; stays = h.stays; after = h.after }
 
 -- what comes out is asked about no more
@@ -169,7 +169,7 @@ module _ {S X : Type 0} (R : S → X → Bool → S → X → Type 0) where
         | false ↦ λ h. let fewer = next_fewer u xs y t h.0 rest h.1 in omega arith
       ] out
 
-  pub extracts_fewer : (s : S) (a : InThree X) (r : Option X) (t : S) (b : InThree X) → Extracts R s a r t b → IfSome r (λ _. length b.unasked < length a.unasked)
+  pub extracts_fewer : (s : S) (a : ExtractState X) (r : Option X) (t : S) (b : ExtractState X) → Extracts R s a r t b → IfSome r (λ _. length b.unasked < length a.unasked)
   extracts_fewer s a None t b h = tt
   extracts_fewer s a (Some y) t b h = next_fewer s a.unasked y t h.kept b.unasked h.step
 
@@ -189,7 +189,7 @@ module _ {S X : Type 0} (R : S → X → Bool → S → X → Type 0) (P : S →
         | false ↦ λ h. next_keeps u xs r t h.0 rest h.1 now
       ] out
 
-  pub extracts_keep : (s : S) (a : InThree X) (r : Option X) (t : S) (b : InThree X) → Extracts R s a r t b → P s → P t
+  pub extracts_keep : (s : S) (a : ExtractState X) (r : Option X) (t : S) (b : ExtractState X) → Extracts R s a r t b → P s → P t
   extracts_keep s a r t b h = next_keeps s a.unasked r t h.kept b.unasked h.step
 
 -- a closure that leaves each item much as it was
@@ -217,10 +217,10 @@ module _ {S X : Type 0} (R : S → X → Bool → S → X → Type 0) (Same : X 
       ] out
 
   -- what it leaves of a list
-  pub extracts_stay : (s : S) (l m : List X) (i j i' j' : ℕ) (r : Option X) (t : S) → i ≤ j → i' ≤ j' → Extracts R s (in_three l i j) r t (in_three m i' j') → RetainsInTurn Stays tt l m
+  pub extracts_stay : (s : S) (l m : List X) (i j i' j' : ℕ) (r : Option X) (t : S) → i ≤ j → i' ≤ j' → Extracts R s (extract_state l i j) r t (extract_state m i' j') → RetainsInTurn Stays tt l m
   extracts_stay s l m i j i' j' r t le le' h =
-      let a = in_three l i j in
-      let b = in_three m i' j' in
+      let a = extract_state l i j in
+      let b = extract_state m i' j' in
       let parts : RetainsInTurn Stays tt (a.stay ++ (a.unasked ++ a.after)) (a.stay ++ ((h.kept ++ b.unasked) ++ a.after)) =
       both_stay a.stay a.stay (a.unasked ++ a.after) ((h.kept ++ b.unasked) ++ a.after) (all_stay a.stay) (both_stay a.unasked (h.kept ++ b.unasked) a.after a.after (next_stays s a.unasked r t h.kept b.unasked h.step) (all_stay a.after)) in
       let whole : a.stay ++ ((h.kept ++ b.unasked) ++ a.after) ≡ m =

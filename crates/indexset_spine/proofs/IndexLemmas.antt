@@ -3,21 +3,21 @@ use Rattle.std.proofs.Common.{◌≡◌, ℕ, suc, ◌+◌, ◌-◌, ◌/◌, �
 use Rattle.std.proofs.lemmas.List.{take-map, take-append-le, take-take, length-take-le, map-set}
 use Rattle.std.proofs.lemmas.List.Edits.{length-insert, length-remove}
 use Rattle.std.specs.List.{splice, insert, remove}
-use Rattle.indexset_core.specs.Nodes.{joined, node_lengths, node_at}
-use Rattle.indexset_core.proofs.CallerLemmas.{length-joined, joined_around, joined-splice}
+use Rattle.indexset_core.specs.Nodes.{concat, node_lengths, node_at}
+use Rattle.indexset_core.proofs.CallerLemmas.{length-concat, joined_around, concat-splice}
 use Rattle.indexset_spine.specs.declared.spot.Spot.{Spot}
-use Rattle.indexset_spine.specs.Cut.{IsSpot, IsItemSpot, position_of}
+use Rattle.indexset_spine.specs.NodeList.{IsSpot, IsItemSpot, position_of}
 use Rattle.indexset_spine.specs.Edits.{RetainsEach, RetainsNodes, with_item_in, with_halved, without_emptied, without_all_emptied, or_one_empty, left_nodes, right_nodes}
 use Rattle.indexset_index.specs.Fenwick.{prefix_sum}
-use Rattle.indexset_index.proofs.CallerLemmas.{count-lengths, length-at, prefix-joined}
-use Rattle.indexset_spine.proofs.CutSplits.{joined_emptied}
+use Rattle.indexset_index.proofs.CallerLemmas.{count-lengths, length-at, prefix-concat}
+use Rattle.indexset_spine.proofs.NodeListSplits.{joined_emptied}
 
 module _ {X : Type 0} where
   -- what the index finds is the spot of an item
   pub spot_found : (ns : List (List X)) (i : ℕ) (s : Spot) → (s.node < length (node_lengths ns)) × (s.offset < get_or (node_lengths ns) s.node 0) × (prefix_sum (node_lengths ns) s.node + s.offset ≡ i) → IsItemSpot ns s × (position_of ns s ≡ i)
   spot_found ns i s h =
       let node_in : s.node < length ns = omega (arith, count-lengths ns, h.0) in
-      (record { node_in = node_in; offset_in = omega (arith, length-at ns s.node node_in, h.1) }, omega (arith, prefix-joined ns s.node, h.2))
+      (record { node_in = node_in; offset_in = omega (arith, length-at ns s.node node_in, h.1) }, omega (arith, prefix-concat ns s.node, h.2))
 
   -- a node with one item more
   pub lengths-more : (ns : List (List X)) (s : Spot) (v : X) → IsSpot ns s → node_lengths (with_item_in ns s v) ≡ slice_set (node_lengths ns) s.node (get_or (node_lengths ns) s.node 0 + 1)
@@ -63,14 +63,14 @@ module _ {X : Type 0} where
   halved_sum ns k h =
       let n = node_at ns k in
       let half = length n / 2 in
-      let fs = joined (take k ns) in
-      let bs = joined (drop (k + 1) ns) in
+      let fs = concat (take k ns) in
+      let bs = concat (drop (k + 1) ns) in
       let ps = take half n ∷ drop half n ∷ [] in
-      let parts : length (joined ps) ≡ length n =
+      let parts : length (concat ps) ≡ length n =
       omega (arith, length-append (take half n) (drop half n ++ []), length-append (drop half n) [], length-take-le half n (omega arith), length-drop half n) in
       let whole = ap (λ (l : List X). length l) (joined_around ns k h) in
-      let cut = ap (λ (l : List X). length l) (joined-splice ns ps k (k + 1)) in
-      omega (arith, parts, whole, cut, length-append fs (n ++ bs), length-append n bs, length-append fs (joined ps ++ bs), length-append (joined ps) bs, length-joined ns, length-joined (splice ns k (k + 1) ps))
+      let cut = ap (λ (l : List X). length l) (concat-splice ns ps k (k + 1)) in
+      omega (arith, parts, whole, cut, length-append fs (n ++ bs), length-append n bs, length-append fs (concat ps ++ bs), length-append (concat ps) bs, length-concat ns, length-concat (splice ns k (k + 1) ps))
 
   pub emptied_keeps : (ns : List (List X)) (k : ℕ) → k < length ns → KeepsFirst k (length ns) ns (without_emptied ns k)
   unfolding without_emptied
@@ -86,7 +86,7 @@ module _ {X : Type 0} where
       ]
 
   pub emptied_sum : (ns : List (List X)) (k : ℕ) → k < length ns → sum (node_lengths (without_emptied ns k)) ≡ sum (node_lengths ns)
-  emptied_sum ns k h = sym (length-joined (without_emptied ns k)) ∙ (ap (λ (l : List X). length l) (joined_emptied ns k h) ∙ length-joined ns)
+  emptied_sum ns k h = sym (length-concat (without_emptied ns k)) ∙ (ap (λ (l : List X). length l) (joined_emptied ns k h) ∙ length-concat ns)
 
   pub left_keeps : (ns : List (List X)) (s : Spot) → IsSpot ns s → KeepsFirst s.node (length ns) ns (left_nodes ns s)
   unfolding left_nodes

@@ -6,14 +6,14 @@ use Rattle.std.specs.declared.cmp.Ordering.TheVariants.{Less}
 use Rattle.std.specs.declared.vec.Vec.{Vec}
 use Rattle.std.proofs.lemmas.List.{get_or-set_same, length-set, length-take-le, map-set, take-append-le}
 use Rattle.std.proofs.lemmas.List.Elements.{All-set}
-use Rattle.indexset_core.specs.Nodes.{joined, node_at, node_lengths, vec_items}
+use Rattle.indexset_core.specs.Nodes.{concat, node_at, node_lengths, vec_items}
 use Rattle.indexset_core.specs.Order.{IsAscending, put}
-use Rattle.indexset_core.proofs.CallerLemmas.{joined_around, length-joined}
+use Rattle.indexset_core.proofs.CallerLemmas.{joined_around, length-concat}
 use Rattle.indexset_spine.specs.declared.spot.Spot.{Spot}
-use Rattle.indexset_spine.specs.Cut.{Cut, cut, items, IsCut, IsSpine, IsSpot, position_of}
+use Rattle.indexset_spine.specs.NodeList.{NodeList, node_list, items, AreNodeLengths, IsSpine, IsSpot, position_of}
 use Rattle.indexset_spine.specs.Edits.{right_nodes, without_emptied}
-use Rattle.indexset_spine.proofs.CutEdits.{joined_set, spine_of}
-use Rattle.indexset_spine.proofs.CutSplits.{joined_right, spine_right}
+use Rattle.indexset_spine.proofs.NodeListEdits.{joined_set, spine_of}
+use Rattle.indexset_spine.proofs.NodeListSplits.{joined_right, spine_right}
 use Rattle.indexset_spine.proofs.EditSteps.{node_is, node_len}
 use Rattle.indexset_index.proofs.CallerLemmas.{length-at}
 use Rattle.indexset_spine.proofs.PutLemmas.{IsGrown, fold_grown, node_up, put_filled}
@@ -35,7 +35,7 @@ module _ {X : Type 0} where
     pub lengths_shrunk : (less : ℕ) → length m + less ≡ length (node_at ns k) → node_lengths (slice_set ns k m) ≡ slice_set (node_lengths ns) k (get_or (node_lengths ns) k 0 - less)
     lengths_shrunk less e = lengths_set ∙ ap (slice_set (node_lengths ns) k) (omega (arith, e, length-at ns k inside))
 
-    cut_set : (size : ℕ) → 1 ≤ length m → length m ≤ size → IsCut (node_lengths ns) size → IsCut (node_lengths (slice_set ns k m)) size
+    cut_set : (size : ℕ) → 1 ≤ length m → length m ≤ size → AreNodeLengths (node_lengths ns) size → AreNodeLengths (node_lengths (slice_set ns k m)) size
     cut_set size some low is = rw lengths_set (record {
       two = is.two;
       some = omega (arith, is.some, length-set (node_lengths ns) k (length m));
@@ -45,11 +45,11 @@ module _ {X : Type 0} where
 
     pub spine_set : (size total sum : ℕ) → 1 ≤ length m → length m ≤ size → IsSpine (node_lengths ns) size total → sum + length (node_at ns k) ≡ total + length m → IsSpine (node_lengths (slice_set ns k m)) size sum
     spine_set size total sum some low is e =
-        let fs = joined (take k ns) in let bs = joined (drop (k + 1) ns) in let n = node_at ns k in
+        let fs = concat (take k ns) in let bs = concat (drop (k + 1) ns) in let n = node_at ns k in
         let before = ap (λ (l : List X). length l) (joined_around ns k inside) in
         let after = ap (λ (l : List X). length l) (joined_set ns k m inside) in
         spine_of (slice_set ns k m) size sum (cut_set size some low is.is_cut)
-        (omega (arith, e, is.total_is, length-joined ns, before, after, length-append fs (n ++ bs), length-append n bs, length-append fs (m ++ bs), length-append m bs))
+        (omega (arith, e, is.total_is, length-concat ns, before, after, length-append fs (n ++ bs), length-append n bs, length-append fs (m ++ bs), length-append m bs))
 
   pub front_spot : (ns : List (List X)) (count : ℕ) → 0 < length ns → count ≤ length (node_at ns 0) → IsSpot ns (behind count)
   front_spot ns count some within = record { node_in = some; offset_in = within }
@@ -60,9 +60,9 @@ module _ {X : Type 0} where
   front_gone (n ∷ ns) count some = refl
 
   -- what the first node gives is what all begin with
-  pub front_taken : (ns : List (List X)) (count : ℕ) → 0 < length ns → count ≤ length (node_at ns 0) → take count (node_at ns 0) ≡ take count (joined ns)
+  pub front_taken : (ns : List (List X)) (count : ℕ) → 0 < length ns → count ≤ length (node_at ns 0) → take count (node_at ns 0) ≡ take count (concat ns)
   front_taken [] count some within = absurd (omega arith)
-  front_taken (n ∷ ns) count some within = sym (take-append-le count n (joined ns) within)
+  front_taken (n ∷ ns) count some within = sym (take-append-le count n (concat ns) within)
 
 -- the k-th node u, which takes the first items of v, the first node of another spine, and is w then, while z is left there
 module _ {X Z : Type 0} (cmp : X → X → Ordering) (o : IsTotalOrder cmp) (vs ws : List (Vec X Z)) (k count : ℕ) (u w v z : Vec X Z) where
@@ -77,14 +77,14 @@ module _ {X Z : Type 0} (cmp : X → X → Ordering) (o : IsTotalOrder cmp) (vs 
     pub node : u ≡ get_or vs k u
     pub some_node : 0 < length os
     pub first : v ≡ get_or ws 0 v
-    pub order : IsAscending cmp (joined ns)
+    pub order : IsAscending cmp (concat ns)
     pub some : 0 < count
     pub within : count ≤ length (node_at os 0)
     pub merged : w.items ≡ fold (put cmp) u.items (take count v.items)
     pub rest : z.items ≡ drop count v.items
 
   abbrev taken : List X
-  taken = take count (joined os)
+  taken = take count (concat os)
 
   abbrev new : List X
   new = fold (put cmp) (node_at ns k) taken
@@ -138,25 +138,25 @@ module _ {X Z : Type 0} (cmp : X → X → Ordering) (o : IsTotalOrder cmp) (vs 
     other_some = omega (arith, ap (λ (l : List (List X)). length l) other_writes, length-set os 0 (drop count (node_at os 0)), is.some_node)
 
     pub count_within : (size total : ℕ) → IsSpine (node_lengths os) size total → count ≤ total
-    count_within size total spine = omega (arith, taken_length, length-take count (joined os), length-joined os, spine.total_is)
+    count_within size total spine = omega (arith, taken_length, length-take count (concat os), length-concat os, spine.total_is)
 
     position_is : position_of os (behind count) ≡ count
     position_is = omega arith
 
-    pub other_items : (rest : List (List X)) → rest ≡ without_emptied (vec_items (slice_set ws 0 z)) 0 → joined rest ≡ drop count (joined os)
-    other_items rest e = ap joined (other_after rest e) ∙ (joined_right os (behind count) (front_spot os count is.some_node is.within) ∙ ap (λ i. drop i (joined os)) position_is)
+    pub other_items : (rest : List (List X)) → rest ≡ without_emptied (vec_items (slice_set ws 0 z)) 0 → concat rest ≡ drop count (concat os)
+    other_items rest e = ap concat (other_after rest e) ∙ (joined_right os (behind count) (front_spot os count is.some_node is.within) ∙ ap (λ i. drop i (concat os)) position_is)
 
     pub other_spine : (rest : List (List X)) → rest ≡ without_emptied (vec_items (slice_set ws 0 z)) 0 → (size total : ℕ) → IsSpine (node_lengths os) size total → IsSpine (node_lengths rest) size (total - count)
     other_spine rest e size total spine =
         subst (λ i. IsSpine (node_lengths rest) size (total - i)) position_is (rw (other_after rest e) (spine_right os (behind count) (front_spot os count is.some_node is.within) size total spine))
 
 -- what is below the last item of a node, as the code reads both
-pub below_read : {X Z : Type 0} (cmp : X → X → Ordering) (s t : Cut X) (ns : List (List X)) (ws : List (Vec X Z)) (n m k count : ℕ) (node from : List X)
-    → cut ns n ≡ s → cut (vec_items ws) m ≡ t → node_at ns k ≡ node → 0 < length (vec_items ws) → node_at (vec_items ws) 0 ≡ from → count ≤ length from
+pub below_read : {X Z : Type 0} (cmp : X → X → Ordering) (s t : NodeList X) (ns : List (List X)) (ws : List (Vec X Z)) (n m k count : ℕ) (node from : List X)
+    → node_list ns n ≡ s → node_list (vec_items ws) m ≡ t → node_at ns k ≡ node → 0 < length (vec_items ws) → node_at (vec_items ws) 0 ≡ from → count ≤ length from
     → All (λ x. HoldsAt (λ l. cmp x l ≡ Less) node (length node - 1)) (take count from)
     → All (λ x. HoldsAt (λ l. cmp x l ≡ Less) (node_at s.nodes k) (length (node_at s.nodes k) - 1)) (take count (items t))
 below_read {X} cmp s t ns ws n m k count node from view view' node_is some from_is within below =
-    let this : node_at s.nodes k ≡ node = sym (ap (λ (u : Cut X). node_at u.nodes k) view) ∙ node_is in
+    let this : node_at s.nodes k ≡ node = sym (ap (λ (u : NodeList X). node_at u.nodes k) view) ∙ node_is in
     let those : take count (items t) ≡ take count from =
-    sym (ap (λ (u : Cut X). take count (items u)) view') ∙ (sym (front_taken (vec_items ws) count some (omega (arith, within, ap (λ (l : List X). length l) from_is))) ∙ ap (take count) from_is) in
+    sym (ap (λ (u : NodeList X). take count (items u)) view') ∙ (sym (front_taken (vec_items ws) count some (omega (arith, within, ap (λ (l : List X). length l) from_is))) ∙ ap (take count) from_is) in
     rw (this, those) below

@@ -6,8 +6,8 @@ use Rattle.std.proofs.lemmas.List.Edits.{length-insert, length-remove}
 use Rattle.std.proofs.lemmas.Bool.{cases_lt}
 use Rattle.std.proofs.lemmas.Bool.Decides.{nat_tests}
 use Rattle.indexset_spine.specs.declared.spot.Spot.{Spot}
-use Rattle.indexset_core.specs.Nodes.{joined, node_lengths, node_at}
-use Rattle.indexset_spine.specs.Cut.{IsItemSpot, IsSpot, parts_with, position_of, set_joined, with_inserted, without_item}
+use Rattle.indexset_core.specs.Nodes.{concat, node_lengths, node_at}
+use Rattle.indexset_spine.specs.NodeList.{IsItemSpot, IsSpot, parts_with, position_of, set_joined, with_inserted, without_item}
 use Rattle.indexset_spine.specs.Lengths.{parts_of, lengths_with, lengths_taken, lengths_without, or_one_zero}
 
 some_stays : (ls : List ℕ) → 1 ≤ length ls → or_one_zero ls ≡ ls
@@ -37,7 +37,7 @@ module _ {X : Type 0} where
         ] refl
       ]
 
-  put_at : (size : ℕ) (ns : List (List X)) (k o i : ℕ) (v : X) → k < length ns → o ≤ length (node_at ns k) → (length (node_at ns k) ≤ o → length ns ≤ suc k) → i ≡ length (joined (take k ns)) + o
+  put_at : (size : ℕ) (ns : List (List X)) (k o i : ℕ) (v : X) → k < length ns → o ≤ length (node_at ns k) → (length (node_at ns k) ≤ o → length ns ≤ suc k) → i ≡ length (concat (take k ns)) + o
       → node_lengths (splice ns k (suc k) (parts_with size (node_at ns k) o v)) ≡ lengths_with size (node_lengths ns) i
   unfolding lengths_with
   put_at size [] k o i v lt inside last at = absurd (omega arith)
@@ -51,7 +51,7 @@ module _ {X : Type 0} where
       let t : nat_lt i (length n) ≡ true = grind (arith, nat_tests) in
       rw t (map-append (λ (l : List X). length l) (parts_with size n o v) (m ∷ ns) ∙ ap (λ ls. ls ++ node_lengths (m ∷ ns)) (node_lengths-parts size n o v inside ∙ ap (parts_of size (length n)) e))
   put_at size (n ∷ m ∷ ns) (suc k) o i v lt inside last at =
-      let long = length-append n (joined (take k (m ∷ ns))) in
+      let long = length-append n (concat (take k (m ∷ ns))) in
       let l : length n ≤ i = omega arith in
       let t : nat_lt i (length n) ≡ false = grind (arith, nat_tests) in
       rw t (ap (λ ls. length n ∷ ls) (put_at size (m ∷ ns) k o (i - length n) v (omega arith) inside (λ a. omega (arith, last a)) (omega arith)))
@@ -61,7 +61,7 @@ module _ {X : Type 0} where
   unfolding with_inserted
   node_lengths-inserted size ns s i v h last at = rw add-one (put_at size ns s.node s.offset i v h.node_in h.offset_in last (sym at))
 
-  taken_goes : (ns : List (List X)) (k o i : ℕ) → k < length ns → o < length (node_at ns k) → length (node_at ns k) ≡ 1 → i ≡ length (joined (take k ns)) + o → lengths_taken (node_lengths ns) i ≡ node_lengths (remove ns k)
+  taken_goes : (ns : List (List X)) (k o i : ℕ) → k < length ns → o < length (node_at ns k) → length (node_at ns k) ≡ 1 → i ≡ length (concat (take k ns)) + o → lengths_taken (node_lengths ns) i ≡ node_lengths (remove ns k)
   unfolding lengths_taken
   taken_goes [] k o i lt inside one at = absurd (omega arith)
   taken_goes (n ∷ ns) zero o i lt inside one at =
@@ -69,12 +69,12 @@ module _ {X : Type 0} where
       let t : nat_lt i (length n) ≡ true = grind (arith, nat_tests) in
       rw (t, one) refl
   taken_goes (n ∷ ns) (suc k) o i lt inside one at =
-      let long = length-append n (joined (take k ns)) in
+      let long = length-append n (concat (take k ns)) in
       let l : length n ≤ i = omega arith in
       let t : nat_lt i (length n) ≡ false = grind (arith, nat_tests) in
       rw t (ap (λ ls. length n ∷ ls) (taken_goes ns k o (i - length n) (omega arith) inside one (omega arith)))
 
-  taken_stays : (ns : List (List X)) (k o i : ℕ) (m : List X) → k < length ns → o < length (node_at ns k) → length m + 1 ≡ length (node_at ns k) → 0 < length m → i ≡ length (joined (take k ns)) + o → lengths_taken (node_lengths ns) i ≡ node_lengths (slice_set ns k m)
+  taken_stays : (ns : List (List X)) (k o i : ℕ) (m : List X) → k < length ns → o < length (node_at ns k) → length m + 1 ≡ length (node_at ns k) → 0 < length m → i ≡ length (concat (take k ns)) + o → lengths_taken (node_lengths ns) i ≡ node_lengths (slice_set ns k m)
   unfolding lengths_taken
   taken_stays [] k o i m lt inside less some at = absurd (omega arith)
   taken_stays (n ∷ ns) zero o i m lt inside less some at =
@@ -85,12 +85,12 @@ module _ {X : Type 0} where
       let e : length n - 1 ≡ length m = omega arith in
       rw (t, u) (ap (λ j. j ∷ node_lengths ns) e)
   taken_stays (n ∷ ns) (suc k) o i m lt inside less some at =
-      let long = length-append n (joined (take k ns)) in
+      let long = length-append n (concat (take k ns)) in
       let l : length n ≤ i = omega arith in
       let t : nat_lt i (length n) ≡ false = grind (arith, nat_tests) in
       rw t (ap (λ ls. length n ∷ ls) (taken_stays ns k o (i - length n) m (omega arith) inside less some (omega arith)))
 
-  only_one : (ns : List (List X)) (k o i : ℕ) (m : List X) → k < length ns → length ns ≤ 1 → o < length (node_at ns k) → length (node_at ns k) ≡ 1 → length m ≡ 0 → i ≡ length (joined (take k ns)) + o → or_one_zero (lengths_taken (node_lengths ns) i) ≡ node_lengths (slice_set ns k m)
+  only_one : (ns : List (List X)) (k o i : ℕ) (m : List X) → k < length ns → length ns ≤ 1 → o < length (node_at ns k) → length (node_at ns k) ≡ 1 → length m ≡ 0 → i ≡ length (concat (take k ns)) + o → or_one_zero (lengths_taken (node_lengths ns) i) ≡ node_lengths (slice_set ns k m)
   only_one [] k o i m lt short inside one none at = absurd (omega arith)
   only_one (n ∷ []) zero o i m lt short inside one none at = ap or_one_zero (taken_goes (n ∷ []) zero o i lt inside one at) ∙ ap (λ j. j ∷ []) (sym none)
   only_one (n ∷ []) (suc k) o i m lt short inside one none at = absurd (omega arith)

@@ -4,9 +4,9 @@ use Rattle.std.proofs.lemmas.Bool.Decides.{nat_tests}
 use Rattle.std.proofs.lemmas.List.Sums.{sum_by-cons}
 use Rattle.indexset_core.specs.Nodes.{node_at, node_lengths}
 use Rattle.indexset_spine.specs.declared.spot.Spot.{Spot}
-use Rattle.indexset_spine.specs.Cut.{IsItemSpot, IsSpot, position_of, with_inserted, without_item}
+use Rattle.indexset_spine.specs.NodeList.{IsItemSpot, IsSpot, position_of, with_inserted, without_item}
 use Rattle.indexset_spine.specs.Lengths.{IsItemPlace, IsPlace, lengths_with, lengths_without, node_of, place_of}
-use Rattle.indexset_index.proofs.CallerLemmas.{count-lengths, length-at, prefix-joined}
+use Rattle.indexset_index.proofs.CallerLemmas.{count-lengths, length-at, prefix-concat}
 use Rattle.indexset_spine.proofs.NodeLengthLemmas.{node_lengths-inserted, node_lengths-without}
 
 -- the node that a position is in
@@ -23,7 +23,7 @@ node_of_is (n ∷ ls) (suc k) i lt low high =
 
 module _ {X : Type 0} (ns : List (List X)) (s : Spot) where
   pub place_position : place_of (node_lengths ns) s ≡ position_of ns s
-  place_position = ap (λ n. n + s.offset) (prefix-joined ns s.node)
+  place_position = ap (λ n. n + s.offset) (prefix-concat ns s.node)
 
   pub item_place : IsItemSpot ns s → IsItemPlace (node_lengths ns) s
   item_place h = record {

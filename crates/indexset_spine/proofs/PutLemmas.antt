@@ -12,7 +12,7 @@ use Rattle.std.proofs.lemmas.Option.{get_or_from_slice_get}
 use Rattle.std.proofs.lemmas.List.Edits.{insert_end, length-insert}
 use Rattle.std.proofs.lemmas.List.Elements.{All-append, All-cons, All-filter, All-nil, All-weaker, filter-append}
 use Rattle.std.proofs.lemmas.List.Sums.{fold-append}
-use Rattle.indexset_core.specs.Nodes.{equal_at, joined, node_at}
+use Rattle.indexset_core.specs.Nodes.{equal_at, concat, node_at}
 use Rattle.indexset_core.specs.Order.{IsAscending, above, below, put, rank}
 use Rattle.indexset_core.specs.Parted.{less_count}
 use Rattle.indexset_core.proofs.CallerLemmas.{Parts, count_parts, found_ascending, found_put, front-is_lt, gap_ascending, gap_put, joined_around, less_from, located_found, located_gap, offset-le, parted_by_item, slice_get-right}
@@ -224,16 +224,16 @@ module _ {T : Type 0} (cmp : T → T → Ordering) (o : IsTotalOrder cmp) where
 -- the items of one node
 module _ {T : Type 0} (ns : List (List T)) (k : ℕ) (h : k < length ns) where
   fs : List T
-  fs = joined (take k ns)
+  fs = concat (take k ns)
 
   bs : List T
-  bs = joined (drop (k + 1) ns)
+  bs = concat (drop (k + 1) ns)
 
-  pub item_in_node : (i : ℕ) (d : T) → i < length (node_at ns k) → get_or (joined ns) (length (joined (take k ns)) + i) d ≡ get_or (node_at ns k) i d
+  pub item_in_node : (i : ℕ) (d : T) → i < length (node_at ns k) → get_or (concat ns) (length (concat (take k ns)) + i) d ≡ get_or (node_at ns k) i d
   unfolding fs bs
   item_in_node i d lt = ap (λ l. get_or l (length fs + i) d) (joined_around ns k h) ∙ (get_or-append-add fs (node_at ns k ++ bs) i d ∙ get_or_append_left (node_at ns k) bs d i lt)
 
-  pub node_up : (cmp : T → T → Ordering) → IsAscending cmp (joined ns) → IsAscending cmp (node_at ns k)
+  pub node_up : (cmp : T → T → Ordering) → IsAscending cmp (concat ns) → IsAscending cmp (node_at ns k)
   node_up cmp up i j d lt inside =
       rw (← item_in_node i d (omega (arith, lt, inside)), ← item_in_node j d inside)
-      (up (length (joined (take k ns)) + i) (length (joined (take k ns)) + j) d (omega (arith, lt)) (omega (arith, inside, offset-le ns k (j + 1) h (omega (arith, inside)))))
+      (up (length (concat (take k ns)) + i) (length (concat (take k ns)) + j) d (omega (arith, lt)) (omega (arith, inside, offset-le ns k (j + 1) h (omega (arith, inside)))))

@@ -8,11 +8,11 @@ use Rattle.std.specs.List.{remove}
 use Rattle.std.specs.Vec.{with_item}
 use Rattle.std.specs.declared.vec.Vec.{Vec}
 use Rattle.indexset_spine.specs.declared.spot.Spot.{Spot}
-use Rattle.indexset_core.specs.Nodes.{node_at, joined, vec_items}
-use Rattle.indexset_spine.specs.Cut.{Cut, cut, IsItemSpot, without_item, with_replaced, position_of}
+use Rattle.indexset_core.specs.Nodes.{node_at, concat, vec_items}
+use Rattle.indexset_spine.specs.NodeList.{NodeList, node_list, IsItemSpot, without_item, with_replaced, position_of}
 use Rattle.indexset_spine.specs.Edits.{without_emptied}
 use Rattle.indexset_spine.proofs.VecNodes.{vec_items-set}
-use Rattle.indexset_spine.proofs.CutEdits.{item_at_spot}
+use Rattle.indexset_spine.proofs.NodeListEdits.{item_at_spot}
 use Rattle.indexset_spine.proofs.EditSteps.{node_is, item_spot_in}
 
 zero_or_one : (a b : ℕ) → a + 1 ≡ b → (a == 0) ≡ (b == 1)
@@ -68,20 +68,20 @@ module _ {X Z : Type 0} where
       ap (λ ms. without_emptied ms s.node) (item_out vs s u w h at is) ∙ item_goes (vec_items vs) s h
 
   -- w is written over the item of the spot
-  pub respot_writes : (vs : List (Vec X Z)) (size : ℕ) (t : Cut X) (s : Spot) (u : Vec X Z) (w : X) → cut (vec_items vs) size ≡ t → IsItemSpot t.nodes s → u ≡ get_or vs s.node u
+  pub respot_writes : (vs : List (Vec X Z)) (size : ℕ) (t : NodeList X) (s : Spot) (u : Vec X Z) (w : X) → node_list (vec_items vs) size ≡ t → IsItemSpot t.nodes s → u ≡ get_or vs s.node u
       → vec_items (slice_set vs s.node (with_item u s.offset w)) ≡ with_replaced t.nodes s w
   unfolding with_replaced
   respot_writes vs size t s u w e h at =
       let here = item_spot_in (vec_items vs) size t s e h in
       vec_items-set vs s.node (with_item u s.offset w)
       ∙ (ap (λ n. slice_set (vec_items vs) s.node (slice_set n s.offset w)) (sym (node_is vs s.node u here.node_in at))
-      ∙ ap (λ (t : Cut X). slice_set t.nodes s.node (slice_set (node_at t.nodes s.node) s.offset w)) e)
+      ∙ ap (λ (t : NodeList X). slice_set t.nodes s.node (slice_set (node_at t.nodes s.node) s.offset w)) e)
 
-  pub item_read : (vs : List (Vec X Z)) (size : ℕ) (t : Cut X) (s : Spot) (u : Vec X Z) (x : X) → cut (vec_items vs) size ≡ t → IsItemSpot t.nodes s → u ≡ get_or vs s.node u → x ≡ get_or u.items s.offset x
-      → slice_get (joined t.nodes) (position_of t.nodes s) ≡ Some x
+  pub item_read : (vs : List (Vec X Z)) (size : ℕ) (t : NodeList X) (s : Spot) (u : Vec X Z) (x : X) → node_list (vec_items vs) size ≡ t → IsItemSpot t.nodes s → u ≡ get_or vs s.node u → x ≡ get_or u.items s.offset x
+      → slice_get (concat t.nodes) (position_of t.nodes s) ≡ Some x
   item_read vs size t s u x e h at is =
       let here = item_spot_in (vec_items vs) size t s e h in
       let node = node_is vs s.node u here.node_in at in
       item_at_spot t.nodes s h
-      ∙ (ap (λ (t : Cut X). slice_get (node_at t.nodes s.node) s.offset) (sym e)
+      ∙ (ap (λ (t : NodeList X). slice_get (node_at t.nodes s.node) s.offset) (sym e)
       ∙ (ap (λ n. slice_get n s.offset) node ∙ slice_get_read u.items (length u.items) s.offset x refl (subst (λ (n : List X). s.offset < length n) node here.offset_in) is))

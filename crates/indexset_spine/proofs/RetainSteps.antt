@@ -7,11 +7,11 @@ use Rattle.std.proofs.lemmas.List.Edits.{swap_is}
 use Rattle.std.specs.List.{All}
 use Rattle.std.specs.List.Retain.{RetainsInTurn}
 use Rattle.std.specs.declared.vec.Vec.{Vec}
-use Rattle.indexset_core.specs.Nodes.{joined, node_lengths, vec_items}
-use Rattle.indexset_spine.specs.Cut.{IsCut, IsSpine}
+use Rattle.indexset_core.specs.Nodes.{concat, node_lengths, vec_items}
+use Rattle.indexset_spine.specs.NodeList.{AreNodeLengths, IsSpine}
 use Rattle.indexset_spine.specs.Edits.{RetainsTo, RetainsEach, RetainsNodes, or_one_empty, without_all_emptied}
-use Rattle.indexset_spine.proofs.CutEdits.{spine_of}
-use Rattle.indexset_spine.proofs.CutSplits.{joined_all_emptied, cut_all_emptied}
+use Rattle.indexset_spine.proofs.NodeListEdits.{spine_of}
+use Rattle.indexset_spine.proofs.NodeListSplits.{joined_all_emptied, cut_all_emptied}
 
 -- y is swapped with the first item that went, the k-th
 module _ {X : Type 0} (ys : List X) (k i : ℕ) (y : X) (below : k < i) (lt : i < length ys) where
@@ -84,15 +84,15 @@ module _ {S X : Type 0} (R : S → X → Bool → S → X → Type 0) where
       (b, u, y, called, us ++ left, joins u t xs us more left tail next, ap (λ l. l ++ left) is ∙ split b)
 
   -- what each node keeps, joined, is what the joined list keeps
-  each_joined : (s : S) (ns ms : List (List X)) → RetainsEach R s ns ms → RetainsInTurn R s (joined ns) (joined ms)
-  each_joined s [] ms h = ap joined h
+  each_joined : (s : S) (ns ms : List (List X)) → RetainsEach R s ns ms → RetainsInTurn R s (concat ns) (concat ms)
+  each_joined s [] ms h = ap concat h
   each_joined s (n ∷ ns) ms (m, t, here, ls, more, is) =
-      subst (λ l. RetainsInTurn R s (n ++ joined ns) (joined l)) (sym is) (joins s t n m (joined ns) (joined ls) here (each_joined t ns ls more))
+      subst (λ l. RetainsInTurn R s (n ++ concat ns) (concat l)) (sym is) (joins s t n m (concat ns) (concat ls) here (each_joined t ns ls more))
 
-  each_shorter : (s : S) (ns ms : List (List X)) → RetainsEach R s ns ms → length (joined ms) ≤ length (joined ns)
-  each_shorter s [] ms h = omega (arith, ap (λ l. length (joined l)) h)
+  each_shorter : (s : S) (ns ms : List (List X)) → RetainsEach R s ns ms → length (concat ms) ≤ length (concat ns)
+  each_shorter s [] ms h = omega (arith, ap (λ l. length (concat l)) h)
   each_shorter s (n ∷ ns) ms (m, t, here, ls, more, is) =
-      omega (arith, shorter s t n m here, each_shorter t ns ls more, ap (λ l. length (joined l)) is, length-append n (joined ns), length-append m (joined ls))
+      omega (arith, shorter s t n m here, each_shorter t ns ls more, ap (λ l. length (concat l)) is, length-append n (concat ns), length-append m (concat ls))
 
   each_low : (size : ℕ) (s : S) (ns ms : List (List X)) → RetainsEach R s ns ms → All (λ n. n ≤ size) (node_lengths ns) → All (λ n. n ≤ size) (node_lengths ms)
   each_low size s [] ms h low = rw h low
@@ -143,13 +143,13 @@ module _ {S X Z C : Type 0} (R : S → X → Bool → S → X → Type 0) (G : C
 
 -- the nodes of a spine, once each kept its own
 module _ {S X : Type 0} (R : S → X → Bool → S → X → Type 0) (s : S) (ns ms : List (List X)) (h : RetainsNodes R s ns ms) where
-  pub nodes_joined : RetainsInTurn R s (joined ns) (joined ms)
+  pub nodes_joined : RetainsInTurn R s (concat ns) (concat ms)
   nodes_joined = rw (h.left, joined_all_emptied h.each) (each_joined R s ns h.each h.run)
 
-  pub nodes_shorter : length (joined ms) ≤ length (joined ns)
+  pub nodes_shorter : length (concat ms) ≤ length (concat ns)
   nodes_shorter = rw (h.left, joined_all_emptied h.each) (each_shorter R s ns h.each h.run)
 
-  pub nodes_spine : (size total : ℕ) → IsCut (node_lengths ns) size → total ≡ length (joined ms) → IsSpine (node_lengths ms) size total
+  pub nodes_spine : (size total : ℕ) → AreNodeLengths (node_lengths ns) size → total ≡ length (concat ms) → IsSpine (node_lengths ms) size total
   nodes_spine size total is e =
       let low = each_low R size s ns h.each h.run is.bounded in
       spine_of ms size total (rw h.left (cut_all_emptied h.each size is.two low)) e

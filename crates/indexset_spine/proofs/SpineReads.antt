@@ -7,26 +7,26 @@ use Rattle.std.proofs.lemmas.Bool.{cases_lt, false≢true}
 use Rattle.std.proofs.lemmas.List.{get_or-map, length-map}
 use Rattle.std.proofs.lemmas.Option.{slice_get_past}
 use Rattle.std.specs.declared.vec.Vec.{Vec}
-use Rattle.indexset_core.specs.Nodes.{joined, node_lengths, ends_less, equal_at, node_for, node_at, vec_items}
+use Rattle.indexset_core.specs.Nodes.{concat, node_lengths, ends_less, equal_at, node_for, node_at, vec_items}
 use Rattle.indexset_core.specs.Parted.{IsParted, less_count}
 use Rattle.indexset_core.proofs.CallerLemmas.{count_parted, ends_for, equal_none, ends_last, ends_until, front-is_lt, get_in_node, node_found, parted_node, place_for}
-use Rattle.indexset_spine.specs.Cut.{Cut, cut, IsCut, items}
+use Rattle.indexset_spine.specs.NodeList.{NodeList, node_list, AreNodeLengths, items}
 use Rattle.indexset_spine.proofs.VecNodes.{length-vec_items, node_read}
 
 -- n is the node of the spine s that the answers name, the k-th
-pub record NodeFound {X : Type 0} (answer : X → Ordering) (s : Cut X) (k : ℕ) (n : List X) : Type 0 where
-  pub cut : IsCut (node_lengths s.nodes) s.size
+pub record NodeFound {X : Type 0} (answer : X → Ordering) (s : NodeList X) (k : ℕ) (n : List X) : Type 0 where
+  pub node_list : AreNodeLengths (node_lengths s.nodes) s.size
   pub named : k ≡ node_for answer s.nodes
   pub inside : k < length s.nodes
   pub node : node_at s.nodes k ≡ n
 
-pub read_node : {X Z : Type 0} (vs : List (Vec X Z)) (size : ℕ) (s : Cut X) → cut (vec_items vs) size ≡ s → IsCut (node_lengths (vec_items vs)) size
+pub read_node : {X Z : Type 0} (vs : List (Vec X Z)) (size : ℕ) (s : NodeList X) → node_list (vec_items vs) size ≡ s → AreNodeLengths (node_lengths (vec_items vs)) size
     → (answer : X → Ordering) (k : ℕ) (v : Vec X Z) → k ≡ node_for answer (vec_items vs) → v ≡ get_or vs k v → NodeFound answer s k v.items
 read_node {X} vs size s view is answer k v found at =
     let inside : k < length vs = omega (arith, found, is.some, length-vec_items vs, length-map (vec_items vs) (λ n. length n)) in
-    subst (λ (t : Cut X). NodeFound answer t k v.items) view (record { cut = is; named = found; inside = omega (arith, inside, length-vec_items vs); node = node_read vs k v inside at [] })
+    subst (λ (t : NodeList X). NodeFound answer t k v.items) view (record { node_list = is; named = found; inside = omega (arith, inside, length-vec_items vs); node = node_read vs k v inside at [] })
 
-module _ {X : Type 0} (answer : X → Ordering) (s : Cut X) (k : ℕ) (n : List X) (h : NodeFound answer s k n) where
+module _ {X : Type 0} (answer : X → Ordering) (s : NodeList X) (k : ℕ) (n : List X) (h : NodeFound answer s k n) where
   pub node_within : length n ≤ s.size
   node_within =
       let long = length-map s.nodes (λ n. length n) in
@@ -45,17 +45,17 @@ module _ {X : Type 0} (answer : X → Ordering) (s : Cut X) (k : ℕ) (n : List 
       some : 1 ≤ length s.nodes
       some = omega (arith, h.inside)
 
-      pub located : length (joined (take k s.nodes)) + o ≡ less_count answer (items s)
+      pub located : length (concat (take k s.nodes)) + o ≡ less_count answer (items s)
       located = rw (at, ← h.node, h.named) (place_for answer s.nodes some filled parted)
 
-      past : length n ≤ o → length (items s) ≤ length (joined (take k s.nodes)) + o
+      past : length n ≤ o → length (items s) ≤ length (concat (take k s.nodes)) + o
       past le =
-          let ends : length (node_at s.nodes k) ≤ less_count answer (node_at s.nodes k) → length (joined s.nodes) ≤ length (joined (take k s.nodes)) + less_count answer (node_at s.nodes k) =
+          let ends : length (node_at s.nodes k) ≤ less_count answer (node_at s.nodes k) → length (concat s.nodes) ≤ length (concat (take k s.nodes)) + less_count answer (node_at s.nodes k) =
           rw h.named (ends_for answer s.nodes some filled parted) in
           rw at ((rw h.node at ends) (rw at at le))
 
       -- the item there is the same in the node and in the whole list
-      pub told : equal_at answer n o ≡ equal_at answer (items s) (length (joined (take k s.nodes)) + o)
+      pub told : equal_at answer n o ≡ equal_at answer (items s) (length (concat (take k s.nodes)) + o)
       told = ap (λ (r : Option X). option_map_or (λ x. is_eq (answer x)) r false) (elim (cases_lt o (length n)) [
         | inl lt ↦ (rw h.node at (sym (get_in_node s.nodes k o h.inside (rw h.node lt))))
         | inr ge ↦ slice_get_past n o ge ∙ sym (slice_get_past (items s) _ (past ge))
@@ -71,7 +71,7 @@ all_less answer (x ∷ xs) parted ends =
     (λ k d low high. front-is_lt _ _ (parted k (n - 1) d (omega (arith, high)) (omega arith)) (last d)) (λ k d low high. absurd (omega (arith, low, high))))
 
 -- where the last node's last item is found Less, the answers name that node
-last_named : {X : Type 0} (answer : X → Ordering) (ns : List (List X)) → 1 ≤ length ns → (2 ≤ length ns → All (λ n. 1 ≤ n) (node_lengths ns)) → IsParted answer (joined ns) → ends_less answer (node_at ns (length ns - 1)) ≡ true → length ns - 1 ≡ node_for answer ns
+last_named : {X : Type 0} (answer : X → Ordering) (ns : List (List X)) → 1 ≤ length ns → (2 ≤ length ns → All (λ n. 1 ≤ n) (node_lengths ns)) → IsParted answer (concat ns) → ends_less answer (node_at ns (length ns - 1)) ≡ true → length ns - 1 ≡ node_for answer ns
 last_named answer ns some filled parted ends =
     let none : length ns - 1 < length ns - 1 → HoldsAt (λ n. ends_less answer n ≡ false) ns (length ns - 1) = λ lt. absurd (omega (arith, lt)) in
     elim (cases_lt 1 (length ns)) [
@@ -80,12 +80,12 @@ last_named answer ns some filled parted ends =
     ]
 
 -- the answers name the node that the code reads
-pub read_named : {X Z : Type 0} (vs : List (Vec X Z)) (size : ℕ) (s : Cut X) → cut (vec_items vs) size ≡ s → IsCut (node_lengths (vec_items vs)) size
+pub read_named : {X Z : Type 0} (vs : List (Vec X Z)) (size : ℕ) (s : NodeList X) → node_list (vec_items vs) size ≡ s → AreNodeLengths (node_lengths (vec_items vs)) size
     → (answer : X → Ordering) (k : ℕ) (v : Vec X Z) → k ≡ node_for answer s.nodes → v ≡ get_or vs k v → NodeFound answer s k v.items
-read_named {X} vs size s view is answer k v found = read_node vs size s view is answer k v (found ∙ ap (λ (t : Cut X). node_for answer t.nodes) (sym view))
+read_named {X} vs size s view is answer k v found = read_node vs size s view is answer k v (found ∙ ap (λ (t : NodeList X). node_for answer t.nodes) (sym view))
 
 -- and the node k, where the last item of the node before it is found Less, and its own is not or it is the last node
-pub sought : {X Z : Type 0} (answer : X → Ordering) (vs : List (Vec X Z)) → (2 ≤ length vs → All (λ n. 1 ≤ n) (node_lengths (vec_items vs))) → IsParted answer (joined (vec_items vs))
+pub sought : {X Z : Type 0} (answer : X → Ordering) (vs : List (Vec X Z)) → (2 ≤ length vs → All (λ n. 1 ≤ n) (node_lengths (vec_items vs))) → IsParted answer (concat (vec_items vs))
     → (k : ℕ) → k < length vs → 1 ≤ k → (v : Vec X Z) → v ≡ get_or vs (k - 1) v → ends_less answer v.items ≡ true → (k + 1 < length vs → HoldsAt (λ n. ends_less answer n ≡ false) (vec_items vs) k) → k ≡ node_for answer (vec_items vs)
 sought answer vs filled parted k inside some v at ends here =
     let ns = vec_items vs in let long = length-vec_items vs in
@@ -94,7 +94,7 @@ sought answer vs filled parted k inside some v at ends here =
     (λ j d low high. ends_until answer ns (filled (omega arith)) parted (k - 1) (omega (arith, long)) before j d low (omega (arith, high)))
     (λ lt. here (omega (arith, long, lt)))
 
-pub read_last : {X Z : Type 0} (vs : List (Vec X Z)) (size : ℕ) (s : Cut X) → cut (vec_items vs) size ≡ s → IsCut (node_lengths (vec_items vs)) size
+pub read_last : {X Z : Type 0} (vs : List (Vec X Z)) (size : ℕ) (s : NodeList X) → node_list (vec_items vs) size ≡ s → AreNodeLengths (node_lengths (vec_items vs)) size
     → (answer : X → Ordering) → IsParted answer (items s) → (k : ℕ) (v : Vec X Z) → k ≡ length vs - 1 → v ≡ get_or vs k v → ends_less answer v.items ≡ true → NodeFound answer s k v.items
 read_last {X} vs size s view is answer parted k v last at ends =
     let long = length-vec_items vs in
@@ -102,11 +102,11 @@ read_last {X} vs size s view is answer parted k v last at ends =
     let inside : k < length vs = omega (arith, last, is.some, long, counted) in
     let same : k ≡ length (vec_items vs) - 1 = omega (arith, last, long) in
     let there : ends_less answer (node_at (vec_items vs) (length (vec_items vs) - 1)) ≡ true = rw (← same) (rw (node_read vs k v inside at []) ends) in
-    let named = last_named answer (vec_items vs) (omega (arith, is.some, counted)) (λ two. is.filled (omega (arith, two, counted))) (subst (λ (t : Cut X). IsParted answer (items t)) (sym view) parted) there in
+    let named = last_named answer (vec_items vs) (omega (arith, is.some, counted)) (λ two. is.filled (omega (arith, two, counted))) (subst (λ (t : NodeList X). IsParted answer (items t)) (sym view) parted) there in
     read_node vs size s view is answer k v (same ∙ named) at
 
 -- and no item follows them
-pub none_after : {X : Type 0} (answer : X → Ordering) (s : Cut X) (k : ℕ) (n : List X) → NodeFound answer s k n → IsParted answer (items s) → ends_less answer n ≡ true → false ≡ equal_at answer (items s) (length (joined (take k s.nodes)) + length n)
+pub none_after : {X : Type 0} (answer : X → Ordering) (s : NodeList X) (k : ℕ) (n : List X) → NodeFound answer s k n → IsParted answer (items s) → ends_less answer n ≡ true → false ≡ equal_at answer (items s) (length (concat (take k s.nodes)) + length n)
 none_after answer s k n here parted ends =
     let all = all_less answer n (node_parted answer s k n here parted) ends in
     sym (equal_none answer n (length n) (slice_get_past n (length n) (omega arith))) ∙ told answer s k n here parted (length n) all

@@ -5,8 +5,8 @@ use Rattle.indexset_spine.specs.declared.spot.Spot.{Spot}
 use Rattle.indexset_core.specs.Nodes.{node_at}
 
 -- f took some first items of xs in turn, from a on, which gave b, and the rest is left
-abbrev pub TakesSome : {A B : Type 0} → (B → A → B) → B → List A → B → List A → Type 0
-TakesSome {A} f a xs b rest = (front : List A) × (xs ≡ front ++ rest) × (b ≡ fold f a front)
+abbrev pub FoldsPrefix : {A B : Type 0} → (B → A → B) → B → List A → B → List A → Type 0
+FoldsPrefix {A} f a xs b rest = (front : List A) × (xs ≡ front ++ rest) × (b ≡ fold f a front)
 
 module _ {X : Type 0} where
   -- the nodes with v inserted into the node of the spot

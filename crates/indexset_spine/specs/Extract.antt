@@ -2,28 +2,28 @@
 use Rattle.std.specs.Prelude.{◌≡◌, ℕ, ◌≤◌, Bool, List, ◌++◌, sum, take, drop, Option}
 use Rattle.std.specs.List.{between}
 use Rattle.std.specs.List.Retain.{ExtractsNext}
-use Rattle.indexset_spine.specs.declared.stretch.Stretch.{Stretch}
+use Rattle.indexset_spine.specs.declared.extract_range.ExtractRange.{ExtractRange}
 
 -- a list in three: the items that stay, those that the closure has yet to be asked about, and those after them
-pub record InThree (X : Type 0) : Type 0 where
+pub record ExtractState (X : Type 0) : Type 0 where
   pub stay : List X
   pub unasked : List X
   pub after : List X
 
 module _ {X : Type 0} where
   -- cut at two positions
-  abbrev pub in_three : List X → ℕ → ℕ → InThree X
-  in_three l i j = record { stay = take i l; unasked = between i j l; after = drop j l }
+  abbrev pub extract_state : List X → ℕ → ℕ → ExtractState X
+  extract_state l i j = record { stay = take i l; unasked = between i j l; after = drop j l }
 
   -- R was asked from s to t up to the item that came out, or at all, and those before it stay, as R left them
-  pub record Extracts {S : Type 0} (R : S → X → Bool → S → X → Type 0) (s : S) (a : InThree X) (r : Option X) (t : S) (b : InThree X) : Type 0 where
+  pub record Extracts {S : Type 0} (R : S → X → Bool → S → X → Type 0) (s : S) (a : ExtractState X) (r : Option X) (t : S) (b : ExtractState X) : Type 0 where
     pub kept : List X
     pub step : ExtractsNext R s a.unasked r t kept b.unasked
     pub stays : b.stay ≡ a.stay ++ kept
     pub after : b.after ≡ a.after
 
 -- in so many items, in nodes of these lengths: the positions are of items, and as many items as it says are before the node
-pub record IsStretch (lengths : List ℕ) (count : ℕ) (a : Stretch) : Type 0 where
+pub record IsExtractRange (lengths : List ℕ) (count : ℕ) (a : ExtractRange) : Type 0 where
   pub order : a.front ≤ a.back
   pub inside : a.back ≤ count
   pub start : a.start ≡ sum (take a.node lengths)

@@ -1,4 +1,4 @@
-pub mod Cut
+pub mod NodeList
 pub mod Edits
 pub mod Extract
 pub mod Lengths

@@ -3,7 +3,7 @@ ghost use Rattle.std.specs.Prelude.{◌≡◌, length, List, Some, IfSome};
 ghost use Rattle.std.specs.Iterator.{at_most, UpTo};
 ghost use Rattle.std.specs.Iterator.SizeHint.{IsWithinCount};
 ghost use Rattle.std.specs.Map.Iter.{TakesFirst, TakesLast};
-ghost use Rattle.indexset_core.specs.Nodes.{joined, vec_items};
+ghost use Rattle.indexset_core.specs.Nodes.{concat, vec_items};
 
 mod traits;
 
@@ -23,24 +23,24 @@ pub struct IntoIter<T> {
 impl<T> Model for IntoIter<T> {
     ghost use Rattle.std.specs.Prelude.{◌≡◌, List, ◌++◌, length};
     ghost use Rattle.std.specs.Vec.Iter.{into_iter_items};
-    ghost use Rattle.indexset_core.specs.Nodes.{joined};
+    ghost use Rattle.indexset_core.specs.Nodes.{concat};
     ghost use Rattle.indexset_core.specs.Nodes.{vec_items};
 
     ghost Value = { List T };
 
     ghost view = { λ a. into_iter_items a.front
-        ++ (joined (vec_items (into_iter_items a.middle)) ++ into_iter_items a.back) };
+        ++ (concat (vec_items (into_iter_items a.middle)) ++ into_iter_items a.back) };
 
     ghost invariant = { λ a. a.left ≡ length
-        (into_iter_items a.front ++ (joined (vec_items (into_iter_items a.middle))
+        (into_iter_items a.front ++ (concat (vec_items (into_iter_items a.middle))
         ++ into_iter_items a.back)) };
 }
 
 impl<T> IntoIter<T> {
     /// Returns the items of all nodes.
     pub(crate) fn over(nodes: Vec<Vec<T>>, left: usize) -> Self
-        requires { left ≡ length (joined (vec_items nodes.items)) }
-        ensures { result ≡ joined (vec_items nodes.items) }
+        requires { left ≡ length (concat (vec_items nodes.items)) }
+        ensures { result ≡ concat (vec_items nodes.items) }
     {
         let alloc = *nodes.allocator();
         IntoIter {

@@ -1,30 +1,30 @@
 //! A shared iterator over a spine from both ends.
 ghost use Rattle.std.specs.Prelude.{◌≡◌, ◌≤◌};
 ghost use Rattle.std.specs.List.{between};
-ghost use Rattle.indexset_core.specs.Nodes.{joined, vec_items};
-ghost use Rattle.indexset_spine.specs.Cut.{IsSpot, position_of};
+ghost use Rattle.indexset_core.specs.Nodes.{concat, vec_items};
+ghost use Rattle.indexset_spine.specs.NodeList.{IsSpot, position_of};
 
 pub mod runs;
 
 use crate::spot::Spot;
-use indexset_core::walk::counted::CountedWalk;
-use indexset_core::walk::{ReadVec, Walk};
+use indexset_core::item_iter::counted::ExactItemIter;
+use indexset_core::item_iter::{ItemIter, OfVec};
 
 /// The remaining items, and how many they are.
-pub type Iter<'a, T> = CountedWalk<'a, T, Vec<T>, ReadVec>;
+pub type Iter<'a, T> = ExactItemIter<'a, T, Vec<T>, OfVec>;
 
 /// Returns the items from one spot up to another.
 pub(crate) fn walk_between<'a, T>(
     nodes: &'a [Vec<T>],
     start: &Spot,
     end: &Spot,
-) -> Walk<'a, T, Vec<T>, ReadVec>
+) -> ItemIter<'a, T, Vec<T>, OfVec>
     requires start { IsSpot (vec_items nodes.now) start.now }
     requires end { IsSpot (vec_items nodes.now) end.now }
     requires order { position_of (vec_items nodes.now) start.now
         ≤ position_of (vec_items nodes.now) end.now }
     ensures { result ≡ between (position_of (vec_items nodes.now) start.now)
-        (position_of (vec_items nodes.now) end.now) (joined (vec_items nodes.now)) }
+        (position_of (vec_items nodes.now) end.now) (concat (vec_items nodes.now)) }
 {
-    Walk::between(nodes, (start.node, start.offset), (end.node, end.offset))
+    ItemIter::between(nodes, (start.node, start.offset), (end.node, end.offset))
 }

@@ -1,6 +1,6 @@
 //! The lengths of nodes.
 ghost use Rattle.std.specs.Prelude.{◌≡◌, ◌^◌, ◌-◌, ◌<◌, ◌≤◌, IsTrue, length};
-ghost use Rattle.indexset_core.specs.Nodes.{joined, node_at, vec_items};
+ghost use Rattle.indexset_core.specs.Nodes.{concat, node_at, vec_items};
 
 /// Returns whether the item at a position is in the node `k`, before which there are `start` items.
 pub(crate) fn is_in<T>(nodes: &[Vec<T>], k: usize, start: usize, i: usize) -> bool
@@ -12,8 +12,8 @@ pub(crate) fn is_in<T>(nodes: &[Vec<T>], k: usize, start: usize, i: usize) -> bo
 
 /// Returns how many items the nodes hold.
 pub(crate) fn count_items<T>(nodes: &[Vec<T>]) -> usize
-    requires { length (joined (vec_items nodes.now)) < 2 ^ 64 }
-    ensures { result ≡ length (joined (vec_items nodes.now)) }
+    requires { length (concat (vec_items nodes.now)) < 2 ^ 64 }
+    ensures { result ≡ length (concat (vec_items nodes.now)) }
 {
     let mut total = 0;
     for node in nodes {

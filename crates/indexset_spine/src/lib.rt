@@ -8,6 +8,7 @@
 //! knows no order: order comes from the probe, and in `merge_from` from the items.
 #![tactic(auto)]
 
+pub mod extract_range;
 pub mod into_iter;
 pub mod iter;
 mod lengths;
@@ -15,4 +16,3 @@ mod locate;
 mod merge;
 pub mod spine;
 pub mod spot;
-pub mod stretch;

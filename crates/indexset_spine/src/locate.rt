@@ -3,7 +3,7 @@ ghost use Rattle.std.specs.Prelude.{◌≡◌, ◌+◌, ◌<◌, ◌≤◌, IsTr
 ghost use Rattle.std.specs.List.{All};
 ghost use Rattle.indexset_core.specs.Digits.{digits};
 ghost use Rattle.indexset_core.specs.Parted.{IsParted, less_count};
-ghost use Rattle.indexset_core.specs.Nodes.{ends_less, equal_at, joined, node_lengths, node_for, vec_items};
+ghost use Rattle.indexset_core.specs.Nodes.{ends_less, equal_at, concat, node_lengths, node_for, vec_items};
 
 use indexset_core::probe::Probe;
 
@@ -11,10 +11,10 @@ use indexset_core::probe::Probe;
 /// of a node that is not there.
 pub(crate) fn is_sought<T, P: Probe<T>>(nodes: &[Vec<T>], k: usize, probe: &mut P) -> bool
     requires filled { 2 ≤ length nodes.now → All (λ n. 1 ≤ n) (node_lengths (vec_items nodes.now)) }
-    requires parted { IsParted (P.answer probe.old) (joined (vec_items nodes.now)) }
+    requires parted { IsParted (P.answer probe.old) (concat (vec_items nodes.now)) }
     ensures node { IsTrue result → k ≡ node_for (P.answer probe.old) (vec_items nodes.now) }
     ensures fixed { P.answer probe.new ≡ P.answer probe.old }
-    ensures few { P.asked probe.new ≤ P.asked probe.old + 2 }
+    ensures comparisons { P.asked probe.new ≤ P.asked probe.old + 2 }
 {
     if k >= nodes.len() {
         return false;
@@ -29,7 +29,7 @@ pub(crate) fn is_sought<T, P: Probe<T>>(nodes: &[Vec<T>], k: usize, probe: &mut 
 pub(crate) fn ends_less<T, P: Probe<T>>(node: &[T], probe: &mut P) -> bool
     ensures value { result ≡ ends_less (P.answer probe.old) node.now }
     ensures fixed { P.answer probe.new ≡ P.answer probe.old }
-    ensures few { P.asked probe.new ≤ P.asked probe.old + 1 }
+    ensures comparisons { P.asked probe.new ≤ P.asked probe.old + 1 }
 {
     match node.last() {
         Some(last) => probe.place(last).is_lt(),

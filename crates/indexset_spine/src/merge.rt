@@ -66,7 +66,7 @@ fn merge_back<T: Ord + Drop>(items: &mut Vec<T>, run: &mut Vec<T>, merged: &mut 
     requires room { vec_len items.old + vec_len run.old ≤ vec_capacity merged.old }
     ensures merged { items.new.items ++ merged.new.items
         ≡ fold (put T.cmp) items.old.items run.old.items }
-    ensures few { vec_len items.new + vec_len merged.new ≤ vec_len items.old + vec_len run.old }
+    ensures length_bound { vec_len items.new + vec_len merged.new ≤ vec_len items.old + vec_len run.old }
     ensures capacity { vec_capacity items.new ≡ vec_capacity items.old }
 {
     while !run.is_empty() {

@@ -7,7 +7,7 @@ ghost use Rattle.std.specs.Map.Iter.{ShowsInOrder, ShowsInReverse, GivesInOrder,
 ghost use Rattle.indexset_core.specs.Digits.{digits};
 ghost use Rattle.indexset_core.specs.Parted.{IsParted, less_count};
 ghost use Rattle.indexset_core.specs.Nodes.{node_at, node_for, equal_at, node_lengths, vec_items};
-ghost use Rattle.indexset_spine.specs.Cut.{items, IsCut, IsSpot, IsItemSpot, position_of};
+ghost use Rattle.indexset_spine.specs.NodeList.{items, AreNodeLengths, IsSpot, IsItemSpot, position_of};
 ghost use Rattle.indexset_spine.specs.Lengths.{node_of};
 
 mod append;
@@ -26,10 +26,10 @@ use crate::into_iter::IntoIter;
 use crate::iter::{Iter, walk_between};
 use crate::spot::Spot;
 use crate::{lengths, locate};
+use indexset_core::item_iter::{ItemIter, OfVec};
 use indexset_core::locate::node_by;
 use indexset_core::probe::Probe;
 use indexset_core::search;
-use indexset_core::walk::{ReadVec, Walk};
 use indexset_index::fenwick::Fenwick;
 use std::alloc::Global;
 use std::marker::Model;
@@ -47,12 +47,12 @@ pub struct Spine<T> {
 
 impl<T> Model for Spine<T> {
     ghost use Rattle.indexset_core.specs.Nodes.{node_lengths};
-    ghost use Rattle.indexset_spine.specs.Cut.{Cut, cut, cut_code, IsIndexed};
+    ghost use Rattle.indexset_spine.specs.NodeList.{NodeList, node_list, node_list_code, IsIndexed};
     ghost use Rattle.indexset_core.specs.Nodes.{vec_items};
 
-    ghost Value = { Cut T };
+    ghost Value = { NodeList T };
 
-    ghost view = { λ s. cut (vec_items s.nodes.items) s.size };
+    ghost view = { λ s. node_list (vec_items s.nodes.items) s.size };
 
     ghost invariant = { λ s. IsIndexed (node_lengths (vec_items s.nodes.items)) s.size s.len
         s.index.lengths };
@@ -85,8 +85,8 @@ impl<T> Spine<T> {
     pub fn node_count(&self) -> usize
         ensures value { result ≡ length self.now.nodes }
         ensures some { 1 ≤ result }
-        ensures few { result ≤ max 1 (length (items self.now)) }
-        ensures cut { IsCut (node_lengths self.now.nodes) self.now.size }
+        ensures node_bound { result ≤ max 1 (length (items self.now)) }
+        ensures cut { AreNodeLengths (node_lengths self.now.nodes) self.now.size }
     {
         self.nodes.len()
     }
@@ -113,7 +113,7 @@ impl<T> Spine<T> {
         ensures position { position_of self.now.nodes result
             ≡ less_count (P.answer probe.old) (items self.now) }
         ensures fixed { P.answer probe.new ≡ P.answer probe.old }
-        ensures few { P.asked probe.new ≤ P.asked probe.old
+        ensures comparisons { P.asked probe.new ≤ P.asked probe.old
             + (digits (length self.now.nodes) + digits self.now.size + 1) }
     {
         self.locate_among(probe, self.nodes.len())
@@ -133,7 +133,7 @@ impl<T> Spine<T> {
         ensures position { position_of self.now.nodes result
             ≡ less_count (P.answer probe.old) (items self.now) }
         ensures fixed { P.answer probe.new ≡ P.answer probe.old }
-        ensures few { P.asked probe.new ≤ P.asked probe.old
+        ensures comparisons { P.asked probe.new ≤ P.asked probe.old
             + (digits (length self.now.nodes) + digits self.now.size + 2) }
     {
         let node = self.nodes.len() - 1;
@@ -163,7 +163,7 @@ impl<T> Spine<T> {
         ensures position { position_of self.now.nodes result
             ≡ less_count (P.answer probe.old) (items self.now) }
         ensures fixed { P.answer probe.new ≡ P.answer probe.old }
-        ensures few { P.asked probe.new ≤ P.asked probe.old
+        ensures comparisons { P.asked probe.new ≤ P.asked probe.old
             + (digits (length self.now.nodes) + digits self.now.size + 3) }
     {
         if locate::is_sought(self.nodes.as_slice(), near, probe) {
@@ -187,10 +187,10 @@ impl<T> Spine<T> {
         ensures position { position_of self.now.nodes result
             ≡ less_count (P.answer probe.old) (items self.now) }
         ensures fixed { P.answer probe.new ≡ P.answer probe.old }
-        ensures few { P.asked probe.new ≤ P.asked probe.old
+        ensures comparisons { P.asked probe.new ≤ P.asked probe.old
             + (digits (length self.now.nodes) + digits self.now.size + 1) }
     {
-        let node = node_by::<T, Vec<T>, ReadVec, P>(self.nodes.as_slice(), probe);
+        let node = node_by::<T, Vec<T>, OfVec, P>(self.nodes.as_slice(), probe);
         self.locate_in(node, probe, node_count)
     }
 
@@ -208,7 +208,7 @@ impl<T> Spine<T> {
         ensures position { position_of self.now.nodes result
             ≡ less_count (P.answer probe.old) (items self.now) }
         ensures fixed { P.answer probe.new ≡ P.answer probe.old }
-        ensures few { P.asked probe.new ≤ P.asked probe.old + (digits self.now.size + 1) }
+        ensures comparisons { P.asked probe.new ≤ P.asked probe.old + (digits self.now.size + 1) }
     {
         let items = self.nodes[node].as_slice();
         let (offset, found) = search::place_in(items, probe, node_count);
@@ -333,7 +333,7 @@ impl<T> Spine<T> {
         ensures runs { ShowsInOrder (deref {X = T}) }
         ensures runs_back { ShowsInReverse (deref {X = T}) }
     {
-        Iter::new(Walk::over(self.nodes.as_slice()), self.len)
+        Iter::new(ItemIter::over(self.nodes.as_slice()), self.len)
     }
 
     /// Returns the items from position `i` up to position `j`, in order.

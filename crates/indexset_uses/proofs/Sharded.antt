@@ -9,9 +9,9 @@ use Rattle.std.proofs.lemmas.List.Sums.{length-filter, sum_by-cons}
 use Rattle.std.specs.List.{All, count_by, filter, zip}
 use Rattle.std.specs.Ordering.{is_lt, is_eq, is_gt, ordering_reverse}
 use Rattle.std.specs.Cmp.{IsTotalOrder}
-use Rattle.indexset_core.specs.Nodes.{joined, equal_at}
+use Rattle.indexset_core.specs.Nodes.{concat, equal_at}
 use Rattle.indexset_core.specs.Order.{IsAscending, below, above, rank, put, without, IsGapFor, unequal}
-use Rattle.indexset_core.proofs.CallerLemmas.{located_found, located_gap, found_ascending, found_put, gap_at, gap_ascending, gap_put, gap_without, parted_by_item, filter_front, filter_back, equal_from, less_from, Parts, count_parted, count_parts, front-is_lt, joined-append, joined_around}
+use Rattle.indexset_core.proofs.CallerLemmas.{located_found, located_gap, found_ascending, found_put, gap_at, gap_ascending, gap_put, gap_without, parted_by_item, filter_front, filter_back, equal_from, less_from, Parts, count_parted, count_parts, front-is_lt, concat-append, joined_around}
 use Rattle.indexset_uses.specs.Shards.{after_command, after_commands, not_above, parts, subject, IsOwner}
 use Rattle.indexset_uses.specs.declared.shards.Command.{Command}
 use Rattle.indexset_uses.specs.declared.shards.Command.TheVariants.{Put, Cut}
@@ -117,7 +117,7 @@ module _ {T : Type 0} (cmp : T → T → Ordering) (o : IsTotalOrder cmp) where
   same_below : (b x v : T) → cmp x v ≡ Equal → is_lt (cmp x b) ≡ is_lt (cmp v b)
   same_below b x v e = ap is_lt (o.congr x v b e)
 
-  pub parts_joined : (bs l : List T) → IsAscending cmp l → joined (parts cmp (λ x. x) bs l) ≡ l
+  pub parts_joined : (bs l : List T) → IsAscending cmp l → concat (parts cmp (λ x. x) bs l) ≡ l
   parts_joined [] l up = append-nil l
   parts_joined (b ∷ bs) l up =
       let rest = filter (λ x. not (is_lt (cmp x b))) l in
@@ -164,28 +164,28 @@ module _ {T : Type 0} (cmp : T → T → Ordering) (v : T) (front s back : List 
   around_cut = let test : Ordering → Bool = λ a. not (is_eq a) in rw (around_filter test, all_front test refl, all_back test refl) refl
 
 module _ {T : Type 0} (cmp : T → T → Ordering) (shards : List (List T)) (k : ℕ) (v : T) (owner : IsOwner cmp shards k v) where
-  pub owner_rank : rank cmp (joined shards) v ≡ length (joined (take k shards)) + rank cmp (get_or shards k []) v
-  owner_rank = ap (λ l. rank cmp l v) (joined_around shards k owner.inside) ∙ around_rank cmp v (joined (take k shards)) (get_or shards k []) (joined (drop (k + 1) shards)) owner.below owner.above
+  pub owner_rank : rank cmp (concat shards) v ≡ length (concat (take k shards)) + rank cmp (get_or shards k []) v
+  owner_rank = ap (λ l. rank cmp l v) (joined_around shards k owner.inside) ∙ around_rank cmp v (concat (take k shards)) (get_or shards k []) (concat (drop (k + 1) shards)) owner.below owner.above
 
-  changed : (s : List T) → joined (slice_set shards k s) ≡ joined (take k shards) ++ (s ++ joined (drop (k + 1) shards))
-  changed s = ap (λ (ss : List (List T)). joined ss) (set_split shards k s owner.inside) ∙ (joined-append (take k shards) (s ∷ drop (suc k) shards) ∙ rw add-one refl)
+  changed : (s : List T) → concat (slice_set shards k s) ≡ concat (take k shards) ++ (s ++ concat (drop (k + 1) shards))
+  changed s = ap (λ (ss : List (List T)). concat ss) (set_split shards k s owner.inside) ∙ (concat-append (take k shards) (s ∷ drop (suc k) shards) ∙ rw add-one refl)
 
-  pub owner_put : joined (slice_set shards k (put cmp (get_or shards k []) v)) ≡ put cmp (joined shards) v
-  owner_put = changed (put cmp (get_or shards k []) v) ∙ (around_put cmp v (joined (take k shards)) (get_or shards k []) (joined (drop (k + 1) shards)) owner.below owner.above ∙ ap (λ l. put cmp l v) (sym (joined_around shards k owner.inside)))
+  pub owner_put : concat (slice_set shards k (put cmp (get_or shards k []) v)) ≡ put cmp (concat shards) v
+  owner_put = changed (put cmp (get_or shards k []) v) ∙ (around_put cmp v (concat (take k shards)) (get_or shards k []) (concat (drop (k + 1) shards)) owner.below owner.above ∙ ap (λ l. put cmp l v) (sym (joined_around shards k owner.inside)))
 
-  pub owner_cut : joined (slice_set shards k (without cmp (get_or shards k []) v)) ≡ without cmp (joined shards) v
-  owner_cut = changed (without cmp (get_or shards k []) v) ∙ (around_cut cmp v (joined (take k shards)) (get_or shards k []) (joined (drop (k + 1) shards)) owner.below owner.above ∙ ap (λ l. without cmp l v) (sym (joined_around shards k owner.inside)))
+  pub owner_cut : concat (slice_set shards k (without cmp (get_or shards k []) v)) ≡ without cmp (concat shards) v
+  owner_cut = changed (without cmp (get_or shards k []) v) ∙ (around_cut cmp v (concat (take k shards)) (get_or shards k []) (concat (drop (k + 1) shards)) owner.below owner.above ∙ ap (λ l. without cmp l v) (sym (joined_around shards k owner.inside)))
 
-pub one_for_two : {T : Type 0} (low high : List (List T)) (first second : List T) → joined (low ++ first ∷ second ∷ high) ≡ joined (low ++ (first ++ second) ∷ high)
-one_for_two low high first second = joined-append low (first ∷ second ∷ high) ∙ (ap (λ ys. joined low ++ ys) (sym (append_assoc first second (joined high))) ∙ sym (joined-append low ((first ++ second) ∷ high)))
+pub one_for_two : {T : Type 0} (low high : List (List T)) (first second : List T) → concat (low ++ first ∷ second ∷ high) ≡ concat (low ++ (first ++ second) ∷ high)
+one_for_two low high first second = concat-append low (first ∷ second ∷ high) ∙ (ap (λ ys. concat low ++ ys) (sym (append_assoc first second (concat high))) ∙ sym (concat-append low ((first ++ second) ∷ high)))
 
 -- the item is in its shard, where routing by the borders finds it
 module _ {T : Type 0} (cmp : T → T → Ordering) (o : IsTotalOrder cmp) where
-  parts_all : (P : T → Type 0) (bs l : List T) → All P l → All P (joined (parts cmp (λ x. x) bs l))
+  parts_all : (P : T → Type 0) (bs l : List T) → All P l → All P (concat (parts cmp (λ x. x) bs l))
   parts_all P [] l all = subst (All P) (sym (append-nil l)) all
   parts_all P (b ∷ bs) l all =
       let low = λ (x : T). is_lt (cmp x b) in let high = λ (x : T). not (is_lt (cmp x b)) in
-      All-append P (filter low l) (joined (parts cmp (λ x. x) bs (filter high l))) (All-filter low P l all) (parts_all P bs (filter high l) (All-filter high P l all))
+      All-append P (filter low l) (concat (parts cmp (λ x. x) bs (filter high l))) (All-filter low P l all) (parts_all P bs (filter high l) (All-filter high P l all))
 
   -- v < b ≤ x
   past_border : (v b x : T) → cmp v b ≡ Less → not (is_lt (cmp x b)) ≡ true → cmp x v ≡ Greater
@@ -196,7 +196,7 @@ module _ {T : Type 0} (cmp : T → T → Ordering) (o : IsTotalOrder cmp) where
   ] refl)
 
   -- the item is below all that stands behind the first border
-  before_all : (b : T) (l : List T) (v : T) → cmp v b ≡ Less → (bs : List T) → All (λ x. cmp x v ≡ Greater) (joined (parts cmp (λ x. x) bs (filter (λ x. not (is_lt (cmp x b))) l)))
+  before_all : (b : T) (l : List T) (v : T) → cmp v b ≡ Less → (bs : List T) → All (λ x. cmp x v ≡ Greater) (concat (parts cmp (λ x. x) bs (filter (λ x. not (is_lt (cmp x b))) l)))
   before_all b l v less bs = parts_all (λ x. cmp x v ≡ Greater) bs (filter (λ x. not (is_lt (cmp x b))) l)
       (λ k d lt. past_border v b (get_or (filter (λ x. not (is_lt (cmp x b))) l) k d) less (filter_passes (λ x. not (is_lt (cmp x b))) l k d lt))
 
@@ -228,8 +228,8 @@ module _ {T : Type 0} (cmp : T → T → Ordering) (o : IsTotalOrder cmp) where
             let further : suc (k + 1) ≡ suc k + 1 = omega arith in
             rw one (record {
               inside = omega (arith, next.inside);
-              below = All-append (λ x. cmp x v ≡ Less) low (joined (take k rest)) (λ i d lt. short_of_border v b (get_or low i d) e (filter_passes (λ x. is_lt (cmp x b)) l i d lt)) next.below;
-              above = subst (λ n. All (λ x. cmp x v ≡ Greater) (joined (drop n (low ∷ rest)))) further next.above;
+              below = All-append (λ x. cmp x v ≡ Less) low (concat (take k rest)) (λ i d lt. short_of_border v b (get_or low i d) e (filter_passes (λ x. is_lt (cmp x b)) l i d lt)) next.below;
+              above = subst (λ n. All (λ x. cmp x v ≡ Greater) (concat (drop n (low ∷ rest)))) further next.above;
             })
       ] refl
 

@@ -4,7 +4,7 @@ use Rattle.std.specs.List.{All, count_by, fold}
 use Rattle.std.specs.Ordering.{is_lt}
 use Rattle.std.specs.declared.cmp.Ordering.{Ordering}
 use Rattle.std.specs.declared.cmp.Ordering.TheVariants.{Less, Greater}
-use Rattle.indexset.specs.Words.{joined, put, without}
+use Rattle.indexset.specs.Words.{concat, put, without}
 use Rattle.indexset_uses.specs.declared.shards.Command.{Command}
 use Rattle.indexset_uses.specs.declared.shards.Command.TheVariants.{Put, Cut}
 
@@ -35,5 +35,5 @@ module _ {T : Type 0} (cmp : T → T → Ordering) where
   -- all in the shards before the k-th is below v, and all in those behind it above
   pub record IsOwner (shards : List (List T)) (k : ℕ) (v : T) : Type 0 where
     pub inside : k < length shards
-    pub below : All (λ x. cmp x v ≡ Less) (joined (take k shards))
-    pub above : All (λ x. cmp x v ≡ Greater) (joined (drop (k + 1) shards))
+    pub below : All (λ x. cmp x v ≡ Less) (concat (take k shards))
+    pub above : All (λ x. cmp x v ≡ Greater) (concat (drop (k + 1) shards))

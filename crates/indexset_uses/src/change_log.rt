@@ -1,7 +1,7 @@
 //! A change log: the events that a copy of a tree elsewhere needs.
 ghost use Rattle.std.specs.Prelude.{◌≡◌, ◌+◌, ◌≤◌, length, true, Some, IfOk, IfErr, OnErr, OnOk};
 ghost use Rattle.std.specs.Ordering.{nat_cmp};
-ghost use Rattle.indexset.specs.Words.{IsNumberedFrom, by_key, checked_put_events, joined, keep, pair, put, put_events, refusal_for, removal_events, replay, value_of, without};
+ghost use Rattle.indexset.specs.Words.{IsNumberedFrom, by_key, checked_put_events, concat, keep, pair, put, put_events, refusal_for, removal_events, replay, value_of, without};
 
 use indexset::base::pair::Pair;
 use indexset::base::refusal::{Refusal, Refused};
@@ -16,15 +16,15 @@ pub type Numbers = BTreeSet<u64, Vec<u64>>;
 /// Inserts a number, and returns the events, at most three, that turn the nodes of a copy into the
 /// present ones.
 pub fn put(tree: &mut Numbers, value: u64) -> Result<Vec<ChangeEvent<u64>>, Refused<u64>>
-    ensures contents { IfOk result (λ _. joined tree.new.nodes
-        ≡ put nat_cmp (joined tree.old.nodes) value) }
+    ensures contents { IfOk result (λ _. concat tree.new.nodes
+        ≡ put nat_cmp (concat tree.old.nodes) value) }
     ensures replay { IfOk result (λ events. replay nat_cmp tree.old.nodes events.items
         ≡ Some tree.new.nodes) }
     ensures numbered { IfOk result (λ events. IsNumberedFrom tree.old.next events.items) }
     ensures next { IfOk result (λ events. tree.new.next ≡ tree.old.next + length events.items) }
-    ensures few { IfOk result (λ events. length events.items ≤ 3) }
+    ensures at_most_three_events { IfOk result (λ events. length events.items ≤ 3) }
     ensures given_back { IfErr result (λ refused. refused.value ≡ value) }
-    ensures same { OnErr result (tree.new ≡ tree.old) }
+    ensures unchanged { OnErr result (tree.new ≡ tree.old) }
     ensures cause { IfErr result (λ refused. refused.cause ≡ refusal_for tree.old.next
         (length (put_events nat_cmp tree.old.size tree.old.nodes value))) }
 {
@@ -35,11 +35,11 @@ pub fn put(tree: &mut Numbers, value: u64) -> Result<Vec<ChangeEvent<u64>>, Refu
 
 /// Inserts a number, and returns whether it is present, as it then always is.
 pub fn hold(tree: &mut Numbers, value: u64) -> Result<bool, Refused<u64>>
-    ensures there { IfOk result (λ there. there ≡ true) }
-    ensures contents { OnOk result (joined tree.new.nodes
-        ≡ keep nat_cmp (joined tree.old.nodes) value) }
+    ensures contains { IfOk result (λ there. there ≡ true) }
+    ensures contents { OnOk result (concat tree.new.nodes
+        ≡ keep nat_cmp (concat tree.old.nodes) value) }
     ensures given_back { IfErr result (λ refused. refused.value ≡ value) }
-    ensures same { OnErr result (tree.new ≡ tree.old) }
+    ensures unchanged { OnErr result (tree.new ≡ tree.old) }
     ensures cause { IfErr result (λ refused. refused.cause ≡ refusal_for tree.old.next
         (length (checked_put_events nat_cmp tree.old.size tree.old.nodes value))) }
 {
@@ -49,14 +49,14 @@ pub fn hold(tree: &mut Numbers, value: u64) -> Result<bool, Refused<u64>>
 
 /// Removes a number, and returns the events.
 pub fn take(tree: &mut Numbers, value: u64) -> Result<Vec<ChangeEvent<u64>>, Refusal>
-    ensures contents { IfOk result (λ _. joined tree.new.nodes
-        ≡ without nat_cmp (joined tree.old.nodes) value) }
+    ensures contents { IfOk result (λ _. concat tree.new.nodes
+        ≡ without nat_cmp (concat tree.old.nodes) value) }
     ensures replay { IfOk result (λ events. replay nat_cmp tree.old.nodes events.items
         ≡ Some tree.new.nodes) }
     ensures numbered { IfOk result (λ events. IsNumberedFrom tree.old.next events.items) }
     ensures next { IfOk result (λ events. tree.new.next ≡ tree.old.next + length events.items) }
-    ensures few { IfOk result (λ events. length events.items ≤ 3) }
-    ensures same { OnErr result (tree.new ≡ tree.old) }
+    ensures at_most_three_events { IfOk result (λ events. length events.items ≤ 3) }
+    ensures unchanged { OnErr result (tree.new ≡ tree.old) }
     ensures cause { IfErr result (λ refusal. refusal ≡ refusal_for tree.old.next
         (length (removal_events nat_cmp tree.old.size tree.old.nodes value))) }
 {
@@ -70,12 +70,12 @@ pub type Quotes = BTreeMap<u64, u64, Vec<Pair<u64, u64>>>;
 
 /// Sets the price of an item, and returns the price that is found for it, as it then always is.
 pub fn quote(quotes: &mut Quotes, item: u64, price: u64) -> Result<Option<u64>, Refused<(u64, u64)>>
-    ensures now { OnOk result (value_of nat_cmp (joined quotes.new.nodes) item ≡ Some price) }
-    ensures contents { OnOk result (joined quotes.new.nodes
-        ≡ put (by_key nat_cmp) (joined quotes.old.nodes) (pair item price)) }
-    ensures told { IfOk result (λ told. told ≡ Some price) }
+    ensures now { OnOk result (value_of nat_cmp (concat quotes.new.nodes) item ≡ Some price) }
+    ensures contents { OnOk result (concat quotes.new.nodes
+        ≡ put (by_key nat_cmp) (concat quotes.old.nodes) (pair item price)) }
+    ensures reported_price { IfOk result (λ told. told ≡ Some price) }
     ensures given_back { IfErr result (λ refused. refused.value ≡ (item, price)) }
-    ensures same { OnErr result (quotes.new ≡ quotes.old) }
+    ensures unchanged { OnErr result (quotes.new ≡ quotes.old) }
     ensures cause { IfErr result (λ refused. refused.cause ≡ refusal_for quotes.old.next
         (length (put_events (by_key nat_cmp) quotes.old.size quotes.old.nodes (pair item price)))) }
 {

@@ -17,7 +17,7 @@ pub fn apply_all<T: Ord + Clone + Drop>(
     copy: &mut Replica<T>,
     events: &[ChangeEvent<T>],
 ) -> Result<(), Refusal>
-    ensures same { ((x y : T) → T.is_clone x y → y ≡ x)
+    ensures unchanged { ((x y : T) → T.is_clone x y → y ≡ x)
         → OnOk result (replay T.cmp copy.old.nodes events.now ≡ Some copy.new.nodes) }
     ensures applied { ((x y : T) → T.is_clone x y → y ≡ x) → replay T.cmp copy.old.nodes
         (take (copy.new.next - copy.old.next) events.now) ≡ Some copy.new.nodes }

@@ -32,7 +32,7 @@ pub fn place_of(set: &BTreeSet<u64>, key: u64) -> (Result<usize, usize>, u64)
     ensures absent { IfErr result.0 (λ _. position (λ x. is_eq (nat_cmp x key)) (items set.now)
         ≡ None) }
     ensures below { IfErr result.0 (λ i. i ≡ rank nat_cmp (items set.now) key) }
-    ensures few { result.1 ≤ digits (length set.now.nodes) + digits set.now.size + 1 }
+    ensures comparisons { result.1 ≤ digits (length set.now.nodes) + digits set.now.size + 1 }
 {
     // Shows the proof that the elements are in order.
     let _len = set.len();

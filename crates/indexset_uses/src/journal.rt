@@ -1,7 +1,7 @@
 //! A journal: the events of all calls on a set since it was empty, kept in one list.
 ghost use Rattle.std.specs.Prelude.{◌≡◌, [], length, take, Some, IfErr, OnErr, OnOk};
 ghost use Rattle.std.specs.Ordering.{nat_cmp};
-ghost use Rattle.indexset.specs.Words.{IsNumberedFrom, joined, put, replay, without};
+ghost use Rattle.indexset.specs.Words.{IsNumberedFrom, concat, put, replay, without};
 
 use crate::change_log::Numbers;
 use indexset::base::refusal::{Refusal, Refused};
@@ -22,11 +22,11 @@ pub fn insert(
     ensures replay { replay nat_cmp [] journal.new.items ≡ Some tree.new.nodes }
     ensures numbered { IsNumberedFrom 0 journal.new.items }
     ensures next { tree.new.next ≡ length journal.new.items }
-    ensures contents { OnOk result (joined tree.new.nodes
-        ≡ put nat_cmp (joined tree.old.nodes) value) }
+    ensures contents { OnOk result (concat tree.new.nodes
+        ≡ put nat_cmp (concat tree.old.nodes) value) }
     ensures kept { take (length journal.old.items) journal.new.items ≡ journal.old.items }
     ensures given_back { IfErr result (λ refused. refused.value ≡ value) }
-    ensures same { OnErr result (tree.new ≡ tree.old) }
+    ensures unchanged { OnErr result (tree.new ≡ tree.old) }
     ensures memory { IfErr result (λ refused. refused.cause ≡ Refusal.Memory) }
 {
     // A call returns at most three events: with room for three before it, none is lost, and there

@@ -16,7 +16,7 @@ pub fn take_match(bids: &mut BTreeSet<u64>, asks: &mut BTreeSet<u64>) -> Option<
     ensures asks { OnSome result (items asks.new ≡ drop 1 (items asks.old)) }
     ensures uncrossed { IfNone result
         (All (λ bid. All (λ ask. bid < ask) (items asks.old)) (items bids.old)) }
-    ensures same { IfNone result ((items bids.new ≡ items bids.old)
+    ensures unchanged { IfNone result ((items bids.new ≡ items bids.old)
         × (items asks.new ≡ items asks.old)) }
 {
     let bid = *bids.last()?;

@@ -3,7 +3,7 @@ ghost use Rattle.std.specs.Prelude.{◌≡◌, ◌⊎◌, false, length, Some, I
 ghost use Rattle.std.specs.Option.{option_copied};
 ghost use Rattle.std.specs.Ordering.{nat_cmp};
 ghost use Rattle.std.specs.Cmp.Lexicographic.{slice_cmp};
-ghost use Rattle.indexset.specs.Words.{by_key, has_key, joined, key_removal_events, pair, put, put_events, refusal_for, value_of, without_key};
+ghost use Rattle.indexset.specs.Words.{by_key, has_key, concat, key_removal_events, pair, put, put_events, refusal_for, value_of, without_key};
 
 use crate::copies::apply_all;
 use indexset::base::Text;
@@ -16,28 +16,28 @@ use indexset::replica::Replica;
 pub type Named = Pair<Text, Text>;
 
 /// Texts by name.
-pub type Names = BTreeMap<Text, Text>;
+pub type UniqueKey = BTreeMap<Text, Text>;
 
 /// Sets the text of a name, in a map and in a copy with the same nodes: both then have the same
 /// nodes again, and the copy holds the text. Where it fails, nothing changed, or the map has the
 /// text and the copy is behind.
 pub fn set_text(
-    names: &mut Names,
+    names: &mut UniqueKey,
     copy: &mut Replica<Named>,
     name: Text,
     text: Text,
 ) -> Result<(), Refusal>
     requires { copy.old.nodes ≡ names.old.nodes }
-    ensures same { OnOk result (copy.new.nodes ≡ names.new.nodes) }
-    ensures held { OnOk result (value_of (slice_cmp nat_cmp) (joined copy.new.nodes) name
+    ensures unchanged { OnOk result (copy.new.nodes ≡ names.new.nodes) }
+    ensures held { OnOk result (value_of (slice_cmp nat_cmp) (concat copy.new.nodes) name
         ≡ Some text) }
-    ensures contents { OnOk result (joined names.new.nodes
-        ≡ put (by_key (slice_cmp nat_cmp)) (joined names.old.nodes) (pair name text)) }
+    ensures contents { OnOk result (concat names.new.nodes
+        ≡ put (by_key (slice_cmp nat_cmp)) (concat names.old.nodes) (pair name text)) }
     ensures refused { IfErr result (λ refusal. ((names.new ≡ names.old) × (copy.new ≡ copy.old)
         × (refusal ≡ refusal_for names.old.next (length (put_events (by_key (slice_cmp nat_cmp))
         names.old.size names.old.nodes (pair name text)))))
-        ⊎ (joined names.new.nodes ≡ put (by_key (slice_cmp nat_cmp))
-        (joined names.old.nodes) (pair name text))) }
+        ⊎ (concat names.new.nodes ≡ put (by_key (slice_cmp nat_cmp))
+        (concat names.old.nodes) (pair name text))) }
 {
     let (_, events) = names.insert_cdc(name, text)?;
     apply_all(copy, events.as_slice())
@@ -46,26 +46,26 @@ pub fn set_text(
 /// Removes a name from a map and from a copy with the same nodes: both then have the same nodes
 /// again, and the copy does not hold the name. Where it fails, nothing changed, or the name is
 /// absent from the map and the copy is behind.
-pub fn forget(names: &mut Names, copy: &mut Replica<Named>, name: &str) -> Result<(), Refusal>
+pub fn forget(names: &mut UniqueKey, copy: &mut Replica<Named>, name: &str) -> Result<(), Refusal>
     requires { copy.old.nodes ≡ names.old.nodes }
-    ensures same { OnOk result (copy.new.nodes ≡ names.new.nodes) }
-    ensures gone { OnOk result (has_key (slice_cmp nat_cmp) (joined copy.new.nodes) name.now
+    ensures unchanged { OnOk result (copy.new.nodes ≡ names.new.nodes) }
+    ensures gone { OnOk result (has_key (slice_cmp nat_cmp) (concat copy.new.nodes) name.now
         ≡ false) }
-    ensures contents { OnOk result (joined names.new.nodes
-        ≡ without_key (slice_cmp nat_cmp) (joined names.old.nodes) name.now) }
+    ensures contents { OnOk result (concat names.new.nodes
+        ≡ without_key (slice_cmp nat_cmp) (concat names.old.nodes) name.now) }
     ensures refused { IfErr result (λ refusal. ((names.new ≡ names.old) × (copy.new ≡ copy.old)
         × (refusal ≡ refusal_for names.old.next (length (key_removal_events (slice_cmp nat_cmp)
         names.old.size names.old.nodes name.now))))
-        ⊎ (joined names.new.nodes ≡ without_key (slice_cmp nat_cmp)
-        (joined names.old.nodes) name.now)) }
+        ⊎ (concat names.new.nodes ≡ without_key (slice_cmp nat_cmp)
+        (concat names.old.nodes) name.now)) }
 {
     let (_, events) = names.remove_cdc(name)?;
     apply_all(copy, events.as_slice())
 }
 
 /// Returns the text of a name, looked up as it is: no key is made of it.
-pub fn text_of<'a>(names: &'a Names, name: &str) -> Option<&'a Text>
-    ensures { option_copied result ≡ value_of (slice_cmp nat_cmp) (joined names.now.nodes)
+pub fn text_of<'a>(names: &'a UniqueKey, name: &str) -> Option<&'a Text>
+    ensures { option_copied result ≡ value_of (slice_cmp nat_cmp) (concat names.now.nodes)
         name.now }
 {
     Some(&names.get(name)?.value)
@@ -73,7 +73,7 @@ pub fn text_of<'a>(names: &'a Names, name: &str) -> Option<&'a Text>
 
 /// Returns the text that a copy has of a name, in the same way.
 pub fn copied_text_of<'a>(copy: &'a Replica<Named>, name: &str) -> Option<&'a Text>
-    ensures { option_copied result ≡ value_of (slice_cmp nat_cmp) (joined copy.now.nodes) name.now }
+    ensures { option_copied result ≡ value_of (slice_cmp nat_cmp) (concat copy.now.nodes) name.now }
 {
     Some(&copy.get(name)?.value)
 }

@@ -1,7 +1,7 @@
 //! Orders by customer: a multimap, in which a key has several values.
 ghost use Rattle.std.specs.Prelude.{◌≡◌, ℕ, false, length, nat_eq, IfErr, OnOk, OnErr};
 ghost use Rattle.std.specs.Ordering.{is_eq, nat_cmp};
-ghost use Rattle.indexset.specs.Words.{by_number, equal_pair, inserted_pair, insertion_refusal, joined, pair_removal_events, pairs_of, put, refusal_for, without_first};
+ghost use Rattle.indexset.specs.Words.{by_number, equal_pair, inserted_pair, insertion_refusal, concat, pair_removal_events, pairs_of, put, refusal_for, without_first};
 
 use indexset::base::multipair::MultiPair;
 use indexset::base::refusal::{Refusal, Refused};
@@ -12,10 +12,10 @@ pub type Orders = BTreeMultiMap<u64, u64, Vec<MultiPair<u64, u64>>>;
 
 /// Files an order under its customer, behind those that the customer has.
 pub fn file(orders: &mut Orders, customer: u64, order: u64) -> Result<(), Refused<(u64, u64)>>
-    ensures filed { OnOk result (joined orders.new.nodes ≡ put (by_number nat_cmp)
-        (joined orders.old.nodes) (inserted_pair nat_cmp nat_eq orders.old customer order)) }
+    ensures filed { OnOk result (concat orders.new.nodes ≡ put (by_number nat_cmp)
+        (concat orders.old.nodes) (inserted_pair nat_cmp nat_eq orders.old customer order)) }
     ensures given_back { IfErr result (λ refused. refused.value ≡ (customer, order)) }
-    ensures same { OnErr result (orders.new ≡ orders.old) }
+    ensures unchanged { OnErr result (orders.new ≡ orders.old) }
     ensures cause { IfErr result (λ refused.
         refused.cause ≡ insertion_refusal nat_cmp nat_eq orders.old customer order) }
 {
@@ -25,15 +25,15 @@ pub fn file(orders: &mut Orders, customer: u64, order: u64) -> Result<(), Refuse
 
 /// Removes an order of a customer, if there is one.
 pub fn cancel(orders: &mut Orders, customer: u64, order: u64) -> Result<(), Refusal>
-    ensures gone { OnOk result (pairs_of nat_cmp (joined orders.new.nodes) customer ≡ without_first
-        (λ p. nat_eq p.value order) (pairs_of nat_cmp (joined orders.old.nodes) customer)) }
+    ensures gone { OnOk result (pairs_of nat_cmp (concat orders.new.nodes) customer ≡ without_first
+        (λ p. nat_eq p.value order) (pairs_of nat_cmp (concat orders.old.nodes) customer)) }
     ensures others { OnOk result ((other : ℕ) → is_eq (nat_cmp other customer) ≡ false →
-        pairs_of nat_cmp (joined orders.new.nodes) other
-        ≡ pairs_of nat_cmp (joined orders.old.nodes) other) }
-    ensures same { OnErr result (orders.new ≡ orders.old) }
+        pairs_of nat_cmp (concat orders.new.nodes) other
+        ≡ pairs_of nat_cmp (concat orders.old.nodes) other) }
+    ensures unchanged { OnErr result (orders.new ≡ orders.old) }
     ensures cause { IfErr result (λ refusal. refusal ≡ refusal_for orders.old.next (length
         (pair_removal_events nat_cmp orders.old.size orders.old.nodes
-        (equal_pair nat_cmp nat_eq (joined orders.old.nodes) customer order)))) }
+        (equal_pair nat_cmp nat_eq (concat orders.old.nodes) customer order)))) }
 {
     orders.remove(&customer, &order)?;
     Ok(())
@@ -41,7 +41,7 @@ pub fn cancel(orders: &mut Orders, customer: u64, order: u64) -> Result<(), Refu
 
 /// Returns how many orders a customer has.
 pub fn count(orders: &Orders, customer: u64) -> usize
-    ensures { result ≡ length (pairs_of nat_cmp (joined orders.now.nodes) customer) }
+    ensures { result ≡ length (pairs_of nat_cmp (concat orders.now.nodes) customer) }
 {
     orders.get(&customer).len()
 }

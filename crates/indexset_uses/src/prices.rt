@@ -17,7 +17,7 @@ pub fn set_price(
 ) -> Result<Option<u64>, Refused<(u64, u64)>>
     ensures now { IfOk result (λ now. now ≡ Some price) }
     ensures contents { IfOk result (λ _. prices.new ≡ with_entry nat_cmp prices.old item price) }
-    ensures same { OnErr result (prices.new ≡ prices.old) }
+    ensures unchanged { OnErr result (prices.new ≡ prices.old) }
     ensures given_back { IfErr result (λ refused.
         (refused.value ≡ (item, price)) × (refused.cause ≡ Memory)) }
 {
@@ -43,7 +43,7 @@ pub fn price_or(
     ensures now { IfOk result (λ price. value_of nat_cmp prices.new.pairs item ≡ Some price) }
     ensures contents { IfOk result (λ price. prices.new
         ≡ with_entry nat_cmp prices.old item price) }
-    ensures same { OnErr result (prices.new ≡ prices.old) }
+    ensures unchanged { OnErr result (prices.new ≡ prices.old) }
     ensures given_back { IfErr result (λ refused.
         (refused.value ≡ (item, usual)) × (refused.cause ≡ Memory)) }
 {

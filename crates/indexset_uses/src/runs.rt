@@ -4,7 +4,7 @@ ghost use Rattle.std.specs.List.{fold, scan};
 ghost use Rattle.std.specs.Ordering.{nat_cmp};
 ghost use Rattle.std.specs.String.{string_cmp};
 ghost use Rattle.std.specs.Cmp.Lexicographic.{slice_cmp};
-ghost use Rattle.indexset.specs.Words.{by_key, joined, replay, IsNumberedFrom, LeadsToCopies};
+ghost use Rattle.indexset.specs.Words.{by_key, concat, replay, IsNumberedFrom, LeadsToCopies};
 ghost use Rattle.indexset_core.specs.declared.refusal.Refusal.TheVariants.{Memory, Numbers};
 ghost use Rattle.indexset_bench.specs.LoggedMap.{logged_map_after, logged_map_reply};
 
@@ -28,14 +28,14 @@ pub fn run_stock(
     ensures numbered { IsNumberedFrom stock.old.next result.events.items }
     ensures next { stock.new.next ≡ stock.old.next + length result.events.items }
     ensures replies { result.replies.items ≡ scan (logged_map_after (slice_cmp nat_cmp))
-        (logged_map_reply (slice_cmp nat_cmp)) (joined stock.old.nodes)
+        (logged_map_reply (slice_cmp nat_cmp)) (concat stock.old.nodes)
         (take (length result.replies.items) commands.items) }
     ensures all { IfNone result.refused (length result.replies.items ≡ length commands.items) }
     ensures fewer { OnSome result.refused
         (length result.replies.items < length commands.items) }
     ensures refused { IfSome result.refused (λ cause. cause ≢ Memory → cause ≡ Numbers) }
-    ensures contents { joined stock.new.nodes
-        ≡ fold (logged_map_after (slice_cmp nat_cmp)) (joined stock.old.nodes)
+    ensures contents { concat stock.new.nodes
+        ≡ fold (logged_map_after (slice_cmp nat_cmp)) (concat stock.old.nodes)
         (take (length result.replies.items) commands.items) }
 {
     run_logged(alloc, stock, commands)
@@ -54,17 +54,17 @@ pub fn run_counts(
         (length result.replies.items < length commands.items) }
     ensures refused { IfSome result.refused (λ cause. cause ≢ Memory → cause ≡ Numbers) }
     ensures replies { result.replies.items ≡ scan (logged_map_after string_cmp)
-        (logged_map_reply string_cmp) (joined counts.old.nodes)
+        (logged_map_reply string_cmp) (concat counts.old.nodes)
         (take (length result.replies.items) commands.items) }
-    ensures contents { joined counts.new.nodes
-        ≡ fold (logged_map_after string_cmp) (joined counts.old.nodes)
+    ensures contents { concat counts.new.nodes
+        ≡ fold (logged_map_after string_cmp) (concat counts.old.nodes)
         (take (length result.replies.items) commands.items) }
     ensures numbered { IsNumberedFrom counts.old.next result.events.items }
     ensures copies { LeadsToCopies (by_key string_cmp)
         (λ p q. (string_bytes q.key ≡ string_bytes p.key) × (q.value ≡ p.value)) counts.old.nodes
         result.events.items counts.new.nodes }
     ensures next { counts.new.next ≡ counts.old.next + length result.events.items }
-    ensures few { length result.events.items ≤ 3 * length result.replies.items }
+    ensures at_most_three_events { length result.events.items ≤ 3 * length result.replies.items }
 {
     clones::texts();
     run_logged(alloc, counts, commands)

@@ -10,9 +10,9 @@ use indexset::base::refusal::Refusal;
 
 /// Inserts a score, and returns whether it is on the board, as it then always is.
 pub fn enter(board: &mut BTreeSet<u64>, score: u64) -> Result<bool, Refusal>
-    ensures there { IfOk result (λ on_board. on_board ≡ true) }
+    ensures contains { IfOk result (λ on_board. on_board ≡ true) }
     ensures contents { OnOk result (items board.new ≡ keep nat_cmp (items board.old) score) }
-    ensures same { OnErr result (board.new ≡ board.old) }
+    ensures unchanged { OnErr result (board.new ≡ board.old) }
     ensures memory { IfErr result (λ refusal. refusal ≡ Refusal.Memory) }
 {
     board.insert(score)?;
@@ -39,7 +39,7 @@ pub fn take_from(board: &mut BTreeSet<u64>, score: u64) -> Result<BTreeSet<u64>,
     ensures left { OnOk result (All (λ x. x < score) (items board.new)) }
     ensures taken { IfOk result (λ taken. All (λ x. score ≤ x) (items taken)) }
     ensures all { IfOk result (λ taken. items board.old ≡ items board.new ++ items taken) }
-    ensures same { OnErr result (board.new ≡ board.old) }
+    ensures unchanged { OnErr result (board.new ≡ board.old) }
     ensures memory { IfErr result (λ refusal. refusal ≡ Refusal.Memory) }
 {
     board.split_off(&score)

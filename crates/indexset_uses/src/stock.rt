@@ -2,7 +2,7 @@
 ghost use Rattle.std.specs.Prelude.{◌≡◌, ◌⊎◌, length, Some, IfErr, OnOk};
 ghost use Rattle.std.specs.Ordering.{nat_cmp};
 ghost use Rattle.std.specs.Cmp.Lexicographic.{slice_cmp};
-ghost use Rattle.indexset.specs.Words.{by_key, joined, key_removal_events, pair, put, put_events, refusal_for, value_of, without_key};
+ghost use Rattle.indexset.specs.Words.{by_key, concat, key_removal_events, pair, put, put_events, refusal_for, value_of, without_key};
 
 use crate::copies::apply_all;
 use indexset::base::Text;
@@ -27,16 +27,16 @@ pub fn set_count(
     count: u64,
 ) -> Result<(), Refusal>
     requires { copy.old.nodes ≡ stock.old.nodes }
-    ensures same { OnOk result (copy.new.nodes ≡ stock.new.nodes) }
-    ensures held { OnOk result (value_of (slice_cmp nat_cmp) (joined copy.new.nodes) name
+    ensures unchanged { OnOk result (copy.new.nodes ≡ stock.new.nodes) }
+    ensures held { OnOk result (value_of (slice_cmp nat_cmp) (concat copy.new.nodes) name
         ≡ Some count) }
-    ensures contents { OnOk result (joined stock.new.nodes
-        ≡ put (by_key (slice_cmp nat_cmp)) (joined stock.old.nodes) (pair name count)) }
+    ensures contents { OnOk result (concat stock.new.nodes
+        ≡ put (by_key (slice_cmp nat_cmp)) (concat stock.old.nodes) (pair name count)) }
     ensures refused { IfErr result (λ refusal. ((stock.new ≡ stock.old) × (copy.new ≡ copy.old)
         × (refusal ≡ refusal_for stock.old.next (length (put_events (by_key (slice_cmp nat_cmp))
         stock.old.size stock.old.nodes (pair name count)))))
-        ⊎ (joined stock.new.nodes ≡ put (by_key (slice_cmp nat_cmp))
-        (joined stock.old.nodes) (pair name count))) }
+        ⊎ (concat stock.new.nodes ≡ put (by_key (slice_cmp nat_cmp))
+        (concat stock.old.nodes) (pair name count))) }
 {
     let (_, events) = stock.insert_cdc(name, count)?;
     apply_all(copy, events.as_slice())
@@ -47,14 +47,14 @@ pub fn set_count(
 /// behind.
 pub fn forget(stock: &mut Stock, copy: &mut Replica<Count>, name: &str) -> Result<(), Refusal>
     requires { copy.old.nodes ≡ stock.old.nodes }
-    ensures same { OnOk result (copy.new.nodes ≡ stock.new.nodes) }
-    ensures contents { OnOk result (joined stock.new.nodes
-        ≡ without_key (slice_cmp nat_cmp) (joined stock.old.nodes) name.now) }
+    ensures unchanged { OnOk result (copy.new.nodes ≡ stock.new.nodes) }
+    ensures contents { OnOk result (concat stock.new.nodes
+        ≡ without_key (slice_cmp nat_cmp) (concat stock.old.nodes) name.now) }
     ensures refused { IfErr result (λ refusal. ((stock.new ≡ stock.old) × (copy.new ≡ copy.old)
         × (refusal ≡ refusal_for stock.old.next (length (key_removal_events (slice_cmp nat_cmp)
         stock.old.size stock.old.nodes name.now))))
-        ⊎ (joined stock.new.nodes ≡ without_key (slice_cmp nat_cmp)
-        (joined stock.old.nodes) name.now)) }
+        ⊎ (concat stock.new.nodes ≡ without_key (slice_cmp nat_cmp)
+        (concat stock.old.nodes) name.now)) }
 {
     let (_, events) = stock.remove_cdc(name)?;
     apply_all(copy, events.as_slice())

@@ -4,7 +4,7 @@
 ghost use Rattle.std.specs.Prelude.{◌≡◌, ◌+◌, ◌≤◌, ◌⊎◌, ℕ, List, length, false, map, unwrap_or, None, Some, IfErr, IfOk, OnOk, OnErr, string_bytes};
 ghost use Rattle.std.specs.List.{AllZip};
 ghost use Rattle.std.specs.String.{string_cmp};
-ghost use Rattle.indexset.specs.Words.{by_key, has_key, joined, key_removal_events, apply_refusal, numbered_from, pair, put, put_events, refusal_for, unassigned, value_of, without_key, AreCopies, IsClonedStep, IsEventClone, IsNumberedFrom};
+ghost use Rattle.indexset.specs.Words.{by_key, has_key, concat, key_removal_events, apply_refusal, numbered_from, pair, put, put_events, refusal_for, unassigned, value_of, without_key, AreCopies, IsClonedStep, IsEventClone, IsNumberedFrom};
 
 use crate::copies::apply_all;
 use indexset::base::Text;
@@ -29,17 +29,17 @@ pub fn set_count(
     name: String,
     count: u64,
 ) -> Result<Vec<ChangeEvent<Count>>, Refused<(String, u64)>>
-    ensures contents { OnOk result (joined counts.new.nodes
-        ≡ put (by_key string_cmp) (joined counts.old.nodes) (pair name count)) }
-    ensures held { OnOk result (value_of string_cmp (joined counts.new.nodes) name ≡ Some count) }
+    ensures contents { OnOk result (concat counts.new.nodes
+        ≡ put (by_key string_cmp) (concat counts.old.nodes) (pair name count)) }
+    ensures held { OnOk result (value_of string_cmp (concat counts.new.nodes) name ≡ Some count) }
     ensures numbered { IfOk result (λ events. IsNumberedFrom counts.old.next events.items) }
     ensures next { IfOk result (λ events. counts.new.next ≡ counts.old.next + length events.items) }
-    ensures few { IfOk result (λ events. length events.items ≤ 3) }
-    ensures told { IfOk result (λ events. AllZip
+    ensures at_most_three_events { IfOk result (λ events. length events.items ≤ 3) }
+    ensures events { IfOk result (λ events. AllZip
         (IsEventClone (λ p q. (string_bytes q.key ≡ string_bytes p.key) × (q.value ≡ p.value)))
         (numbered_from counts.old.next (put_events (by_key string_cmp) counts.old.size
         counts.old.nodes (pair name count))) events.items) }
-    ensures same { OnErr result (counts.new ≡ counts.old) }
+    ensures unchanged { OnErr result (counts.new ≡ counts.old) }
     ensures given_back { IfErr result (λ refused. refused.value ≡ (name, count)) }
     ensures cause { IfErr result (λ refused. refused.cause ≡ refusal_for counts.old.next (length
         (put_events (by_key string_cmp) counts.old.size counts.old.nodes (pair name count)))) }
@@ -64,16 +64,16 @@ pub fn set_in_both(
     ensures copies { OnOk result (AreCopies (by_key string_cmp)
         (λ p q. (string_bytes q.key ≡ string_bytes p.key) × (q.value ≡ p.value)) counts.new.nodes
         copy.new.nodes) }
-    ensures contents { OnOk result (joined counts.new.nodes
-        ≡ put (by_key string_cmp) (joined counts.old.nodes) (pair name count)) }
-    ensures same { OnOk result (map (map {B = List ℕ × ℕ} (λ p. (string_bytes p.key, p.value)))
+    ensures contents { OnOk result (concat counts.new.nodes
+        ≡ put (by_key string_cmp) (concat counts.old.nodes) (pair name count)) }
+    ensures unchanged { OnOk result (map (map {B = List ℕ × ℕ} (λ p. (string_bytes p.key, p.value)))
         copy.new.nodes ≡ map (map {B = List ℕ × ℕ} (λ p. (string_bytes p.key, p.value)))
         counts.new.nodes) }
     ensures refused { IfErr result (λ refusal. ((counts.new ≡ counts.old) × (copy.new ≡ copy.old)
         × (refusal ≡ refusal_for counts.old.next (length (put_events (by_key string_cmp)
         counts.old.size counts.old.nodes (pair name count)))))
-        ⊎ (joined counts.new.nodes ≡ put (by_key string_cmp)
-        (joined counts.old.nodes) (pair name count))) }
+        ⊎ (concat counts.new.nodes ≡ put (by_key string_cmp)
+        (concat counts.old.nodes) (pair name count))) }
 {
     clones::texts();
     clones::pairs::<String, u64>();
@@ -85,17 +85,17 @@ pub fn set_in_both(
 /// Removes a name, and returns the events, at most three. They are numbered without a gap, and are
 /// those of the removal with clones of its names.
 pub fn forget(counts: &mut Counts, name: &String) -> Result<Vec<ChangeEvent<Count>>, Refusal>
-    ensures contents { OnOk result (joined counts.new.nodes
-        ≡ without_key string_cmp (joined counts.old.nodes) name.now) }
-    ensures gone { OnOk result (has_key string_cmp (joined counts.new.nodes) name.now ≡ false) }
+    ensures contents { OnOk result (concat counts.new.nodes
+        ≡ without_key string_cmp (concat counts.old.nodes) name.now) }
+    ensures gone { OnOk result (has_key string_cmp (concat counts.new.nodes) name.now ≡ false) }
     ensures numbered { IfOk result (λ events. IsNumberedFrom counts.old.next events.items) }
     ensures next { IfOk result (λ events. counts.new.next ≡ counts.old.next + length events.items) }
-    ensures few { IfOk result (λ events. length events.items ≤ 3) }
-    ensures told { IfOk result (λ events. AllZip
+    ensures at_most_three_events { IfOk result (λ events. length events.items ≤ 3) }
+    ensures events { IfOk result (λ events. AllZip
         (IsEventClone (λ p q. (string_bytes q.key ≡ string_bytes p.key) × (q.value ≡ p.value)))
         (numbered_from counts.old.next (key_removal_events string_cmp counts.old.size
         counts.old.nodes name.now)) events.items) }
-    ensures same { OnErr result (counts.new ≡ counts.old) }
+    ensures unchanged { OnErr result (counts.new ≡ counts.old) }
     ensures cause { IfErr result (λ refusal. refusal ≡ refusal_for counts.old.next
         (length (key_removal_events string_cmp counts.old.size counts.old.nodes name.now))) }
 {
@@ -113,7 +113,7 @@ pub fn follow(copy: &mut Replica<Count>, event: &ChangeEvent<Count>) -> Result<(
     ensures next { OnOk result (copy.new.next ≡ copy.old.next + 1) }
     ensures fits { OnOk result (apply_refusal (by_key string_cmp) copy.old.nodes copy.old.next
         event.now ≡ None) }
-    ensures same { OnErr result (copy.new ≡ copy.old) }
+    ensures unchanged { OnErr result (copy.new ≡ copy.old) }
     ensures cause { IfErr result (λ refusal. refusal ≡ unwrap_or (apply_refusal (by_key string_cmp)
         copy.old.nodes copy.old.next event.now) Refusal.Memory) }
 {

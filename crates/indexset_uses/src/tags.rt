@@ -2,7 +2,7 @@
 ghost use Rattle.std.specs.Prelude.{◌≡◌, ◌+◌, ℕ, List, nat_eq, false, length, true, is_some, Some, IfErr, IfOk, OnOk, OnErr};
 ghost use Rattle.std.specs.Ordering.{is_eq, nat_cmp};
 ghost use Rattle.std.specs.Cmp.Lexicographic.{pointwise, slice_cmp};
-ghost use Rattle.indexset.specs.Words.{by_number, entries, equal_pair, inserted_pair, insertion_refusal, joined, pair_removal_events, pairs_of, put, refusal_for, replay, without_first, IsNumberedFrom};
+ghost use Rattle.indexset.specs.Words.{by_number, entries, equal_pair, inserted_pair, insertion_refusal, concat, pair_removal_events, pairs_of, put, refusal_for, replay, without_first, IsNumberedFrom};
 
 use indexset::base::Text;
 use indexset::base::multipair::MultiPair;
@@ -24,19 +24,19 @@ pub fn add(
     tag: Text,
     document: Text,
 ) -> Result<Vec<ChangeEvent<Tagged>>, Refused<(Text, Text)>>
-    ensures there { OnOk result (is_some (equal_pair (slice_cmp nat_cmp) (pointwise nat_eq)
-        (joined tags.new.nodes) tag document) ≡ true) }
-    ensures contents { OnOk result (joined tags.new.nodes
-        ≡ put (by_number (slice_cmp nat_cmp)) (joined tags.old.nodes)
+    ensures contains { OnOk result (is_some (equal_pair (slice_cmp nat_cmp) (pointwise nat_eq)
+        (concat tags.new.nodes) tag document) ≡ true) }
+    ensures contents { OnOk result (concat tags.new.nodes
+        ≡ put (by_number (slice_cmp nat_cmp)) (concat tags.old.nodes)
         (inserted_pair (slice_cmp nat_cmp) (pointwise nat_eq) tags.old tag document)) }
     ensures others { OnOk result ((other : List ℕ) → is_eq (slice_cmp nat_cmp other tag) ≡ false
-        → pairs_of (slice_cmp nat_cmp) (joined tags.new.nodes) other
-        ≡ pairs_of (slice_cmp nat_cmp) (joined tags.old.nodes) other) }
+        → pairs_of (slice_cmp nat_cmp) (concat tags.new.nodes) other
+        ≡ pairs_of (slice_cmp nat_cmp) (concat tags.old.nodes) other) }
     ensures replay { IfOk result (λ events. replay (by_number (slice_cmp nat_cmp)) tags.old.nodes
         events.items ≡ Some tags.new.nodes) }
     ensures numbered { IfOk result (λ events. IsNumberedFrom tags.old.next events.items) }
     ensures next { IfOk result (λ events. tags.new.next ≡ tags.old.next + length events.items) }
-    ensures same { OnErr result (tags.new ≡ tags.old) }
+    ensures unchanged { OnErr result (tags.new ≡ tags.old) }
     ensures given_back { IfErr result (λ refused. refused.value ≡ (tag, document)) }
     ensures cause { IfErr result (λ refused. refused.cause
         ≡ insertion_refusal (slice_cmp nat_cmp) (pointwise nat_eq) tags.old tag document) }
@@ -53,20 +53,20 @@ pub fn remove(
     tag: &str,
     document: &Text,
 ) -> Result<Vec<ChangeEvent<Tagged>>, Refusal>
-    ensures gone { OnOk result (pairs_of (slice_cmp nat_cmp) (joined tags.new.nodes) tag.now
+    ensures gone { OnOk result (pairs_of (slice_cmp nat_cmp) (concat tags.new.nodes) tag.now
         ≡ without_first (λ pair. pointwise nat_eq pair.value document.now)
-        (pairs_of (slice_cmp nat_cmp) (joined tags.old.nodes) tag.now)) }
+        (pairs_of (slice_cmp nat_cmp) (concat tags.old.nodes) tag.now)) }
     ensures others { OnOk result ((other : List ℕ) → is_eq (slice_cmp nat_cmp other tag.now) ≡ false
-        → pairs_of (slice_cmp nat_cmp) (joined tags.new.nodes) other
-        ≡ pairs_of (slice_cmp nat_cmp) (joined tags.old.nodes) other) }
+        → pairs_of (slice_cmp nat_cmp) (concat tags.new.nodes) other
+        ≡ pairs_of (slice_cmp nat_cmp) (concat tags.old.nodes) other) }
     ensures replay { IfOk result (λ events. replay (by_number (slice_cmp nat_cmp)) tags.old.nodes
         events.items ≡ Some tags.new.nodes) }
     ensures numbered { IfOk result (λ events. IsNumberedFrom tags.old.next events.items) }
     ensures next { IfOk result (λ events. tags.new.next ≡ tags.old.next + length events.items) }
-    ensures same { OnErr result (tags.new ≡ tags.old) }
+    ensures unchanged { OnErr result (tags.new ≡ tags.old) }
     ensures cause { IfErr result (λ refusal. refusal ≡ refusal_for tags.old.next (length
         (pair_removal_events (slice_cmp nat_cmp) tags.old.size tags.old.nodes
-        (equal_pair (slice_cmp nat_cmp) (pointwise nat_eq) (joined tags.old.nodes) tag.now
+        (equal_pair (slice_cmp nat_cmp) (pointwise nat_eq) (concat tags.old.nodes) tag.now
         document.now)))) }
 {
     laws::numbered_by_place::<Tagged>();
@@ -76,7 +76,7 @@ pub fn remove(
 
 /// Returns the documents of a tag, in the order of their numbers.
 pub fn documents<'a>(tags: &'a Tags, tag: &str) -> Range<'a, Text, Text>
-    ensures { result ≡ entries (pairs_of (slice_cmp nat_cmp) (joined tags.now.nodes) tag.now) }
+    ensures { result ≡ entries (pairs_of (slice_cmp nat_cmp) (concat tags.now.nodes) tag.now) }
 {
     tags.get(tag)
 }

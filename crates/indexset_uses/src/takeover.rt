@@ -2,7 +2,7 @@
 ghost use Rattle.std.specs.Prelude.{◌≡◌, ◌<◌, ◌≤◌, [], length, take, unwrap_or, Some, IfErr, IfOk};
 ghost use Rattle.std.specs.List.{All};
 ghost use Rattle.std.specs.Ordering.{nat_cmp};
-ghost use Rattle.indexset.specs.Words.{IsBeginning, IsDelivered, IsFeed, nodes_refusal, replay, vec_items};
+ghost use Rattle.indexset.specs.Words.{IsPrefix, IsDelivered, IsEventLog, nodes_refusal, replay, vec_items};
 
 use crate::change_log::Numbers;
 use indexset::base::refusal::Refusal;
@@ -19,13 +19,13 @@ pub fn resume(
     events: &[ChangeEvent<u64>],
     order: &[usize],
 ) -> Result<Replica<u64>, Refusal>
-    requires feed { IsFeed nat_cmp 0 [] events.now }
+    requires feed { IsEventLog nat_cmp 0 [] events.now }
     requires within { next ≤ length events.now }
     requires snapshot { replay nat_cmp [] (take next events.now) ≡ Some (vec_items nodes.items) }
     requires inside { All (λ p. p < length events.now) order.now }
     ensures delivered { IfOk result (λ copy.
         IsDelivered nat_cmp 0 [] events.now next order.now copy) }
-    ensures beginning { IfOk result (λ copy. IsBeginning nat_cmp 0 [] events.now copy) }
+    ensures beginning { IfOk result (λ copy. IsPrefix nat_cmp 0 [] events.now copy) }
     ensures onwards { IfOk result (λ copy. next ≤ copy.next) }
     ensures memory { IfErr result (λ refusal. refusal ≡ Refusal.Memory) }
 {

@@ -1,10 +1,10 @@
 //! Items in the words of a script. A pair is `1:a`, and one with a number `1:a #0`.
 ghost use Rattle.std.specs.Prelude.{◌≡◌};
 ghost use Rattle.std.specs.Range.Bound.{bound_map};
-ghost use Rattle.indexset_core.specs.Bounds.{are_ordered};
+ghost use Rattle.indexset_core.specs.KeyRange.{are_ordered};
 
 use crate::meter::{Meter, Metered};
-use indexset_core::bounds::bounds_are_ordered;
+use indexset_core::key_range::bounds_are_ordered;
 use indexset_core::multipair::MultiPair;
 use indexset_core::pair::Pair;
 use std::alloc::Global;

@@ -2,10 +2,10 @@
 
 use crate::item::{Item, Source, Value, read_bound, read_range};
 use crate::trees::{copies_before, copies_up_to};
-use indexset_core::bounds::{Bounds, bounds_are_ordered};
+use indexset_core::key_range::{KeyRange, bounds_are_ordered};
+use indexset_core::lookup_key::LookupKey;
 use indexset_core::multipair::MultiPair;
 use indexset_core::pair::Pair;
-use indexset_core::sought::Sought;
 use indexset_replica::Replica;
 use indexset_replica::iter::Iter;
 use std::ops::Bound;
@@ -13,7 +13,7 @@ use std::str::SplitWhitespace;
 use test_script::script::{self, Stop, read, tell, tell_option};
 
 /// What a script seeks items by: an item, or the key of a pair.
-pub trait Keyed<T: Item>: Item + Sought<T> {
+pub trait Keyed<T: Item>: Item + LookupKey<T> {
     /// Returns the rank of the key of an item.
     fn rank_of(replica: &Replica<T>, item: &T) -> usize;
 }
@@ -43,7 +43,7 @@ struct Between<Q> {
     end: Bound<Q>,
 }
 
-impl<T: Ord, Q: Sought<T>> Bounds<T> for Between<Q> {
+impl<T: Ord, Q: LookupKey<T>> KeyRange<T> for Between<Q> {
     type Key = Q;
 
     ghost start = { λ s. s.start };

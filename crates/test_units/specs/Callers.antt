@@ -3,7 +3,7 @@ use Rattle.std.specs.Prelude.{ℕ, ◌+◌, min, List, Option, Some, None, if◌
 use Rattle.std.specs.Ordering.{nat_cmp}
 use Rattle.std.specs.declared.ops.Bound.{Bound}
 use Rattle.indexset_core.specs.declared.pair.Pair.{Pair}
-use Rattle.indexset_core.specs.Bounds.{is_within}
+use Rattle.indexset_core.specs.KeyRange.{is_within}
 use Rattle.indexset_core.specs.Pairs.{put_value, value_of, valued}
 
 -- so many more, up to the greatest u32

@@ -3,8 +3,8 @@ ghost use Rattle.std.specs.Prelude.{◌≡◌, ◌<◌, ◌≤◌, ◌^◌, ◌�
 ghost use Rattle.indexset_core.specs.Nodes.{node_lengths, vec_items};
 ghost use Rattle.indexset_index.specs.Fenwick.{cell_of};
 
+use indexset_core::item_iter::OfVec;
 use indexset_core::refusal::Refusal;
-use indexset_core::walk::ReadVec;
 use indexset_index::fenwick::Fenwick;
 use indexset_index::fenwick::cells::Cells;
 use indexset_index::fenwick::sums::{find_in, prefix_in};
@@ -149,11 +149,11 @@ fn is_rebuilt(index: &mut Fenwick, nodes: &[Vec<u8>]) -> bool
     if index.reserve_one().is_err() {
         return false;
     }
-    index.rebuild::<u8, Vec<u8>, ReadVec>(nodes);
+    index.rebuild::<u8, Vec<u8>, OfVec>(nodes);
     let rebuilt = prefix(index, 3).0 == 6;
     index.truncate(2);
     let cut = index.len() == 2 && prefix(index, 2).0 == 3;
-    index.rebuild_from::<u8, Vec<u8>, ReadVec>(2, nodes);
+    index.rebuild_from::<u8, Vec<u8>, OfVec>(2, nodes);
     rebuilt && cut && find(index, 3).0 == Some((2, 0))
 }
 

@@ -1,8 +1,8 @@
 //! The crate that a user lists has everything by the paths of the Rust crate: here each type, trait
 //! and constant of it is named by its path, so that one that is missing does not compile.
 
-use indexset::base::bounds::bounds_are_ordered;
 use indexset::base::constants::DEFAULT_INNER_SIZE;
+use indexset::base::key_range::bounds_are_ordered;
 use indexset::base::multipair::MultiPair;
 use indexset::base::node::NodeLike;
 use indexset::base::pair::Pair;

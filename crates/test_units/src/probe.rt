@@ -4,7 +4,7 @@ ghost use Rattle.std.specs.Prelude.{IfOk};
 ghost use Rattle.std.specs.Ordering.{nat_cmp};
 ghost use Rattle.indexset_core.specs.Order.{IsAscending};
 
-use indexset_core::bounds::bounds_are_ordered;
+use indexset_core::key_range::bounds_are_ordered;
 use indexset_core::node::NodeLike;
 use indexset_core::probe::{ByItem, Counting, Probe};
 use indexset_core::refusal::Refusal;

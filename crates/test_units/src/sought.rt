@@ -1,8 +1,8 @@
 //! What a look-up takes in the place of an item or a key, at each kind of item.
 
+use indexset_core::lookup_key::LookupKey;
 use indexset_core::multipair::MultiPair;
 use indexset_core::pair::Pair;
-use indexset_core::sought::Sought;
 use indexset_core::text::Text;
 use indexset_log::{map, set};
 use indexset_map::BTreeMap;
@@ -162,5 +162,5 @@ fn a_multimap_loses_what_is_sought(rt: HostRuntime) -> Result<(), Fail> {
 
 #[test]
 fn a_value_is_placed_beside_items(rt: HostRuntime) {
-    assert!(rt; 5_u64.place_item(&3_u64).is_lt() && (&5_u64).place_item(&7_u64).is_gt());
+    assert!(rt; 5_u64.cmp_item(&3_u64).is_lt() && (&5_u64).cmp_item(&7_u64).is_gt());
 }

@@ -33,7 +33,7 @@ impl<K: Ord + Clone + Drop, V: Clone + Drop, Node: NodeLike<Pair<K, V>>> Logged
     for BTreeMap<K, V, Node> {
     ghost use Rattle.std.specs.Prelude.{◌≡◌, ◌+◌, List, length, nat_lt};
     ghost use Rattle.std.below.core.specs.declared.int.u64.TheConstants.{MAX};
-    ghost use Rattle.indexset_core.specs.Nodes.{joined};
+    ghost use Rattle.indexset_core.specs.Nodes.{concat};
     ghost use Rattle.indexset_core.specs.declared.pair.Pair.{Pair};
     ghost use Rattle.indexset_bench.specs.LoggedMap.{logged_map_reply, logged_map_after, logged_map_events, logged_map_left};
 
@@ -51,7 +51,7 @@ impl<K: Ord + Clone + Drop, V: Clone + Drop, Node: NodeLike<Pair<K, V>>> Logged
 
     ghost next = { λ t. t.next };
 
-    ghost state = { λ t. joined t.nodes };
+    ghost state = { λ t. concat t.nodes };
 
     ghost reply = { logged_map_reply K.cmp };
 

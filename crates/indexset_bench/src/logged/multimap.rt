@@ -32,7 +32,7 @@ impl<K: Ord + Clone + Drop, V: Eq + Clone + Drop, Node: NodeLike<MultiPair<K, V>
     for BTreeMultiMap<K, V, Node> {
     ghost use Rattle.std.specs.Prelude.{◌≡◌, ◌+◌, ◌||◌, List, length, nat_lt};
     ghost use Rattle.std.below.core.specs.declared.int.u64.TheConstants.{MAX};
-    ghost use Rattle.indexset_core.specs.Nodes.{joined};
+    ghost use Rattle.indexset_core.specs.Nodes.{concat};
     ghost use Rattle.indexset_core.specs.declared.multipair.MultiPair.{MultiPair};
     ghost use Rattle.indexset_bench.specs.LoggedMulti.{MultiState, logged_multi_reply, logged_multi_after, logged_multi_events, logged_multi_left, lacks_pair_number};
 
@@ -50,7 +50,7 @@ impl<K: Ord + Clone + Drop, V: Eq + Clone + Drop, Node: NodeLike<MultiPair<K, V>
 
     ghost next = { λ m. m.next };
 
-    ghost state = { λ m. record { pairs = joined m.nodes; pair_next = m.pair_next } };
+    ghost state = { λ m. record { pairs = concat m.nodes; pair_next = m.pair_next } };
 
     ghost reply = { logged_multi_reply K.cmp V.eq };
 

@@ -29,7 +29,7 @@ pub enum LoggedSetReply<T> {
 impl<T: Ord + Clone + Drop, Node: NodeLike<T>> Logged for BTreeSet<T, Node> {
     ghost use Rattle.std.specs.Prelude.{◌≡◌, ◌+◌, List, length, nat_lt};
     ghost use Rattle.std.below.core.specs.declared.int.u64.TheConstants.{MAX};
-    ghost use Rattle.indexset_core.specs.Nodes.{joined};
+    ghost use Rattle.indexset_core.specs.Nodes.{concat};
     ghost use Rattle.indexset_bench.specs.LoggedSet.{logged_set_reply, logged_set_after, logged_set_events, logged_set_left};
 
     type Item = T;
@@ -46,7 +46,7 @@ impl<T: Ord + Clone + Drop, Node: NodeLike<T>> Logged for BTreeSet<T, Node> {
 
     ghost next = { λ t. t.next };
 
-    ghost state = { λ t. joined t.nodes };
+    ghost state = { λ t. concat t.nodes };
 
     ghost reply = { logged_set_reply T.cmp };
 

@@ -15,9 +15,9 @@ use std::str::FromStr;
 
 /// The text is that of no event.
 #[derive(Clone, Copy, Debug, PartialEq, Eq)]
-pub struct NoEvent;
+pub struct ParseEventError;
 
-impl fmt::Display for NoEvent {
+impl fmt::Display for ParseEventError {
     ghost use Rattle.std.specs.Prelude.{Some, codes};
 
     ghost output = { λ e. Some (codes "the text of no event") };
@@ -27,18 +27,18 @@ impl fmt::Display for NoEvent {
     }
 }
 
-impl Error for NoEvent {}
+impl Error for ParseEventError {}
 
 /// Reads what `{}` writes, as the identical event, and nothing else.
 impl<T: Spelled + Drop> FromStr for ChangeEvent<T> {
-    type Err = NoEvent;
+    type Err = ParseEventError;
 
     ghost from_str_gives = { λ text r. result_ok r ≡ event_reading T.reading text };
 
-    fn from_str(text: &str) -> Result<ChangeEvent<T>, NoEvent> {
+    fn from_str(text: &str) -> Result<ChangeEvent<T>, ParseEventError> {
         match read_event(text.as_bytes()) {
             Some(event) => Ok(event),
-            None => Err(NoEvent),
+            None => Err(ParseEventError),
         }
     }
 }

@@ -18,7 +18,7 @@ pub fn cells_add_up()
 {}
 
 /// The cells determine the lengths.
-pub fn cells_tell_lengths()
+pub fn cells_determine_lengths()
     ensures { (cells lengths : List ℕ) → IsFenwickOf (cell_in cells) (length cells) lengths
         → lengths_of cells ≡ lengths }
 {}

@@ -5,11 +5,11 @@ ghost use Rattle.indexset_index.specs.Blocks.{block_count, block_sums};
 ghost use Rattle.indexset_index.specs.Fenwick.{prefix_sum, lengths_of, IsFenwick};
 
 use super::{Fenwick, length_at};
-use indexset_core::walk::ReadNode;
+use indexset_core::item_iter::NodeItems;
 
 impl Fenwick {
     /// Makes the sums of blocks those of these nodes, where node `k` was inserted.
-    pub(crate) fn shift_up<T, Node, R: ReadNode<T, Node>>(&mut self, k: usize, nodes: &[Node])
+    pub(crate) fn shift_up<T, Node, R: NodeItems<T, Node>>(&mut self, k: usize, nodes: &[Node])
         requires inside { k < length nodes.now }
         requires count { length self.old.lengths ≡ block_count (length nodes.now) }
         requires before { (i : ℕ) → i ≤ length self.old.lengths → prefix_sum self.old.lengths i
@@ -22,7 +22,7 @@ impl Fenwick {
     }
 
     /// Makes the sums of blocks those of these nodes, where node `k` of `n` items was removed.
-    pub(crate) fn shift_down<T, Node, R: ReadNode<T, Node>>(
+    pub(crate) fn shift_down<T, Node, R: NodeItems<T, Node>>(
         &mut self,
         k: usize,
         n: usize,
@@ -42,7 +42,7 @@ impl Fenwick {
 
 // Each cell that ends past node `k` gains the node that its first block gained, and loses the one
 // that its last block lost to the next.
-fn raise_from<T, Node, R: ReadNode<T, Node>>(cells: &mut [usize], k: usize, nodes: &[Node])
+fn raise_from<T, Node, R: NodeItems<T, Node>>(cells: &mut [usize], k: usize, nodes: &[Node])
     requires cells { IsFenwick cells.old }
     requires inside { k < length nodes.now }
     requires count { length cells.old ≡ block_count (length nodes.now) }
@@ -63,7 +63,7 @@ fn raise_from<T, Node, R: ReadNode<T, Node>>(cells: &mut [usize], k: usize, node
 
 // Each cell that ends past node `k` loses the node that its first block lost, and gains the one
 // that its last block gained from the next.
-fn lower_from<T, Node, R: ReadNode<T, Node>>(
+fn lower_from<T, Node, R: NodeItems<T, Node>>(
     cells: &mut [usize],
     k: usize,
     n: usize,
@@ -89,7 +89,7 @@ fn lower_from<T, Node, R: ReadNode<T, Node>>(
 
 // Returns the length of the node that moves into the blocks from `start` on: the inserted one, `k`,
 // where it is not before them.
-fn moved_in<T, Node, R: ReadNode<T, Node>>(nodes: &[Node], k: usize, start: usize) -> usize
+fn moved_in<T, Node, R: NodeItems<T, Node>>(nodes: &[Node], k: usize, start: usize) -> usize
     requires { k < length nodes.now }
     ensures here { 32 * start ≤ k → result ≡ slice_index (node_lengths (map R.list nodes.now)) k }
     ensures past { k < 32 * start
@@ -104,7 +104,7 @@ fn moved_in<T, Node, R: ReadNode<T, Node>>(nodes: &[Node], k: usize, start: usiz
 
 // Returns the length of the node that moves out of the blocks from `start` on: the removed one, of
 // `n` items, where it was not before them.
-fn moved_out<T, Node, R: ReadNode<T, Node>>(
+fn moved_out<T, Node, R: NodeItems<T, Node>>(
     nodes: &[Node],
     k: usize,
     n: usize,
@@ -122,7 +122,7 @@ fn moved_out<T, Node, R: ReadNode<T, Node>>(
 }
 
 // Returns the length of the first node of a block, or 0 past the last.
-fn first_of_block<T, Node, R: ReadNode<T, Node>>(nodes: &[Node], block: usize) -> usize
+fn first_of_block<T, Node, R: NodeItems<T, Node>>(nodes: &[Node], block: usize) -> usize
     ensures { result ≡ slice_index (node_lengths (map R.list nodes.now)) (32 * block) }
 {
     if block < nodes.len().div_ceil(32) {
@@ -133,7 +133,7 @@ fn first_of_block<T, Node, R: ReadNode<T, Node>>(nodes: &[Node], block: usize) -
 }
 
 // Returns the length of the last node before a block, or 0 past the last.
-fn last_before_block<T, Node, R: ReadNode<T, Node>>(nodes: &[Node], block: usize) -> usize
+fn last_before_block<T, Node, R: NodeItems<T, Node>>(nodes: &[Node], block: usize) -> usize
     requires { 1 ≤ block }
     ensures { result ≡ slice_index (node_lengths (map R.list nodes.now)) (32 * block - 1) }
 {

@@ -34,7 +34,7 @@ pub fn find_in<C: Cells>(cells: &mut C, position: usize) -> Option<(usize, usize
         × (prefix_sum lengths p.0 + p.1 ≡ position)) }
     ensures fixed { C.cell cells.new ≡ C.cell cells.old }
     ensures stays { C.number cells.new ≡ C.number cells.old }
-    ensures few { C.asked cells.new ≤ C.asked cells.old + digits (C.number cells.old) }
+    ensures comparisons { C.asked cells.new ≤ C.asked cells.old + digits (C.number cells.old) }
 {
     let count = cells.count();
     let mut step = highest_one(count);

@@ -1,10 +1,10 @@
 //! The pairs of the first and the last key, and calls that remove them.
 ghost use Rattle.std.specs.Prelude.{◌≡◌, ◌↔◌, ◌-◌, ◌<◌, ◌≤◌, [], length, slice_get, false, IfOk, OnOk, IfErr, OnErr, IsOk, IfSome, IsSome};
 ghost use Rattle.std.specs.Option.{option_map};
-ghost use Rattle.indexset_core.specs.Nodes.{joined};
+ghost use Rattle.indexset_core.specs.Nodes.{concat};
 ghost use Rattle.indexset_core.specs.Order.{above, below};
 ghost use Rattle.indexset_core.specs.Pairs.{by_key, entry_of, pair_keys};
-ghost use Rattle.indexset_log.specs.Changed.{Changed, Fits, PairsTold, first_removal, last_removal, refusal_of};
+ghost use Rattle.indexset_log.specs.Changed.{Changed, Fits, PairEvents, first_removal, last_removal, refusal_of};
 
 use super::BTreeMap;
 use indexset_core::node::NodeLike;
@@ -23,9 +23,9 @@ impl<K: Ord + Clone + Drop, V: Clone + Drop, Node: NodeLike<Pair<K, V>>> BTreeMa
     /// ```
     pub fn first_key_value(&self) -> Option<(&K, &V)>
         ensures pair { option_map (λ p. (p.0.now, p.1.now)) result
-            ≡ option_map entry_of (slice_get (joined self.now.nodes) 0) }
-        ensures variant { IsSome result ↔ (0 < length (joined self.now.nodes)) }
-        ensures least { IfSome result (λ p. below K.cmp (pair_keys (joined self.now.nodes)) p.0.now
+            ≡ option_map entry_of (slice_get (concat self.now.nodes) 0) }
+        ensures variant { IsSome result ↔ (0 < length (concat self.now.nodes)) }
+        ensures least { IfSome result (λ p. below K.cmp (pair_keys (concat self.now.nodes)) p.0.now
             ≡ []) }
     {
         let pair = self.set.first()?;
@@ -42,11 +42,11 @@ impl<K: Ord + Clone + Drop, V: Clone + Drop, Node: NodeLike<Pair<K, V>>> BTreeMa
     /// ```
     pub fn last_key_value(&self) -> Option<(&K, &V)>
         ensures pair { option_map (λ p. (p.0.now, p.1.now)) result
-            ≡ option_map entry_of (slice_get (joined self.now.nodes)
-            (length (joined self.now.nodes) - 1)) }
-        ensures variant { IsSome result ↔ (0 < length (joined self.now.nodes)) }
+            ≡ option_map entry_of (slice_get (concat self.now.nodes)
+            (length (concat self.now.nodes) - 1)) }
+        ensures variant { IsSome result ↔ (0 < length (concat self.now.nodes)) }
         ensures greatest { IfSome result (λ p. above K.cmp
-            (pair_keys (joined self.now.nodes)) p.0.now ≡ []) }
+            (pair_keys (concat self.now.nodes)) p.0.now ≡ []) }
     {
         let pair = self.set.last()?;
         Some((&pair.key, &pair.value))
@@ -68,14 +68,14 @@ impl<K: Ord + Clone + Drop, V: Clone + Drop, Node: NodeLike<Pair<K, V>>> BTreeMa
         &mut self,
     ) -> Result<(Option<(K, V)>, Vec<ChangeEvent<Pair<K, V>>>), Refusal>
         ensures answer { IfOk result (λ r.
-            r.0 ≡ option_map entry_of (slice_get (joined self.old.nodes) 0)) }
+            r.0 ≡ option_map entry_of (slice_get (concat self.old.nodes) 0)) }
         ensures refusal { IfErr result (λ e. e ≡ refusal_of self.old
             (first_removal (by_key K.cmp) self.old)) }
         ensures no_event { (first_removal (by_key K.cmp) self.old).events ≡ [] → IsOk result }
         ensures unchanged { OnErr result (self.new ≡ self.old) }
         ensures changed { OnOk result (Changed (by_key K.cmp) self.old self.new
             (first_removal (by_key K.cmp) self.old)) }
-        ensures told { IfOk result (λ r. PairsTold K.cmp K.is_clone V.is_clone self.old self.new
+        ensures events { IfOk result (λ r. PairEvents K.cmp K.is_clone V.is_clone self.old self.new
             (first_removal (by_key K.cmp) self.old) r.1.items) }
     {
         let (pair, events) = self.set.pop_first_cdc()?;
@@ -96,7 +96,7 @@ impl<K: Ord + Clone + Drop, V: Clone + Drop, Node: NodeLike<Pair<K, V>>> BTreeMa
     /// ```
     pub fn pop_first(&mut self) -> Result<Option<(K, V)>, Refusal>
         ensures answer { IfOk result (λ entry.
-            entry ≡ option_map entry_of (slice_get (joined self.old.nodes) 0)) }
+            entry ≡ option_map entry_of (slice_get (concat self.old.nodes) 0)) }
         ensures refusal { IfErr result (λ e. e ≡ refusal_of self.old
             (first_removal (by_key K.cmp) self.old)) }
         ensures no_event { (first_removal (by_key K.cmp) self.old).events ≡ [] → IsOk result }
@@ -128,15 +128,15 @@ impl<K: Ord + Clone + Drop, V: Clone + Drop, Node: NodeLike<Pair<K, V>>> BTreeMa
         &mut self,
     ) -> Result<(Option<(K, V)>, Vec<ChangeEvent<Pair<K, V>>>), Refusal>
         ensures answer { IfOk result (λ r.
-            r.0 ≡ option_map entry_of (slice_get (joined self.old.nodes)
-            (length (joined self.old.nodes) - 1))) }
+            r.0 ≡ option_map entry_of (slice_get (concat self.old.nodes)
+            (length (concat self.old.nodes) - 1))) }
         ensures refusal { IfErr result (λ e. e ≡ refusal_of self.old
             (last_removal (by_key K.cmp) self.old)) }
         ensures no_event { (last_removal (by_key K.cmp) self.old).events ≡ [] → IsOk result }
         ensures unchanged { OnErr result (self.new ≡ self.old) }
         ensures changed { OnOk result (Changed (by_key K.cmp) self.old self.new
             (last_removal (by_key K.cmp) self.old)) }
-        ensures told { IfOk result (λ r. PairsTold K.cmp K.is_clone V.is_clone self.old self.new
+        ensures events { IfOk result (λ r. PairEvents K.cmp K.is_clone V.is_clone self.old self.new
             (last_removal (by_key K.cmp) self.old) r.1.items) }
     {
         let (pair, events) = self.set.pop_last_cdc()?;
@@ -157,8 +157,8 @@ impl<K: Ord + Clone + Drop, V: Clone + Drop, Node: NodeLike<Pair<K, V>>> BTreeMa
     /// ```
     pub fn pop_last(&mut self) -> Result<Option<(K, V)>, Refusal>
         ensures answer { IfOk result (λ entry.
-            entry ≡ option_map entry_of (slice_get (joined self.old.nodes)
-            (length (joined self.old.nodes) - 1))) }
+            entry ≡ option_map entry_of (slice_get (concat self.old.nodes)
+            (length (concat self.old.nodes) - 1))) }
         ensures refusal { IfErr result (λ e. e ≡ refusal_of self.old
             (last_removal (by_key K.cmp) self.old)) }
         ensures no_event { (last_removal (by_key K.cmp) self.old).events ≡ [] → IsOk result }

@@ -3,8 +3,8 @@ ghost use Rattle.std.specs.Prelude.{◌≡◌, length, IfSome, Some};
 ghost use Rattle.std.specs.Iterator.{UpTo, at_most};
 ghost use Rattle.std.specs.Iterator.SizeHint.{IsWithinCount};
 ghost use Rattle.std.specs.Map.Iter.{TakesFirst, TakesLast, ShowsInOrder, ShowsInReverse};
-ghost use Rattle.indexset_core.specs.Nodes.{joined};
-ghost use Rattle.indexset_core.specs.Pairs.{pair_shown};
+ghost use Rattle.indexset_core.specs.Nodes.{concat};
+ghost use Rattle.indexset_core.specs.Pairs.{pair_deref};
 
 use super::BTreeMap;
 use crate::set::iter;
@@ -38,7 +38,7 @@ impl<'a, K: Ord + Clone + Drop, V: Clone + Drop, Node: NodeLike<Pair<K, V>>> Ite
     for Iter<'a, K, V, Node> {
     type Item = (&'a K, &'a V);
 
-    ghost next_gives = { TakesFirst pair_shown };
+    ghost next_gives = { TakesFirst pair_deref };
 
     ghost remaining = { λ s. at_most (length s) };
 
@@ -58,7 +58,7 @@ impl<'a, K: Ord + Clone + Drop, V: Clone + Drop, Node: NodeLike<Pair<K, V>>> Ite
 
 impl<'a, K: Ord + Clone + Drop, V: Clone + Drop, Node: NodeLike<Pair<K, V>>> DoubleEndedIterator
     for Iter<'a, K, V, Node> {
-    ghost next_back_gives = { TakesLast pair_shown };
+    ghost next_back_gives = { TakesLast pair_deref };
 
     fn next_back(&mut self) -> Option<(&'a K, &'a V)> {
         let pair = self.rest.next_back()?;
@@ -86,9 +86,9 @@ impl<K: Ord + Clone + Drop, V: Clone + Drop, Node: NodeLike<Pair<K, V>>> BTreeMa
     /// assert!(rt; tree.iter().eq([(&1, &10), (&2, &20)]));
     /// ```
     pub fn iter(&self) -> Iter<'_, K, V, Node>
-        ensures rest { result ≡ joined self.now.nodes }
-        ensures runs { ShowsInOrder (pair_shown {K = K} {V = V}) }
-        ensures runs_back { ShowsInReverse (pair_shown {K = K} {V = V}) }
+        ensures rest { result ≡ concat self.now.nodes }
+        ensures runs { ShowsInOrder (pair_deref {K = K} {V = V}) }
+        ensures runs_back { ShowsInReverse (pair_deref {K = K} {V = V}) }
     {
         Iter {
             rest: self.set.iter(),
@@ -102,8 +102,8 @@ impl<'a, K: Ord + Clone + Drop, V: Clone + Drop, Node: NodeLike<Pair<K, V>>> Int
 
     type IntoIter = Iter<'a, K, V, Node>;
 
-    ghost into_iter_gives = { λ m r. (r ≡ joined m.now.nodes)
-        × ShowsInOrder (pair_shown {K = K} {V = V}) × ShowsInReverse (pair_shown {K = K} {V = V}) };
+    ghost into_iter_gives = { λ m r. (r ≡ concat m.now.nodes)
+        × ShowsInOrder (pair_deref {K = K} {V = V}) × ShowsInReverse (pair_deref {K = K} {V = V}) };
 
     fn into_iter(self) -> Iter<'a, K, V, Node> {
         self.iter()

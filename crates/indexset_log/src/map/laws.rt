@@ -1,6 +1,6 @@
 //! Laws of the iterators over a logged map. Each function does nothing; its contract is the law.
-ghost use Rattle.indexset_core.specs.Pairs.{pair_shown};
-ghost use Rattle.indexset_core.specs.Pulls.{IsWalk};
+ghost use Rattle.indexset_core.specs.Pairs.{pair_deref};
+ghost use Rattle.indexset_core.specs.DoubleEnded.{IsDoubleEnded};
 
 use super::iter::Iter;
 use indexset_core::node::NodeLike;
@@ -14,6 +14,6 @@ pub fn iterators_yield_each_pair_once<
     V: Clone + Drop + 'a,
     Node: NodeLike<Pair<K, V>> + 'a,
 >()
-    ensures { IsWalk pair_shown ⟦<Iter<'a, K, V, Node> as Iterator>⟧.next_gives
+    ensures { IsDoubleEnded pair_deref ⟦<Iter<'a, K, V, Node> as Iterator>⟧.next_gives
         ⟦<Iter<'a, K, V, Node> as DoubleEndedIterator>⟧.next_back_gives }
 {}

@@ -5,22 +5,22 @@ ghost use Rattle.std.specs.Map.Iter.{ShowsInOrder, ShowsInReverse};
 ghost use Rattle.std.specs.Option.{option_map};
 ghost use Rattle.std.specs.Ordering.{is_eq};
 ghost use Rattle.std.specs.declared.cmp.Ordering.TheVariants.{Less};
-ghost use Rattle.indexset_core.specs.Bounds.{IfBounded, in_positions, is_before, is_up_to_end};
+ghost use Rattle.indexset_core.specs.KeyRange.{IfBounded, in_positions, is_before, is_up_to_end};
 ghost use Rattle.indexset_core.specs.Digits.{digits};
-ghost use Rattle.indexset_core.specs.Nodes.{joined};
+ghost use Rattle.indexset_core.specs.Nodes.{concat};
 ghost use Rattle.indexset_core.specs.Order.{IsAscending};
-ghost use Rattle.indexset_core.specs.Pairs.{by_key, entry_of, has_key, key_rank, pair_of, pair_shown};
+ghost use Rattle.indexset_core.specs.Pairs.{by_key, entry_of, has_key, key_rank, pair_of, pair_deref};
 ghost use Rattle.indexset_core.specs.Parted.{IsParted};
 
 use super::BTreeMap;
 use super::iter::Iter;
 use super::range::Range;
 use crate::set::range;
+use indexset_core::lookup_key::LookupKey;
 use indexset_core::node::NodeLike;
 use indexset_core::pair::Pair;
-use indexset_core::positions::Positions;
+use indexset_core::position_range::PositionRange;
 use indexset_core::probe::Probe;
-use indexset_core::sought::Sought;
 use std::ops::Bound;
 
 impl<K: Ord + Clone + Drop, V: Clone + Drop, Node: NodeLike<Pair<K, V>>> BTreeMap<K, V, Node> {
@@ -31,9 +31,9 @@ impl<K: Ord + Clone + Drop, V: Clone + Drop, Node: NodeLike<Pair<K, V>>> BTreeMa
     /// tree.insert(1, 10)?;
     /// assert_eq!(rt; tree.get_key_value(&1), Some((&1, &10)));
     /// ```
-    pub fn get_key_value<Q: Sought<K> + Drop>(&self, key: Q) -> Option<(&K, &V)>
+    pub fn get_key_value<Q: LookupKey<K> + Drop>(&self, key: Q) -> Option<(&K, &V)>
         ensures { option_map (λ p. (p.0.now, p.1.now)) result
-            ≡ option_map entry_of (pair_of Q.order (joined self.now.nodes) key) }
+            ≡ option_map entry_of (pair_of Q.order (concat self.now.nodes) key) }
     {
         let pair = self.get(key)?;
         Some((&pair.key, &pair.value))
@@ -49,12 +49,12 @@ impl<K: Ord + Clone + Drop, V: Clone + Drop, Node: NodeLike<Pair<K, V>>> BTreeMa
     /// assert!(rt; prices.get_key_value_by(&mut sought).is_some_and(|(_, price)| *price == 120));
     /// ```
     pub fn get_key_value_by<P: Probe<Pair<K, V>>>(&self, probe: &mut P) -> Option<(&K, &V)>
-        requires { IsParted (P.answer probe.old) (joined self.now.nodes) }
+        requires { IsParted (P.answer probe.old) (concat self.now.nodes) }
         ensures pair { option_map (λ p. (p.0.now, p.1.now)) result
             ≡ option_map entry_of (find (λ p. is_eq (P.answer probe.old p))
-            (joined self.now.nodes)) }
+            (concat self.now.nodes)) }
         ensures fixed { P.answer probe.new ≡ P.answer probe.old }
-        ensures few { P.asked probe.new ≤ P.asked probe.old +
+        ensures comparisons { P.asked probe.new ≤ P.asked probe.old +
             (digits (length self.now.nodes) + digits self.now.size + 1) }
     {
         let pair = self.get_by(probe)?;
@@ -69,15 +69,15 @@ impl<K: Ord + Clone + Drop, V: Clone + Drop, Node: NodeLike<Pair<K, V>>> BTreeMa
     /// tree.insert(7, 70)?;
     /// assert!(rt; tree.rank(&7) == 1 && tree.rank(&6) == 1);
     /// ```
-    pub fn rank<Q: Sought<K> + Drop>(&self, key: Q) -> usize
-        ensures value { result ≡ key_rank Q.order (joined self.now.nodes) key }
-        ensures there { has_key Q.order (joined self.now.nodes) key ≡ true
-            → slice_get (joined self.now.nodes) result
-            ≡ pair_of Q.order (joined self.now.nodes) key }
-        ensures inside { has_key Q.order (joined self.now.nodes) key ≡ true
-            → result < length (joined self.now.nodes) }
+    pub fn rank<Q: LookupKey<K> + Drop>(&self, key: Q) -> usize
+        ensures value { result ≡ key_rank Q.order (concat self.now.nodes) key }
+        ensures at_rank { has_key Q.order (concat self.now.nodes) key ≡ true
+            → slice_get (concat self.now.nodes) result
+            ≡ pair_of Q.order (concat self.now.nodes) key }
+        ensures inside { has_key Q.order (concat self.now.nodes) key ≡ true
+            → result < length (concat self.now.nodes) }
         ensures before { AllWithin (λ p. Q.order p.key key ≡ Less)
-            (joined self.now.nodes) 0 result }
+            (concat self.now.nodes) 0 result }
     {
         self.set.count_before(Bound::Included(self.by_key(&key)))
     }
@@ -90,12 +90,12 @@ impl<K: Ord + Clone + Drop, V: Clone + Drop, Node: NodeLike<Pair<K, V>>> BTreeMa
     /// tree.insert(7, 70)?;
     /// assert!(rt; tree.index_of(&7) == Some(1) && tree.index_of(&6).is_none());
     /// ```
-    pub fn index_of<Q: Sought<K> + Drop>(&self, key: Q) -> Option<usize>
-        ensures value { result ≡ (if has_key Q.order (joined self.now.nodes) key
-            then Some (key_rank Q.order (joined self.now.nodes) key) else None) }
-        ensures there { IfSome result (λ i. slice_get (joined self.now.nodes) i
-            ≡ pair_of Q.order (joined self.now.nodes) key) }
-        ensures inside { IfSome result (λ i. i < length (joined self.now.nodes)) }
+    pub fn index_of<Q: LookupKey<K> + Drop>(&self, key: Q) -> Option<usize>
+        ensures value { result ≡ (if has_key Q.order (concat self.now.nodes) key
+            then Some (key_rank Q.order (concat self.now.nodes) key) else None) }
+        ensures at_index { IfSome result (λ i. slice_get (concat self.now.nodes) i
+            ≡ pair_of Q.order (concat self.now.nodes) key) }
+        ensures inside { IfSome result (λ i. i < length (concat self.now.nodes)) }
     {
         self.set.position_by(&mut self.by_key(&key)).ok()
     }
@@ -110,9 +110,9 @@ impl<K: Ord + Clone + Drop, V: Clone + Drop, Node: NodeLike<Pair<K, V>>> BTreeMa
     /// assert!(rt; tree.count_before(Bound::Included(ByKey::new(&2))) == 1);
     /// ```
     pub fn count_before<P: Probe<Pair<K, V>> + Drop>(&self, start: Bound<P>) -> usize
-        requires { IfBounded (λ p. IsParted (P.answer p) (joined self.now.nodes)) start }
+        requires { IfBounded (λ p. IsParted (P.answer p) (concat self.now.nodes)) start }
         ensures { result ≡ count_by (is_before (λ x p. P.answer p x) start)
-            (joined self.now.nodes) }
+            (concat self.now.nodes) }
     {
         self.set.count_before(start)
     }
@@ -127,9 +127,9 @@ impl<K: Ord + Clone + Drop, V: Clone + Drop, Node: NodeLike<Pair<K, V>>> BTreeMa
     /// assert!(rt; tree.count_up_to(Bound::Included(ByKey::new(&2))) == 2);
     /// ```
     pub fn count_up_to<P: Probe<Pair<K, V>> + Drop>(&self, end: Bound<P>) -> usize
-        requires { IfBounded (λ p. IsParted (P.answer p) (joined self.now.nodes)) end }
+        requires { IfBounded (λ p. IsParted (P.answer p) (concat self.now.nodes)) end }
         ensures { result ≡ count_by (is_up_to_end (λ x p. P.answer p x) end)
-            (joined self.now.nodes) }
+            (concat self.now.nodes) }
     {
         self.set.count_up_to(end)
     }
@@ -145,7 +145,7 @@ impl<K: Ord + Clone + Drop, V: Clone + Drop, Node: NodeLike<Pair<K, V>>> BTreeMa
     /// ```
     pub fn get_index(&self, i: usize) -> Option<(&K, &V)>
         ensures { option_map (λ p. (p.0.now, p.1.now)) result
-            ≡ option_map entry_of (slice_get (joined self.now.nodes) i) }
+            ≡ option_map entry_of (slice_get (concat self.now.nodes) i) }
     {
         let pair = self.set.get_index(i)?;
         Some((&pair.key, &pair.value))
@@ -162,12 +162,12 @@ impl<K: Ord + Clone + Drop, V: Clone + Drop, Node: NodeLike<Pair<K, V>>> BTreeMa
     /// let page = tree.range_idx(1..);
     /// assert!(rt; page.eq([(&10, &100), (&15, &150)]));
     /// ```
-    pub fn range_idx<R: Positions + Drop>(&self, range: R) -> Range<'_, K, V, Node>
-        ensures rest { result ≡ in_positions (joined self.now.nodes) (R.start range)
+    pub fn range_idx<R: PositionRange + Drop>(&self, range: R) -> Range<'_, K, V, Node>
+        ensures rest { result ≡ in_positions (concat self.now.nodes) (R.start range)
             (R.end range) }
         ensures ascending { IsAscending (by_key K.cmp) result }
-        ensures runs { ShowsInOrder (pair_shown {K = K} {V = V}) }
-        ensures runs_back { ShowsInReverse (pair_shown {K = K} {V = V}) }
+        ensures runs { ShowsInOrder (pair_deref {K = K} {V = V}) }
+        ensures runs_back { ShowsInReverse (pair_deref {K = K} {V = V}) }
     {
         let range::Range { rest } = self.set.range_idx(range);
         Iter { rest }

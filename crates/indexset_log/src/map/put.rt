@@ -1,9 +1,9 @@
 //! Insertion of pairs.
 ghost use Rattle.std.specs.Prelude.{◌≡◌, true, Some, IfOk, OnOk, IfErr, OnErr, IsOk, IfSome, is_none};
 ghost use Rattle.std.specs.Option.{option_map};
-ghost use Rattle.indexset_core.specs.Nodes.{joined};
+ghost use Rattle.indexset_core.specs.Nodes.{concat};
 ghost use Rattle.indexset_core.specs.Pairs.{by_key, has_key, pair, value_of};
-ghost use Rattle.indexset_log.specs.Changed.{Changed, PairsTold, checked_put_change, put_change, refusal_of};
+ghost use Rattle.indexset_log.specs.Changed.{Changed, PairEvents, checked_put_change, put_change, refusal_of};
 ghost use Rattle.indexset_log.specs.Keys.{KeepsOthers};
 
 use super::BTreeMap;
@@ -31,17 +31,17 @@ impl<K: Ord + Clone + Drop, V: Clone + Drop, Node: NodeLike<Pair<K, V>>> BTreeMa
         key: K,
         value: V,
     ) -> Result<(Option<V>, Vec<ChangeEvent<Pair<K, V>>>), Refused<(K, V)>>
-        ensures answer { IfOk result (λ r. r.0 ≡ value_of K.cmp (joined self.old.nodes) key) }
+        ensures answer { IfOk result (λ r. r.0 ≡ value_of K.cmp (concat self.old.nodes) key) }
         ensures refusal { IfErr result (λ e.
             e.cause ≡ refusal_of self.old (put_change (by_key K.cmp) self.old (pair key value))) }
         ensures given_back { IfErr result (λ e. e.value ≡ (key, value)) }
         ensures unchanged { OnErr result (self.new ≡ self.old) }
-        ensures there { OnOk result (has_key K.cmp (joined self.new.nodes) key ≡ true) }
-        ensures written { OnOk result (value_of K.cmp (joined self.new.nodes) key ≡ Some value) }
+        ensures contains { OnOk result (has_key K.cmp (concat self.new.nodes) key ≡ true) }
+        ensures written { OnOk result (value_of K.cmp (concat self.new.nodes) key ≡ Some value) }
         ensures others { OnOk result (KeepsOthers K.cmp K.cmp self.old.nodes self.new.nodes key) }
         ensures changed { OnOk result (Changed (by_key K.cmp) self.old self.new
             (put_change (by_key K.cmp) self.old (pair key value))) }
-        ensures told { IfOk result (λ r. PairsTold K.cmp K.is_clone V.is_clone self.old self.new
+        ensures events { IfOk result (λ r. PairEvents K.cmp K.is_clone V.is_clone self.old self.new
             (put_change (by_key K.cmp) self.old (pair key value)) r.1.items) }
     {
         let (old, events) = self.set.put_cdc(Pair { key, value })?;
@@ -62,20 +62,20 @@ impl<K: Ord + Clone + Drop, V: Clone + Drop, Node: NodeLike<Pair<K, V>>> BTreeMa
         key: K,
         value: V,
     ) -> Result<Option<Vec<ChangeEvent<Pair<K, V>>>>, Refused<(K, V)>>
-        ensures answer { IfOk result (λ r. is_none r ≡ has_key K.cmp (joined self.old.nodes) key) }
+        ensures answer { IfOk result (λ r. is_none r ≡ has_key K.cmp (concat self.old.nodes) key) }
         ensures refusal { IfErr result (λ e.
             e.cause ≡ refusal_of self.old (checked_put_change (by_key K.cmp) self.old
             (pair key value))) }
-        ensures no_event { has_key K.cmp (joined self.old.nodes) key ≡ true → IsOk result }
+        ensures no_event { has_key K.cmp (concat self.old.nodes) key ≡ true → IsOk result }
         ensures given_back { IfErr result (λ e. e.value ≡ (key, value)) }
         ensures unchanged { OnErr result (self.new ≡ self.old) }
-        ensures there { OnOk result (has_key K.cmp (joined self.new.nodes) key ≡ true) }
+        ensures contains { OnOk result (has_key K.cmp (concat self.new.nodes) key ≡ true) }
         ensures written { IfOk result (λ r. IfSome r (λ _.
-            value_of K.cmp (joined self.new.nodes) key ≡ Some value)) }
+            value_of K.cmp (concat self.new.nodes) key ≡ Some value)) }
         ensures changed { OnOk result (Changed (by_key K.cmp) self.old self.new
             (checked_put_change (by_key K.cmp) self.old (pair key value))) }
-        ensures told { IfOk result (λ r. IfSome r (λ events.
-            PairsTold K.cmp K.is_clone V.is_clone self.old self.new
+        ensures events { IfOk result (λ r. IfSome r (λ events.
+            PairEvents K.cmp K.is_clone V.is_clone self.old self.new
             (checked_put_change (by_key K.cmp) self.old (pair key value)) events.items)) }
     {
         Ok(self.set.put_cdc_checked(Pair { key, value })?)
@@ -90,13 +90,13 @@ impl<K: Ord + Clone + Drop, V: Clone + Drop, Node: NodeLike<Pair<K, V>>> BTreeMa
     /// assert!(rt; tree.insert(1, 10)?.is_none() && tree.insert(1, 11)? == Some(10));
     /// ```
     pub fn insert(&mut self, key: K, value: V) -> Result<Option<V>, Refused<(K, V)>>
-        ensures answer { IfOk result (λ old. old ≡ value_of K.cmp (joined self.old.nodes) key) }
+        ensures answer { IfOk result (λ old. old ≡ value_of K.cmp (concat self.old.nodes) key) }
         ensures refusal { IfErr result (λ e.
             e.cause ≡ refusal_of self.old (put_change (by_key K.cmp) self.old (pair key value))) }
         ensures given_back { IfErr result (λ e. e.value ≡ (key, value)) }
         ensures unchanged { OnErr result (self.new ≡ self.old) }
-        ensures there { OnOk result (has_key K.cmp (joined self.new.nodes) key ≡ true) }
-        ensures written { OnOk result (value_of K.cmp (joined self.new.nodes) key ≡ Some value) }
+        ensures contains { OnOk result (has_key K.cmp (concat self.new.nodes) key ≡ true) }
+        ensures written { OnOk result (value_of K.cmp (concat self.new.nodes) key ≡ Some value) }
         ensures others { OnOk result (KeepsOthers K.cmp K.cmp self.old.nodes self.new.nodes key) }
         ensures changed { OnOk result (Changed (by_key K.cmp) self.old self.new
             (put_change (by_key K.cmp) self.old (pair key value))) }
@@ -114,16 +114,16 @@ impl<K: Ord + Clone + Drop, V: Clone + Drop, Node: NodeLike<Pair<K, V>>> BTreeMa
     /// assert!(rt; tree.get(&1).is_some_and(|pair| pair.value == 10));
     /// ```
     pub fn checked_insert(&mut self, key: K, value: V) -> Result<Option<()>, Refused<(K, V)>>
-        ensures answer { IfOk result (λ r. is_none r ≡ has_key K.cmp (joined self.old.nodes) key) }
+        ensures answer { IfOk result (λ r. is_none r ≡ has_key K.cmp (concat self.old.nodes) key) }
         ensures refusal { IfErr result (λ e.
             e.cause ≡ refusal_of self.old (checked_put_change (by_key K.cmp) self.old
             (pair key value))) }
-        ensures no_event { has_key K.cmp (joined self.old.nodes) key ≡ true → IsOk result }
+        ensures no_event { has_key K.cmp (concat self.old.nodes) key ≡ true → IsOk result }
         ensures given_back { IfErr result (λ e. e.value ≡ (key, value)) }
         ensures unchanged { OnErr result (self.new ≡ self.old) }
-        ensures there { OnOk result (has_key K.cmp (joined self.new.nodes) key ≡ true) }
+        ensures contains { OnOk result (has_key K.cmp (concat self.new.nodes) key ≡ true) }
         ensures written { IfOk result (λ r. IfSome r (λ _.
-            value_of K.cmp (joined self.new.nodes) key ≡ Some value)) }
+            value_of K.cmp (concat self.new.nodes) key ≡ Some value)) }
         ensures changed { OnOk result (Changed (by_key K.cmp) self.old self.new
             (checked_put_change (by_key K.cmp) self.old (pair key value))) }
     {

@@ -2,18 +2,18 @@
 ghost use Rattle.std.specs.Prelude.{◌≡◌, IsTrue};
 ghost use Rattle.std.specs.Map.Iter.{ShowsInOrder, ShowsInReverse};
 ghost use Rattle.std.specs.Range.Bound.{bound_map};
-ghost use Rattle.indexset_core.specs.Bounds.{are_ordered};
-ghost use Rattle.indexset_core.specs.Nodes.{joined};
-ghost use Rattle.indexset_core.specs.Pairs.{pair_shown, pairs_within};
+ghost use Rattle.indexset_core.specs.KeyRange.{are_ordered};
+ghost use Rattle.indexset_core.specs.Nodes.{concat};
+ghost use Rattle.indexset_core.specs.Pairs.{pair_deref, pairs_within};
 
 use super::BTreeMap;
 use super::iter::Iter;
 use crate::set::range;
-use indexset_core::bounds::Bounds;
+use indexset_core::key_range::KeyRange;
+use indexset_core::lookup_key::LookupKey;
 use indexset_core::node::NodeLike;
 use indexset_core::pair::Pair;
 use indexset_core::probe::ByKey;
-use indexset_core::sought::Sought;
 use std::ops::Bound;
 
 /// The remaining pairs of a part of a map, from both ends.
@@ -22,7 +22,7 @@ pub type Range<'a, K, V, Node = Vec<Pair<K, V>>> = Iter<'a, K, V, Node>;
 impl<K: Ord + Clone + Drop, V: Clone + Drop, Node: NodeLike<Pair<K, V>>> BTreeMap<K, V, Node> {
     /// Returns a double-ended iterator over the pairs whose keys are within the range, in order.
     /// The start must not be past the end, nor at it where both are excluded (see
-    /// `base::bounds::bounds_are_ordered`).
+    /// `base::key_range::bounds_are_ordered`).
     ///
     /// ```
     /// // The pairs of the keys from 10 on that are below 20.
@@ -33,21 +33,21 @@ impl<K: Ord + Clone + Drop, V: Clone + Drop, Node: NodeLike<Pair<K, V>>> BTreeMa
     /// let teens = tree.range(10..20);
     /// assert!(rt; teens.map(|(key, _)| *key).eq([10, 15]));
     /// ```
-    pub fn range<R: Bounds<K> + Drop>(&self, range: R) -> Range<'_, K, V, Node>
+    pub fn range<R: KeyRange<K> + Drop>(&self, range: R) -> Range<'_, K, V, Node>
         requires { IsTrue (are_ordered R.Key.cmp (R.start range) (R.end range)) }
-        ensures rest { result ≡ pairs_within R.Key.order (joined self.now.nodes) (R.start range)
+        ensures rest { result ≡ pairs_within R.Key.order (concat self.now.nodes) (R.start range)
             (R.end range) }
-        ensures runs { ShowsInOrder (pair_shown {K = K} {V = V}) }
-        ensures runs_back { ShowsInReverse (pair_shown {K = K} {V = V}) }
+        ensures runs { ShowsInOrder (pair_deref {K = K} {V = V}) }
+        ensures runs_back { ShowsInReverse (pair_deref {K = K} {V = V}) }
     {
         self.within((range.start_bound(), range.end_bound()))
     }
 
     // Returns the same for two bounds.
-    fn within<Q: Sought<K>>(&self, range: (Bound<&Q>, Bound<&Q>)) -> Range<'_, K, V, Node>
+    fn within<Q: LookupKey<K>>(&self, range: (Bound<&Q>, Bound<&Q>)) -> Range<'_, K, V, Node>
         requires { IsTrue (are_ordered Q.cmp (bound_map (λ k. k.now) range.0)
             (bound_map (λ k. k.now) range.1)) }
-        ensures { result ≡ pairs_within Q.order (joined self.now.nodes)
+        ensures { result ≡ pairs_within Q.order (concat self.now.nodes)
             (bound_map (λ k. k.now) range.entry.0) (bound_map (λ k. k.now) range.entry.1) }
     {
         // The contract of `node_count` says that the pairs ascend, so the range is what lies

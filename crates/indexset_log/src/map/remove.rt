@@ -1,16 +1,16 @@
 //! Calls that remove pairs.
 ghost use Rattle.std.specs.Prelude.{◌≡◌, ◌≤◌, [], length, false, IfOk, OnOk, IfErr, OnErr, IsOk};
 ghost use Rattle.std.specs.Option.{option_map};
-ghost use Rattle.indexset_core.specs.Nodes.{joined};
+ghost use Rattle.indexset_core.specs.Nodes.{concat};
 ghost use Rattle.indexset_core.specs.Pairs.{by_key, entry_of, has_key, pair_of};
-ghost use Rattle.indexset_log.specs.Changed.{Changed, Fits, PairsTold, key_removal, refusal_of};
+ghost use Rattle.indexset_log.specs.Changed.{Changed, Fits, PairEvents, key_removal, refusal_of};
 ghost use Rattle.indexset_log.specs.Keys.{KeepsOthers};
 
 use super::BTreeMap;
+use indexset_core::lookup_key::UniqueKey;
 use indexset_core::node::NodeLike;
 use indexset_core::pair::Pair;
 use indexset_core::refusal::Refusal;
-use indexset_core::sought::Names;
 use indexset_events::change::ChangeEvent;
 
 impl<K: Ord + Clone + Drop, V: Clone + Drop, Node: NodeLike<Pair<K, V>>> BTreeMap<K, V, Node> {
@@ -24,21 +24,21 @@ impl<K: Ord + Clone + Drop, V: Clone + Drop, Node: NodeLike<Pair<K, V>>> BTreeMa
     /// let (removed, events) = tree.remove_cdc(&1)?;
     /// assert!(rt; removed == Some((1, 10)) && events.len() == 1);
     /// ```
-    pub fn remove_cdc<Q: Names<K> + Drop>(
+    pub fn remove_cdc<Q: UniqueKey<K> + Drop>(
         &mut self,
         key: Q,
     ) -> Result<(Option<(K, V)>, Vec<ChangeEvent<Pair<K, V>>>), Refusal>
         ensures answer { IfOk result (λ r.
-            r.0 ≡ option_map entry_of (pair_of Q.order (joined self.old.nodes) key)) }
+            r.0 ≡ option_map entry_of (pair_of Q.order (concat self.old.nodes) key)) }
         ensures refusal { IfErr result (λ e. e ≡ refusal_of self.old
             (key_removal Q.order self.old key)) }
         ensures no_event { (key_removal Q.order self.old key).events ≡ [] → IsOk result }
         ensures unchanged { OnErr result (self.new ≡ self.old) }
-        ensures gone { OnOk result (has_key Q.order (joined self.new.nodes) key ≡ false) }
+        ensures gone { OnOk result (has_key Q.order (concat self.new.nodes) key ≡ false) }
         ensures others { OnOk result (KeepsOthers K.cmp Q.order self.old.nodes self.new.nodes key) }
         ensures changed { OnOk result (Changed (by_key K.cmp) self.old self.new
             (key_removal Q.order self.old key)) }
-        ensures told { IfOk result (λ r. PairsTold K.cmp K.is_clone V.is_clone self.old self.new
+        ensures events { IfOk result (λ r. PairEvents K.cmp K.is_clone V.is_clone self.old self.new
             (key_removal Q.order self.old key) r.1.items) }
     {
         match self.locate(key) {
@@ -62,9 +62,9 @@ impl<K: Ord + Clone + Drop, V: Clone + Drop, Node: NodeLike<Pair<K, V>>> BTreeMa
     /// tree.insert(2, 20)?;
     /// assert!(rt; tree.remove(&1)? == Some((1, 10)) && tree.remove(&1)?.is_none());
     /// ```
-    pub fn remove<Q: Names<K> + Drop>(&mut self, key: Q) -> Result<Option<(K, V)>, Refusal>
+    pub fn remove<Q: UniqueKey<K> + Drop>(&mut self, key: Q) -> Result<Option<(K, V)>, Refusal>
         ensures answer { IfOk result (λ entry.
-            entry ≡ option_map entry_of (pair_of Q.order (joined self.old.nodes) key)) }
+            entry ≡ option_map entry_of (pair_of Q.order (concat self.old.nodes) key)) }
         ensures refusal { IfErr result (λ e. e ≡ refusal_of self.old
             (key_removal Q.order self.old key)) }
         ensures no_event { (key_removal Q.order self.old key).events ≡ [] → IsOk result }
@@ -73,7 +73,7 @@ impl<K: Ord + Clone + Drop, V: Clone + Drop, Node: NodeLike<Pair<K, V>>> BTreeMa
         ensures never { Node.allocates ≡ false
             → Fits self.old (key_removal Q.order self.old key) → IsOk result }
         ensures unchanged { OnErr result (self.new ≡ self.old) }
-        ensures gone { OnOk result (has_key Q.order (joined self.new.nodes) key ≡ false) }
+        ensures gone { OnOk result (has_key Q.order (concat self.new.nodes) key ≡ false) }
         ensures others { OnOk result (KeepsOthers K.cmp Q.order self.old.nodes self.new.nodes key) }
         ensures changed { OnOk result (Changed (by_key K.cmp) self.old self.new
             (key_removal Q.order self.old key)) }

@@ -3,7 +3,7 @@ ghost use Rattle.std.specs.Prelude.{◌≡◌, ◌+◌, ◌≤◌, true, length,
 ghost use Rattle.std.specs.List.{position_or_len};
 ghost use Rattle.std.specs.Option.{option_map_or, unwrap_or};
 ghost use Rattle.std.specs.Ordering.{is_lt};
-ghost use Rattle.indexset_core.specs.Nodes.{joined, node_at};
+ghost use Rattle.indexset_core.specs.Nodes.{concat, node_at};
 ghost use Rattle.indexset_core.specs.Order.{IsAscending};
 ghost use Rattle.indexset_events.specs.Attach.{attach_index, attached, attach_refusal};
 ghost use Rattle.indexset_events.specs.Nodes.{is_ascending};
@@ -11,11 +11,11 @@ ghost use Rattle.indexset_events.specs.Replay.{reaches};
 
 use super::BTreeSet;
 use crate::nodes::insert_node;
+use indexset_core::item_iter::OfNode;
 use indexset_core::locate::node_by;
 use indexset_core::node::NodeLike;
 use indexset_core::probe::ByItem;
 use indexset_core::refusal::{Refusal, Refused};
-use indexset_core::walk::ReadAny;
 use indexset_events::nodes::is_ascending;
 
 impl<T: Ord + Clone + Drop, Node: NodeLike<T>> BTreeSet<T, Node> {
@@ -33,9 +33,9 @@ impl<T: Ord + Clone + Drop, Node: NodeLike<T>> BTreeSet<T, Node> {
     pub fn attach_node(&mut self, node: Node) -> Result<(), Refused<Node>>
         ensures nodes { OnOk result (self.new.nodes ≡ attached T.cmp self.old.nodes
             (Node.list node)) }
-        ensures ascending { OnOk result (IsAscending T.cmp (joined self.new.nodes)) }
-        ensures count { OnOk result (length (joined self.new.nodes)
-            ≡ length (joined self.old.nodes) + length (Node.list node)) }
+        ensures ascending { OnOk result (IsAscending T.cmp (concat self.new.nodes)) }
+        ensures count { OnOk result (length (concat self.new.nodes)
+            ≡ length (concat self.old.nodes) + length (Node.list node)) }
         ensures good { IsOk result → attach_refusal T.cmp self.old.size self.old.nodes
             (Node.list node) ≡ None }
         ensures refusal { IfErr result (λ e. e.cause ≡ unwrap_or
@@ -61,7 +61,7 @@ impl<T: Ord + Clone + Drop, Node: NodeLike<T>> BTreeSet<T, Node> {
             (Node.list node.now)) }
         ensures good { OnOk result (attach_refusal T.cmp self.now.size self.now.nodes
             (Node.list node.now) ≡ None) }
-        ensures fits { OnOk result (length (joined self.now.nodes) + length (Node.list node.now)
+        ensures fits { OnOk result (length (concat self.now.nodes) + length (Node.list node.now)
             ≤ usize.MAX) }
         ensures refusal { IfErr result (λ e. e ≡ unwrap_or
             (attach_refusal T.cmp self.now.size self.now.nodes
@@ -106,7 +106,7 @@ impl<T: Ord + Clone + Drop, Node: NodeLike<T>> BTreeSet<T, Node> {
         if self.nodes.is_empty() {
             return 0;
         }
-        let node = node_by::<T, Node, ReadAny, ByItem<'_, T>>(
+        let node = node_by::<T, Node, OfNode, ByItem<'_, T>>(
             self.nodes.as_slice(),
             &mut ByItem::new(value),
         );

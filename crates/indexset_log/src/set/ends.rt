@@ -1,9 +1,9 @@
 //! The first and the last item, and calls that remove them.
 ghost use Rattle.std.specs.Prelude.{◌≡◌, ◌↔◌, ◌-◌, ◌<◌, ◌≤◌, [], length, slice_get, false, IfOk, OnOk, IfErr, OnErr, IsOk, IfSome, IsSome, MatchOption};
 ghost use Rattle.std.specs.Option.{option_copied};
-ghost use Rattle.indexset_core.specs.Nodes.{joined, IsLawful};
+ghost use Rattle.indexset_core.specs.Nodes.{concat, IsLawful};
 ghost use Rattle.indexset_core.specs.Order.{above, below};
-ghost use Rattle.indexset_log.specs.Changed.{Changed, Fits, ItemsTold, first_removal, last_removal, refusal_of};
+ghost use Rattle.indexset_log.specs.Changed.{Changed, Fits, ItemEvents, first_removal, last_removal, refusal_of};
 ghost use Rattle.indexset_events.specs.Ends.{IsItemAt};
 
 use super::BTreeSet;
@@ -19,9 +19,9 @@ impl<T: Ord + Clone + Drop, Node: NodeLike<T>> BTreeSet<T, Node> {
     /// assert!(rt; tree.first() == Some(&5));
     /// ```
     pub fn first(&self) -> Option<&T>
-        ensures element { option_copied result ≡ slice_get (joined self.now.nodes) 0 }
-        ensures variant { IsSome result ↔ (0 < length (joined self.now.nodes)) }
-        ensures least { IfSome result (λ least. below T.cmp (joined self.now.nodes) least.now
+        ensures element { option_copied result ≡ slice_get (concat self.now.nodes) 0 }
+        ensures variant { IsSome result ↔ (0 < length (concat self.now.nodes)) }
+        ensures least { IfSome result (λ least. below T.cmp (concat self.now.nodes) least.now
             ≡ []) }
     {
         self.iter().next()
@@ -34,11 +34,11 @@ impl<T: Ord + Clone + Drop, Node: NodeLike<T>> BTreeSet<T, Node> {
     /// assert!(rt; tree.last() == Some(&15));
     /// ```
     pub fn last(&self) -> Option<&T>
-        ensures element { option_copied result ≡ slice_get (joined self.now.nodes)
-            (length (joined self.now.nodes) - 1) }
-        ensures variant { IsSome result ↔ (0 < length (joined self.now.nodes)) }
+        ensures element { option_copied result ≡ slice_get (concat self.now.nodes)
+            (length (concat self.now.nodes) - 1) }
+        ensures variant { IsSome result ↔ (0 < length (concat self.now.nodes)) }
         ensures greatest { IfSome result (λ greatest. above T.cmp
-            (joined self.now.nodes) greatest.now ≡ []) }
+            (concat self.now.nodes) greatest.now ≡ []) }
     {
         self.iter().next_back()
     }
@@ -54,14 +54,14 @@ impl<T: Ord + Clone + Drop, Node: NodeLike<T>> BTreeSet<T, Node> {
     /// assert!(rt; removed == Some(5) && events.len() == 1);
     /// ```
     pub fn pop_first_cdc(&mut self) -> Result<(Option<T>, Vec<ChangeEvent<T>>), Refusal>
-        ensures answer { IfOk result (λ r. r.0 ≡ slice_get (joined self.old.nodes) 0) }
+        ensures answer { IfOk result (λ r. r.0 ≡ slice_get (concat self.old.nodes) 0) }
         ensures refusal { IfErr result (λ e. e ≡ refusal_of self.old
             (first_removal T.cmp self.old)) }
         ensures no_event { (first_removal T.cmp self.old).events ≡ [] → IsOk result }
         ensures unchanged { OnErr result (self.new ≡ self.old) }
         ensures changed { OnOk result (Changed T.cmp self.old self.new
             (first_removal T.cmp self.old)) }
-        ensures told { IfOk result (λ r. ItemsTold T.cmp T.is_clone self.old self.new
+        ensures events { IfOk result (λ r. ItemEvents T.cmp T.is_clone self.old self.new
             (first_removal T.cmp self.old) r.1.items) }
     {
         let place = self.first_item_place();
@@ -79,7 +79,7 @@ impl<T: Ord + Clone + Drop, Node: NodeLike<T>> BTreeSet<T, Node> {
     /// assert!(rt; tree.pop_first()?.is_none());
     /// ```
     pub fn pop_first(&mut self) -> Result<Option<T>, Refusal>
-        ensures answer { IfOk result (λ item. item ≡ slice_get (joined self.old.nodes) 0) }
+        ensures answer { IfOk result (λ item. item ≡ slice_get (concat self.old.nodes) 0) }
         ensures refusal { IfErr result (λ e. e ≡ refusal_of self.old
             (first_removal T.cmp self.old)) }
         ensures no_event { (first_removal T.cmp self.old).events ≡ [] → IsOk result }
@@ -107,14 +107,14 @@ impl<T: Ord + Clone + Drop, Node: NodeLike<T>> BTreeSet<T, Node> {
     /// ```
     pub fn pop_last_cdc(&mut self) -> Result<(Option<T>, Vec<ChangeEvent<T>>), Refusal>
         ensures answer { IfOk result (λ r.
-            r.0 ≡ slice_get (joined self.old.nodes) (length (joined self.old.nodes) - 1)) }
+            r.0 ≡ slice_get (concat self.old.nodes) (length (concat self.old.nodes) - 1)) }
         ensures refusal { IfErr result (λ e. e ≡ refusal_of self.old
             (last_removal T.cmp self.old)) }
         ensures no_event { (last_removal T.cmp self.old).events ≡ [] → IsOk result }
         ensures unchanged { OnErr result (self.new ≡ self.old) }
         ensures changed { OnOk result (Changed T.cmp self.old self.new
             (last_removal T.cmp self.old)) }
-        ensures told { IfOk result (λ r. ItemsTold T.cmp T.is_clone self.old self.new
+        ensures events { IfOk result (λ r. ItemEvents T.cmp T.is_clone self.old self.new
             (last_removal T.cmp self.old) r.1.items) }
     {
         let place = self.last_item_place();
@@ -133,7 +133,7 @@ impl<T: Ord + Clone + Drop, Node: NodeLike<T>> BTreeSet<T, Node> {
     /// ```
     pub fn pop_last(&mut self) -> Result<Option<T>, Refusal>
         ensures answer { IfOk result (λ item.
-            item ≡ slice_get (joined self.old.nodes) (length (joined self.old.nodes) - 1)) }
+            item ≡ slice_get (concat self.old.nodes) (length (concat self.old.nodes) - 1)) }
         ensures refusal { IfErr result (λ e. e ≡ refusal_of self.old
             (last_removal T.cmp self.old)) }
         ensures no_event { (last_removal T.cmp self.old).events ≡ [] → IsOk result }
@@ -151,7 +151,7 @@ impl<T: Ord + Clone + Drop, Node: NodeLike<T>> BTreeSet<T, Node> {
 
     // Returns the place of the first item, if any.
     fn first_item_place(&self) -> Option<(usize, usize)>
-        ensures place { MatchOption result (joined self.now.nodes ≡ [])
+        ensures place { MatchOption result (concat self.now.nodes ≡ [])
             (λ p. IsItemAt self.now.nodes p 0) }
         ensures lawful { IsLawful T.cmp self.now.size self.now.nodes }
         ensures two { 2 ≤ self.now.size }
@@ -164,8 +164,8 @@ impl<T: Ord + Clone + Drop, Node: NodeLike<T>> BTreeSet<T, Node> {
 
     // Returns the place of the last item, if any.
     fn last_item_place(&self) -> Option<(usize, usize)>
-        ensures place { MatchOption result (joined self.now.nodes ≡ [])
-            (λ p. IsItemAt self.now.nodes p (length (joined self.now.nodes) - 1)) }
+        ensures place { MatchOption result (concat self.now.nodes ≡ [])
+            (λ p. IsItemAt self.now.nodes p (length (concat self.now.nodes) - 1)) }
         ensures lawful { IsLawful T.cmp self.now.size self.now.nodes }
         ensures two { 2 ≤ self.now.size }
     {

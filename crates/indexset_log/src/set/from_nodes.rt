@@ -1,7 +1,7 @@
 //! Sets made of nodes.
 ghost use Rattle.std.specs.Prelude.{◌≡◌, ◌≤◌, ◌<◌, length, map, None, Some, MatchOption, IfOk, OnOk, IfErr};
 ghost use Rattle.std.specs.Option.{unwrap_or};
-ghost use Rattle.indexset_core.specs.Nodes.{joined, node_lengths};
+ghost use Rattle.indexset_core.specs.Nodes.{concat, node_lengths};
 ghost use Rattle.indexset_events.specs.Attach.{nodes_refusal};
 ghost use Rattle.indexset_index.specs.Blocks.{block_sums};
 
@@ -61,7 +61,7 @@ fn test_and_count<T: Ord + Drop, Node: NodeLike<T>>(
     size: usize,
 ) -> Result<(usize, Blocks), Refusal>
     ensures good { OnOk result (nodes_refusal T.cmp size (map Node.list nodes.now) ≡ None) }
-    ensures len { IfOk result (λ r. r.0 ≡ length (joined (map Node.list nodes.now))) }
+    ensures len { IfOk result (λ r. r.0 ≡ length (concat (map Node.list nodes.now))) }
     ensures index { IfOk result (λ r. r.1.sums ≡ block_sums (node_lengths
         (map Node.list nodes.now))) }
     ensures refusal { IfErr result (λ e. e ≡ unwrap_or (nodes_refusal T.cmp size
@@ -76,8 +76,8 @@ fn test_and_count<T: Ord + Drop, Node: NodeLike<T>>(
 
 // Returns how many items the nodes hold, if that is a usize.
 fn count<T: Ord + Drop, Node: NodeLike<T>>(nodes: &[Node]) -> Option<usize>
-    ensures { MatchOption result (usize.MAX < length (joined (map Node.list nodes.now)))
-        (λ len. len ≡ length (joined (map Node.list nodes.now))) }
+    ensures { MatchOption result (usize.MAX < length (concat (map Node.list nodes.now)))
+        (λ len. len ≡ length (concat (map Node.list nodes.now))) }
 {
     let mut len: usize = 0;
     for node in nodes {

@@ -4,21 +4,21 @@ ghost use Rattle.std.specs.List.{between};
 ghost use Rattle.std.specs.Iterator.{UpTo, at_most};
 ghost use Rattle.std.specs.Iterator.SizeHint.{IsWithinCount};
 ghost use Rattle.std.specs.Map.Iter.{TakesFirst, TakesLast, ShowsInOrder, ShowsInReverse, deref};
-ghost use Rattle.indexset_core.specs.Nodes.{joined};
+ghost use Rattle.indexset_core.specs.Nodes.{concat};
 ghost use Rattle.indexset_core.specs.Order.{IsAscending};
 ghost use Rattle.indexset_core.specs.Places.{IsPlace, items_before};
 
 use super::BTreeSet;
+use indexset_core::item_iter::counted::ExactItemIter;
+use indexset_core::item_iter::{ItemIter, OfNode};
 use indexset_core::node::NodeLike;
-use indexset_core::walk::counted::CountedWalk;
-use indexset_core::walk::{ReadAny, Walk};
 use std::iter::FusedIterator;
 use std::marker::Model;
 
 /// The remaining items of a set, from both ends.
 #[derive(Drop)]
 pub struct Iter<'a, T: Ord + Clone + Drop, Node: NodeLike<T> = Vec<T>> {
-    rest: CountedWalk<'a, T, Node, ReadAny>,
+    rest: ExactItemIter<'a, T, Node, OfNode>,
 }
 
 impl<'a, T: Ord + Clone + Drop, Node: NodeLike<T>> Model for Iter<'a, T, Node> {
@@ -37,13 +37,13 @@ impl<'a, T: Ord + Clone + Drop, Node: NodeLike<T>> Iter<'a, T, Node> {
     /// assert!(rt; set::Iter::new(&tree).copied().eq([5, 10, 15]));
     /// ```
     pub fn new(set: &'a BTreeSet<T, Node>) -> Self
-        ensures rest { result ≡ joined set.now.nodes }
+        ensures rest { result ≡ concat set.now.nodes }
         ensures ascending { IsAscending T.cmp result }
         ensures runs { ShowsInOrder (deref {X = T}) }
         ensures runs_back { ShowsInReverse (deref {X = T}) }
     {
         Iter {
-            rest: CountedWalk::new(Walk::over(set.nodes.as_slice()), set.len),
+            rest: ExactItemIter::new(ItemIter::over(set.nodes.as_slice()), set.len),
         }
     }
 
@@ -59,10 +59,10 @@ impl<'a, T: Ord + Clone + Drop, Node: NodeLike<T>> Iter<'a, T, Node> {
         requires count { items_before (map Node.list nodes.now) from + count
             ≡ items_before (map Node.list nodes.now) to }
         ensures { result ≡ between (items_before (map Node.list nodes.now) from)
-            (items_before (map Node.list nodes.now) to) (joined (map Node.list nodes.now)) }
+            (items_before (map Node.list nodes.now) to) (concat (map Node.list nodes.now)) }
     {
         Iter {
-            rest: CountedWalk::new(Walk::between(nodes, from, to), count),
+            rest: ExactItemIter::new(ItemIter::between(nodes, from, to), count),
         }
     }
 }
@@ -111,7 +111,7 @@ impl<T: Ord + Clone + Drop, Node: NodeLike<T>> BTreeSet<T, Node> {
     /// assert!(rt; tree.iter().rev().copied().eq([15, 10, 5]));
     /// ```
     pub fn iter(&self) -> Iter<'_, T, Node>
-        ensures rest { result ≡ joined self.now.nodes }
+        ensures rest { result ≡ concat self.now.nodes }
         ensures ascending { IsAscending T.cmp result }
         ensures runs { ShowsInOrder (deref {X = T}) }
         ensures runs_back { ShowsInReverse (deref {X = T}) }
@@ -125,7 +125,7 @@ impl<'a, T: Ord + Clone + Drop, Node: NodeLike<T>> IntoIterator for &'a BTreeSet
 
     type IntoIter = Iter<'a, T, Node>;
 
-    ghost into_iter_gives = { λ b r. (r ≡ joined b.now.nodes) × ShowsInOrder (deref {X = T})
+    ghost into_iter_gives = { λ b r. (r ≡ concat b.now.nodes) × ShowsInOrder (deref {X = T})
         × ShowsInReverse (deref {X = T}) };
 
     fn into_iter(self) -> Iter<'a, T, Node> {

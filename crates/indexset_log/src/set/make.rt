@@ -2,7 +2,7 @@
 ghost use Rattle.std.specs.Prelude.{◌≡◌, ◌⊎◌, ◌<◌, ℕ, [], Err, IfOk, IfErr, fold, take};
 ghost use Rattle.std.specs.Iterator.{IsFiniteIterable};
 ghost use Rattle.std.specs.Iterator.Runs.{SomeRun, WholeRun};
-ghost use Rattle.indexset_core.specs.Nodes.{joined};
+ghost use Rattle.indexset_core.specs.Nodes.{concat};
 ghost use Rattle.indexset_core.specs.Order.{keep};
 ghost use Rattle.indexset_log.specs.Edits.{after_checked_put};
 ghost use Rattle.indexset_log.specs.Tree.{fresh};
@@ -26,7 +26,7 @@ impl<T: Ord + Clone + Drop> BTreeSet<T, Vec<T>> {
             I.IntoIter.remaining iter }
         ensures contents { IfOk result (λ s. (it : I.IntoIter) × I.into_iter_gives iter it
             × WholeRun I.IntoIter.next_gives it (λ run.
-            joined s.nodes ≡ fold (keep T.cmp) [] run.items)) }
+            concat s.nodes ≡ fold (keep T.cmp) [] run.items)) }
         ensures tree { IfOk result (λ s. (it : I.IntoIter) × I.into_iter_gives iter it
             × WholeRun I.IntoIter.next_gives it (λ run.
             s ≡ fold (after_checked_put T.cmp) (fresh DEFAULT_INNER_SIZE) run.items)) }
@@ -51,7 +51,7 @@ impl<T: Ord + Clone + Drop> BTreeSet<T, Vec<T>> {
     /// assert!(rt; tree.iter().copied().eq([5, 15]));
     /// ```
     pub fn from(alloc: Global, values: Vec<T>) -> Result<Self, Refusal>
-        ensures contents { IfOk result (λ s. joined s.nodes ≡ fold (keep T.cmp) [] values.items) }
+        ensures contents { IfOk result (λ s. concat s.nodes ≡ fold (keep T.cmp) [] values.items) }
         ensures tree { IfOk result (λ s. s ≡ fold (after_checked_put T.cmp)
             (fresh DEFAULT_INNER_SIZE) values.items) }
         ensures refusal { IfErr result (λ e. (e ≡ Refusal.Memory) ⊎ (e ≡ Refusal.Numbers)) }

@@ -5,20 +5,20 @@ ghost use Rattle.std.specs.Map.Iter.{ShowsInOrder, ShowsInReverse, deref};
 ghost use Rattle.std.specs.Option.{option_copied};
 ghost use Rattle.std.specs.Ordering.{is_eq};
 ghost use Rattle.std.specs.declared.cmp.Ordering.TheVariants.{Less};
-ghost use Rattle.indexset_core.specs.Bounds.{IfBounded, in_positions, is_before, is_up_to_end};
+ghost use Rattle.indexset_core.specs.KeyRange.{IfBounded, in_positions, is_before, is_up_to_end};
 ghost use Rattle.indexset_core.specs.Digits.{digits};
-ghost use Rattle.indexset_core.specs.Nodes.{joined, node_at};
+ghost use Rattle.indexset_core.specs.Nodes.{concat, node_at};
 ghost use Rattle.indexset_core.specs.Order.{IsAscending, equal_element, has_equal, index_of, rank};
 ghost use Rattle.indexset_core.specs.Parted.{IsParted, less_count};
 ghost use Rattle.indexset_core.specs.Places.{IsPlace, items_before};
 
 use super::BTreeSet;
 use super::range::Range;
+use indexset_core::item_iter::OfNode;
+use indexset_core::lookup_key::LookupKey;
 use indexset_core::node::NodeLike;
-use indexset_core::positions::{Positions, end_position, first_position};
+use indexset_core::position_range::{PositionRange, end_position, first_position};
 use indexset_core::probe::Probe;
-use indexset_core::sought::Sought;
-use indexset_core::walk::ReadAny;
 use std::ops::Bound;
 
 impl<T: Ord + Clone + Drop, Node: NodeLike<T>> BTreeSet<T, Node> {
@@ -32,15 +32,15 @@ impl<T: Ord + Clone + Drop, Node: NodeLike<T>> BTreeSet<T, Node> {
     /// }
     /// assert!(rt; board.rank(&30) == 2 && board.rank(&25) == 2);
     /// ```
-    pub fn rank<Q: Sought<T> + Drop>(&self, value: Q) -> usize
-        ensures value { result ≡ rank Q.order (joined self.now.nodes) value }
-        ensures there { has_equal Q.order (joined self.now.nodes) value ≡ true
-            → slice_get (joined self.now.nodes) result
-            ≡ equal_element Q.order (joined self.now.nodes) value }
-        ensures inside { has_equal Q.order (joined self.now.nodes) value ≡ true
-            → result < length (joined self.now.nodes) }
+    pub fn rank<Q: LookupKey<T> + Drop>(&self, value: Q) -> usize
+        ensures value { result ≡ rank Q.order (concat self.now.nodes) value }
+        ensures at_rank { has_equal Q.order (concat self.now.nodes) value ≡ true
+            → slice_get (concat self.now.nodes) result
+            ≡ equal_element Q.order (concat self.now.nodes) value }
+        ensures inside { has_equal Q.order (concat self.now.nodes) value ≡ true
+            → result < length (concat self.now.nodes) }
         ensures before { AllWithin (λ x. Q.order x value ≡ Less)
-            (joined self.now.nodes) 0 result }
+            (concat self.now.nodes) 0 result }
     {
         self.count_before(Bound::Included(self.by_item(&value)))
     }
@@ -55,11 +55,11 @@ impl<T: Ord + Clone + Drop, Node: NodeLike<T>> BTreeSet<T, Node> {
     /// }
     /// assert!(rt; set.index_of(&20) == Some(1) && set.index_of(&25).is_none());
     /// ```
-    pub fn index_of<Q: Sought<T> + Drop>(&self, value: Q) -> Option<usize>
-        ensures value { result ≡ index_of Q.order (joined self.now.nodes) value }
-        ensures there { IfSome result (λ i. slice_get (joined self.now.nodes) i
-            ≡ equal_element Q.order (joined self.now.nodes) value) }
-        ensures inside { IfSome result (λ i. i < length (joined self.now.nodes)) }
+    pub fn index_of<Q: LookupKey<T> + Drop>(&self, value: Q) -> Option<usize>
+        ensures value { result ≡ index_of Q.order (concat self.now.nodes) value }
+        ensures at_index { IfSome result (λ i. slice_get (concat self.now.nodes) i
+            ≡ equal_element Q.order (concat self.now.nodes) value) }
+        ensures inside { IfSome result (λ i. i < length (concat self.now.nodes)) }
     {
         self.position_by(&mut self.by_item(&value)).ok()
     }
@@ -74,15 +74,15 @@ impl<T: Ord + Clone + Drop, Node: NodeLike<T>> BTreeSet<T, Node> {
     /// assert!(rt; tree.position_by(&mut ByItem::new(&12)) == Err(2));
     /// ```
     pub fn position_by<P: Probe<T>>(&self, probe: &mut P) -> Result<usize, usize>
-        requires { IsParted (P.answer probe.old) (joined self.now.nodes) }
+        requires { IsParted (P.answer probe.old) (concat self.now.nodes) }
         ensures found { IfOk result (λ i. position (λ x. is_eq (P.answer probe.old x))
-            (joined self.now.nodes) ≡ Some i) }
+            (concat self.now.nodes) ≡ Some i) }
         ensures absent { IfErr result (λ _. position (λ x. is_eq (P.answer probe.old x))
-            (joined self.now.nodes) ≡ None) }
+            (concat self.now.nodes) ≡ None) }
         ensures gap { IfErr result (λ i. i ≡ less_count (P.answer probe.old)
-            (joined self.now.nodes)) }
+            (concat self.now.nodes)) }
         ensures fixed { P.answer probe.new ≡ P.answer probe.old }
-        ensures few { P.asked probe.new ≤ P.asked probe.old +
+        ensures comparisons { P.asked probe.new ≤ P.asked probe.old +
             (digits (length self.now.nodes) + digits self.now.size + 1) }
     {
         match self.locate(probe) {
@@ -99,9 +99,9 @@ impl<T: Ord + Clone + Drop, Node: NodeLike<T>> BTreeSet<T, Node> {
     /// assert!(rt; tree.count_before(Bound::Included(ByItem::new(&10))) == 1);
     /// ```
     pub fn count_before<P: Probe<T> + Drop>(&self, start: Bound<P>) -> usize
-        requires { IfBounded (λ p. IsParted (P.answer p) (joined self.now.nodes)) start }
+        requires { IfBounded (λ p. IsParted (P.answer p) (concat self.now.nodes)) start }
         ensures { result ≡ count_by (is_before (λ x p. P.answer p x) start)
-            (joined self.now.nodes) }
+            (concat self.now.nodes) }
     {
         self.position(self.place_from(start))
     }
@@ -114,9 +114,9 @@ impl<T: Ord + Clone + Drop, Node: NodeLike<T>> BTreeSet<T, Node> {
     /// assert!(rt; tree.count_up_to(Bound::Included(ByItem::new(&10))) == 2);
     /// ```
     pub fn count_up_to<P: Probe<T> + Drop>(&self, end: Bound<P>) -> usize
-        requires { IfBounded (λ p. IsParted (P.answer p) (joined self.now.nodes)) end }
+        requires { IfBounded (λ p. IsParted (P.answer p) (concat self.now.nodes)) end }
         ensures { result ≡ count_by (is_up_to_end (λ x p. P.answer p x) end)
-            (joined self.now.nodes) }
+            (concat self.now.nodes) }
     {
         self.position(self.place_to(end))
     }
@@ -132,7 +132,7 @@ impl<T: Ord + Clone + Drop, Node: NodeLike<T>> BTreeSet<T, Node> {
     /// assert!(rt; board.get_index(1) == Some(&20) && board.get_index(3).is_none());
     /// ```
     pub fn get_index(&self, i: usize) -> Option<&T>
-        ensures { option_copied result ≡ slice_get (joined self.now.nodes) i }
+        ensures { option_copied result ≡ slice_get (concat self.now.nodes) i }
     {
         let (node, offset) = self.place_at(i)?;
         self.nodes[node].get_ith(offset)
@@ -150,8 +150,8 @@ impl<T: Ord + Clone + Drop, Node: NodeLike<T>> BTreeSet<T, Node> {
     /// let page = set.range_idx(2..4);
     /// assert!(rt; page.copied().eq([15, 20]));
     /// ```
-    pub fn range_idx<R: Positions + Drop>(&self, range: R) -> Range<'_, T, Node>
-        ensures rest { result ≡ in_positions (joined self.now.nodes) (R.start range)
+    pub fn range_idx<R: PositionRange + Drop>(&self, range: R) -> Range<'_, T, Node>
+        ensures rest { result ≡ in_positions (concat self.now.nodes) (R.start range)
             (R.end range) }
         ensures ascending { IsAscending T.cmp result }
         ensures runs { ShowsInOrder (deref {X = T}) }
@@ -178,7 +178,7 @@ impl<T: Ord + Clone + Drop, Node: NodeLike<T>> BTreeSet<T, Node> {
         let _len = self.len;
         let (node, offset) = place;
         self.index
-            .prefix::<T, Node, ReadAny>(node, self.nodes.as_slice())
+            .prefix::<T, Node, OfNode>(node, self.nodes.as_slice())
             + offset
     }
 
@@ -191,17 +191,16 @@ impl<T: Ord + Clone + Drop, Node: NodeLike<T>> BTreeSet<T, Node> {
     /// assert!(rt; tree.place_at(2) == Some((1, 0)) && tree.place_at(3).is_none());
     /// ```
     pub fn place_at(&self, i: usize) -> Option<(usize, usize)>
-        ensures { MatchOption result (length (joined self.now.nodes) ≤ i)
+        ensures { MatchOption result (length (concat self.now.nodes) ≤ i)
             (λ p. (p.0 < length self.now.nodes) × (p.1 < length (node_at self.now.nodes p.0))
             × (items_before self.now.nodes p ≡ i)) }
     {
-        self.index
-            .find::<T, Node, ReadAny>(i, self.nodes.as_slice())
+        self.index.find::<T, Node, OfNode>(i, self.nodes.as_slice())
     }
 
     // Returns the place after the first `i` items.
     fn place_after(&self, i: usize) -> (usize, usize)
-        requires { i ≤ length (joined self.now.nodes) }
+        requires { i ≤ length (concat self.now.nodes) }
         ensures place { IsPlace self.now.nodes result }
         ensures before { items_before self.now.nodes result ≡ i }
     {

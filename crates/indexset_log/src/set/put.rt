@@ -1,24 +1,24 @@
 //! Insertion of items.
 ghost use Rattle.std.specs.Prelude.{◌≡◌, ◌+◌, ◌/◌, ◌≤◌, [], length, Some, None, IfOk, OnOk, IfErr, OnErr, IsOk, IfSome, is_none, not, true};
-ghost use Rattle.indexset_core.specs.Nodes.{joined, IsLawful};
+ghost use Rattle.indexset_core.specs.Nodes.{concat, IsLawful};
 ghost use Rattle.indexset_core.specs.Order.{equal_element, has_equal};
-ghost use Rattle.indexset_log.specs.Aim.{IsAim, IsAimed, count_for, is_present};
-ghost use Rattle.indexset_log.specs.Changed.{Changed, ItemsTold, checked_put_change, put_change, refusal_of};
-ghost use Rattle.indexset_events.specs.Clones.{IsTold};
+ghost use Rattle.indexset_log.specs.InsertPlan.{IsInsertPlan, IsPlanned, count_for, is_present};
+ghost use Rattle.indexset_log.specs.Changed.{Changed, ItemEvents, checked_put_change, put_change, refusal_of};
+ghost use Rattle.indexset_events.specs.Clones.{AreTableEvents};
 ghost use Rattle.indexset_log.specs.Edits.{after_put};
 ghost use Rattle.indexset_events.specs.Table.{put_events};
 ghost use Rattle.indexset_log.specs.Tree.{refusal_for};
 
 use super::BTreeSet;
-use crate::aim::{Aim, event_count, finds_equal};
+use crate::insert_plan::{InsertPlan, event_count, finds_equal};
 use crate::log::{Log, add_halving, add_put};
 use crate::nodes::{first_node, make_room, part_of, put_in};
+use indexset_core::item_iter::OfNode;
 use indexset_core::locate::node_by;
 use indexset_core::node::NodeLike;
 use indexset_core::probe::ByItem;
 use indexset_core::refusal::{Refusal, Refused};
 use indexset_core::search;
-use indexset_core::walk::ReadAny;
 use indexset_events::change::{ChangeEvent, ChangeEventUnassigned};
 
 impl<T: Ord + Clone + Drop, Node: NodeLike<T>> BTreeSet<T, Node> {
@@ -33,15 +33,15 @@ impl<T: Ord + Clone + Drop, Node: NodeLike<T>> BTreeSet<T, Node> {
     /// ```
     pub fn put_cdc(&mut self, value: T) -> Result<(Option<T>, Vec<ChangeEvent<T>>), Refused<T>>
         ensures answer { IfOk result (λ r. r.0 ≡ equal_element T.cmp
-            (joined self.old.nodes) value) }
+            (concat self.old.nodes) value) }
         ensures refusal { IfErr result (λ e. e.cause ≡ refusal_of self.old
             (put_change T.cmp self.old value)) }
         ensures given_back { IfErr result (λ e. e.value ≡ value) }
         ensures unchanged { OnErr result (self.new ≡ self.old) }
-        ensures there { OnOk result (has_equal T.cmp (joined self.new.nodes) value ≡ true) }
+        ensures contains { OnOk result (has_equal T.cmp (concat self.new.nodes) value ≡ true) }
         ensures changed { OnOk result (Changed T.cmp self.old self.new
             (put_change T.cmp self.old value)) }
-        ensures told { IfOk result (λ r. ItemsTold T.cmp T.is_clone self.old self.new
+        ensures events { IfOk result (λ r. ItemEvents T.cmp T.is_clone self.old self.new
             (put_change T.cmp self.old value) r.1.items) }
     {
         let aim = self.aim(&value);
@@ -59,17 +59,17 @@ impl<T: Ord + Clone + Drop, Node: NodeLike<T>> BTreeSet<T, Node> {
     #[tactic(auto, unfolding(indexset_core::specs::Order::keep, indexset_events::specs::Edits::with_checked_put, indexset_events::specs::Table::checked_put_events))]
     pub fn put_cdc_checked(&mut self, value: T) -> Result<Option<Vec<ChangeEvent<T>>>, Refused<T>>
         ensures answer { IfOk result (λ r. is_none r ≡ has_equal T.cmp
-            (joined self.old.nodes) value) }
+            (concat self.old.nodes) value) }
         ensures refusal { IfErr result (λ e.
             e.cause ≡ refusal_of self.old (checked_put_change T.cmp self.old value)) }
-        ensures no_event { has_equal T.cmp (joined self.old.nodes) value ≡ true → IsOk result }
+        ensures no_event { has_equal T.cmp (concat self.old.nodes) value ≡ true → IsOk result }
         ensures given_back { IfErr result (λ e. e.value ≡ value) }
         ensures unchanged { OnErr result (self.new ≡ self.old) }
-        ensures there { OnOk result (has_equal T.cmp (joined self.new.nodes) value ≡ true) }
+        ensures contains { OnOk result (has_equal T.cmp (concat self.new.nodes) value ≡ true) }
         ensures changed { OnOk result (Changed T.cmp self.old self.new
             (checked_put_change T.cmp self.old value)) }
-        ensures told { IfOk result (λ r. IfSome r (λ events.
-            ItemsTold T.cmp T.is_clone self.old self.new
+        ensures events { IfOk result (λ r. IfSome r (λ events.
+            ItemEvents T.cmp T.is_clone self.old self.new
             (checked_put_change T.cmp self.old value) events.items)) }
     {
         let aim = self.aim(&value);
@@ -91,12 +91,12 @@ impl<T: Ord + Clone + Drop, Node: NodeLike<T>> BTreeSet<T, Node> {
     /// ```
     pub fn put(&mut self, value: T) -> Result<Option<T>, Refused<T>>
         ensures answer { IfOk result (λ old. old ≡ equal_element T.cmp
-            (joined self.old.nodes) value) }
+            (concat self.old.nodes) value) }
         ensures refusal { IfErr result (λ e. e.cause ≡ refusal_of self.old
             (put_change T.cmp self.old value)) }
         ensures given_back { IfErr result (λ e. e.value ≡ value) }
         ensures unchanged { OnErr result (self.new ≡ self.old) }
-        ensures there { OnOk result (has_equal T.cmp (joined self.new.nodes) value ≡ true) }
+        ensures contains { OnOk result (has_equal T.cmp (concat self.new.nodes) value ≡ true) }
         ensures changed { OnOk result (Changed T.cmp self.old self.new
             (put_change T.cmp self.old value)) }
     {
@@ -115,13 +115,13 @@ impl<T: Ord + Clone + Drop, Node: NodeLike<T>> BTreeSet<T, Node> {
     #[tactic(auto, unfolding(indexset_core::specs::Order::keep, indexset_events::specs::Edits::with_checked_put, indexset_events::specs::Table::checked_put_events))]
     pub fn insert(&mut self, value: T) -> Result<bool, Refused<T>>
         ensures answer { IfOk result (λ r. r ≡ not (has_equal T.cmp
-            (joined self.old.nodes) value)) }
+            (concat self.old.nodes) value)) }
         ensures refusal { IfErr result (λ e.
             e.cause ≡ refusal_of self.old (checked_put_change T.cmp self.old value)) }
-        ensures no_event { has_equal T.cmp (joined self.old.nodes) value ≡ true → IsOk result }
+        ensures no_event { has_equal T.cmp (concat self.old.nodes) value ≡ true → IsOk result }
         ensures given_back { IfErr result (λ e. e.value ≡ value) }
         ensures unchanged { OnErr result (self.new ≡ self.old) }
-        ensures there { OnOk result (has_equal T.cmp (joined self.new.nodes) value ≡ true) }
+        ensures contains { OnOk result (has_equal T.cmp (concat self.new.nodes) value ≡ true) }
         ensures changed { OnOk result (Changed T.cmp self.old self.new
             (checked_put_change T.cmp self.old value)) }
     {
@@ -136,9 +136,9 @@ impl<T: Ord + Clone + Drop, Node: NodeLike<T>> BTreeSet<T, Node> {
     }
 
     // Returns where an item goes: `None` in an empty tree.
-    fn aim(&self, value: &T) -> Option<Aim>
-        ensures aim { IsAimed T.cmp self.now.size self.now.nodes value.now result }
-        ensures present { is_present result ≡ has_equal T.cmp (joined self.now.nodes) value.now }
+    fn aim(&self, value: &T) -> Option<InsertPlan>
+        ensures aim { IsPlanned T.cmp self.now.size self.now.nodes value.now result }
+        ensures present { is_present result ≡ has_equal T.cmp (concat self.now.nodes) value.now }
         ensures lawful { IsLawful T.cmp self.now.size self.now.nodes }
         ensures two { 2 ≤ self.now.size }
         ensures number { self.now.next ≤ u64.MAX }
@@ -154,14 +154,14 @@ impl<T: Ord + Clone + Drop, Node: NodeLike<T>> BTreeSet<T, Node> {
     // Inserts an item where it goes, and returns the events.
     fn put_cdc_at(
         &mut self,
-        aim: Option<Aim>,
+        aim: Option<InsertPlan>,
         value: T,
     ) -> Result<(Option<T>, Vec<ChangeEvent<T>>), Refused<T>>
-        requires { IsAimed T.cmp self.old.size self.old.nodes value aim }
+        requires { IsPlanned T.cmp self.old.size self.old.nodes value aim }
         ensures tree { OnOk result (self.new ≡ after_put T.cmp self.old value) }
         ensures answer { IfOk result (λ r. r.0 ≡ equal_element T.cmp
-            (joined self.old.nodes) value) }
-        ensures told { IfOk result (λ r. IsTold T.is_clone self.old.next
+            (concat self.old.nodes) value) }
+        ensures events { IfOk result (λ r. AreTableEvents T.is_clone self.old.next
             (put_events T.cmp self.old.size self.old.nodes value) r.1.items) }
         ensures fits { OnOk result (self.old.next + length
             (put_events T.cmp self.old.size self.old.nodes value) ≤ u64.MAX) }
@@ -184,11 +184,11 @@ impl<T: Ord + Clone + Drop, Node: NodeLike<T>> BTreeSet<T, Node> {
     }
 
     // Inserts an item where it goes.
-    fn put_at(&mut self, aim: Option<Aim>, value: T) -> Result<Option<T>, Refused<T>>
-        requires { IsAimed T.cmp self.old.size self.old.nodes value aim }
+    fn put_at(&mut self, aim: Option<InsertPlan>, value: T) -> Result<Option<T>, Refused<T>>
+        requires { IsPlanned T.cmp self.old.size self.old.nodes value aim }
         ensures tree { OnOk result (self.new ≡ after_put T.cmp self.old value) }
         ensures answer { IfOk result (λ old. old ≡ equal_element T.cmp
-            (joined self.old.nodes) value) }
+            (concat self.old.nodes) value) }
         ensures fits { OnOk result (self.old.next + length
             (put_events T.cmp self.old.size self.old.nodes value) ≤ u64.MAX) }
         ensures refusal { IfErr result (λ e. e.cause ≡ refusal_for self.old.next
@@ -203,7 +203,7 @@ impl<T: Ord + Clone + Drop, Node: NodeLike<T>> BTreeSet<T, Node> {
     }
 
     // Returns the number of the next event after a put, where there are numbers for its events.
-    fn next_after(&self, aim: &Option<Aim>) -> Result<u64, Refusal>
+    fn next_after(&self, aim: &Option<InsertPlan>) -> Result<u64, Refusal>
         ensures next { IfOk result (λ next. next ≡ self.now.next + count_for aim.now) }
         ensures fits { OnOk result (self.now.next + count_for aim.now ≤ u64.MAX) }
         ensures memory { OnOk result (refusal_for self.now.next (count_for aim.now)
@@ -220,10 +220,10 @@ impl<T: Ord + Clone + Drop, Node: NodeLike<T>> BTreeSet<T, Node> {
     }
 
     // Returns the events of a put.
-    fn put_log(&self, aim: &Option<Aim>, value: &T) -> Result<Vec<ChangeEvent<T>>, Refusal>
-        requires aim { IsAimed T.cmp self.now.size self.now.nodes value.now aim.now }
+    fn put_log(&self, aim: &Option<InsertPlan>, value: &T) -> Result<Vec<ChangeEvent<T>>, Refusal>
+        requires aim { IsPlanned T.cmp self.now.size self.now.nodes value.now aim.now }
         requires fits { self.now.next + count_for aim.now ≤ u64.MAX }
-        ensures told { IfOk result (λ events. IsTold T.is_clone self.now.next
+        ensures events { IfOk result (λ events. AreTableEvents T.is_clone self.now.next
             (put_events T.cmp self.now.size self.now.nodes value.now) events.items) }
         ensures refusal { IfErr result (λ e. e ≡ Refusal.Memory) }
     {
@@ -235,12 +235,17 @@ impl<T: Ord + Clone + Drop, Node: NodeLike<T>> BTreeSet<T, Node> {
 
     // Inserts an item where it goes: `next` is the number of the next event after it. A failed call
     // returns the item in the error and changes nothing.
-    fn carry_out(&mut self, aim: Option<Aim>, next: u64, value: T) -> Result<Option<T>, Refused<T>>
-        requires aim { IsAimed T.cmp self.old.size self.old.nodes value aim }
+    fn carry_out(
+        &mut self,
+        aim: Option<InsertPlan>,
+        next: u64,
+        value: T,
+    ) -> Result<Option<T>, Refused<T>>
+        requires aim { IsPlanned T.cmp self.old.size self.old.nodes value aim }
         requires next { next ≡ self.old.next + count_for aim }
         ensures tree { OnOk result (self.new ≡ after_put T.cmp self.old value) }
         ensures answer { IfOk result (λ old. old ≡ equal_element T.cmp
-            (joined self.old.nodes) value) }
+            (concat self.old.nodes) value) }
         ensures refusal { IfErr result (λ e. e.cause ≡ Refusal.Memory) }
         ensures given_back { IfErr result (λ e. e.value ≡ value) }
         ensures unchanged { OnErr result (self.new ≡ self.old) }
@@ -252,18 +257,18 @@ impl<T: Ord + Clone + Drop, Node: NodeLike<T>> BTreeSet<T, Node> {
     }
 
     // Returns where an item goes, in a tree with nodes.
-    fn aim_in_target(&self, value: &T) -> Aim
+    fn aim_in_target(&self, value: &T) -> InsertPlan
         requires { 1 ≤ length self.now.nodes }
-        ensures { IsAim T.cmp self.now.size self.now.nodes value.now result }
+        ensures { IsInsertPlan T.cmp self.now.size self.now.nodes value.now result }
     {
-        let node = node_by::<T, Node, ReadAny, ByItem<'_, T>>(
+        let node = node_by::<T, Node, OfNode, ByItem<'_, T>>(
             self.nodes.as_slice(),
             &mut ByItem::new(value),
         );
         let items = self.nodes[node].iter().as_slice();
         let full = items.len() == self.size;
         let right = full && value.cmp(&items[items.len() / 2 - 1]).is_gt();
-        Aim {
+        InsertPlan {
             node,
             full,
             right,
@@ -272,10 +277,10 @@ impl<T: Ord + Clone + Drop, Node: NodeLike<T>> BTreeSet<T, Node> {
     }
 
     // Returns the events of a put where the item goes.
-    fn target_log(&self, aim: &Aim, value: &T) -> Result<Vec<ChangeEvent<T>>, Refusal>
-        requires aim { IsAim T.cmp self.now.size self.now.nodes value.now aim.now }
+    fn target_log(&self, aim: &InsertPlan, value: &T) -> Result<Vec<ChangeEvent<T>>, Refusal>
+        requires aim { IsInsertPlan T.cmp self.now.size self.now.nodes value.now aim.now }
         requires fits { self.now.next + count_for (Some aim.now) ≤ u64.MAX }
-        ensures told { IfOk result (λ events. IsTold T.is_clone self.now.next
+        ensures events { IfOk result (λ events. AreTableEvents T.is_clone self.now.next
             (put_events T.cmp self.now.size self.now.nodes value.now) events.items) }
         ensures refusal { IfErr result (λ e. e ≡ Refusal.Memory) }
     {
@@ -292,12 +297,17 @@ impl<T: Ord + Clone + Drop, Node: NodeLike<T>> BTreeSet<T, Node> {
     }
 
     // Inserts an item where it goes. A failed call returns it in the error and changes nothing.
-    fn put_in_target(&mut self, aim: Aim, next: u64, value: T) -> Result<Option<T>, Refused<T>>
-        requires aim { IsAim T.cmp self.old.size self.old.nodes value aim }
+    fn put_in_target(
+        &mut self,
+        aim: InsertPlan,
+        next: u64,
+        value: T,
+    ) -> Result<Option<T>, Refused<T>>
+        requires aim { IsInsertPlan T.cmp self.old.size self.old.nodes value aim }
         requires next { next ≡ self.old.next + count_for (Some aim) }
         ensures tree { OnOk result (self.new ≡ after_put T.cmp self.old value) }
         ensures answer { IfOk result (λ old. old ≡ equal_element T.cmp
-            (joined self.old.nodes) value) }
+            (concat self.old.nodes) value) }
         ensures refusal { IfErr result (λ e. e.cause ≡ Refusal.Memory) }
         ensures given_back { IfErr result (λ e. e.value ≡ value) }
         ensures unchanged { OnErr result (self.new ≡ self.old) }
@@ -325,7 +335,7 @@ impl<T: Ord + Clone + Drop, Node: NodeLike<T>> BTreeSet<T, Node> {
         requires next { next ≡ self.old.next + 1 }
         ensures tree { OnOk result (self.new ≡ after_put T.cmp self.old value) }
         ensures answer { IfOk result (λ old. old ≡ equal_element T.cmp
-            (joined self.old.nodes) value) }
+            (concat self.old.nodes) value) }
         ensures refusal { IfErr result (λ e. e.cause ≡ Refusal.Memory) }
         ensures given_back { IfErr result (λ e. e.value ≡ value) }
         ensures unchanged { OnErr result (self.new ≡ self.old) }
@@ -335,7 +345,7 @@ impl<T: Ord + Clone + Drop, Node: NodeLike<T>> BTreeSet<T, Node> {
                 node.insert_at(0, value);
                 self.nodes.push_reserved(node);
                 self.index
-                    .insert::<T, Node, ReadAny>(0, self.nodes.as_slice());
+                    .insert::<T, Node, OfNode>(0, self.nodes.as_slice());
                 self.len = 1;
                 self.next = next;
                 Ok(None)
@@ -349,7 +359,7 @@ impl<T: Ord + Clone + Drop, Node: NodeLike<T>> BTreeSet<T, Node> {
     fn first_log(&self, value: &T) -> Result<Vec<ChangeEvent<T>>, Refusal>
         requires none { self.now.nodes ≡ [] }
         requires fits { self.now.next + 1 ≤ u64.MAX }
-        ensures told { IfOk result (λ events. IsTold T.is_clone self.now.next
+        ensures events { IfOk result (λ events. AreTableEvents T.is_clone self.now.next
             (put_events T.cmp self.now.size self.now.nodes value.now) events.items) }
         ensures refusal { IfErr result (λ e. e ≡ Refusal.Memory) }
     {

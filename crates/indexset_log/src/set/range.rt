@@ -5,22 +5,22 @@ ghost use Rattle.std.specs.Iterator.SizeHint.{IsWithinCount};
 ghost use Rattle.std.specs.List.{between, count_by};
 ghost use Rattle.std.specs.Map.Iter.{TakesFirst, TakesLast, ShowsInOrder, ShowsInReverse, deref};
 ghost use Rattle.std.specs.Range.Bound.{bound_map};
-ghost use Rattle.indexset_core.specs.Bounds.{IfBounded, are_ordered, in_range, is_before, is_up_to_end};
+ghost use Rattle.indexset_core.specs.KeyRange.{IfBounded, are_ordered, in_range, is_before, is_up_to_end};
 ghost use Rattle.indexset_core.specs.Digits.{digits};
-ghost use Rattle.indexset_core.specs.Nodes.{joined, node_at};
+ghost use Rattle.indexset_core.specs.Nodes.{concat, node_at};
 ghost use Rattle.indexset_core.specs.Parted.{IsParted, less_count, not_greater_count};
 ghost use Rattle.indexset_core.specs.Places.{IsPlace, items_before};
 
 use super::BTreeSet;
 use super::iter::Iter;
 use crate::locate::{last_started, run_end};
-use indexset_core::bounds::Bounds;
+use indexset_core::item_iter::OfNode;
+use indexset_core::key_range::KeyRange;
 use indexset_core::locate::{node_by, place_from, place_to};
+use indexset_core::lookup_key::LookupKey;
 use indexset_core::node::NodeLike;
 use indexset_core::probe::{ByItem, Probe};
 use indexset_core::search::first_not_less_near;
-use indexset_core::sought::Sought;
-use indexset_core::walk::ReadAny;
 use std::iter::FusedIterator;
 use std::marker::Model;
 use std::ops::Bound;
@@ -46,9 +46,9 @@ impl<'a, T: Ord + Clone + Drop, Node: NodeLike<T>> Range<'a, T, Node> {
     /// let tree: set::BTreeSet<u64, Vec<u64>> = set::BTreeSet::from_iter(alloc, [5, 10, 15])?;
     /// assert!(rt; set::Range::new(&tree, 10..).copied().eq([10, 15]));
     /// ```
-    pub fn new<R: Bounds<T> + Drop>(set: &'a BTreeSet<T, Node>, range: R) -> Self
+    pub fn new<R: KeyRange<T> + Drop>(set: &'a BTreeSet<T, Node>, range: R) -> Self
         requires { IsTrue (are_ordered R.Key.cmp (R.start range) (R.end range)) }
-        ensures rest { result ≡ in_range R.Key.order (joined set.now.nodes) (R.start range)
+        ensures rest { result ≡ in_range R.Key.order (concat set.now.nodes) (R.start range)
             (R.end range) }
         ensures runs { ShowsInOrder (deref {X = T}) }
         ensures runs_back { ShowsInReverse (deref {X = T}) }
@@ -96,7 +96,7 @@ impl<'a, T: Ord + Clone + Drop, Node: NodeLike<T>> FusedIterator for Range<'a, T
 impl<T: Ord + Clone + Drop, Node: NodeLike<T>> BTreeSet<T, Node> {
     /// Returns a double-ended iterator over the items within the range, in order. The start must
     /// not be past the end, nor at it where both are excluded (see
-    /// `base::bounds::bounds_are_ordered`).
+    /// `base::key_range::bounds_are_ordered`).
     ///
     /// ```
     /// let mut tree: set::BTreeSet<u64, Vec<u64>> = set::BTreeSet::new(alloc);
@@ -105,9 +105,9 @@ impl<T: Ord + Clone + Drop, Node: NodeLike<T>> BTreeSet<T, Node> {
     /// }
     /// assert!(rt; tree.range(10..).copied().eq([10, 15]) && tree.range(..=10).len() == 2);
     /// ```
-    pub fn range<R: Bounds<T> + Drop>(&self, range: R) -> Range<'_, T, Node>
+    pub fn range<R: KeyRange<T> + Drop>(&self, range: R) -> Range<'_, T, Node>
         requires { IsTrue (are_ordered R.Key.cmp (R.start range) (R.end range)) }
-        ensures rest { result ≡ in_range R.Key.order (joined self.now.nodes) (R.start range)
+        ensures rest { result ≡ in_range R.Key.order (concat self.now.nodes) (R.start range)
             (R.end range) }
         ensures runs { ShowsInOrder (deref {X = T}) }
         ensures runs_back { ShowsInReverse (deref {X = T}) }
@@ -116,10 +116,10 @@ impl<T: Ord + Clone + Drop, Node: NodeLike<T>> BTreeSet<T, Node> {
     }
 
     // Returns the same for two bounds.
-    fn within<Q: Sought<T>>(&self, range: (Bound<&Q>, Bound<&Q>)) -> Range<'_, T, Node>
+    fn within<Q: LookupKey<T>>(&self, range: (Bound<&Q>, Bound<&Q>)) -> Range<'_, T, Node>
         requires { IsTrue (are_ordered Q.cmp (bound_map (λ v. v.now) range.0)
             (bound_map (λ v. v.now) range.1)) }
-        ensures { result ≡ in_range Q.order (joined self.now.nodes)
+        ensures { result ≡ in_range Q.order (concat self.now.nodes)
             (bound_map (λ v. v.now) range.entry.0) (bound_map (λ v. v.now) range.entry.1) }
     {
         // The nodes are lawful, so their items ascend.
@@ -143,7 +143,7 @@ impl<T: Ord + Clone + Drop, Node: NodeLike<T>> BTreeSet<T, Node> {
         requires to { IsPlace self.now.nodes to }
         requires order { items_before self.now.nodes from ≤ items_before self.now.nodes to }
         ensures rest { result ≡ between (items_before self.now.nodes from)
-            (items_before self.now.nodes to) (joined self.now.nodes) }
+            (items_before self.now.nodes to) (concat self.now.nodes) }
         ensures runs { ShowsInOrder (deref {X = T}) }
         ensures runs_back { ShowsInReverse (deref {X = T}) }
     {
@@ -177,12 +177,12 @@ impl<T: Ord + Clone + Drop, Node: NodeLike<T>> BTreeSet<T, Node> {
     /// assert!(rt; tree.place_from(Bound::Excluded(ByItem::new(&5))) == (0, 1));
     /// ```
     pub fn place_from<P: Probe<T> + Drop>(&self, start: Bound<P>) -> (usize, usize)
-        requires { IfBounded (λ p. IsParted (P.answer p) (joined self.now.nodes)) start }
+        requires { IfBounded (λ p. IsParted (P.answer p) (concat self.now.nodes)) start }
         ensures place { IsPlace self.now.nodes result }
         ensures before { items_before self.now.nodes result
-            ≡ count_by (is_before (λ x p. P.answer p x) start) (joined self.now.nodes) }
+            ≡ count_by (is_before (λ x p. P.answer p x) start) (concat self.now.nodes) }
     {
-        place_from::<T, Node, ReadAny, P>(self.nodes.as_slice(), start)
+        place_from::<T, Node, OfNode, P>(self.nodes.as_slice(), start)
     }
 
     /// Returns the place after the items that are not past the end, by two binary searches, or none
@@ -194,12 +194,12 @@ impl<T: Ord + Clone + Drop, Node: NodeLike<T>> BTreeSet<T, Node> {
     /// assert!(rt; tree.place_to(Bound::Included(ByItem::new(&10))) == (0, 2));
     /// ```
     pub fn place_to<P: Probe<T> + Drop>(&self, end: Bound<P>) -> (usize, usize)
-        requires { IfBounded (λ p. IsParted (P.answer p) (joined self.now.nodes)) end }
+        requires { IfBounded (λ p. IsParted (P.answer p) (concat self.now.nodes)) end }
         ensures place { IsPlace self.now.nodes result }
         ensures before { items_before self.now.nodes result
-            ≡ count_by (is_up_to_end (λ x p. P.answer p x) end) (joined self.now.nodes) }
+            ≡ count_by (is_up_to_end (λ x p. P.answer p x) end) (concat self.now.nodes) }
     {
-        place_to::<T, Node, ReadAny, P>(self.nodes.as_slice(), end)
+        place_to::<T, Node, OfNode, P>(self.nodes.as_slice(), end)
     }
 
     /// Returns the places before and after the items that the comparator finds Equal, which must
@@ -213,22 +213,22 @@ impl<T: Ord + Clone + Drop, Node: NodeLike<T>> BTreeSet<T, Node> {
     /// assert!(rt; tree.places_by(&mut ByItem::new(&10)) == ((0, 1), (0, 2)));
     /// ```
     pub fn places_by<P: Probe<T>>(&self, probe: &mut P) -> ((usize, usize), (usize, usize))
-        requires { IsParted (P.answer probe.old) (joined self.now.nodes) }
+        requires { IsParted (P.answer probe.old) (concat self.now.nodes) }
         ensures from { IsPlace self.now.nodes result.0 }
         ensures to { IsPlace self.now.nodes result.1 }
         ensures before { items_before self.now.nodes result.0
-            ≡ less_count (P.answer probe.old) (joined self.now.nodes) }
+            ≡ less_count (P.answer probe.old) (concat self.now.nodes) }
         ensures past { items_before self.now.nodes result.1
-            ≡ not_greater_count (P.answer probe.old) (joined self.now.nodes) }
+            ≡ not_greater_count (P.answer probe.old) (concat self.now.nodes) }
         ensures fixed { P.answer probe.new ≡ P.answer probe.old }
-        ensures few { P.asked probe.new ≤ P.asked probe.old +
+        ensures comparisons { P.asked probe.new ≤ P.asked probe.old +
             (digits (length self.now.nodes) + digits self.now.size + 1 + 8 * digits
             (items_before self.now.nodes result.1 - items_before self.now.nodes result.0 - 1)) }
     {
         if self.nodes.is_empty() {
             return ((0, 0), (0, 0));
         }
-        let node = node_by::<T, Node, ReadAny, P>(self.nodes.as_slice(), probe);
+        let node = node_by::<T, Node, OfNode, P>(self.nodes.as_slice(), probe);
         let (offset, found) = first_not_less_near(self.nodes[node].iter().as_slice(), probe);
         let from = (node, offset);
         if found {
@@ -241,16 +241,16 @@ impl<T: Ord + Clone + Drop, Node: NodeLike<T>> BTreeSet<T, Node> {
     // Returns the place after the items that are not found Greater, where the one at a place is
     // not.
     fn end_from<P: Probe<T>>(&self, node: usize, offset: usize, probe: &mut P) -> (usize, usize)
-        requires parted { IsParted (P.answer probe.old) (joined self.now.nodes) }
+        requires parted { IsParted (P.answer probe.old) (concat self.now.nodes) }
         requires node { node < length self.now.nodes }
         requires offset { offset < length (node_at self.now.nodes node) }
         requires started { items_before self.now.nodes (node, offset)
-            < not_greater_count (P.answer probe.old) (joined self.now.nodes) }
+            < not_greater_count (P.answer probe.old) (concat self.now.nodes) }
         ensures place { IsPlace self.now.nodes result }
         ensures before { items_before self.now.nodes result
-            ≡ not_greater_count (P.answer probe.old) (joined self.now.nodes) }
+            ≡ not_greater_count (P.answer probe.old) (concat self.now.nodes) }
         ensures fixed { P.answer probe.new ≡ P.answer probe.old }
-        ensures few { P.asked probe.new ≤ P.asked probe.old +
+        ensures comparisons { P.asked probe.new ≤ P.asked probe.old +
             (1 + 8 * digits (items_before self.now.nodes result - items_before self.now.nodes
             (node, offset) - 1)) }
     {
@@ -277,7 +277,7 @@ impl<T: Ord + Clone + Drop, Node: NodeLike<T>> BTreeSet<T, Node> {
     pub fn place_ahead(&self, place: (usize, usize), count: usize) -> (usize, usize)
         requires place { IsPlace self.now.nodes place }
         requires within { items_before self.now.nodes place + count
-            < length (joined self.now.nodes) }
+            < length (concat self.now.nodes) }
         ensures node { result.0 < length self.now.nodes }
         ensures offset { result.1 < length (node_at self.now.nodes result.0) }
         ensures before { items_before self.now.nodes result

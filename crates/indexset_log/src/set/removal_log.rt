@@ -1,11 +1,11 @@
 //! The events of a removal.
 ghost use Rattle.std.specs.Prelude.{◌≡◌, ℕ, ◌+◌, ◌<◌, ◌≤◌, length, remove, slice_get, Some, IfOk, IfErr, IfSome};
 ghost use Rattle.indexset_core.specs.Nodes.{node_at};
-ghost use Rattle.indexset_events.specs.Clones.{IsEventClone, IsTold};
-ghost use Rattle.indexset_events.specs.Joining.{join_after, item_removed};
+ghost use Rattle.indexset_events.specs.Clones.{IsEventClone, AreTableEvents};
+ghost use Rattle.indexset_events.specs.Merging.{merge_after, item_removed};
 ghost use Rattle.indexset_events.specs.Nodes.{last_of};
 ghost use Rattle.indexset_events.specs.Replay.{assigned};
-ghost use Rattle.indexset_events.specs.Table.{count_with, joining_event, taking_event, taking_events};
+ghost use Rattle.indexset_events.specs.Table.{count_with, merge_event, removal_event, place_removal_events};
 
 use super::BTreeSet;
 use crate::log::Log;
@@ -23,19 +23,19 @@ impl<T: Ord + Clone + Drop, Node: NodeLike<T>> BTreeSet<T, Node> {
     ) -> Result<Vec<ChangeEvent<T>>, Refusal>
         requires node { node < length self.now.nodes }
         requires offset { offset < length (node_at self.now.nodes node) }
-        requires join { join ≡ join_after self.now.size self.now.nodes node offset }
+        requires join { join ≡ merge_after self.now.size self.now.nodes node offset }
         requires numbers { self.now.next + count_with join ≤ u64.MAX }
-        ensures told { IfOk result (λ events. IfSome (slice_get
+        ensures events { IfOk result (λ events. IfSome (slice_get
             (node_at self.now.nodes node) offset) (λ x.
-            IsTold T.is_clone self.now.next
-            (taking_events self.now.size self.now.nodes node offset x) events.items)) }
+            AreTableEvents T.is_clone self.now.next
+            (place_removal_events self.now.size self.now.nodes node offset x) events.items)) }
         ensures refusal { IfErr result (λ e. e ≡ Refusal.Memory) }
     {
         let mut log = Log::new(*self.nodes.allocator(), self.next);
-        log.add(self.taking_event(node, offset)?)?;
+        log.add(self.removal_event(node, offset)?)?;
         match join {
             Some(left) => {
-                log.add(self.joining_event(left, node, offset)?)?;
+                log.add(self.merge_event(left, node, offset)?)?;
                 Ok(log.events)
             }
             None => Ok(log.events),
@@ -43,12 +43,12 @@ impl<T: Ord + Clone + Drop, Node: NodeLike<T>> BTreeSet<T, Node> {
     }
 
     // Returns the event of the removal of the item at a place.
-    fn taking_event(&self, node: usize, offset: usize) -> Result<ChangeEventUnassigned<T>, Refusal>
+    fn removal_event(&self, node: usize, offset: usize) -> Result<ChangeEventUnassigned<T>, Refusal>
         requires node { node < length self.now.nodes }
         requires offset { offset < length (node_at self.now.nodes node) }
         ensures clones { (s : ℕ) → IfOk result (λ event.
             IfSome (slice_get (node_at self.now.nodes node) offset)
-            (λ x. IsEventClone T.is_clone (assigned s (taking_event
+            (λ x. IsEventClone T.is_clone (assigned s (removal_event
             (node_at self.now.nodes node) offset x)) (assigned s event))) }
         ensures refusal { IfErr result (λ e. e ≡ Refusal.Memory) }
     {
@@ -66,7 +66,7 @@ impl<T: Ord + Clone + Drop, Node: NodeLike<T>> BTreeSet<T, Node> {
 
     // Returns the event of the node at `left` and the one after it that are merged once the item at
     // a place is gone.
-    fn joining_event(
+    fn merge_event(
         &self,
         left: usize,
         node: usize,
@@ -74,9 +74,9 @@ impl<T: Ord + Clone + Drop, Node: NodeLike<T>> BTreeSet<T, Node> {
     ) -> Result<ChangeEventUnassigned<T>, Refusal>
         requires node { node < length self.now.nodes }
         requires offset { offset < length (node_at self.now.nodes node) }
-        requires join { join_after self.now.size self.now.nodes node offset ≡ Some left }
+        requires join { merge_after self.now.size self.now.nodes node offset ≡ Some left }
         ensures clones { (s : ℕ) (d : T) → IfOk result (λ event.
-            IsEventClone T.is_clone (assigned s (joining_event
+            IsEventClone T.is_clone (assigned s (merge_event
             (item_removed self.now.nodes node offset) d left)) (assigned s event)) }
         ensures refusal { IfErr result (λ e. e ≡ Refusal.Memory) }
     {

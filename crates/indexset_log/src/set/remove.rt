@@ -1,20 +1,20 @@
 //! Calls that remove items.
 ghost use Rattle.std.specs.Prelude.{◌≡◌, ℕ, ◌+◌, ◌/◌, ◌<◌, ◌≤◌, [], length, set, remove, slice_get, Some, None, false, IfOk, OnOk, IfErr, OnErr, IsOk, IfSome};
-ghost use Rattle.indexset_core.specs.Nodes.{joined, node_at, IsLawful};
+ghost use Rattle.indexset_core.specs.Nodes.{concat, node_at, IsLawful};
 ghost use Rattle.indexset_core.specs.Order.{equal_element, has_equal};
-ghost use Rattle.indexset_log.specs.Changed.{Changed, Fits, ItemsTold, refusal_of, removal_change, taken_change};
-ghost use Rattle.indexset_events.specs.Clones.{IsTold};
-ghost use Rattle.indexset_log.specs.Edits.{after_taken};
-ghost use Rattle.indexset_events.specs.Joining.{are_small, join_after};
-ghost use Rattle.indexset_events.specs.Table.{count_with, taking_count};
-ghost use Rattle.indexset_log.specs.Taking.{after_taking, events_from, item_from};
+ghost use Rattle.indexset_log.specs.Changed.{Changed, Fits, ItemEvents, refusal_of, removal_change, place_removal};
+ghost use Rattle.indexset_events.specs.Clones.{AreTableEvents};
+ghost use Rattle.indexset_log.specs.Edits.{after_place_removal};
+ghost use Rattle.indexset_events.specs.Merging.{are_small, merge_after};
+ghost use Rattle.indexset_events.specs.Table.{count_with, place_removal_count};
+ghost use Rattle.indexset_log.specs.PlaceRemoval.{after_optional_removal, events_from, item_from};
 ghost use Rattle.indexset_log.specs.Tree.{refusal_for};
 
 use super::BTreeSet;
-use crate::nodes::{fit_together, take_and_join, take_out};
+use crate::nodes::{fit_in_one_node, remove_and_merge, remove_item};
+use indexset_core::lookup_key::UniqueKey;
 use indexset_core::node::NodeLike;
 use indexset_core::refusal::Refusal;
-use indexset_core::sought::Names;
 use indexset_events::change::ChangeEvent;
 
 impl<T: Ord + Clone + Drop, Node: NodeLike<T>> BTreeSet<T, Node> {
@@ -28,20 +28,20 @@ impl<T: Ord + Clone + Drop, Node: NodeLike<T>> BTreeSet<T, Node> {
     /// let (removed, events) = tree.remove_cdc(&5)?;
     /// assert!(rt; removed == Some(5) && events.len() == 1);
     /// ```
-    pub fn remove_cdc<Q: Names<T> + Drop>(
+    pub fn remove_cdc<Q: UniqueKey<T> + Drop>(
         &mut self,
         value: Q,
     ) -> Result<(Option<T>, Vec<ChangeEvent<T>>), Refusal>
-        ensures answer { IfOk result (λ r. r.0 ≡ equal_element Q.order (joined self.old.nodes)
+        ensures answer { IfOk result (λ r. r.0 ≡ equal_element Q.order (concat self.old.nodes)
             value) }
         ensures refusal { IfErr result (λ e. e ≡ refusal_of self.old
             (removal_change Q.order self.old value)) }
         ensures no_event { (removal_change Q.order self.old value).events ≡ [] → IsOk result }
         ensures unchanged { OnErr result (self.new ≡ self.old) }
-        ensures gone { OnOk result (has_equal Q.order (joined self.new.nodes) value ≡ false) }
+        ensures gone { OnOk result (has_equal Q.order (concat self.new.nodes) value ≡ false) }
         ensures changed { OnOk result (Changed T.cmp self.old self.new
             (removal_change Q.order self.old value)) }
-        ensures told { IfOk result (λ r. ItemsTold T.cmp T.is_clone self.old self.new
+        ensures events { IfOk result (λ r. ItemEvents T.cmp T.is_clone self.old self.new
             (removal_change Q.order self.old value) r.1.items) }
     {
         let place = self.place_of(value);
@@ -66,14 +66,14 @@ impl<T: Ord + Clone + Drop, Node: NodeLike<T>> BTreeSet<T, Node> {
         ensures item { IfOk result (λ r. slice_get (node_at self.old.nodes node) offset
             ≡ Some r.0) }
         ensures refusal { IfErr result (λ e. e ≡ refusal_for self.old.next
-            (taking_count self.old.size self.old.nodes node offset)) }
+            (place_removal_count self.old.size self.old.nodes node offset)) }
         ensures unchanged { OnErr result (self.new ≡ self.old) }
         ensures changed { IfOk result (λ r. Changed T.cmp self.old self.new
-            (taken_change self.old node offset r.0)) }
-        ensures told { IfOk result (λ r. ItemsTold T.cmp T.is_clone self.old self.new
-            (taken_change self.old node offset r.0) r.1.items) }
+            (place_removal self.old node offset r.0)) }
+        ensures events { IfOk result (λ r. ItemEvents T.cmp T.is_clone self.old self.new
+            (place_removal self.old node offset r.0) r.1.items) }
     {
-        let join = self.join_after(node);
+        let join = self.merge_after(node);
         self.check_removal(join)?;
         let events = self.removal_log(node, offset, join)?;
         let item = self.take(node, offset, join)?;
@@ -89,9 +89,9 @@ impl<T: Ord + Clone + Drop, Node: NodeLike<T>> BTreeSet<T, Node> {
     /// let mut tree: set::BTreeSet<u64, Vec<u64>> = set::BTreeSet::from_iter(alloc, [5, 10, 15])?;
     /// assert!(rt; tree.remove(&10)? == Some(10) && tree.remove(&10)?.is_none());
     /// ```
-    pub fn remove<Q: Names<T> + Drop>(&mut self, value: Q) -> Result<Option<T>, Refusal>
+    pub fn remove<Q: UniqueKey<T> + Drop>(&mut self, value: Q) -> Result<Option<T>, Refusal>
         ensures answer { IfOk result (λ item.
-            item ≡ equal_element Q.order (joined self.old.nodes) value) }
+            item ≡ equal_element Q.order (concat self.old.nodes) value) }
         ensures refusal { IfErr result (λ e. e ≡ refusal_of self.old
             (removal_change Q.order self.old value)) }
         ensures no_event { (removal_change Q.order self.old value).events ≡ [] → IsOk result }
@@ -100,7 +100,7 @@ impl<T: Ord + Clone + Drop, Node: NodeLike<T>> BTreeSet<T, Node> {
         ensures never { Node.allocates ≡ false
             → Fits self.old (removal_change Q.order self.old value) → IsOk result }
         ensures unchanged { OnErr result (self.new ≡ self.old) }
-        ensures gone { OnOk result (has_equal Q.order (joined self.new.nodes) value ≡ false) }
+        ensures gone { OnOk result (has_equal Q.order (concat self.new.nodes) value ≡ false) }
         ensures changed { OnOk result (Changed T.cmp self.old self.new
             (removal_change Q.order self.old value)) }
     {
@@ -123,17 +123,17 @@ impl<T: Ord + Clone + Drop, Node: NodeLike<T>> BTreeSet<T, Node> {
         ensures item { IfOk result (λ item. slice_get (node_at self.old.nodes node) offset
             ≡ Some item) }
         ensures refusal { IfErr result (λ e. e ≡ refusal_for self.old.next
-            (taking_count self.old.size self.old.nodes node offset)) }
-        ensures no_memory { taking_count self.old.size self.old.nodes node offset ≡ 1
+            (place_removal_count self.old.size self.old.nodes node offset)) }
+        ensures no_memory { place_removal_count self.old.size self.old.nodes node offset ≡ 1
             → self.old.next + 1 ≤ u64.MAX → IsOk result }
         ensures never { Node.allocates ≡ false
-            → self.old.next + taking_count self.old.size self.old.nodes node offset ≤ u64.MAX
+            → self.old.next + place_removal_count self.old.size self.old.nodes node offset ≤ u64.MAX
             → IsOk result }
         ensures unchanged { OnErr result (self.new ≡ self.old) }
         ensures changed { IfOk result (λ item. Changed T.cmp self.old self.new
-            (taken_change self.old node offset item)) }
+            (place_removal self.old node offset item)) }
     {
-        let join = self.join_after(node);
+        let join = self.merge_after(node);
         self.check_removal(join)?;
         self.take(node, offset, join)
     }
@@ -152,11 +152,11 @@ impl<T: Ord + Clone + Drop, Node: NodeLike<T>> BTreeSet<T, Node> {
         requires node { node < length self.now.nodes }
         requires offset { offset < length (node_at self.now.nodes node) }
         ensures { result ≡ refusal_for self.now.next
-            (taking_count self.now.size self.now.nodes node offset) }
+            (place_removal_count self.now.size self.now.nodes node offset) }
     {
         // The offset is that of an item of the node, which decides nothing here.
         let _offset = offset;
-        match self.check_removal(self.join_after(node)) {
+        match self.check_removal(self.merge_after(node)) {
             Ok(()) => Refusal::Memory,
             Err(cause) => cause,
         }
@@ -169,9 +169,9 @@ impl<T: Ord + Clone + Drop, Node: NodeLike<T>> BTreeSet<T, Node> {
     ) -> Result<(Option<T>, Vec<ChangeEvent<T>>), Refusal>
         requires { IfSome place (λ p. (p.0 < length self.old.nodes)
             × (p.1 < length (node_at self.old.nodes p.0))) }
-        ensures tree { OnOk result (self.new ≡ after_taking self.old place) }
+        ensures tree { OnOk result (self.new ≡ after_optional_removal self.old place) }
         ensures answer { IfOk result (λ r. r.0 ≡ item_from self.old.nodes place) }
-        ensures told { IfOk result (λ r. IsTold T.is_clone self.old.next
+        ensures events { IfOk result (λ r. AreTableEvents T.is_clone self.old.next
             (events_from self.old place) r.1.items) }
         ensures fits { OnOk result (self.old.next + length (events_from self.old place) ≤ u64.MAX) }
         ensures refusal { IfErr result (λ e. e ≡ refusal_for self.old.next
@@ -197,7 +197,7 @@ impl<T: Ord + Clone + Drop, Node: NodeLike<T>> BTreeSet<T, Node> {
     ) -> Result<Option<T>, Refusal>
         requires { IfSome place (λ p. (p.0 < length self.old.nodes)
             × (p.1 < length (node_at self.old.nodes p.0))) }
-        ensures tree { OnOk result (self.new ≡ after_taking self.old place) }
+        ensures tree { OnOk result (self.new ≡ after_optional_removal self.old place) }
         ensures answer { IfOk result (λ item. item ≡ item_from self.old.nodes place) }
         ensures fits { OnOk result (self.old.next + length (events_from self.old place) ≤ u64.MAX) }
         ensures refusal { IfErr result (λ e. e ≡ refusal_for self.old.next
@@ -219,10 +219,10 @@ impl<T: Ord + Clone + Drop, Node: NodeLike<T>> BTreeSet<T, Node> {
 
     // Returns the first of the two nodes that are merged once a node has lost an item, whichever it
     // is.
-    fn join_after(&self, node: usize) -> Option<usize>
+    fn merge_after(&self, node: usize) -> Option<usize>
         requires { node < length self.now.nodes }
         ensures join { (i : ℕ) → i < length (node_at self.now.nodes node)
-            → result ≡ join_after self.now.size self.now.nodes node i }
+            → result ≡ merge_after self.now.size self.now.nodes node i }
         ensures lawful { IsLawful T.cmp self.now.size self.now.nodes }
         ensures two { 2 ≤ self.now.size }
     {
@@ -249,7 +249,7 @@ impl<T: Ord + Clone + Drop, Node: NodeLike<T>> BTreeSet<T, Node> {
     {
         let count = self.nodes.len();
         left + 1 < count
-            && fit_together(
+            && fit_in_one_node(
                 self.length_without(left, node),
                 self.length_without(left + 1, node),
                 self.size / 2,
@@ -286,9 +286,9 @@ impl<T: Ord + Clone + Drop, Node: NodeLike<T>> BTreeSet<T, Node> {
     fn take(&mut self, node: usize, offset: usize, join: Option<usize>) -> Result<T, Refusal>
         requires node { node < length self.old.nodes }
         requires offset { offset < length (node_at self.old.nodes node) }
-        requires join { join ≡ join_after self.old.size self.old.nodes node offset }
+        requires join { join ≡ merge_after self.old.size self.old.nodes node offset }
         requires numbers { self.old.next + count_with join ≤ u64.MAX }
-        ensures tree { OnOk result (self.new ≡ after_taken self.old node offset) }
+        ensures tree { OnOk result (self.new ≡ after_place_removal self.old node offset) }
         ensures item { IfOk result (λ item. slice_get (node_at self.old.nodes node) offset
             ≡ Some item) }
         ensures refusal { IfErr result (λ e. e ≡ Refusal.Memory) }
@@ -298,7 +298,7 @@ impl<T: Ord + Clone + Drop, Node: NodeLike<T>> BTreeSet<T, Node> {
     {
         match join {
             Some(left) => self.take_joining(node, offset, left),
-            None => Ok(self.take_out(node, offset)),
+            None => Ok(self.remove_item(node, offset)),
         }
     }
 
@@ -307,33 +307,33 @@ impl<T: Ord + Clone + Drop, Node: NodeLike<T>> BTreeSet<T, Node> {
     fn take_joining(&mut self, node: usize, offset: usize, left: usize) -> Result<T, Refusal>
         requires node { node < length self.old.nodes }
         requires offset { offset < length (node_at self.old.nodes node) }
-        requires join { join_after self.old.size self.old.nodes node offset ≡ Some left }
+        requires join { merge_after self.old.size self.old.nodes node offset ≡ Some left }
         requires numbers { self.old.next + 2 ≤ u64.MAX }
-        ensures tree { OnOk result (self.new ≡ after_taken self.old node offset) }
+        ensures tree { OnOk result (self.new ≡ after_place_removal self.old node offset) }
         ensures item { IfOk result (λ item. slice_get (node_at self.old.nodes node) offset
             ≡ Some item) }
         ensures refusal { IfErr result (λ e. e ≡ Refusal.Memory) }
         ensures never { Node.allocates ≡ false → IsOk result }
         ensures unchanged { OnErr result (self.new ≡ self.old) }
     {
-        let item = take_and_join(&mut self.nodes, &mut self.index, node, offset, left)?;
+        let item = remove_and_merge(&mut self.nodes, &mut self.index, node, offset, left)?;
         self.next += 2;
         self.len -= 1;
         Ok(item)
     }
 
     // Removes the item at a place, and a node that it leaves empty.
-    fn take_out(&mut self, node: usize, offset: usize) -> T
+    fn remove_item(&mut self, node: usize, offset: usize) -> T
         requires node { node < length self.old.nodes }
         requires offset { offset < length (node_at self.old.nodes node) }
-        requires join { join_after self.old.size self.old.nodes node offset ≡ None }
+        requires join { merge_after self.old.size self.old.nodes node offset ≡ None }
         requires number { self.old.next < u64.MAX }
-        ensures tree { self.new ≡ after_taken self.old node offset }
+        ensures tree { self.new ≡ after_place_removal self.old node offset }
         ensures item { slice_get (node_at self.old.nodes node) offset ≡ Some result }
     {
         self.next += 1;
         self.len -= 1;
-        take_out(&mut self.nodes, &mut self.index, node, offset)
+        remove_item(&mut self.nodes, &mut self.index, node, offset)
     }
 }
 

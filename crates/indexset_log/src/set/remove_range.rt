@@ -1,14 +1,14 @@
 //! Removal of ranges.
 ghost use Rattle.std.specs.Prelude.{◌≡◌, ◌^◌, ◌<◌, ℕ, length, map};
 ghost use Rattle.std.specs.Range.Bound.{bound_map};
-ghost use Rattle.indexset_core.specs.Bounds.{is_within};
-ghost use Rattle.indexset_core.specs.Nodes.{joined};
+ghost use Rattle.indexset_core.specs.KeyRange.{is_within};
+ghost use Rattle.indexset_core.specs.Nodes.{concat};
 ghost use Rattle.indexset_log.specs.Made.{outside, without_range};
 
 use super::BTreeSet;
-use indexset_core::bounds::Bounds;
-use indexset_core::sought::Sought;
-use indexset_core::walk::ReadVec;
+use indexset_core::item_iter::OfVec;
+use indexset_core::key_range::KeyRange;
+use indexset_core::lookup_key::LookupKey;
 use std::ops::Bound;
 
 impl<T: Ord + Clone + Drop> BTreeSet<T, Vec<T>> {
@@ -21,11 +21,11 @@ impl<T: Ord + Clone + Drop> BTreeSet<T, Vec<T>> {
     /// tree.remove_range(10..);
     /// assert!(rt; tree.iter().copied().eq([5]));
     /// ```
-    pub fn remove_range<R: Bounds<T> + Drop>(&mut self, range: R)
+    pub fn remove_range<R: KeyRange<T> + Drop>(&mut self, range: R)
         ensures nodes { self.new.nodes ≡ without_range R.Key.order self.old.nodes (R.start range)
             (R.end range) }
-        ensures contents { joined self.new.nodes ≡ outside R.Key.order (R.start range)
-            (R.end range) (joined self.old.nodes) }
+        ensures contents { concat self.new.nodes ≡ outside R.Key.order (R.start range)
+            (R.end range) (concat self.old.nodes) }
         ensures size { self.new.size ≡ self.old.size }
         ensures next { self.new.next ≡ self.old.next }
     {
@@ -35,20 +35,20 @@ impl<T: Ord + Clone + Drop> BTreeSet<T, Vec<T>> {
         // There is room for as many lengths as there were, and their sum fits.
         let _count = self.index.len();
         self.index
-            .rebuild::<T, Vec<T>, ReadVec>(self.nodes.as_slice());
+            .rebuild::<T, Vec<T>, OfVec>(self.nodes.as_slice());
     }
 }
 
 // Removes the items that satisfy both bounds from each node, and returns how many remain.
-fn remove_within<T: Ord + Drop, Q: Sought<T>>(
+fn remove_within<T: Ord + Drop, Q: LookupKey<T>>(
     nodes: &mut [Vec<T>],
     range: (Bound<&Q>, Bound<&Q>),
 ) -> usize
-    requires { length (joined (map (λ v. v.items) nodes.old)) < 2 ^ 64 }
+    requires { length (concat (map (λ v. v.items) nodes.old)) < 2 ^ 64 }
     ensures nodes { map (λ v. v.items) nodes.new ≡ map (outside Q.order
         (bound_map (λ v. v.now) range.entry.0) (bound_map (λ v. v.now) range.entry.1))
         (map (λ v. v.items) nodes.old) }
-    ensures count { result ≡ length (joined (map (λ v. v.items) nodes.new)) }
+    ensures count { result ≡ length (concat (map (λ v. v.items) nodes.new)) }
 {
     let mut left = 0;
     for node in nodes.iter_mut() {
@@ -59,18 +59,18 @@ fn remove_within<T: Ord + Drop, Q: Sought<T>>(
 }
 
 // Returns whether an item satisfies both bounds.
-fn is_within<T: Ord, Q: Sought<T>>(item: &T, range: (Bound<&Q>, Bound<&Q>)) -> bool
+fn is_within<T: Ord, Q: LookupKey<T>>(item: &T, range: (Bound<&Q>, Bound<&Q>)) -> bool
     ensures { result ≡ is_within Q.order (bound_map (λ v. v.now) range.entry.0)
         (bound_map (λ v. v.now) range.entry.1) item.now }
 {
     let is_from_start = match range.0 {
-        Bound::Included(start) => start.place_item(item).is_ge(),
-        Bound::Excluded(start) => start.place_item(item).is_gt(),
+        Bound::Included(start) => start.cmp_item(item).is_ge(),
+        Bound::Excluded(start) => start.cmp_item(item).is_gt(),
         Bound::Unbounded => true,
     };
     let is_up_to_end = match range.1 {
-        Bound::Included(end) => end.place_item(item).is_le(),
-        Bound::Excluded(end) => end.place_item(item).is_lt(),
+        Bound::Included(end) => end.cmp_item(item).is_le(),
+        Bound::Excluded(end) => end.cmp_item(item).is_lt(),
         Bound::Unbounded => true,
     };
     is_from_start && is_up_to_end

@@ -1,10 +1,10 @@
 //! The first and the last pair, and calls that remove them.
 ghost use Rattle.std.specs.Prelude.{◌≡◌, ◌↔◌, ◌-◌, ◌<◌, ◌≤◌, [], length, slice_get, false, IfOk, OnOk, IfErr, OnErr, IsOk, IfSome, IsSome};
 ghost use Rattle.std.specs.Option.{option_map};
-ghost use Rattle.indexset_core.specs.Nodes.{joined};
+ghost use Rattle.indexset_core.specs.Nodes.{concat};
 ghost use Rattle.indexset_core.specs.Order.{above, below};
 ghost use Rattle.indexset_core.specs.Pairs.{pair_keys};
-ghost use Rattle.indexset_multi.specs.Changed.{Fits, MultiChanged, MultiTold, first_removal, last_removal, refusal_of};
+ghost use Rattle.indexset_multi.specs.Changed.{Fits, MultiChanged, MultiPairEvents, first_removal, last_removal, refusal_of};
 ghost use Rattle.indexset_multi.specs.Keys.{entries, key_and_value};
 
 use super::BTreeMultiMap;
@@ -29,10 +29,10 @@ impl<K: Ord + Clone + Drop, V: Eq + Clone + Drop, Node: NodeLike<MultiPair<K, V>
     /// ```
     pub fn first_key_value(&self) -> Option<(&K, &V)>
         ensures pair { option_map (λ p. (p.0.now, p.1.now)) result
-            ≡ option_map key_and_value (slice_get (joined self.now.nodes) 0) }
-        ensures variant { IsSome result ↔ (0 < length (joined self.now.nodes)) }
+            ≡ option_map key_and_value (slice_get (concat self.now.nodes) 0) }
+        ensures variant { IsSome result ↔ (0 < length (concat self.now.nodes)) }
         ensures least { IfSome result (λ p. below K.cmp
-            (pair_keys (entries (joined self.now.nodes))) p.0.now ≡ []) }
+            (pair_keys (entries (concat self.now.nodes))) p.0.now ≡ []) }
     {
         let pair = self.set.first()?;
         Some((&pair.key, &pair.value))
@@ -51,11 +51,11 @@ impl<K: Ord + Clone + Drop, V: Eq + Clone + Drop, Node: NodeLike<MultiPair<K, V>
     /// ```
     pub fn last_key_value(&self) -> Option<(&K, &V)>
         ensures pair { option_map (λ p. (p.0.now, p.1.now)) result
-            ≡ option_map key_and_value (slice_get (joined self.now.nodes)
-            (length (joined self.now.nodes) - 1)) }
-        ensures variant { IsSome result ↔ (0 < length (joined self.now.nodes)) }
+            ≡ option_map key_and_value (slice_get (concat self.now.nodes)
+            (length (concat self.now.nodes) - 1)) }
+        ensures variant { IsSome result ↔ (0 < length (concat self.now.nodes)) }
         ensures greatest { IfSome result (λ p. above K.cmp
-            (pair_keys (entries (joined self.now.nodes))) p.0.now ≡ []) }
+            (pair_keys (entries (concat self.now.nodes))) p.0.now ≡ []) }
     {
         let pair = self.set.last()?;
         Some((&pair.key, &pair.value))
@@ -78,14 +78,14 @@ impl<K: Ord + Clone + Drop, V: Eq + Clone + Drop, Node: NodeLike<MultiPair<K, V>
         &mut self,
     ) -> Result<(Option<(K, V)>, Vec<ChangeEvent<MultiPair<K, V>>>), Refusal>
         ensures answer { IfOk result (λ r.
-            r.0 ≡ option_map key_and_value (slice_get (joined self.old.nodes) 0)) }
+            r.0 ≡ option_map key_and_value (slice_get (concat self.old.nodes) 0)) }
         ensures refusal { IfErr result (λ e. e ≡ refusal_of self.old
             (first_removal K.cmp self.old)) }
         ensures no_event { (first_removal K.cmp self.old).events ≡ [] → IsOk result }
         ensures unchanged { OnErr result (self.new ≡ self.old) }
         ensures changed { OnOk result (MultiChanged K.cmp self.old self.new
             (first_removal K.cmp self.old)) }
-        ensures told { IfOk result (λ r. MultiTold K.cmp K.is_clone V.is_clone self.old self.new
+        ensures events { IfOk result (λ r. MultiPairEvents K.cmp K.is_clone V.is_clone self.old self.new
             (first_removal K.cmp self.old) r.1.items) }
     {
         let (pair, events) = self.set.pop_first_cdc()?;
@@ -106,7 +106,7 @@ impl<K: Ord + Clone + Drop, V: Eq + Clone + Drop, Node: NodeLike<MultiPair<K, V>
     /// ```
     pub fn pop_first(&mut self) -> Result<Option<(K, V)>, Refusal>
         ensures answer { IfOk result (λ entry.
-            entry ≡ option_map key_and_value (slice_get (joined self.old.nodes) 0)) }
+            entry ≡ option_map key_and_value (slice_get (concat self.old.nodes) 0)) }
         ensures refusal { IfErr result (λ e. e ≡ refusal_of self.old
             (first_removal K.cmp self.old)) }
         ensures no_event { (first_removal K.cmp self.old).events ≡ [] → IsOk result }
@@ -138,14 +138,14 @@ impl<K: Ord + Clone + Drop, V: Eq + Clone + Drop, Node: NodeLike<MultiPair<K, V>
         &mut self,
     ) -> Result<(Option<(K, V)>, Vec<ChangeEvent<MultiPair<K, V>>>), Refusal>
         ensures answer { IfOk result (λ r. r.0 ≡ option_map key_and_value
-            (slice_get (joined self.old.nodes) (length (joined self.old.nodes) - 1))) }
+            (slice_get (concat self.old.nodes) (length (concat self.old.nodes) - 1))) }
         ensures refusal { IfErr result (λ e. e ≡ refusal_of self.old
             (last_removal K.cmp self.old)) }
         ensures no_event { (last_removal K.cmp self.old).events ≡ [] → IsOk result }
         ensures unchanged { OnErr result (self.new ≡ self.old) }
         ensures changed { OnOk result (MultiChanged K.cmp self.old self.new
             (last_removal K.cmp self.old)) }
-        ensures told { IfOk result (λ r. MultiTold K.cmp K.is_clone V.is_clone self.old self.new
+        ensures events { IfOk result (λ r. MultiPairEvents K.cmp K.is_clone V.is_clone self.old self.new
             (last_removal K.cmp self.old) r.1.items) }
     {
         let (pair, events) = self.set.pop_last_cdc()?;
@@ -166,7 +166,7 @@ impl<K: Ord + Clone + Drop, V: Eq + Clone + Drop, Node: NodeLike<MultiPair<K, V>
     /// ```
     pub fn pop_last(&mut self) -> Result<Option<(K, V)>, Refusal>
         ensures answer { IfOk result (λ entry. entry ≡ option_map key_and_value
-            (slice_get (joined self.old.nodes) (length (joined self.old.nodes) - 1))) }
+            (slice_get (concat self.old.nodes) (length (concat self.old.nodes) - 1))) }
         ensures refusal { IfErr result (λ e. e ≡ refusal_of self.old
             (last_removal K.cmp self.old)) }
         ensures no_event { (last_removal K.cmp self.old).events ≡ [] → IsOk result }

@@ -1,7 +1,7 @@
 //! Multimaps made of nodes.
 ghost use Rattle.std.specs.Prelude.{◌≡◌, ◌≤◌, true, false, map, None, MatchOption, IfOk, OnOk, IfErr};
 ghost use Rattle.std.specs.Option.{unwrap_or};
-ghost use Rattle.indexset_core.specs.Nodes.{joined};
+ghost use Rattle.indexset_core.specs.Nodes.{concat};
 ghost use Rattle.indexset_multi.specs.Attach.{free_number, has_greatest, pair_nodes_refusal};
 
 use super::BTreeMultiMap;
@@ -38,7 +38,7 @@ impl<K: Ord + Clone + Drop, V: Eq + Clone + Drop, Node: NodeLike<MultiPair<K, V>
               size = size;
               next = next;
               pair_next = free_number
-                  (joined (map Node.list nodes.items));
+                  (concat (map Node.list nodes.items));
             }) }
         ensures good { OnOk result (pair_nodes_refusal K.cmp size (map Node.list nodes.items)
             ≡ None) }
@@ -61,9 +61,9 @@ impl<K: Ord + Clone + Drop, V: Eq + Clone + Drop, Node: NodeLike<MultiPair<K, V>
 fn free_number_of_nodes<K: Ord + Drop, V: Drop, Node: NodeLike<MultiPair<K, V>>>(
     nodes: &[Node],
 ) -> Option<u64>
-    ensures { MatchOption result (has_greatest (joined (map Node.list nodes.now)) ≡ true)
-        (λ free. (has_greatest (joined (map Node.list nodes.now)) ≡ false)
-        × (free ≡ free_number (joined (map Node.list nodes.now)))) }
+    ensures { MatchOption result (has_greatest (concat (map Node.list nodes.now)) ≡ true)
+        (λ free. (has_greatest (concat (map Node.list nodes.now)) ≡ false)
+        × (free ≡ free_number (concat (map Node.list nodes.now)))) }
 {
     let mut free: u64 = 0;
     for node in nodes {

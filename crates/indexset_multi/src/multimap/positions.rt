@@ -4,19 +4,19 @@ ghost use Rattle.std.specs.List.{count_by};
 ghost use Rattle.std.specs.Map.Iter.{ShowsInOrder, ShowsInReverse};
 ghost use Rattle.std.specs.Option.{option_map};
 ghost use Rattle.std.specs.Ordering.{is_lt};
-ghost use Rattle.indexset_core.specs.Bounds.{in_positions};
-ghost use Rattle.indexset_core.specs.Nodes.{joined};
-ghost use Rattle.indexset_core.specs.Pairs.{pair_shown};
-ghost use Rattle.indexset_multi.specs.Changed.{Fits, MultiChanged, MultiTold, named_removal, refusal_of};
+ghost use Rattle.indexset_core.specs.KeyRange.{in_positions};
+ghost use Rattle.indexset_core.specs.Nodes.{concat};
+ghost use Rattle.indexset_core.specs.Pairs.{pair_deref};
+ghost use Rattle.indexset_multi.specs.Changed.{Fits, MultiChanged, MultiPairEvents, named_removal, refusal_of};
 ghost use Rattle.indexset_multi.specs.Keys.{entries, equal_pair, first_pair, has_pair_of, key_and_value, pairs_of};
 
 use super::BTreeMultiMap;
 use super::range::Range;
+use indexset_core::lookup_key::LookupKey;
 use indexset_core::multipair::MultiPair;
 use indexset_core::node::NodeLike;
-use indexset_core::positions::Positions;
+use indexset_core::position_range::PositionRange;
 use indexset_core::refusal::Refusal;
-use indexset_core::sought::Sought;
 use indexset_events::change::ChangeEvent;
 
 impl<K: Ord + Clone + Drop, V: Eq + Clone + Drop, Node: NodeLike<MultiPair<K, V>>> BTreeMultiMap<
@@ -35,12 +35,12 @@ impl<K: Ord + Clone + Drop, V: Eq + Clone + Drop, Node: NodeLike<MultiPair<K, V>
     /// assert!(rt; tags.rank(&2) == 2 && tags.count(&1) == 2);
     /// assert!(rt; tags.get_index(1) == Some((&1, &101)));
     /// ```
-    pub fn rank<Q: Sought<K> + Drop>(&self, key: Q) -> usize
+    pub fn rank<Q: LookupKey<K> + Drop>(&self, key: Q) -> usize
         ensures value { result ≡ count_by (λ p. is_lt (Q.order p.key key))
-            (joined self.now.nodes) }
-        ensures there { has_pair_of Q.order (joined self.now.nodes) key ≡ true
-            → slice_get (joined self.now.nodes) result
-            ≡ first_pair Q.order (joined self.now.nodes) key }
+            (concat self.now.nodes) }
+        ensures at_rank { has_pair_of Q.order (concat self.now.nodes) key ≡ true
+            → slice_get (concat self.now.nodes) result
+            ≡ first_pair Q.order (concat self.now.nodes) key }
     {
         self.set.position(self.places_of(&key).0)
     }
@@ -54,8 +54,8 @@ impl<K: Ord + Clone + Drop, V: Eq + Clone + Drop, Node: NodeLike<MultiPair<K, V>
     /// }
     /// assert!(rt; tags.count(&1) == 2 && tags.count(&3) == 0);
     /// ```
-    pub fn count<Q: Sought<K> + Drop>(&self, key: Q) -> usize
-        ensures { result ≡ length (pairs_of Q.order (joined self.now.nodes) key) }
+    pub fn count<Q: LookupKey<K> + Drop>(&self, key: Q) -> usize
+        ensures { result ≡ length (pairs_of Q.order (concat self.now.nodes) key) }
     {
         let (from, to) = self.places_of(&key);
         self.set.position(to) - self.set.position(from)
@@ -71,11 +71,11 @@ impl<K: Ord + Clone + Drop, V: Eq + Clone + Drop, Node: NodeLike<MultiPair<K, V>
     /// }
     /// assert!(rt; tags.index_of(&1, &101) == Some(1) && tags.index_of(&1, &102).is_none());
     /// ```
-    pub fn index_of<Q: Sought<K> + Drop>(&self, key: Q, value: &V) -> Option<usize>
+    pub fn index_of<Q: LookupKey<K> + Drop>(&self, key: Q, value: &V) -> Option<usize>
         ensures { MatchOption result
-            (equal_pair Q.order V.eq (joined self.now.nodes) key value.now ≡ None)
-            (λ i. (i < length (joined self.now.nodes)) × (slice_get (joined self.now.nodes) i
-            ≡ equal_pair Q.order V.eq (joined self.now.nodes) key value.now)) }
+            (equal_pair Q.order V.eq (concat self.now.nodes) key value.now ≡ None)
+            (λ i. (i < length (concat self.now.nodes)) × (slice_get (concat self.now.nodes) i
+            ≡ equal_pair Q.order V.eq (concat self.now.nodes) key value.now)) }
     {
         let place = self.equal_place(&key, value)?;
         Some(self.set.position(place))
@@ -92,7 +92,7 @@ impl<K: Ord + Clone + Drop, V: Eq + Clone + Drop, Node: NodeLike<MultiPair<K, V>
     /// ```
     pub fn get_index(&self, i: usize) -> Option<(&K, &V)>
         ensures { option_map (λ p. (p.0.now, p.1.now)) result
-            ≡ option_map key_and_value (slice_get (joined self.now.nodes) i) }
+            ≡ option_map key_and_value (slice_get (concat self.now.nodes) i) }
     {
         let pair = self.set.get_index(i)?;
         Some((&pair.key, &pair.value))
@@ -109,11 +109,11 @@ impl<K: Ord + Clone + Drop, V: Eq + Clone + Drop, Node: NodeLike<MultiPair<K, V>
     /// let page = tags.range_idx(1..);
     /// assert!(rt; page.eq([(&1, &101), (&2, &100)]));
     /// ```
-    pub fn range_idx<R: Positions + Drop>(&self, range: R) -> Range<'_, K, V, Node>
-        ensures rest { result ≡ entries (in_positions (joined self.now.nodes) (R.start range)
+    pub fn range_idx<R: PositionRange + Drop>(&self, range: R) -> Range<'_, K, V, Node>
+        ensures rest { result ≡ entries (in_positions (concat self.now.nodes) (R.start range)
             (R.end range)) }
-        ensures runs { ShowsInOrder (pair_shown {K = K} {V = V}) }
-        ensures runs_back { ShowsInReverse (pair_shown {K = K} {V = V}) }
+        ensures runs { ShowsInOrder (pair_deref {K = K} {V = V}) }
+        ensures runs_back { ShowsInReverse (pair_deref {K = K} {V = V}) }
     {
         Range {
             rest: self.set.range_idx(range),
@@ -137,15 +137,15 @@ impl<K: Ord + Clone + Drop, V: Eq + Clone + Drop, Node: NodeLike<MultiPair<K, V>
         i: usize,
     ) -> Result<(Option<(K, V)>, Vec<ChangeEvent<MultiPair<K, V>>>), Refusal>
         ensures answer { IfOk result (λ r.
-            r.0 ≡ option_map key_and_value (slice_get (joined self.old.nodes) i)) }
+            r.0 ≡ option_map key_and_value (slice_get (concat self.old.nodes) i)) }
         ensures refusal { IfErr result (λ e. e ≡ refusal_of self.old
-            (named_removal K.cmp self.old (slice_get (joined self.old.nodes) i))) }
-        ensures no_event { length (joined self.old.nodes) ≤ i → IsOk result }
+            (named_removal K.cmp self.old (slice_get (concat self.old.nodes) i))) }
+        ensures no_event { length (concat self.old.nodes) ≤ i → IsOk result }
         ensures unchanged { OnErr result (self.new ≡ self.old) }
         ensures changed { OnOk result (MultiChanged K.cmp self.old self.new
-            (named_removal K.cmp self.old (slice_get (joined self.old.nodes) i))) }
-        ensures told { IfOk result (λ r. MultiTold K.cmp K.is_clone V.is_clone self.old self.new
-            (named_removal K.cmp self.old (slice_get (joined self.old.nodes) i)) r.1.items) }
+            (named_removal K.cmp self.old (slice_get (concat self.old.nodes) i))) }
+        ensures events { IfOk result (λ r. MultiPairEvents K.cmp K.is_clone V.is_clone self.old self.new
+            (named_removal K.cmp self.old (slice_get (concat self.old.nodes) i)) r.1.items) }
     {
         let place = self.set.place_at(i);
         self.take_cdc(place)
@@ -165,18 +165,18 @@ impl<K: Ord + Clone + Drop, V: Eq + Clone + Drop, Node: NodeLike<MultiPair<K, V>
     /// ```
     pub fn pop_index(&mut self, i: usize) -> Result<Option<(K, V)>, Refusal>
         ensures answer { IfOk result (λ entry.
-            entry ≡ option_map key_and_value (slice_get (joined self.old.nodes) i)) }
+            entry ≡ option_map key_and_value (slice_get (concat self.old.nodes) i)) }
         ensures refusal { IfErr result (λ e. e ≡ refusal_of self.old
-            (named_removal K.cmp self.old (slice_get (joined self.old.nodes) i))) }
-        ensures no_event { length (joined self.old.nodes) ≤ i → IsOk result }
+            (named_removal K.cmp self.old (slice_get (concat self.old.nodes) i))) }
+        ensures no_event { length (concat self.old.nodes) ≤ i → IsOk result }
         ensures no_memory { length (named_removal K.cmp self.old
-            (slice_get (joined self.old.nodes) i)).events ≤ 1 → Fits self.old
-            (named_removal K.cmp self.old (slice_get (joined self.old.nodes) i)) → IsOk result }
+            (slice_get (concat self.old.nodes) i)).events ≤ 1 → Fits self.old
+            (named_removal K.cmp self.old (slice_get (concat self.old.nodes) i)) → IsOk result }
         ensures never { Node.allocates ≡ false → Fits self.old
-            (named_removal K.cmp self.old (slice_get (joined self.old.nodes) i)) → IsOk result }
+            (named_removal K.cmp self.old (slice_get (concat self.old.nodes) i)) → IsOk result }
         ensures unchanged { OnErr result (self.new ≡ self.old) }
         ensures changed { OnOk result (MultiChanged K.cmp self.old self.new
-            (named_removal K.cmp self.old (slice_get (joined self.old.nodes) i))) }
+            (named_removal K.cmp self.old (slice_get (concat self.old.nodes) i))) }
     {
         let place = self.set.place_at(i);
         self.take(place)

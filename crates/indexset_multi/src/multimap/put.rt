@@ -2,8 +2,8 @@
 ghost use Rattle.std.specs.Prelude.{◌≡◌, ◌+◌, ◌==◌, false, is_err, IfOk, OnOk, IfErr, OnErr};
 ghost use Rattle.std.specs.Option.{option_map};
 ghost use Rattle.indexset_core.specs.MultiPairs.{numbered_pair};
-ghost use Rattle.indexset_core.specs.Nodes.{joined};
-ghost use Rattle.indexset_multi.specs.Changed.{IsAdded, IsInserted, MultiChanged, MultiTold, addition, addition_refusal, insertion};
+ghost use Rattle.indexset_core.specs.Nodes.{concat};
+ghost use Rattle.indexset_multi.specs.Changed.{IsAdded, IsInserted, MultiChanged, MultiPairEvents, addition, addition_refusal, insertion};
 ghost use Rattle.indexset_multi.specs.Keys.{equal_pair, kept_number};
 ghost use Rattle.indexset_multi.specs.Tree.{insertion_refusal, inserted_pair, lacks_number, pair_next_after};
 
@@ -38,7 +38,7 @@ impl<K: Ord + Clone + Drop, V: Eq + Clone + Drop, Node: NodeLike<MultiPair<K, V>
     ) -> Result<(Option<V>, Vec<ChangeEvent<MultiPair<K, V>>>), Refused<(K, V)>>
         ensures answer { IfOk result (λ r.
             r.0 ≡ option_map (λ p. p.value) (equal_pair K.cmp V.eq
-            (joined self.old.nodes) key value)) }
+            (concat self.old.nodes) key value)) }
         ensures refusal { IfErr result (λ e.
             e.cause ≡ insertion_refusal K.cmp V.eq self.old key value) }
         ensures given_back { IfErr result (λ e. e.value ≡ (key, value)) }
@@ -47,7 +47,7 @@ impl<K: Ord + Clone + Drop, V: Eq + Clone + Drop, Node: NodeLike<MultiPair<K, V>
         ensures inserted { OnOk result (IsInserted K.cmp V.eq self.old self.new key value) }
         ensures changed { OnOk result (MultiChanged K.cmp self.old self.new
             (insertion K.cmp V.eq self.old key value)) }
-        ensures told { IfOk result (λ r. MultiTold K.cmp K.is_clone V.is_clone self.old self.new
+        ensures events { IfOk result (λ r. MultiPairEvents K.cmp K.is_clone V.is_clone self.old self.new
             (insertion K.cmp V.eq self.old key value) r.1.items) }
     {
         // The contract of `node_count` says that the pairs ascend, with numbers below the next.
@@ -71,7 +71,7 @@ impl<K: Ord + Clone + Drop, V: Eq + Clone + Drop, Node: NodeLike<MultiPair<K, V>
     pub fn insert(&mut self, key: K, value: V) -> Result<Option<V>, Refused<(K, V)>>
         ensures answer { IfOk result (λ old.
             old ≡ option_map (λ p. p.value) (equal_pair K.cmp V.eq
-            (joined self.old.nodes) key value)) }
+            (concat self.old.nodes) key value)) }
         ensures refusal { IfErr result (λ e.
             e.cause ≡ insertion_refusal K.cmp V.eq self.old key value) }
         ensures given_back { IfErr result (λ e. e.value ≡ (key, value)) }
@@ -111,7 +111,7 @@ impl<K: Ord + Clone + Drop, V: Eq + Clone + Drop, Node: NodeLike<MultiPair<K, V>
         ensures added { OnOk result (IsAdded K.cmp self.old self.new key value) }
         ensures changed { OnOk result (MultiChanged K.cmp self.old self.new
             (addition K.cmp self.old key value)) }
-        ensures told { IfOk result (λ events. MultiTold K.cmp K.is_clone V.is_clone self.old
+        ensures events { IfOk result (λ events. MultiPairEvents K.cmp K.is_clone V.is_clone self.old
             self.new (addition K.cmp self.old key value) events.items) }
     {
         // The contract of `node_count` says that the pairs ascend, with numbers below the next.
@@ -185,7 +185,7 @@ impl<K: Ord + Clone + Drop, V: Eq + Clone + Drop, Node: NodeLike<MultiPair<K, V>
 
     // Returns the number of the first pair of the key with an equal value.
     pub(super) fn kept_number(&self, key: &K, value: &V) -> Option<u64>
-        ensures { result ≡ kept_number K.cmp V.eq (joined self.now.nodes) key.now value.now }
+        ensures { result ≡ kept_number K.cmp V.eq (concat self.now.nodes) key.now value.now }
     {
         self.pairs_of(key)
             .find(|pair| pair.value == *value)

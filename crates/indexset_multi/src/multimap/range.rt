@@ -6,18 +6,18 @@ ghost use Rattle.std.specs.List.{between, count_by};
 ghost use Rattle.std.specs.Map.Iter.{TakesFirst, TakesLast, ShowsInOrder, ShowsInReverse, deref};
 ghost use Rattle.std.specs.Ordering.{is_lt};
 ghost use Rattle.std.specs.Range.Bound.{bound_map};
-ghost use Rattle.indexset_core.specs.Bounds.{are_ordered};
-ghost use Rattle.indexset_core.specs.Nodes.{joined};
-ghost use Rattle.indexset_core.specs.Pairs.{pair_shown};
+ghost use Rattle.indexset_core.specs.KeyRange.{are_ordered};
+ghost use Rattle.indexset_core.specs.Nodes.{concat};
+ghost use Rattle.indexset_core.specs.Pairs.{pair_deref};
 ghost use Rattle.indexset_core.specs.Places.{IsPlace, items_before};
 ghost use Rattle.indexset_multi.specs.Keys.{entries, number_shown, pairs_between, pairs_of};
 
 use super::BTreeMultiMap;
-use indexset_core::bounds::Bounds;
+use indexset_core::key_range::KeyRange;
+use indexset_core::lookup_key::LookupKey;
 use indexset_core::multipair::MultiPair;
 use indexset_core::node::NodeLike;
 use indexset_core::probe::ByKey;
-use indexset_core::sought::Sought;
 use indexset_log::set::range;
 use std::iter::FusedIterator;
 use std::marker::Model;
@@ -49,7 +49,7 @@ impl<'a, K: Ord + Clone + Drop, V: Eq + Clone + Drop, Node: NodeLike<MultiPair<K
     for Range<'a, K, V, Node> {
     type Item = (&'a K, &'a V);
 
-    ghost next_gives = { TakesFirst pair_shown };
+    ghost next_gives = { TakesFirst pair_deref };
 
     ghost remaining = { λ s. at_most (length s) };
 
@@ -73,7 +73,7 @@ impl<
     V: Eq + Clone + Drop,
     Node: NodeLike<MultiPair<K, V>>,
 > DoubleEndedIterator for Range<'a, K, V, Node> {
-    ghost next_back_gives = { TakesLast pair_shown };
+    ghost next_back_gives = { TakesLast pair_deref };
 
     fn next_back(&mut self) -> Option<(&'a K, &'a V)> {
         let pair = self.rest.next_back()?;
@@ -181,10 +181,10 @@ impl<K: Ord + Clone + Drop, V: Eq + Clone + Drop, Node: NodeLike<MultiPair<K, V>
     /// tags.insert(1, 100)?;
     /// assert!(rt; tags.get(&1).eq([(&1, &100)]) && tags.get(&2).len() == 0);
     /// ```
-    pub fn get<Q: Sought<K> + Drop>(&self, key: Q) -> Range<'_, K, V, Node>
-        ensures rest { result ≡ entries (pairs_of Q.order (joined self.now.nodes) key) }
-        ensures runs { ShowsInOrder (pair_shown {K = K} {V = V}) }
-        ensures runs_back { ShowsInReverse (pair_shown {K = K} {V = V}) }
+    pub fn get<Q: LookupKey<K> + Drop>(&self, key: Q) -> Range<'_, K, V, Node>
+        ensures rest { result ≡ entries (pairs_of Q.order (concat self.now.nodes) key) }
+        ensures runs { ShowsInOrder (pair_deref {K = K} {V = V}) }
+        ensures runs_back { ShowsInReverse (pair_deref {K = K} {V = V}) }
     {
         Range {
             rest: self.pairs_of(&key),
@@ -201,8 +201,8 @@ impl<K: Ord + Clone + Drop, V: Eq + Clone + Drop, Node: NodeLike<MultiPair<K, V>
     /// }
     /// assert!(rt; tags.raw_get(&1).eq([(&1, &0, &100), (&1, &1, &101)]));
     /// ```
-    pub fn raw_get<Q: Sought<K> + Drop>(&self, key: Q) -> RawRange<'_, K, V, Node>
-        ensures rest { result ≡ pairs_of Q.order (joined self.now.nodes) key }
+    pub fn raw_get<Q: LookupKey<K> + Drop>(&self, key: Q) -> RawRange<'_, K, V, Node>
+        ensures rest { result ≡ pairs_of Q.order (concat self.now.nodes) key }
         ensures runs { ShowsInOrder (number_shown {K = K} {V = V}) }
         ensures runs_back { ShowsInReverse (number_shown {K = K} {V = V}) }
     {
@@ -213,7 +213,7 @@ impl<K: Ord + Clone + Drop, V: Eq + Clone + Drop, Node: NodeLike<MultiPair<K, V>
 
     /// Returns a double-ended iterator over the pairs whose keys are within the range, in order.
     /// The start must not be past the end, nor at it where both are excluded (see
-    /// `base::bounds::bounds_are_ordered`). Each bound costs two binary searches.
+    /// `base::key_range::bounds_are_ordered`). Each bound costs two binary searches.
     ///
     /// ```
     /// // The pairs of the keys from 10 on that are below 20.
@@ -224,12 +224,12 @@ impl<K: Ord + Clone + Drop, V: Eq + Clone + Drop, Node: NodeLike<MultiPair<K, V>
     /// let teens = tags.range(10..20);
     /// assert!(rt; teens.eq([(&10, &1), (&10, &2)]));
     /// ```
-    pub fn range<R: Bounds<K> + Drop>(&self, range: R) -> Range<'_, K, V, Node>
+    pub fn range<R: KeyRange<K> + Drop>(&self, range: R) -> Range<'_, K, V, Node>
         requires { IsTrue (are_ordered R.Key.cmp (R.start range) (R.end range)) }
-        ensures rest { result ≡ entries (pairs_between R.Key.order (joined self.now.nodes)
+        ensures rest { result ≡ entries (pairs_between R.Key.order (concat self.now.nodes)
             (R.start range) (R.end range)) }
-        ensures runs { ShowsInOrder (pair_shown {K = K} {V = V}) }
-        ensures runs_back { ShowsInReverse (pair_shown {K = K} {V = V}) }
+        ensures runs { ShowsInOrder (pair_deref {K = K} {V = V}) }
+        ensures runs_back { ShowsInReverse (pair_deref {K = K} {V = V}) }
     {
         Range {
             rest: self.pairs_between((range.start_bound(), range.end_bound())),
@@ -237,8 +237,11 @@ impl<K: Ord + Clone + Drop, V: Eq + Clone + Drop, Node: NodeLike<MultiPair<K, V>
     }
 
     // Returns the pairs of a key.
-    pub(super) fn pairs_of<Q: Sought<K>>(&self, key: &Q) -> range::Range<'_, MultiPair<K, V>, Node>
-        ensures rest { result ≡ pairs_of Q.order (joined self.now.nodes) key.now }
+    pub(super) fn pairs_of<Q: LookupKey<K>>(
+        &self,
+        key: &Q,
+    ) -> range::Range<'_, MultiPair<K, V>, Node>
+        ensures rest { result ≡ pairs_of Q.order (concat self.now.nodes) key.now }
         ensures runs { ShowsInOrder (deref {X = MultiPair K V}) }
     {
         let (from, to) = self.places_of(key);
@@ -246,16 +249,16 @@ impl<K: Ord + Clone + Drop, V: Eq + Clone + Drop, Node: NodeLike<MultiPair<K, V>
     }
 
     // Returns the places before and after the pairs of a key.
-    pub(super) fn places_of<Q: Sought<K>>(&self, key: &Q) -> ((usize, usize), (usize, usize))
+    pub(super) fn places_of<Q: LookupKey<K>>(&self, key: &Q) -> ((usize, usize), (usize, usize))
         ensures from { IsPlace self.now.nodes result.0 }
         ensures to { IsPlace self.now.nodes result.1 }
         ensures order { items_before self.now.nodes result.0
             ≤ items_before self.now.nodes result.1 }
         ensures before { items_before self.now.nodes result.0
-            ≡ count_by (λ p. is_lt (Q.order p.key key.now)) (joined self.now.nodes) }
+            ≡ count_by (λ p. is_lt (Q.order p.key key.now)) (concat self.now.nodes) }
         ensures pairs { between (items_before self.now.nodes result.0)
-            (items_before self.now.nodes result.1) (joined self.now.nodes)
-            ≡ pairs_of Q.order (joined self.now.nodes) key.now }
+            (items_before self.now.nodes result.1) (concat self.now.nodes)
+            ≡ pairs_of Q.order (concat self.now.nodes) key.now }
     {
         // The contract of `node_count` says that the pairs ascend, as a search by key requires.
         let _nodes = self.set.node_count();
@@ -263,13 +266,13 @@ impl<K: Ord + Clone + Drop, V: Eq + Clone + Drop, Node: NodeLike<MultiPair<K, V>
     }
 
     // Returns the pairs whose keys satisfy both bounds.
-    fn pairs_between<Q: Sought<K>>(
+    fn pairs_between<Q: LookupKey<K>>(
         &self,
         range: (Bound<&Q>, Bound<&Q>),
     ) -> range::Range<'_, MultiPair<K, V>, Node>
         requires { IsTrue (are_ordered Q.cmp (bound_map (λ k. k.now) range.0)
             (bound_map (λ k. k.now) range.1)) }
-        ensures rest { result ≡ pairs_between Q.order (joined self.now.nodes)
+        ensures rest { result ≡ pairs_between Q.order (concat self.now.nodes)
             (bound_map (λ k. k.now) range.entry.0) (bound_map (λ k. k.now) range.entry.1) }
         ensures runs { ShowsInOrder (deref {X = MultiPair K V}) }
     {

@@ -2,19 +2,19 @@
 ghost use Rattle.std.specs.Prelude.{◌≡◌, ◌+◌, ◌<◌, ◌≤◌, [], drop, length, false, find, slice_get, None, Some, MatchOption, IfOk, OnOk, IfErr, OnErr, IsOk};
 ghost use Rattle.std.specs.Option.{option_map};
 ghost use Rattle.indexset_core.specs.MultiPairs.{by_number};
-ghost use Rattle.indexset_core.specs.Nodes.{joined};
-ghost use Rattle.indexset_events.specs.Clones.{IsTold};
+ghost use Rattle.indexset_core.specs.Nodes.{concat};
+ghost use Rattle.indexset_events.specs.Clones.{AreTableEvents};
 ghost use Rattle.indexset_log.specs.Tree.{IsTree, refusal_for};
-ghost use Rattle.indexset_multi.specs.Changed.{Fits, KeepsOthers, MultiChanged, MultiTold, equal_removal, refusal_of, some_removal};
+ghost use Rattle.indexset_multi.specs.Changed.{Fits, KeepsOthers, MultiChanged, MultiPairEvents, equal_removal, refusal_of, some_removal};
 ghost use Rattle.indexset_multi.specs.Keys.{equal_pair, first_pair, key_and_value, pairs_of, without_first};
 ghost use Rattle.indexset_multi.specs.Places.{IsItemPlace, placed_item};
 ghost use Rattle.indexset_multi.specs.Tree.{IsPairClone, after_removal, pair_removal_events};
 
 use super::BTreeMultiMap;
+use indexset_core::lookup_key::LookupKey;
 use indexset_core::multipair::MultiPair;
 use indexset_core::node::NodeLike;
 use indexset_core::refusal::Refusal;
-use indexset_core::sought::Sought;
 use indexset_events::change::ChangeEvent;
 use indexset_log::set::range::Range;
 
@@ -35,22 +35,22 @@ impl<K: Ord + Clone + Drop, V: Eq + Clone + Drop, Node: NodeLike<MultiPair<K, V>
     /// let (removed, events) = tags.remove_some_cdc(&1)?;
     /// assert!(rt; removed == Some((1, 100)) && events.len() == 1);
     /// ```
-    pub fn remove_some_cdc<Q: Sought<K> + Drop>(
+    pub fn remove_some_cdc<Q: LookupKey<K> + Drop>(
         &mut self,
         key: Q,
     ) -> Result<(Option<(K, V)>, Vec<ChangeEvent<MultiPair<K, V>>>), Refusal>
         ensures answer { IfOk result (λ r.
-            r.0 ≡ option_map key_and_value (first_pair Q.order (joined self.old.nodes) key)) }
+            r.0 ≡ option_map key_and_value (first_pair Q.order (concat self.old.nodes) key)) }
         ensures refusal { IfErr result (λ e. e ≡ refusal_of self.old
             (some_removal K.cmp Q.order self.old key)) }
         ensures no_event { (some_removal K.cmp Q.order self.old key).events ≡ [] → IsOk result }
         ensures unchanged { OnErr result (self.new ≡ self.old) }
-        ensures gone { OnOk result (pairs_of Q.order (joined self.new.nodes) key
-            ≡ drop 1 (pairs_of Q.order (joined self.old.nodes) key)) }
+        ensures gone { OnOk result (pairs_of Q.order (concat self.new.nodes) key
+            ≡ drop 1 (pairs_of Q.order (concat self.old.nodes) key)) }
         ensures others { OnOk result (KeepsOthers K.cmp Q.order self.old self.new key) }
         ensures changed { OnOk result (MultiChanged K.cmp self.old self.new
             (some_removal K.cmp Q.order self.old key)) }
-        ensures told { IfOk result (λ r. MultiTold K.cmp K.is_clone V.is_clone self.old self.new
+        ensures events { IfOk result (λ r. MultiPairEvents K.cmp K.is_clone V.is_clone self.old self.new
             (some_removal K.cmp Q.order self.old key) r.1.items) }
     {
         let first = self.first_place(&key);
@@ -69,9 +69,9 @@ impl<K: Ord + Clone + Drop, V: Eq + Clone + Drop, Node: NodeLike<MultiPair<K, V>
     /// }
     /// assert!(rt; tags.remove_some(&1)? == Some((1, 100)) && tags.remove_some(&3)?.is_none());
     /// ```
-    pub fn remove_some<Q: Sought<K> + Drop>(&mut self, key: Q) -> Result<Option<(K, V)>, Refusal>
+    pub fn remove_some<Q: LookupKey<K> + Drop>(&mut self, key: Q) -> Result<Option<(K, V)>, Refusal>
         ensures answer { IfOk result (λ entry.
-            entry ≡ option_map key_and_value (first_pair Q.order (joined self.old.nodes) key)) }
+            entry ≡ option_map key_and_value (first_pair Q.order (concat self.old.nodes) key)) }
         ensures refusal { IfErr result (λ e. e ≡ refusal_of self.old
             (some_removal K.cmp Q.order self.old key)) }
         ensures no_event { (some_removal K.cmp Q.order self.old key).events ≡ [] → IsOk result }
@@ -80,8 +80,8 @@ impl<K: Ord + Clone + Drop, V: Eq + Clone + Drop, Node: NodeLike<MultiPair<K, V>
         ensures never { Node.allocates ≡ false
             → Fits self.old (some_removal K.cmp Q.order self.old key) → IsOk result }
         ensures unchanged { OnErr result (self.new ≡ self.old) }
-        ensures gone { OnOk result (pairs_of Q.order (joined self.new.nodes) key
-            ≡ drop 1 (pairs_of Q.order (joined self.old.nodes) key)) }
+        ensures gone { OnOk result (pairs_of Q.order (concat self.new.nodes) key
+            ≡ drop 1 (pairs_of Q.order (concat self.old.nodes) key)) }
         ensures others { OnOk result (KeepsOthers K.cmp Q.order self.old self.new key) }
         ensures changed { OnOk result (MultiChanged K.cmp self.old self.new
             (some_removal K.cmp Q.order self.old key)) }
@@ -103,25 +103,25 @@ impl<K: Ord + Clone + Drop, V: Eq + Clone + Drop, Node: NodeLike<MultiPair<K, V>
     /// let (removed, events) = tags.remove_cdc(&1, &101)?;
     /// assert!(rt; removed == Some((1, 101)) && events.len() == 1);
     /// ```
-    pub fn remove_cdc<Q: Sought<K> + Drop>(
+    pub fn remove_cdc<Q: LookupKey<K> + Drop>(
         &mut self,
         key: Q,
         value: &V,
     ) -> Result<(Option<(K, V)>, Vec<ChangeEvent<MultiPair<K, V>>>), Refusal>
         ensures answer { IfOk result (λ r. r.0 ≡ option_map key_and_value
-            (equal_pair Q.order V.eq (joined self.old.nodes) key value.now)) }
+            (equal_pair Q.order V.eq (concat self.old.nodes) key value.now)) }
         ensures refusal { IfErr result (λ e. e ≡ refusal_of self.old
             (equal_removal K.cmp Q.order V.eq self.old key value.now)) }
         ensures no_event { (equal_removal K.cmp Q.order V.eq self.old key value.now).events ≡ []
             → IsOk result }
         ensures unchanged { OnErr result (self.new ≡ self.old) }
-        ensures gone { OnOk result (pairs_of Q.order (joined self.new.nodes) key
+        ensures gone { OnOk result (pairs_of Q.order (concat self.new.nodes) key
             ≡ without_first (λ p. V.eq p.value value.now)
-            (pairs_of Q.order (joined self.old.nodes) key)) }
+            (pairs_of Q.order (concat self.old.nodes) key)) }
         ensures others { OnOk result (KeepsOthers K.cmp Q.order self.old self.new key) }
         ensures changed { OnOk result (MultiChanged K.cmp self.old self.new
             (equal_removal K.cmp Q.order V.eq self.old key value.now)) }
-        ensures told { IfOk result (λ r. MultiTold K.cmp K.is_clone V.is_clone self.old self.new
+        ensures events { IfOk result (λ r. MultiPairEvents K.cmp K.is_clone V.is_clone self.old self.new
             (equal_removal K.cmp Q.order V.eq self.old key value.now) r.1.items) }
     {
         let place = self.equal_place(&key, value);
@@ -139,13 +139,13 @@ impl<K: Ord + Clone + Drop, V: Eq + Clone + Drop, Node: NodeLike<MultiPair<K, V>
     /// let removed = tags.remove(&1, &100)?;
     /// assert!(rt; removed == Some((1, 100)) && !tags.contains_key(&1));
     /// ```
-    pub fn remove<Q: Sought<K> + Drop>(
+    pub fn remove<Q: LookupKey<K> + Drop>(
         &mut self,
         key: Q,
         value: &V,
     ) -> Result<Option<(K, V)>, Refusal>
         ensures answer { IfOk result (λ entry. entry ≡ option_map key_and_value
-            (equal_pair Q.order V.eq (joined self.old.nodes) key value.now)) }
+            (equal_pair Q.order V.eq (concat self.old.nodes) key value.now)) }
         ensures refusal { IfErr result (λ e. e ≡ refusal_of self.old
             (equal_removal K.cmp Q.order V.eq self.old key value.now)) }
         ensures no_event { (equal_removal K.cmp Q.order V.eq self.old key value.now).events ≡ []
@@ -155,9 +155,9 @@ impl<K: Ord + Clone + Drop, V: Eq + Clone + Drop, Node: NodeLike<MultiPair<K, V>
         ensures never { Node.allocates ≡ false
             → Fits self.old (equal_removal K.cmp Q.order V.eq self.old key value.now) → IsOk result }
         ensures unchanged { OnErr result (self.new ≡ self.old) }
-        ensures gone { OnOk result (pairs_of Q.order (joined self.new.nodes) key
+        ensures gone { OnOk result (pairs_of Q.order (concat self.new.nodes) key
             ≡ without_first (λ p. V.eq p.value value.now)
-            (pairs_of Q.order (joined self.old.nodes) key)) }
+            (pairs_of Q.order (concat self.old.nodes) key)) }
         ensures others { OnOk result (KeepsOthers K.cmp Q.order self.old self.new key) }
         ensures changed { OnOk result (MultiChanged K.cmp self.old self.new
             (equal_removal K.cmp Q.order V.eq self.old key value.now)) }
@@ -167,19 +167,19 @@ impl<K: Ord + Clone + Drop, V: Eq + Clone + Drop, Node: NodeLike<MultiPair<K, V>
     }
 
     // Returns where the first pair of a key stands.
-    pub(super) fn first_place<Q: Sought<K>>(&self, key: &Q) -> Option<(usize, usize)>
+    pub(super) fn first_place<Q: LookupKey<K>>(&self, key: &Q) -> Option<(usize, usize)>
         ensures place { IsItemPlace self.now.nodes result }
         ensures pair { placed_item self.now.nodes result
-            ≡ first_pair Q.order (joined self.now.nodes) key.now }
+            ≡ first_pair Q.order (concat self.now.nodes) key.now }
     {
         self.locate(key).ok()
     }
 
     // Returns where the first pair of a key with an equal value stands.
-    pub(super) fn equal_place<Q: Sought<K>>(&self, key: &Q, value: &V) -> Option<(usize, usize)>
+    pub(super) fn equal_place<Q: LookupKey<K>>(&self, key: &Q, value: &V) -> Option<(usize, usize)>
         ensures place { IsItemPlace self.now.nodes result }
         ensures pair { placed_item self.now.nodes result
-            ≡ equal_pair Q.order V.eq (joined self.now.nodes) key.now value.now }
+            ≡ equal_pair Q.order V.eq (concat self.now.nodes) key.now value.now }
     {
         let (from, to) = self.places_of(key);
         let index = index_of(self.set.range_between(from, to), value)?;
@@ -196,7 +196,7 @@ impl<K: Ord + Clone + Drop, V: Eq + Clone + Drop, Node: NodeLike<MultiPair<K, V>
             (placed_item self.old.nodes place)) }
         ensures answer { IfOk result (λ r. r.0 ≡ option_map key_and_value
             (placed_item self.old.nodes place)) }
-        ensures told { IfOk result (λ r. IsTold (IsPairClone K.is_clone V.is_clone) self.old.next
+        ensures events { IfOk result (λ r. AreTableEvents (IsPairClone K.is_clone V.is_clone) self.old.next
             (pair_removal_events K.cmp self.old.size self.old.nodes
             (placed_item self.old.nodes place)) r.1.items) }
         ensures fits { OnOk result (self.old.next + length
@@ -209,7 +209,7 @@ impl<K: Ord + Clone + Drop, V: Eq + Clone + Drop, Node: NodeLike<MultiPair<K, V>
             (placed_item self.old.nodes place) ≡ [] → IsOk result }
         ensures unchanged { OnErr result (self.new ≡ self.old) }
         ensures rule { IsTree (by_number K.cmp) Node.most self.old.nodes self.old.size
-            (length (joined self.old.nodes)) }
+            (length (concat self.old.nodes)) }
     {
         self.rule();
         match place {
@@ -245,7 +245,7 @@ impl<K: Ord + Clone + Drop, V: Eq + Clone + Drop, Node: NodeLike<MultiPair<K, V>
             (placed_item self.old.nodes place)) ≤ u64.MAX → IsOk result }
         ensures unchanged { OnErr result (self.new ≡ self.old) }
         ensures rule { IsTree (by_number K.cmp) Node.most self.old.nodes self.old.size
-            (length (joined self.old.nodes)) }
+            (length (concat self.old.nodes)) }
     {
         self.rule();
         match place {

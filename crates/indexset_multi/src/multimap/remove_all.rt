@@ -1,19 +1,19 @@
 //! Removal of all pairs of a key.
 ghost use Rattle.std.specs.Prelude.{◌≡◌, [], length, false, true, is_some, IfOk, OnOk, IfErr, OnErr, IsOk};
 ghost use Rattle.std.specs.Option.{option_map};
-ghost use Rattle.indexset_core.specs.Nodes.{joined};
+ghost use Rattle.indexset_core.specs.Nodes.{concat};
 ghost use Rattle.indexset_log.specs.Tree.{refusal_for};
-ghost use Rattle.indexset_multi.specs.Changed.{AreRemoved, RemovalsTold, refusal_of, some_removal};
+ghost use Rattle.indexset_multi.specs.Changed.{AreRemoved, RemovalEvents, refusal_of, some_removal};
 ghost use Rattle.indexset_multi.specs.Keys.{first_pair, key_and_value, pairs_of, without_key};
-ghost use Rattle.indexset_multi.specs.Told.{IsToldOn};
+ghost use Rattle.indexset_multi.specs.Appended.{AppendsEvents};
 ghost use Rattle.indexset_multi.specs.Tree.{IsPairClone, after_removal, first_events};
 
 use super::BTreeMultiMap;
+use indexset_core::lookup_key::LookupKey;
 use indexset_core::moves::move_tail;
 use indexset_core::multipair::MultiPair;
 use indexset_core::node::NodeLike;
 use indexset_core::refusal::{Refusal, Refused};
-use indexset_core::sought::Sought;
 use indexset_events::change::ChangeEvent;
 
 impl<K: Ord + Clone + Drop, V: Eq + Clone + Drop, Node: NodeLike<MultiPair<K, V>>> BTreeMultiMap<
@@ -32,15 +32,15 @@ impl<K: Ord + Clone + Drop, V: Eq + Clone + Drop, Node: NodeLike<MultiPair<K, V>
     /// }
     /// assert!(rt; tags.remove_all(&1)? == 2 && tags.len() == 1);
     /// ```
-    pub fn remove_all<Q: Sought<K> + Drop>(&mut self, key: Q) -> Result<usize, Refusal>
+    pub fn remove_all<Q: LookupKey<K> + Drop>(&mut self, key: Q) -> Result<usize, Refusal>
         ensures count { IfOk result (λ n. n ≡ length (pairs_of Q.order
-            (joined self.old.nodes) key)) }
-        ensures contents { OnOk result (joined self.new.nodes
-            ≡ without_key Q.order (joined self.old.nodes) key) }
-        ensures gone { OnOk result (pairs_of Q.order (joined self.new.nodes) key ≡ []) }
+            (concat self.old.nodes) key)) }
+        ensures contents { OnOk result (concat self.new.nodes
+            ≡ without_key Q.order (concat self.old.nodes) key) }
+        ensures gone { OnOk result (pairs_of Q.order (concat self.new.nodes) key ≡ []) }
         ensures refusal { IfErr result (λ e. e ≡ refusal_of self.new
             (some_removal K.cmp Q.order self.new key)) }
-        ensures no_event { pairs_of Q.order (joined self.old.nodes) key ≡ [] → IsOk result }
+        ensures no_event { pairs_of Q.order (concat self.old.nodes) key ≡ [] → IsOk result }
         ensures removed { AreRemoved K.cmp Q.order self.old self.new key }
     {
         // What holds of the nodes at first, and that the number of pairs fits.
@@ -67,7 +67,7 @@ impl<K: Ord + Clone + Drop, V: Eq + Clone + Drop, Node: NodeLike<MultiPair<K, V>
     /// let (count, events) = tags.remove_all_cdc(&1)?;
     /// assert!(rt; count == 2 && events.len() == 2);
     /// ```
-    pub fn remove_all_cdc<Q: Sought<K> + Drop>(
+    pub fn remove_all_cdc<Q: LookupKey<K> + Drop>(
         &mut self,
         key: Q,
     ) -> Result<
@@ -75,17 +75,17 @@ impl<K: Ord + Clone + Drop, V: Eq + Clone + Drop, Node: NodeLike<MultiPair<K, V>
         Refused<Vec<ChangeEvent<MultiPair<K, V>>>>,
     >
         ensures count { IfOk result (λ r.
-            r.0 ≡ length (pairs_of Q.order (joined self.old.nodes) key)) }
-        ensures contents { OnOk result (joined self.new.nodes
-            ≡ without_key Q.order (joined self.old.nodes) key) }
-        ensures gone { OnOk result (pairs_of Q.order (joined self.new.nodes) key ≡ []) }
+            r.0 ≡ length (pairs_of Q.order (concat self.old.nodes) key)) }
+        ensures contents { OnOk result (concat self.new.nodes
+            ≡ without_key Q.order (concat self.old.nodes) key) }
+        ensures gone { OnOk result (pairs_of Q.order (concat self.new.nodes) key ≡ []) }
         ensures refusal { IfErr result (λ e. e.cause ≡ refusal_of self.new
             (some_removal K.cmp Q.order self.new key)) }
-        ensures no_event { pairs_of Q.order (joined self.old.nodes) key ≡ [] → IsOk result }
+        ensures no_event { pairs_of Q.order (concat self.old.nodes) key ≡ [] → IsOk result }
         ensures removed { AreRemoved K.cmp Q.order self.old self.new key }
-        ensures told { IfOk result (λ r. RemovalsTold K.cmp Q.order K.is_clone V.is_clone self.old self.new
+        ensures events { IfOk result (λ r. RemovalEvents K.cmp Q.order K.is_clone V.is_clone self.old self.new
             key r.1.items) }
-        ensures told_before { IfErr result (λ e. RemovalsTold K.cmp Q.order K.is_clone V.is_clone self.old
+        ensures told_before { IfErr result (λ e. RemovalEvents K.cmp Q.order K.is_clone V.is_clone self.old
             self.new key e.value.items) }
     {
         // What holds of the nodes at first, and that the number of pairs fits.
@@ -108,11 +108,11 @@ impl<K: Ord + Clone + Drop, V: Eq + Clone + Drop, Node: NodeLike<MultiPair<K, V>
     }
 
     // Removes the first pair of a key, if any, and returns it. A failed call changes nothing.
-    fn remove_first<Q: Sought<K>>(&mut self, key: &Q) -> Result<Option<(K, V)>, Refusal>
+    fn remove_first<Q: LookupKey<K>>(&mut self, key: &Q) -> Result<Option<(K, V)>, Refusal>
         ensures tree { OnOk result (self.new ≡ after_removal K.cmp self.old
-            (first_pair Q.order (joined self.old.nodes) key.now)) }
+            (first_pair Q.order (concat self.old.nodes) key.now)) }
         ensures answer { IfOk result (λ entry. entry ≡ option_map key_and_value
-            (first_pair Q.order (joined self.old.nodes) key.now)) }
+            (first_pair Q.order (concat self.old.nodes) key.now)) }
         ensures refusal { IfErr result (λ e. e ≡ refusal_for self.old.next
             (length (first_events K.cmp Q.order self.old key.now))) }
         ensures no_event { first_events K.cmp Q.order self.old key.now ≡ [] → IsOk result }
@@ -124,24 +124,24 @@ impl<K: Ord + Clone + Drop, V: Eq + Clone + Drop, Node: NodeLike<MultiPair<K, V>
 
     // Removes the first pair of a key, if any, adds the events to others, and returns whether there
     // was one. A failed call changes nothing.
-    fn remove_next<Q: Sought<K>>(
+    fn remove_next<Q: LookupKey<K>>(
         &mut self,
         key: &Q,
         events: &mut Vec<ChangeEvent<MultiPair<K, V>>>,
     ) -> Result<bool, Refusal>
         ensures tree { OnOk result (self.new ≡ after_removal K.cmp self.old
-            (first_pair Q.order (joined self.old.nodes) key.now)) }
+            (first_pair Q.order (concat self.old.nodes) key.now)) }
         ensures found { IfOk result (λ found. found ≡ is_some
-            (first_pair Q.order (joined self.old.nodes) key.now)) }
-        ensures told { IfOk result (λ found. found ≡ true
-            → IsToldOn (IsPairClone K.is_clone V.is_clone) self.old.next
+            (first_pair Q.order (concat self.old.nodes) key.now)) }
+        ensures events { IfOk result (λ found. found ≡ true
+            → AppendsEvents (IsPairClone K.is_clone V.is_clone) self.old.next
             (first_events K.cmp Q.order self.old key.now) events.old.items events.new.items) }
         ensures untold { IfOk result (λ found.
             found ≡ false → events.new.items ≡ events.old.items) }
         ensures refusal { IfErr result (λ e. e ≡ refusal_for self.old.next
             (length (first_events K.cmp Q.order self.old key.now))) }
-        ensures there { OnErr result
-            (is_some (first_pair Q.order (joined self.old.nodes) key.now) ≡ true) }
+        ensures contains { OnErr result
+            (is_some (first_pair Q.order (concat self.old.nodes) key.now) ≡ true) }
         ensures kept { OnErr result (events.new.items ≡ events.old.items) }
         ensures unchanged { OnErr result (self.new ≡ self.old) }
     {

@@ -1,47 +1,47 @@
 //! What ranks and positions in a replica are those of.
 
 ghost use Rattle.std.specs.Prelude.{◌≡◌, ◌-◌, ℕ, List, Some, take};
-ghost use Rattle.indexset_core.specs.Nodes.{joined};
+ghost use Rattle.indexset_core.specs.Nodes.{concat};
 ghost use Rattle.indexset_events.specs.Replay.{replay};
 ghost use Rattle.indexset_events.specs.declared.change.ChangeEvent.{ChangeEvent};
 ghost use Rattle.indexset_replica.specs.Copies.{AreCopies};
-ghost use Rattle.indexset_replica.specs.Delivery.{CopiesAll, CopiesBeginning};
+ghost use Rattle.indexset_replica.specs.Delivery.{CopiesAll, CopiesPrefix};
 ghost use Rattle.indexset_core.specs.Order.{index_of, rank};
 ghost use Rattle.indexset_replica.specs.Replica.{ReplicaState};
 
-use indexset_core::sought::Sought;
+use indexset_core::lookup_key::LookupKey;
 
 /// A key has the same rank and the same position among copies as among their sources.
-pub fn positions_of_copies<T: Ord + Clone, Q: Sought<T>>()
+pub fn positions_of_copies<T: Ord + Clone, Q: LookupKey<T>>()
     ensures rank { (ns ms : List (List T)) (k : Q) → AreCopies T.cmp T.is_clone ns ms
-        → rank Q.order (joined ms) k ≡ rank Q.order (joined ns) k }
+        → rank Q.order (concat ms) k ≡ rank Q.order (concat ns) k }
     ensures index { (ns ms : List (List T)) (k : Q) → AreCopies T.cmp T.is_clone ns ms
-        → index_of Q.order (joined ms) k ≡ index_of Q.order (joined ns) k }
+        → index_of Q.order (concat ms) k ≡ index_of Q.order (concat ns) k }
 {}
 
 /// Whatever the commands were and whatever the delivery, the rank and the position that a replica
 /// answers are those in the beginning of the events that it holds (`follow` says which one that is).
-pub fn positions_in_a_beginning<T: Ord + Clone, Q: Sought<T>>()
+pub fn positions_in_a_beginning<T: Ord + Clone, Q: LookupKey<T>>()
     ensures rank { (s : ℕ) (ns : List (List T)) (es : List (ChangeEvent T)) (q : ReplicaState T)
-        → CopiesBeginning T.cmp T.is_clone s ns es q
+        → CopiesPrefix T.cmp T.is_clone s ns es q
         → (held : List (List T)) × (replay T.cmp ns (take (q.next - s) es) ≡ Some held)
-        × ((k : Q) → rank Q.order (joined q.nodes) k
-        ≡ rank Q.order (joined held) k) }
+        × ((k : Q) → rank Q.order (concat q.nodes) k
+        ≡ rank Q.order (concat held) k) }
     ensures index { (s : ℕ) (ns : List (List T)) (es : List (ChangeEvent T)) (q : ReplicaState T)
-        → CopiesBeginning T.cmp T.is_clone s ns es q
+        → CopiesPrefix T.cmp T.is_clone s ns es q
         → (held : List (List T)) × (replay T.cmp ns (take (q.next - s) es) ≡ Some held)
-        × ((k : Q) → index_of Q.order (joined q.nodes) k
-        ≡ index_of Q.order (joined held) k) }
+        × ((k : Q) → index_of Q.order (concat q.nodes) k
+        ≡ index_of Q.order (concat held) k) }
 {}
 
 /// Where all events came, they are those in the nodes that the events lead to: the primary's.
-pub fn positions_where_all_came<T: Ord + Clone, Q: Sought<T>>()
+pub fn positions_where_all_came<T: Ord + Clone, Q: LookupKey<T>>()
     ensures rank { (s : ℕ) (ns after : List (List T)) (es : List (ChangeEvent T))
         (q : ReplicaState T) (k : Q) → CopiesAll T.cmp T.is_clone s ns es q
         → replay T.cmp ns es ≡ Some after
-        → rank Q.order (joined q.nodes) k ≡ rank Q.order (joined after) k }
+        → rank Q.order (concat q.nodes) k ≡ rank Q.order (concat after) k }
     ensures index { (s : ℕ) (ns after : List (List T)) (es : List (ChangeEvent T))
         (q : ReplicaState T) (k : Q) → CopiesAll T.cmp T.is_clone s ns es q
         → replay T.cmp ns es ≡ Some after
-        → index_of Q.order (joined q.nodes) k ≡ index_of Q.order (joined after) k }
+        → index_of Q.order (concat q.nodes) k ≡ index_of Q.order (concat after) k }
 {}

@@ -4,7 +4,7 @@ ghost use Rattle.std.specs.Iterator.{at_most};
 ghost use Rattle.std.specs.Map.Iter.{TakesFirst, deref};
 ghost use Rattle.indexset_set.specs.Merge.{of_both, read};
 
-use super::merge::{Merge, Side};
+use super::merge::{Merge, MergeItem};
 use std::iter::FusedIterator;
 use std::marker::Model;
 
@@ -32,7 +32,7 @@ impl<'a, T: Ord> Iterator for Intersection<'a, T> {
 
     fn next(&mut self) -> Option<&'a T> {
         while self.merge.has_left() && self.merge.has_right() {
-            if let Side::Both(x, _) = self.merge.next()? {
+            if let MergeItem::Both(x, _) = self.merge.next()? {
                 return Some(x);
             }
         }

@@ -2,7 +2,7 @@
 ghost use Rattle.std.specs.Prelude.{◌≡◌, ◌<◌, ◌↔◌, IsTrue, length};
 ghost use Rattle.std.specs.Iterator.{at_most};
 ghost use Rattle.std.specs.Map.Iter.{TakesFirst, deref};
-ghost use Rattle.indexset_set.specs.Merge.{map_side, merged, of_left, of_right, read};
+ghost use Rattle.indexset_set.specs.Merge.{map_merge_item, merged, of_left, of_right, read};
 
 use indexset_spine::iter::Iter;
 use std::cmp::Ordering;
@@ -10,7 +10,7 @@ use std::marker::Model;
 
 /// An item of two merged lists: of one list alone, or of both, from each its own.
 #[derive(Clone, Copy)]
-pub(crate) enum Side<X> {
+pub(crate) enum MergeItem<X> {
     Left(X),
     Right(X),
     Both(X, X),
@@ -30,9 +30,9 @@ impl<'a, T: Ord> Model for Merge<'a, T> {
     ghost use Rattle.std.specs.Prelude.{◌≡◌, List, [], IfNone};
     ghost use Rattle.std.specs.Option.{option_copied};
     ghost use Rattle.std.specs.List.{cons_option};
-    ghost use Rattle.indexset_set.specs.declared.algebra.merge.Side.{Side};
+    ghost use Rattle.indexset_set.specs.declared.algebra.merge.MergeItem.{MergeItem};
 
-    ghost Value = { List (Side T) };
+    ghost Value = { List (MergeItem T) };
 
     ghost use Rattle.indexset_set.specs.Merge.{merged};
 
@@ -72,27 +72,27 @@ impl<'a, T: Ord> Merge<'a, T> {
 }
 
 impl<'a, T: Ord> Iterator for Merge<'a, T> {
-    type Item = Side<&'a T>;
+    type Item = MergeItem<&'a T>;
 
-    ghost next_gives = { TakesFirst (map_side deref) };
+    ghost next_gives = { TakesFirst (map_merge_item deref) };
 
     ghost remaining = { λ m. at_most (length m) };
 
-    fn next(&mut self) -> Option<Side<&'a T>> {
+    fn next(&mut self) -> Option<MergeItem<&'a T>> {
         let next = match (self.next_left, self.next_right) {
             (None, None) => return None,
-            (Some(x), None) => Side::Left(x),
-            (None, Some(y)) => Side::Right(y),
+            (Some(x), None) => MergeItem::Left(x),
+            (None, Some(y)) => MergeItem::Right(y),
             (Some(x), Some(y)) => match x.cmp(y) {
-                Ordering::Less => Side::Left(x),
-                Ordering::Equal => Side::Both(x, y),
-                Ordering::Greater => Side::Right(y),
+                Ordering::Less => MergeItem::Left(x),
+                Ordering::Equal => MergeItem::Both(x, y),
+                Ordering::Greater => MergeItem::Right(y),
             },
         };
-        if !matches!(next, Side::Right(_)) {
+        if !matches!(next, MergeItem::Right(_)) {
             self.next_left = self.left.next();
         }
-        if !matches!(next, Side::Left(_)) {
+        if !matches!(next, MergeItem::Left(_)) {
             self.next_right = self.right.next();
         }
         Some(next)

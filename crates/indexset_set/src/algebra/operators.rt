@@ -6,7 +6,7 @@ ghost use Rattle.std.specs.List.{AllZip};
 ghost use Rattle.indexset_core.specs.declared.refusal.Refusal.TheVariants.{Memory};
 ghost use Rattle.indexset_set.specs.SetAlgebra.{difference, intersection, symmetric_difference, union};
 ghost use Rattle.indexset_set.specs.SetCopy.{IsSetOf};
-ghost use Rattle.indexset_spine.specs.Cut.{items};
+ghost use Rattle.indexset_spine.specs.NodeList.{items};
 
 use crate::BTreeSet;
 use indexset_core::refusal::Refusal;

@@ -4,7 +4,7 @@ ghost use Rattle.std.specs.Iterator.{at_most};
 ghost use Rattle.std.specs.Map.Iter.{TakesFirst, deref};
 ghost use Rattle.indexset_set.specs.Merge.{of_one_alone, read};
 
-use super::merge::{Merge, Side};
+use super::merge::{Merge, MergeItem};
 use std::iter::FusedIterator;
 use std::marker::Model;
 
@@ -32,7 +32,7 @@ impl<'a, T: Ord> Iterator for SymmetricDifference<'a, T> {
 
     fn next(&mut self) -> Option<&'a T> {
         loop {
-            if let Side::Left(x) | Side::Right(x) = self.merge.next()? {
+            if let MergeItem::Left(x) | MergeItem::Right(x) = self.merge.next()? {
                 return Some(x);
             }
         }

@@ -4,7 +4,7 @@ ghost use Rattle.std.specs.Iterator.{at_most};
 ghost use Rattle.std.specs.Map.Iter.{TakesFirst, deref};
 ghost use Rattle.indexset_set.specs.Merge.{of_either, read};
 
-use super::merge::{Merge, Side};
+use super::merge::{Merge, MergeItem};
 use std::iter::FusedIterator;
 use std::marker::Model;
 
@@ -32,8 +32,8 @@ impl<'a, T: Ord> Iterator for Union<'a, T> {
 
     fn next(&mut self) -> Option<&'a T> {
         match self.merge.next()? {
-            Side::Left(x) | Side::Both(x, _) => Some(x),
-            Side::Right(y) => Some(y),
+            MergeItem::Left(x) | MergeItem::Both(x, _) => Some(x),
+            MergeItem::Right(y) => Some(y),
         }
     }
 }

@@ -1,13 +1,13 @@
 //! Calls by spots: they read and edit where a search has ended, with no second search.
 ghost use Rattle.std.specs.Prelude.{◌≡◌, ◌+◌, ◌-◌, ◌<◌, ◌≤◌, IsTrue, Some, IfOk, OnOk, IfErr, OnErr, MatchOption, insert, length, remove, slice_get, sum, take};
 ghost use Rattle.std.specs.List.{count_by};
-ghost use Rattle.indexset_core.specs.Bounds.{IfBounded, is_before};
+ghost use Rattle.indexset_core.specs.KeyRange.{IfBounded, is_before};
 ghost use Rattle.indexset_core.specs.Digits.{digits};
 ghost use Rattle.indexset_core.specs.Nodes.{node_lengths};
 ghost use Rattle.indexset_core.specs.Order.{IsAscending, IsGapFor};
-ghost use Rattle.indexset_spine.specs.Cut.{items, IsCut, IsItemSpot, IsSpot, position_of, with_inserted, without_item};
+ghost use Rattle.indexset_spine.specs.NodeList.{items, AreNodeLengths, IsItemSpot, IsSpot, position_of, with_inserted, without_item};
 ghost use Rattle.indexset_spine.specs.Lengths.{node_of};
-ghost use Rattle.indexset_set.specs.SetProbes.{FindsInOrder, IsSought};
+ghost use Rattle.indexset_set.specs.SetProbes.{FindsInOrder, IsSearchResult};
 
 use crate::BTreeSet;
 use indexset_core::probe::Probe;
@@ -20,11 +20,11 @@ use std::ops::Bound;
 /// makes one comparison a step of two binary searches.
 pub fn spot_by<T: Ord, P: Probe<T>>(set: &BTreeSet<T>, probe: &mut P) -> Spot
     requires { FindsInOrder (P.answer probe.old) (items set.now) }
-    ensures sought { IsSought (P.answer probe.old) set.now.nodes result }
-    ensures cut { IsCut (node_lengths set.now.nodes) set.now.size }
+    ensures sought { IsSearchResult (P.answer probe.old) set.now.nodes result }
+    ensures cut { AreNodeLengths (node_lengths set.now.nodes) set.now.size }
     ensures ascending { IsAscending T.cmp (items set.now) }
     ensures fixed { P.answer probe.new ≡ P.answer probe.old }
-    ensures few { P.asked probe.new ≤ P.asked probe.old
+    ensures comparisons { P.asked probe.new ≤ P.asked probe.old
         + (digits (length set.now.nodes) + digits set.now.size + 1) }
 {
     // A spine says here how long its nodes are.
@@ -36,11 +36,11 @@ pub fn spot_by<T: Ord, P: Probe<T>>(set: &BTreeSet<T>, probe: &mut P) -> Spot
 /// follows. For elements that come in order.
 pub fn spot_from_end_by<T: Ord, P: Probe<T>>(set: &BTreeSet<T>, probe: &mut P) -> Spot
     requires { FindsInOrder (P.answer probe.old) (items set.now) }
-    ensures sought { IsSought (P.answer probe.old) set.now.nodes result }
-    ensures cut { IsCut (node_lengths set.now.nodes) set.now.size }
+    ensures sought { IsSearchResult (P.answer probe.old) set.now.nodes result }
+    ensures cut { AreNodeLengths (node_lengths set.now.nodes) set.now.size }
     ensures ascending { IsAscending T.cmp (items set.now) }
     ensures fixed { P.answer probe.new ≡ P.answer probe.old }
-    ensures few { P.asked probe.new ≤ P.asked probe.old
+    ensures comparisons { P.asked probe.new ≤ P.asked probe.old
         + (digits (length set.now.nodes) + digits set.now.size + 2) }
 {
     // As in `spot_by`.

@@ -4,7 +4,7 @@ ghost use Rattle.std.specs.Option.{option_map};
 ghost use Rattle.std.specs.Borrow.{sem};
 ghost use Rattle.indexset_core.specs.Pairs.{entry_of};
 ghost use Rattle.indexset_set.specs.SetLends.{lends_pair, lends_value};
-ghost use Rattle.indexset_spine.specs.Cut.{items, IsItemSpot, position_of};
+ghost use Rattle.indexset_spine.specs.NodeList.{items, IsItemSpot, position_of};
 
 use crate::BTreeSet;
 use indexset_core::pair::Pair;

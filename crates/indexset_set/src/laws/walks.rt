@@ -8,11 +8,11 @@ ghost use Rattle.std.specs.Cmp.{IsTotalOrder};
 ghost use Rattle.std.specs.List.{All, Contains, enumerate_from};
 ghost use Rattle.std.specs.Map.Iter.{TakesFirst, TakesLast, deref};
 ghost use Rattle.std.specs.Ordering.{is_lt};
-ghost use Rattle.indexset_core.specs.Bounds.{in_positions, is_at_position};
+ghost use Rattle.indexset_core.specs.KeyRange.{in_positions, is_at_position};
 ghost use Rattle.indexset_core.specs.Order.{IsAscending, below, has_equal};
 ghost use Rattle.indexset_set.specs.SetAlgebra.{difference, intersection, symmetric_difference, union};
 ghost use Rattle.indexset_set.specs.SetRanges.{not_below};
-ghost use Rattle.indexset_core.specs.Pulls.{IsWalk, Pulls, given_at_back, given_in_front};
+ghost use Rattle.indexset_core.specs.DoubleEnded.{IsDoubleEnded, Calls, back_items, front_items};
 
 use crate::iter::{IntoIter, Iter};
 
@@ -21,14 +21,14 @@ use crate::iter::{IntoIter, Iter};
 /// stands for: what a reference points to, the pair of two references, or itself.
 pub fn a_walk_gives_each_item_once<A, X>()
     ensures { (shows : A → X) (ends : List Bool) (s t : List X) (rs : List (Option A))
-        → Pulls shows ends s rs t
-        → s ≡ given_in_front shows ends rs ++ (t ++ given_at_back shows ends rs) }
+        → Calls shows ends s rs t
+        → s ≡ front_items shows ends rs ++ (t ++ back_items shows ends rs) }
 {}
 
 /// Each call leaves one item less, until none remains.
 pub fn a_walk_ends<A, X>()
     ensures { (shows : A → X) (ends : List Bool) (s t : List X) (rs : List (Option A))
-        → Pulls shows ends s rs t → length t ≡ length s - length ends }
+        → Calls shows ends s rs t → length t ≡ length s - length ends }
 {}
 
 /// With no item remaining, `next` and `next_back` return `None`: the iterator is fused.
@@ -42,13 +42,13 @@ pub fn a_walk_stays_at_its_end<A, X>()
 /// An iterator over a set or a range of one yields each element once, whatever calls of `next` and
 /// `next_back`, and then `None`.
 pub fn shared_iterators_yield_each_element_once<'a, T: 'a>()
-    ensures { IsWalk deref ⟦<Iter<'a, T> as Iterator>⟧.next_gives
+    ensures { IsDoubleEnded deref ⟦<Iter<'a, T> as Iterator>⟧.next_gives
         ⟦<Iter<'a, T> as DoubleEndedIterator>⟧.next_back_gives }
 {}
 
 /// So does an iterator that owns the elements.
 pub fn owning_iterators_yield_each_element_once<T: Drop>()
-    ensures { IsWalk (λ x. x) ⟦<IntoIter<T> as Iterator>⟧.next_gives
+    ensures { IsDoubleEnded (λ x. x) ⟦<IntoIter<T> as Iterator>⟧.next_gives
         ⟦<IntoIter<T> as DoubleEndedIterator>⟧.next_back_gives }
 {}
 

@@ -35,7 +35,11 @@ fn or_next_run<'a, T>(run: &'a [T], walk: &mut Iter<'a, T>) -> &'a [T]
     ensures taken { result.now ++ walk.new ≡ run.now ++ walk.old }
     ensures some { 0 < length (run.now ++ walk.old) → 0 < length result.now }
 {
-    if run.is_empty() { walk.next_run() } else { run }
+    if run.is_empty() {
+        walk.next_chunk()
+    } else {
+        run
+    }
 }
 
 // Returns whether each item of a block equals its counterpart. No item ends the loop, so that it

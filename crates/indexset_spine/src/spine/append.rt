@@ -1,16 +1,16 @@
 //! Items moved behind those of a spine, as many at once as a node has room for.
 ghost use Rattle.std.specs.Prelude.{◌≡◌, ℕ, ◌<◌, ◌≤◌, [], ◌∷◌, ◌++◌, OnOk, IfErr, OnErr, length};
 ghost use Rattle.std.specs.List.{All};
-ghost use Rattle.indexset_core.specs.Nodes.{joined, node_lengths, vec_items};
-ghost use Rattle.indexset_spine.specs.Cut.{items, with_last, with_all_last};
-ghost use Rattle.indexset_spine.specs.Edits.{TakesSome, without_all_emptied};
+ghost use Rattle.indexset_core.specs.Nodes.{concat, node_lengths, vec_items};
+ghost use Rattle.indexset_spine.specs.NodeList.{items, with_last, with_all_last};
+ghost use Rattle.indexset_spine.specs.Edits.{FoldsPrefix, without_all_emptied};
 
 use super::Spine;
 use super::insert::make_room;
 use crate::lengths;
+use indexset_core::item_iter::OfVec;
 use indexset_core::moves::move_front;
 use indexset_core::refusal::Refusal;
-use indexset_core::walk::ReadVec;
 
 impl<T: Drop> Spine<T> {
     /// Appends the items of another spine, as `append_items` does, and leaves the other one empty
@@ -23,7 +23,7 @@ impl<T: Drop> Spine<T> {
         ensures size { self.new.size ≡ self.old.size }
         ensures other_size { other.new.size ≡ other.old.size }
         ensures refusal { IfErr result (λ e. e ≡ Refusal.Memory) }
-        ensures moved { TakesSome (with_last self.old.size) self.old.nodes (items other.old)
+        ensures moved { FoldsPrefix (with_last self.old.size) self.old.nodes (items other.old)
             self.new.nodes (items other.new) }
         ensures some_left { OnErr result (0 < length (items other.new)) }
     {
@@ -35,7 +35,7 @@ impl<T: Drop> Spine<T> {
         let _count = other.index.len();
         other
             .index
-            .rebuild::<T, Vec<T>, ReadVec>(other.nodes.as_slice());
+            .rebuild::<T, Vec<T>, OfVec>(other.nodes.as_slice());
         moved
     }
 
@@ -48,7 +48,7 @@ impl<T: Drop> Spine<T> {
         ensures emptied { OnOk result (from.new.items ≡ []) }
         ensures size { self.new.size ≡ self.old.size }
         ensures refusal { IfErr result (λ e. e ≡ Refusal.Memory) }
-        ensures moved { TakesSome (with_last self.old.size) self.old.nodes from.old.items
+        ensures moved { FoldsPrefix (with_last self.old.size) self.old.nodes from.old.items
             self.new.nodes from.new.items }
         ensures some_left { OnErr result (0 < length from.new.items) }
     {
@@ -63,7 +63,7 @@ impl<T: Drop> Spine<T> {
     // was full. A failed call changes neither.
     fn append_block(&mut self, from: &mut Vec<T>) -> Result<(), Refusal>
         requires { 0 < length from.old.items }
-        ensures moved { TakesSome (with_last self.old.size) self.old.nodes from.old.items
+        ensures moved { FoldsPrefix (with_last self.old.size) self.old.nodes from.old.items
             self.new.nodes from.new.items }
         ensures fewer { OnOk result (length from.new.items < length from.old.items) }
         ensures size { self.new.size ≡ self.old.size }
@@ -90,15 +90,15 @@ impl<T: Drop> Spine<T> {
 // Moves the items of nodes behind those of a spine, first to last, and leaves each node that it
 // moved empty. A failed call has moved some first items so.
 fn move_nodes<T: Drop>(spine: &mut Spine<T>, from: &mut Vec<Vec<T>>) -> Result<(), Refusal>
-    ensures moved { TakesSome (with_last spine.old.size) spine.old.nodes
-        (joined (vec_items from.old.items)) spine.new.nodes (joined (vec_items from.new.items)) }
-    ensures emptied { OnOk result (joined (vec_items from.new.items) ≡ []) }
+    ensures moved { FoldsPrefix (with_last spine.old.size) spine.old.nodes
+        (concat (vec_items from.old.items)) spine.new.nodes (concat (vec_items from.new.items)) }
+    ensures emptied { OnOk result (concat (vec_items from.new.items) ≡ []) }
     ensures size { spine.new.size ≡ spine.old.size }
     ensures as_many { length from.new.items ≡ length from.old.items }
     ensures bounded { (n : ℕ) → All (λ l. l ≤ n) (node_lengths (vec_items from.old.items))
         → All (λ l. l ≤ n) (node_lengths (vec_items from.new.items)) }
     ensures refusal { IfErr result (λ e. e ≡ Refusal.Memory) }
-    ensures some_left { OnErr result (0 < length (joined (vec_items from.new.items))) }
+    ensures some_left { OnErr result (0 < length (concat (vec_items from.new.items))) }
 {
     let mut k = 0;
     while k < from.len() {

@@ -1,15 +1,15 @@
 //! Bounds as spots, each by one search.
 ghost use Rattle.std.specs.Prelude.{◌≡◌, false};
 ghost use Rattle.std.specs.List.{count_by};
-ghost use Rattle.indexset_core.specs.Bounds.{IfBounded, is_before, is_up_to_end};
+ghost use Rattle.indexset_core.specs.KeyRange.{IfBounded, is_before, is_up_to_end};
 ghost use Rattle.indexset_core.specs.Parted.{IsParted};
-ghost use Rattle.indexset_spine.specs.Cut.{items, IsSpot, position_of};
+ghost use Rattle.indexset_spine.specs.NodeList.{items, IsSpot, position_of};
 
 use super::Spine;
 use crate::spot::Spot;
+use indexset_core::item_iter::OfVec;
 use indexset_core::locate::{place_from, place_to};
 use indexset_core::probe::Probe;
-use indexset_core::walk::ReadVec;
 use std::ops::Bound;
 
 impl<T> Spine<T> {
@@ -20,7 +20,7 @@ impl<T> Spine<T> {
         ensures position { position_of self.now.nodes result
             ≡ count_by (is_before (λ x p. P.answer p x) start) (items self.now) }
     {
-        let place = place_from::<T, Vec<T>, ReadVec, P>(self.nodes.as_slice(), start);
+        let place = place_from::<T, Vec<T>, OfVec, P>(self.nodes.as_slice(), start);
         spot_at(place)
     }
 
@@ -31,7 +31,7 @@ impl<T> Spine<T> {
         ensures position { position_of self.now.nodes result
             ≡ count_by (is_up_to_end (λ x p. P.answer p x) end) (items self.now) }
     {
-        let place = place_to::<T, Vec<T>, ReadVec, P>(self.nodes.as_slice(), end);
+        let place = place_to::<T, Vec<T>, OfVec, P>(self.nodes.as_slice(), end);
         spot_at(place)
     }
 }

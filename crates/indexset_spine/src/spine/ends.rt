@@ -1,6 +1,6 @@
 //! The spots of the first and of the last item, found without the index.
 ghost use Rattle.std.specs.Prelude.{◌≡◌, ◌-◌, IsTrue, length, MatchOption};
-ghost use Rattle.indexset_spine.specs.Cut.{items, IsItemSpot, position_of};
+ghost use Rattle.indexset_spine.specs.NodeList.{items, IsItemSpot, position_of};
 
 use super::Spine;
 use crate::spot::Spot;

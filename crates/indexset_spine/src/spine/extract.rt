@@ -2,29 +2,33 @@
 ghost use Rattle.std.specs.Prelude.{◌≡◌, MatchOption, length};
 ghost use Rattle.std.specs.Fn.{CalledAtMut};
 ghost use Rattle.indexset_core.specs.Nodes.{node_lengths};
-ghost use Rattle.indexset_spine.specs.Cut.{items};
-ghost use Rattle.indexset_spine.specs.Extract.{Extracts, IsStretch, in_three};
+ghost use Rattle.indexset_spine.specs.NodeList.{items};
+ghost use Rattle.indexset_spine.specs.Extract.{Extracts, IsExtractRange, extract_state};
 ghost use Rattle.indexset_spine.specs.Lengths.{lengths_without};
 
 use super::Spine;
-use crate::stretch::Stretch;
+use crate::extract_range::ExtractRange;
 
 impl<T: Drop> Spine<T> {
     /// Calls the closure for each item of a stretch in turn, up to the first for which it returns
     /// true, and removes that one and returns it. The items before it stay, as the closure left
     /// them, and are no longer of the stretch. An emptied node is removed, unless it is the only
     /// one. It allocates nothing.
-    pub fn extract<F: FnMut(&mut T) -> bool>(&mut self, at: &mut Stretch, f: &mut F) -> Option<T>
+    pub fn extract<F: FnMut(&mut T) -> bool>(
+        &mut self,
+        at: &mut ExtractRange,
+        f: &mut F,
+    ) -> Option<T>
         requires callable { F.IsAlwaysCallable f.old }
-        requires at { IsStretch (node_lengths self.old.nodes) (length (items self.old)) at.old }
+        requires at { IsExtractRange (node_lengths self.old.nodes) (length (items self.old)) at.old }
         ensures extracted { Extracts (CalledAtMut F.FnMut) f.old
-            (in_three (items self.old) at.old.front at.old.back) result f.new
-            (in_three (items self.new) at.new.front at.new.back) }
+            (extract_state (items self.old) at.old.front at.old.back) result f.new
+            (extract_state (items self.new) at.new.front at.new.back) }
         ensures lengths { MatchOption result
             (node_lengths self.new.nodes ≡ node_lengths self.old.nodes)
             (λ _. node_lengths self.new.nodes
             ≡ lengths_without (node_lengths self.old.nodes) at.new.front) }
-        ensures at { IsStretch (node_lengths self.new.nodes) (length (items self.new)) at.new }
+        ensures at { IsExtractRange (node_lengths self.new.nodes) (length (items self.new)) at.new }
         ensures callable { F.IsAlwaysCallable f.new }
         ensures size { self.new.size ≡ self.old.size }
     {

@@ -2,15 +2,15 @@
 ghost use Rattle.std.specs.Prelude.{◌≡◌, ◌+◌, ◌^◌, ◌<◌, ◌≤◌, IsTrue, IfOk, OnOk, IfErr, OnErr, IfSome, length, sum, drop, insert, slice_get, vec_len, vec_capacity};
 ghost use Rattle.std.specs.List.{HoldsAt};
 ghost use Rattle.indexset_core.specs.Nodes.{node_at, node_lengths, vec_items};
-ghost use Rattle.indexset_spine.specs.Cut.{items, IsItemSpot, IsSpot, position_of, with_inserted, without_item, first_spot};
+ghost use Rattle.indexset_spine.specs.NodeList.{items, IsItemSpot, IsSpot, position_of, with_inserted, without_item, first_spot};
 ghost use Rattle.indexset_spine.specs.Edits.{IsShortEnd, with_item_in, with_halved};
 
 use super::Spine;
 use crate::spot::Spot;
 use indexset_core::halve::halve_node;
+use indexset_core::item_iter::OfVec;
 use indexset_core::moves::insert_item;
 use indexset_core::refusal::{Refusal, Refused};
-use indexset_core::walk::ReadVec;
 use indexset_index::fenwick::Fenwick;
 
 impl<T: Drop> Spine<T> {
@@ -121,7 +121,7 @@ pub(super) fn make_room<T>(
     }
     index.reserve_one()?;
     let to = halve_at(nodes, spot)?;
-    index.rebuild_from::<T, Vec<T>, ReadVec>(spot.node, nodes.as_slice());
+    index.rebuild_from::<T, Vec<T>, OfVec>(spot.node, nodes.as_slice());
     Ok(to)
 }
 

@@ -2,11 +2,11 @@
 ghost use Rattle.std.specs.Prelude.{◌≡◌, ◌+◌, ◌*◌, ◌/◌, ◌<◌, ◌≤◌, [], ◌∷◌, IfOk, IfErr};
 ghost use Rattle.std.specs.List.{AllZip};
 ghost use Rattle.indexset_core.specs.Nodes.{node_lengths, vec_items};
-ghost use Rattle.indexset_spine.specs.Cut.{with_all_last};
+ghost use Rattle.indexset_spine.specs.NodeList.{with_all_last};
 
 use super::Spine;
+use indexset_core::item_iter::OfVec;
 use indexset_core::refusal::Refusal;
-use indexset_core::walk::ReadVec;
 use indexset_index::fenwick::Fenwick;
 use std::alloc::Global;
 
@@ -42,7 +42,7 @@ impl<T: Drop> Spine<T> {
         let len = items.len();
         let nodes = nodes_of(alloc, size, items)?;
         let mut index = Fenwick::with_capacity(alloc, nodes.len())?;
-        index.rebuild::<T, Vec<T>, ReadVec>(nodes.as_slice());
+        index.rebuild::<T, Vec<T>, OfVec>(nodes.as_slice());
         Ok(Spine {
             nodes,
             size,
@@ -66,7 +66,7 @@ impl<T: Drop> Spine<T> {
         let alloc = *self.nodes.allocator();
         let nodes = clone_nodes(alloc, self.nodes.as_slice())?;
         let mut index = Fenwick::with_capacity(alloc, self.index.len())?;
-        index.rebuild::<T, Vec<T>, ReadVec>(nodes.as_slice());
+        index.rebuild::<T, Vec<T>, OfVec>(nodes.as_slice());
         Ok(Spine {
             nodes,
             size: self.size,
@@ -86,7 +86,7 @@ impl<T: Drop> Spine<T> {
         // There is room for as many lengths as there were.
         let _count = self.index.len();
         self.index
-            .rebuild::<T, Vec<T>, ReadVec>(self.nodes.as_slice());
+            .rebuild::<T, Vec<T>, OfVec>(self.nodes.as_slice());
     }
 }
 

@@ -4,7 +4,7 @@ ghost use Rattle.std.specs.List.{All, HoldsAt, fold};
 ghost use Rattle.std.specs.declared.cmp.Ordering.TheVariants.{Less};
 ghost use Rattle.indexset_core.specs.Nodes.{node_at};
 ghost use Rattle.indexset_core.specs.Order.{IsAscending, put};
-ghost use Rattle.indexset_spine.specs.Cut.{items, IsSpot};
+ghost use Rattle.indexset_spine.specs.NodeList.{items, IsSpot};
 
 use super::Spine;
 use super::remove::drop_indexed_if_empty;

@@ -2,7 +2,7 @@
 ghost use Rattle.std.specs.Prelude.{◌≡◌, ◌+◌, ◌≤◌, length};
 ghost use Rattle.std.specs.List.{between};
 ghost use Rattle.std.specs.Map.Iter.{ShowsInOrder, ShowsInReverse, deref};
-ghost use Rattle.indexset_spine.specs.Cut.{items, IsSpot, end_spot, position_of};
+ghost use Rattle.indexset_spine.specs.NodeList.{items, IsSpot, end_spot, position_of};
 
 use super::Spine;
 use crate::iter::{Iter, walk_between};

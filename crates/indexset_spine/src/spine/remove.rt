@@ -1,13 +1,13 @@
 //! Calls that remove an item, or write another over it.
 ghost use Rattle.std.specs.Prelude.{◌≡◌, ◌<◌, false, Some, length, remove, slice_get, slice_set};
 ghost use Rattle.indexset_core.specs.Nodes.{node_at, node_lengths, vec_items};
-ghost use Rattle.indexset_spine.specs.Cut.{items, IsItemSpot, position_of, without_item, with_replaced};
+ghost use Rattle.indexset_spine.specs.NodeList.{items, IsItemSpot, position_of, without_item, with_replaced};
 ghost use Rattle.indexset_spine.specs.Edits.{without_emptied};
 
 use super::Spine;
 use crate::spot::Spot;
+use indexset_core::item_iter::OfVec;
 use indexset_core::moves::remove_item;
-use indexset_core::walk::ReadVec;
 use indexset_index::fenwick::Fenwick;
 use std::mem;
 
@@ -64,7 +64,7 @@ pub(super) fn drop_indexed_if_empty<T: Drop>(nodes: &mut Vec<Vec<T>>, index: &mu
     if drop_if_empty(nodes, k) {
         // There is room for as many lengths as there were, and their sum fits.
         let _count = index.len();
-        index.rebuild_from::<T, Vec<T>, ReadVec>(k, nodes.as_slice());
+        index.rebuild_from::<T, Vec<T>, OfVec>(k, nodes.as_slice());
     }
 }
 

@@ -2,13 +2,13 @@
 ghost use Rattle.std.specs.Prelude.{◌≡◌, ◌==◌, ◌<◌, ◌≤◌, not, length, take};
 ghost use Rattle.std.specs.Fn.{CalledAtMut};
 ghost use Rattle.std.specs.List.Retain.{RetainsInTurn};
-ghost use Rattle.indexset_spine.specs.Cut.{items};
+ghost use Rattle.indexset_spine.specs.NodeList.{items};
 ghost use Rattle.indexset_core.specs.Nodes.{vec_items};
 ghost use Rattle.indexset_spine.specs.Edits.{RetainsTo, RetainsNodes};
 
 use super::Spine;
 use crate::lengths;
-use indexset_core::walk::ReadVec;
+use indexset_core::item_iter::OfVec;
 
 impl<T: Drop> Spine<T> {
     /// Calls the closure once for each item, first to last, and keeps the items for which it
@@ -25,7 +25,7 @@ impl<T: Drop> Spine<T> {
         // There is room for as many lengths as there were.
         let _count = self.index.len();
         self.index
-            .rebuild::<T, Vec<T>, ReadVec>(self.nodes.as_slice());
+            .rebuild::<T, Vec<T>, OfVec>(self.nodes.as_slice());
     }
 }
 

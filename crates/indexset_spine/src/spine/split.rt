@@ -1,15 +1,15 @@
 //! A spine split in two.
 ghost use Rattle.std.specs.Prelude.{◌≡◌, ◌≤◌, IfOk, OnOk, IfErr, OnErr, length, take, drop};
-ghost use Rattle.indexset_spine.specs.Cut.{items, IsSpot, position_of};
+ghost use Rattle.indexset_spine.specs.NodeList.{items, IsSpot, position_of};
 ghost use Rattle.indexset_core.specs.Nodes.{vec_items};
 ghost use Rattle.indexset_spine.specs.Edits.{left_nodes, right_nodes};
 
 use super::Spine;
 use super::remove::drop_if_empty;
 use crate::spot::Spot;
+use indexset_core::item_iter::OfVec;
 use indexset_core::moves::move_tail;
 use indexset_core::refusal::Refusal;
-use indexset_core::walk::ReadVec;
 use indexset_index::fenwick::Fenwick;
 use std::mem;
 
@@ -34,9 +34,9 @@ impl<T: Drop> Spine<T> {
         let count = self.index.len();
         let mut index = Fenwick::with_capacity(alloc, count - spot.node)?;
         let nodes = split_nodes(&mut self.nodes, spot)?;
-        index.rebuild::<T, Vec<T>, ReadVec>(nodes.as_slice());
+        index.rebuild::<T, Vec<T>, OfVec>(nodes.as_slice());
         self.index
-            .rebuild_from::<T, Vec<T>, ReadVec>(spot.node, self.nodes.as_slice());
+            .rebuild_from::<T, Vec<T>, OfVec>(spot.node, self.nodes.as_slice());
         let right = Spine {
             nodes,
             size: self.size,

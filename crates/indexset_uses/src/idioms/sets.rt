@@ -34,7 +34,7 @@ pub fn sorted(alloc: Global, values: Vec<u64>) -> Result<Vec<u64>, AllocError>
 /// `set.remove(&x)`.
 pub fn withdraw(set: &mut BTreeSet<u64>, value: u64) -> bool
     ensures rest { items set.new ≡ without nat_cmp (items set.old) value }
-    ensures there { result ≡ has_equal nat_cmp (items set.old) value }
+    ensures contains { result ≡ has_equal nat_cmp (items set.old) value }
 {
     set.remove(&value)
 }

@@ -1,7 +1,7 @@
 //! Values that calls of a map lend to write. `next=7` writes 7 over the value that comes next.
 
 use crate::plain::maps::pair;
-use indexset_core::bounds::bounds_are_ordered;
+use indexset_core::key_range::bounds_are_ordered;
 use indexset_map::BTreeMap;
 use std::alloc::Global;
 use std::str::SplitWhitespace;

@@ -3,7 +3,7 @@
 //! A spot is `start`, `end`, `at=3`, that of the item of this position, or `after=3`, the one behind three
 //! items.
 ghost use Rattle.std.specs.Prelude.{IfOk};
-ghost use Rattle.indexset_spine.specs.Cut.{IsSpot};
+ghost use Rattle.indexset_spine.specs.NodeList.{IsSpot};
 
 use indexset_spine::iter::Iter;
 use indexset_spine::spine::Spine;

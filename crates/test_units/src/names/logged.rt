@@ -9,7 +9,7 @@ type Set = set::BTreeSet<u64>;
 
 type Map = map::BTreeMap<u64, char>;
 
-type Bounds<'a> = (Bound<&'a u64>, Bound<&'a u64>);
+type KeyRange<'a> = (Bound<&'a u64>, Bound<&'a u64>);
 
 #[test]
 fn a_set_makes_and_reads() {
@@ -25,8 +25,8 @@ fn a_set_makes_and_reads() {
     let _node_count = Set::node_count;
     let _iter = Set::iter;
     let _iter_new = set::Iter::<u64>::new;
-    let _range = Set::range::<Bounds<'_>>;
-    let _range_new = set::Range::<u64>::new::<Bounds<'_>>;
+    let _range = Set::range::<KeyRange<'_>>;
+    let _range_new = set::Range::<u64>::new::<KeyRange<'_>>;
     goes_both_ways::<set::Iter<'static, u64>>();
     goes_both_ways::<set::Range<'static, u64>>();
     is_iterated::<&'static Set>();
@@ -40,7 +40,7 @@ fn a_set_changes() {
     let _put_cdc_checked = Set::put_cdc_checked;
     let _remove = Set::remove::<&u64>;
     let _remove_cdc = Set::remove_cdc::<&u64>;
-    let _remove_range = Set::remove_range::<Bounds<'_>>;
+    let _remove_range = Set::remove_range::<KeyRange<'_>>;
 }
 
 #[test]
@@ -54,7 +54,7 @@ fn a_map_makes_and_reads() {
     let _capacity = Map::capacity;
     let _node_count = Map::node_count;
     let _iter = Map::iter;
-    let _range = Map::range::<Bounds<'_>>;
+    let _range = Map::range::<KeyRange<'_>>;
     let _iter_nodes = Map::iter_nodes;
     goes_both_ways::<map::Iter<'static, u64, char>>();
     goes_both_ways::<map::Range<'static, u64, char>>();

@@ -7,7 +7,7 @@ use indexset::{
 };
 use std::ops::Bound;
 
-type Bounds<'a> = (Bound<&'a u64>, Bound<&'a u64>);
+type KeyRange<'a> = (Bound<&'a u64>, Bound<&'a u64>);
 
 type Places = (Bound<usize>, Bound<usize>);
 
@@ -59,7 +59,7 @@ fn walks() {
     let _values = BTreeMap::<u64, char>::values;
     let _into_keys = BTreeMap::<u64, char>::into_keys;
     let _into_values = BTreeMap::<u64, char>::into_values;
-    let _range = BTreeMap::<u64, char>::range::<Bounds<'_>>;
+    let _range = BTreeMap::<u64, char>::range::<KeyRange<'_>>;
     let _range_idx = BTreeMap::<u64, char>::range_idx::<Places>;
     goes_both_ways::<IterMap<'static, u64, char>>();
     goes_both_ways::<IntoIterMap<u64, char>>();
@@ -76,7 +76,7 @@ fn walks() {
 fn walks_that_lend() {
     let _iter_mut = BTreeMap::<u64, char>::iter_mut;
     let _values_mut = BTreeMap::<u64, char>::values_mut;
-    let _range_mut = BTreeMap::<u64, char>::range_mut::<Bounds<'_>>;
+    let _range_mut = BTreeMap::<u64, char>::range_mut::<KeyRange<'_>>;
     let _range_mut_idx = BTreeMap::<u64, char>::range_mut_idx::<Places>;
     let _next = IterMut::<u64, char>::next;
     let _next_back = IterMut::<u64, char>::next_back;

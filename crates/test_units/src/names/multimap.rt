@@ -6,7 +6,7 @@ use std::ops::Bound;
 
 type Tags = BTreeMultiMap<u64, char>;
 
-type Bounds<'a> = (Bound<&'a u64>, Bound<&'a u64>);
+type KeyRange<'a> = (Bound<&'a u64>, Bound<&'a u64>);
 
 #[test]
 fn makes_and_reads() {
@@ -20,7 +20,7 @@ fn makes_and_reads() {
     let _capacity = Tags::capacity;
     let _node_count = Tags::node_count;
     let _iter = Tags::iter;
-    let _range = Tags::range::<Bounds<'_>>;
+    let _range = Tags::range::<KeyRange<'_>>;
     let _iter_nodes = Tags::iter_nodes;
     goes_both_ways::<Iter<'static, u64, char>>();
     goes_both_ways::<Range<'static, u64, char>>();

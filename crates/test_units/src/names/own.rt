@@ -2,7 +2,7 @@
 
 use super::goes_both_ways;
 use indexset::base::array_node::ArrayNode;
-use indexset::base::bounds::bounds_are_ordered;
+use indexset::base::key_range::bounds_are_ordered;
 use indexset::base::node::NodeLike;
 use indexset::base::pair::Pair;
 use indexset::base::probe::{ByItem, ByKey, Counting, Probe};
@@ -20,8 +20,8 @@ use indexset_bench::logged_run::{LogRun, run_logged};
 use indexset_bench::map_run::{MapCommand, run_map};
 use indexset_bench::set_run::{SetCommand, SetReply, run_set};
 use indexset_bench::{RunFault, run};
+use indexset_core::item_iter::OfVec;
 use indexset_core::steps::Steps;
-use indexset_core::walk::ReadVec;
 use indexset_index::fenwick::Fenwick;
 use indexset_index::fenwick::cells::{Cells, IndexCells};
 use indexset_index::fenwick::sums::{find_in, prefix_in};
@@ -88,7 +88,7 @@ fn an_index_and_a_spine() {
     let _reserve_one = Fenwick::reserve_one;
     let _add = Fenwick::add;
     let _sub = Fenwick::sub;
-    let _rebuild = Fenwick::rebuild::<u64, Vec<u64>, ReadVec>;
+    let _rebuild = Fenwick::rebuild::<u64, Vec<u64>, OfVec>;
     let _cells = Fenwick::cells;
     let _count = <IndexCells<'static> as Cells>::count;
     let _read = <IndexCells<'static> as Cells>::read;

@@ -11,7 +11,7 @@ loop-command-init g c =
     record {
       so_far = search rules;
       log = rw (c.new-replies.ensures.items, c.new-events.ensures.items) (no_log g.L.Item.Ord.cmp tree.left tree.events tree.cloned tree.clones start (tree.nodes start) (tree.next start));
-      spaced = λ s. s;
+      dense = λ s. s;
       left = search rules;
       size = refl;
     }
@@ -24,11 +24,11 @@ loop-command-preserved g c =
     let now = c.loop-command.tree in
     let after = c.answer.new.tree in
     let done = c.in_default.ensures in
-    let log = more_log g.L.Item.Ord.cmp tree.left tree.events tree.cloned tree.clones c.args.tree.now (tree.nodes c.args.tree.now) (tree.next c.args.tree.now) now after (tree.nodes now) (tree.nodes after) (tree.next now) (tree.next after) (length c.loop-command.replies.items) c.loop-command.yielded c.in-Some.command c.loop-command.events.items c.answer.new.events.items before.log done.clones done.events done.table done.few done.next done.tree in
+    let log = more_log g.L.Item.Ord.cmp tree.left tree.events tree.cloned tree.clones c.args.tree.now (tree.nodes c.args.tree.now) (tree.next c.args.tree.now) now after (tree.nodes now) (tree.nodes after) (tree.next now) (tree.next after) (length c.loop-command.replies.items) c.loop-command.yielded c.in-Some.command c.loop-command.events.items c.answer.new.events.items before.log done.clones done.events done.table done.at_most_three_events done.next done.tree in
     record {
       so_far = further before.so_far c.in-Some.command (into_iter_items c.next.new.self) (tree.state after) c.answer.new.replies.items next done.told done.state;
       log = subst (λ n. LogSoFar g.L.Item.Ord.cmp tree.left tree.events tree.cloned tree.clones c.args.tree.now after (tree.nodes c.args.tree.now) (tree.nodes after) (tree.next c.args.tree.now) (tree.next after) n (c.loop-command.yielded ++ c.in-Some.command ∷ []) c.answer.new.events.items) (sym (ap (λ q. length q) done.told ∙ length-append c.loop-command.replies.items _)) log;
-      spaced = λ s. c.answer.ensures.spaced (before.spaced s);
+      dense = λ s. c.answer.ensures.dense (before.dense s);
       left = omega (arith, ap length next);
       size = cc;
     }
@@ -89,11 +89,11 @@ pub returns-in-Err-clause-tree : goal.returns-in-Err-clause-tree
 returns-in-Err-clause-tree g c =
     rw (c.in-Err.ensures.untold, c.in-Err.ensures.unchanged) (tree_to_first c.loop-command.invariant.log (first_commands c.loop-command.invariant.so_far))
 
-pub returns-in-Err-clause-spaced : goal.returns-in-Err-clause-spaced
-returns-in-Err-clause-spaced g c = rw c.in-Err.ensures.unchanged c.loop-command.invariant.spaced
+pub returns-in-Err-clause-dense : goal.returns-in-Err-clause-dense
+returns-in-Err-clause-dense g c = rw c.in-Err.ensures.unchanged c.loop-command.invariant.dense
 
 pub returns-in-Err-clause-few_nodes : goal.returns-in-Err-clause-few_nodes
-returns-in-Err-clause-few_nodes g c = λ s. few_after _ _ _ _ (rw c.in-Err.ensures.unchanged c.loop-command.invariant.spaced) s
+returns-in-Err-clause-few_nodes g c = λ s. few_after _ _ _ _ (rw c.in-Err.ensures.unchanged c.loop-command.invariant.dense) s
 
 pub returns-clause-clones : goal.returns-clause-clones
 returns-clause-clones g c = clones_to_first c.loop-command.invariant.log (first_commands c.loop-command.invariant.so_far)
@@ -120,18 +120,18 @@ pub returns-clause-tree : goal.returns-clause-tree
 returns-clause-tree g c = tree_to_first c.loop-command.invariant.log (first_commands c.loop-command.invariant.so_far)
 
 pub returns-clause-few_nodes : goal.returns-clause-few_nodes
-returns-clause-few_nodes g c = few_after _ _ _ _ c.loop-command.invariant.spaced
+returns-clause-few_nodes g c = few_after _ _ _ _ c.loop-command.invariant.dense
 
 pub returns-in-Err-clause-few_from_empty : goal.returns-in-Err-clause-few_from_empty
 returns-in-Err-clause-few_from_empty g c =
     let tree = g.L.Logged in
     let old = c.args.tree.now in
     let new = c.answer.new.tree in
-    few_from_none (tree.size old / 2) (tree.size new / 2) (tree.nodes old) (tree.nodes new) (rw c.in-Err.ensures.unchanged c.loop-command.invariant.spaced)
+    few_from_none (tree.size old / 2) (tree.size new / 2) (tree.nodes old) (tree.nodes new) (rw c.in-Err.ensures.unchanged c.loop-command.invariant.dense)
 
 pub returns-clause-few_from_empty : goal.returns-clause-few_from_empty
 returns-clause-few_from_empty g c =
     let tree = g.L.Logged in
     let old = c.args.tree.now in
     let new = c.loop-command.tree in
-    few_from_none (tree.size old / 2) (tree.size new / 2) (tree.nodes old) (tree.nodes new) c.loop-command.invariant.spaced
+    few_from_none (tree.size old / 2) (tree.size new / 2) (tree.nodes old) (tree.nodes new) c.loop-command.invariant.dense

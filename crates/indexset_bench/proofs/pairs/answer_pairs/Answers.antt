@@ -2,7 +2,7 @@ use Rattle.std.proofs.Common.{◌≡◌, ◌++◌, sym, ap, subst, ◌∙◌}
 use Rattle.std.proofs.lemmas.Result.{on_ok_weaker}
 use Rattle.std.specs.Io.KnownBytes.{Appends}
 use Rattle.std.specs.Option.{option_map_or}
-use Rattle.indexset_core.specs.Nodes.{joined}
+use Rattle.indexset_core.specs.Nodes.{concat}
 use Rattle.indexset_core.specs.Pairs.{by_key, pair, pair_of}
 use Rattle.indexset_bench.specs.Pairs.{change_reply, echo_text, pair_events, reply_ended, told_events}
 use Rattle.indexset_bench.specs.PairText.{event_text, lines_for}
@@ -23,7 +23,7 @@ returns-in_ok-old-in-Put g c =
     let done = c.in_ok-old-in-Put.ensures in
     let last = c.write_change in
     let replied : c.reply_to_put.result ≡ change_reply g.T.Ord.cmp old (Put c.in-Put.key c.in-Put.value) = c.reply_to_put.ensures ∙ ap (λ o. option_map_or OldValue o New) done.answer in
-    let events : c.deref.result.now ≡ told_events g.T.Ord.cmp old (Put c.in-Put.key c.in-Put.value) = c.deref.ensures.value ∙ done.told.events (g.met.T.Key.identical, g.met.T.Key.identical) in
+    let events : c.deref.result.now ≡ told_events g.T.Ord.cmp old (Put c.in-Put.key c.in-Put.value) = c.deref.ensures.value ∙ done.events.events (g.met.T.Key.identical, g.met.T.Key.identical) in
     rw c.in-Put.is (record {
       pairs = on_ok_any last.result (tree_led (by_key g.T.Ord.cmp) old c.insert_cdc.new.self (pair_events g.T.Ord.cmp old (Put c.in-Put.key c.in-Put.value)) done.changed.table done.changed.size done.changed.next);
       told = on_ok_weaker last.result (subst (Appends _ _) (λ i. echo_text c.args.echo ++ (reply_ended g.T.Key.texts (replied i) ++ lines_for (event_text g.T.Key.texts) (events i)))) last.ensures.told;
@@ -45,8 +45,8 @@ returns-in_ok-out-in-Cut-clause-told g c =
     let old = c.args.pairs.now in
     let done = c.in_ok-out-in-Cut.ensures in
     let last = c.write_change-in-Cut in
-    let replied : c.reply_to_cut.result ≡ change_reply g.T.Ord.cmp old (Cut c.in-Cut.key) = c.reply_to_cut.ensures ∙ ap (λ o. option_map_or (λ entry. GoneValue entry.1) o Nothing) done.answer ∙ gone_reply (pair_of g.T.Ord.cmp (joined old.nodes) c.in-Cut.key) in
-    let events : c.deref-in-Cut.result.now ≡ told_events g.T.Ord.cmp old (Cut c.in-Cut.key) = c.deref-in-Cut.ensures.value ∙ done.told.events (g.met.T.Key.identical, g.met.T.Key.identical) in
+    let replied : c.reply_to_cut.result ≡ change_reply g.T.Ord.cmp old (Cut c.in-Cut.key) = c.reply_to_cut.ensures ∙ ap (λ o. option_map_or (λ entry. GoneValue entry.1) o Nothing) done.answer ∙ gone_reply (pair_of g.T.Ord.cmp (concat old.nodes) c.in-Cut.key) in
+    let events : c.deref-in-Cut.result.now ≡ told_events g.T.Ord.cmp old (Cut c.in-Cut.key) = c.deref-in-Cut.ensures.value ∙ done.events.events (g.met.T.Key.identical, g.met.T.Key.identical) in
     rw c.in-Cut.is (on_ok_weaker last.result (subst (Appends _ _) (λ i. echo_text c.args.echo ++ (reply_ended g.T.Key.texts (replied i) ++ lines_for (event_text g.T.Key.texts) (events i)))) last.ensures.told)
 
 pub returns-in_ok-out-in-Cut-clause-memory_refused : goal.returns-in_ok-out-in-Cut-clause-memory_refused

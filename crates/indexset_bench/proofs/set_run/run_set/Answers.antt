@@ -1,6 +1,6 @@
 use Rattle.std.proofs.Common.{◌≡◌, length, refl, ap, arith, rules}
 use Rattle.std.specs.Vec.Iter.{into_iter_items}
-use Rattle.indexset_spine.specs.Cut.{items}
+use Rattle.indexset_spine.specs.NodeList.{items}
 use Rattle.indexset_bench.proofs.ClonedRuns.{clones_to_first, count_answered, further_cloned, held_to_first, none_cloned, told_to_first}
 use Rattle.indexset_bench.proofs.set_run.run_set.Goals as goal
 

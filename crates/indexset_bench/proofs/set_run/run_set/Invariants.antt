@@ -1,7 +1,7 @@
 -- The commands so far were answered, and the set is as they left it.
 use Rattle.std.proofs.Common.{◌≡◌, length}
 use Rattle.std.specs.Vec.Iter.{into_iter_items, into_iter_len}
-use Rattle.indexset_spine.specs.Cut.{items}
+use Rattle.indexset_spine.specs.NodeList.{items}
 use Rattle.indexset_bench.specs.SetRun.{IsSetReply, set_reply, set_after}
 use Rattle.indexset_bench.proofs.ClonedRuns.{ClonedSoFar}
 use Rattle.indexset_bench.proofs.set_run.run_set.Given as goal

@@ -16,11 +16,11 @@ returns-in_default c =
     rw (← none) record {
       before = (λ h. not_at 3 NONE YES refl refl h, λ h. not_at 3 NONE NO refl refl h);
       ok = λ h. tt;
-      told = λ h. tt;
+      events = λ h. tt;
       led = λ h. tt;
-      few = leb-true 0 3 refl;
+      at_most_three_events = leb-true 0 3 refl;
       unwritten = λ h. refl;
-      same = λ h. (refl, refl, c.in_default.ensures.left);
+      unchanged = λ h. (refl, refl, c.in_default.ensures.left);
       cause = tt;
       status = ((λ h. refl, λ h. refl), (λ h. not_at 3 NONE UNFIT refl refl h, λ h. absurd (h.0 refl)), leb-true NONE UNFIT refl, λ h. not_at 3 NONE HELD refl refl h);
     }
@@ -31,11 +31,11 @@ returns-then-events-lt3 c =
     rw (← was) record {
       before = (λ h. not_at 6 UNFIT YES refl refl h, λ h. not_at 6 UNFIT NO refl refl h);
       ok = λ h. not_most 6 UNFIT YES refl refl h;
-      told = λ h. not_most 6 UNFIT YES refl refl h;
+      events = λ h. not_most 6 UNFIT YES refl refl h;
       led = λ h. not_most 6 UNFIT YES refl refl h;
-      few = leb-true 0 3 refl;
+      at_most_three_events = leb-true 0 3 refl;
       unwritten = λ h. refl;
-      same = λ h. (refl, refl, c.put.ensures);
+      unchanged = λ h. (refl, refl, c.put.ensures);
       cause = record { memory = λ h. not_at 6 UNFIT MEMORY refl refl h; numbers = λ h. not_at 6 UNFIT NUMBERS refl refl h };
       status = ((λ h. not_at 6 UNFIT NONE refl refl h, λ h. absurd (none-some _ (sym h))), (λ h. ((λ e. absurd (none-some _ (sym e))), c.if-events-lt3.true), λ h. refl), leb-true 6 UNFIT refl, λ h. not_at 6 UNFIT HELD refl refl h);
     }
@@ -51,11 +51,11 @@ returns c =
           record {
             before = (λ h. not_at s NO YES w.status-is refl h, λ h. sym e.before ∙ w.write.ensures.found w.if-write.true ∙ ap Some (sym w.before-is));
             ok = λ h. rw told (new ∙ ap Some e.ok);
-            told = λ h. record { told = told; events = rw told e.events };
+            events = λ h. record { events = told; events = rw told e.events };
             led = λ h. rw new e.led;
-            few = rw w.told-is e.few;
+            at_most_three_events = rw w.told-is e.at_most_three_events;
             unwritten = λ h. absurd (h w.status-is);
-            same = λ h. not_least s NO MEMORY w.status-is refl h;
+            unchanged = λ h. not_least s NO MEMORY w.status-is refl h;
             cause = record { memory = λ h. not_at s NO MEMORY w.status-is refl h; numbers = λ h. not_at s NO NUMBERS w.status-is refl h };
             status = ((λ h. not_at s NO NONE w.status-is refl h, λ h. absurd (none-some _ (sym h))), (λ h. not_at s NO UNFIT w.status-is refl h, λ h. absurd (omega (arith, c.if-events-lt3.false, h.1))), rw w.status-is (leb-true NO UNFIT refl), λ h. not_at s NO HELD w.status-is refl h);
           }
@@ -64,11 +64,11 @@ returns c =
           record {
             before = (λ h. sym e.before ∙ w.write.ensures.absent w.if-write.false, λ h. not_at s YES NO w.status-is refl h);
             ok = λ h. rw told (new ∙ ap Some e.ok);
-            told = λ h. record { told = told; events = rw told e.events };
+            events = λ h. record { events = told; events = rw told e.events };
             led = λ h. rw new e.led;
-            few = rw w.told-is e.few;
+            at_most_three_events = rw w.told-is e.at_most_three_events;
             unwritten = λ h. w.before-is ∙ w.write.ensures.unwritten w.if-write.false;
-            same = λ h. not_least s YES MEMORY w.status-is refl h;
+            unchanged = λ h. not_least s YES MEMORY w.status-is refl h;
             cause = record { memory = λ h. not_at s YES MEMORY w.status-is refl h; numbers = λ h. not_at s YES NUMBERS w.status-is refl h };
             status = ((λ h. not_at s YES NONE w.status-is refl h, λ h. absurd (none-some _ (sym h))), (λ h. not_at s YES UNFIT w.status-is refl h, λ h. absurd (omega (arith, c.if-events-lt3.false, h.1))), rw w.status-is (leb-true YES UNFIT refl), λ h. not_at s YES HELD w.status-is refl h);
           }
@@ -78,11 +78,11 @@ returns c =
           record {
             before = (λ h. refused_not_yes s _ r h, λ h. refused_not_no s _ r h);
             ok = λ h. refused_not_done s _ r h;
-            told = λ h. refused_not_done s _ r h;
+            events = λ h. refused_not_done s _ r h;
             led = λ h. refused_not_done s _ r h;
-            few = rw w.told-is (leb-true 0 3 refl);
+            at_most_three_events = rw w.told-is (leb-true 0 3 refl);
             unwritten = λ h. w.before-is;
-            same = λ h. (w.told-is, e.unwritten, (new ∙ ap Some e.unchanged));
+            unchanged = λ h. (w.told-is, e.unwritten, (new ∙ ap Some e.unchanged));
             cause = record { memory = r.memory; numbers = r.numbers };
             status = ((λ h. refused_not_none s _ r h, λ h. absurd (none-some _ (sym h))), (λ h. refused_not_unfit s _ r h, λ h. absurd (omega (arith, c.if-events-lt3.false, h.1))), refused_status s _ r, r.not_held);
           }

@@ -19,10 +19,10 @@ returns-in_default c =
       found = (λ h. not_at 0 NO YES refl refl h, λ h. refl, λ none enough. refl);
       rest = λ h. rw left refl;
       changed = λ h. not_at 0 NO YES refl refl h;
-      there = (λ h. refl, λ h. left);
-      told = λ h. tt;
-      few = leb-true 0 3 refl;
-      same = λ h. (refl, refl, refl, left);
+      contains = (λ h. refl, λ h. left);
+      events = λ h. tt;
+      at_most_three_events = leb-true 0 3 refl;
+      unchanged = λ h. (refl, refl, refl, left);
       cause = tt;
       status = ((λ h. not_at 0 NO UNFIT refl refl h, λ h. absurd (h.0 refl)), leb-true NO UNFIT refl, (λ h. not_at 0 NO NONE refl refl h), (λ h. not_at 0 NO HELD refl refl h));
     }
@@ -34,10 +34,10 @@ returns-then-events-lt3 c =
       found = (λ h. not_at 6 UNFIT YES refl refl h, λ h. not_at 6 UNFIT NO refl refl h, λ none enough. absurd (omega (arith, c.if-events-lt3.true, enough)));
       rest = λ h. not_most 6 UNFIT YES refl refl h;
       changed = λ h. not_at 6 UNFIT YES refl refl h;
-      there = (λ h. absurd (none-some _ (sym h ∙ put)), λ h. absurd (none-some _ (sym h)));
-      told = λ h. not_most 6 UNFIT YES refl refl h;
-      few = leb-true 0 3 refl;
-      same = λ h. (refl, refl, refl, put);
+      contains = (λ h. absurd (none-some _ (sym h ∙ put)), λ h. absurd (none-some _ (sym h)));
+      events = λ h. not_most 6 UNFIT YES refl refl h;
+      at_most_three_events = leb-true 0 3 refl;
+      unchanged = λ h. (refl, refl, refl, put);
       cause = record { memory = λ h. not_at 6 UNFIT MEMORY refl refl h; numbers = λ h. not_at 6 UNFIT NUMBERS refl refl h };
       status = ((λ h. ((λ e. absurd (none-some _ (sym e))), c.if-events-lt3.true), λ h. refl), leb-true 6 UNFIT refl, (λ h. not_at 6 UNFIT NONE refl refl h), (λ h. not_at 6 UNFIT HELD refl refl h));
     }
@@ -54,10 +54,10 @@ returns c =
             found = (λ h. sym e.found ∙ w.write.ensures.found w.if-write.true ∙ ap Some (sym w.out-is), λ h. not_at s YES NO w.status-is refl h, λ none enough. absurd (none-some _ (sym none ∙ (sym e.found ∙ w.write.ensures.found w.if-write.true))));
             rest = λ h. rw new e.changed.contents;
             changed = λ h. rw new e.changed;
-            there = (λ h. absurd (none-some _ (sym h ∙ new)), λ h. absurd (none-some _ (sym h)));
-            told = λ h. record { told = told; events = rw told e.events };
-            few = rw w.told-is e.few;
-            same = λ h. absurd (h w.status-is);
+            contains = (λ h. absurd (none-some _ (sym h ∙ new)), λ h. absurd (none-some _ (sym h)));
+            events = λ h. record { events = told; events = rw told e.events };
+            at_most_three_events = rw w.told-is e.at_most_three_events;
+            unchanged = λ h. absurd (h w.status-is);
             cause = record { memory = λ h. not_at s YES MEMORY w.status-is refl h; numbers = λ h. not_at s YES NUMBERS w.status-is refl h };
             status = ((λ h. not_at s YES UNFIT w.status-is refl h, λ h. absurd (omega (arith, c.if-events-lt3.false, h.1))), rw w.status-is (leb-true YES UNFIT refl), (λ h. not_at s YES NONE w.status-is refl h), (λ h. not_at s YES HELD w.status-is refl h));
           }
@@ -68,10 +68,10 @@ returns c =
             found = (λ h. not_at s NO YES w.status-is refl h, λ h. sym e.found ∙ w.write.ensures.absent w.if-write.false, λ none enough. w.status-is);
             rest = λ h. rw new e.changed.contents;
             changed = λ h. not_at s NO YES w.status-is refl h;
-            there = (λ h. absurd (none-some _ (sym h ∙ new)), λ h. absurd (none-some _ (sym h)));
-            told = λ h. record { told = told; events = rw told e.events };
-            few = rw w.told-is e.few;
-            same = λ h. ((w.out-is ∙ w.write.ensures.unwritten w.if-write.false), (w.told-is ∙ gone.0), (e.events ∙ rw zero refl), (new ∙ ap Some gone.1));
+            contains = (λ h. absurd (none-some _ (sym h ∙ new)), λ h. absurd (none-some _ (sym h)));
+            events = λ h. record { events = told; events = rw told e.events };
+            at_most_three_events = rw w.told-is e.at_most_three_events;
+            unchanged = λ h. ((w.out-is ∙ w.write.ensures.unwritten w.if-write.false), (w.told-is ∙ gone.0), (e.events ∙ rw zero refl), (new ∙ ap Some gone.1));
             cause = record { memory = λ h. not_at s NO MEMORY w.status-is refl h; numbers = λ h. not_at s NO NUMBERS w.status-is refl h };
             status = ((λ h. not_at s NO UNFIT w.status-is refl h, λ h. absurd (omega (arith, c.if-events-lt3.false, h.1))), rw w.status-is (leb-true NO UNFIT refl), (λ h. not_at s NO NONE w.status-is refl h), (λ h. not_at s NO HELD w.status-is refl h));
           }
@@ -82,10 +82,10 @@ returns c =
             found = (λ h. refused_not_yes s _ r h, λ h. refused_not_no s _ r h, λ none enough. absurd (false≢true (e.no_event none)));
             rest = λ h. refused_not_done s _ r h;
             changed = λ h. refused_not_yes s _ r h;
-            there = (λ h. absurd (none-some _ (sym h ∙ new)), λ h. absurd (none-some _ (sym h)));
-            told = λ h. refused_not_done s _ r h;
-            few = rw w.told-is (leb-true 0 3 refl);
-            same = λ h. (w.out-is, w.told-is, e.unchanged.1, (new ∙ ap Some e.unchanged.0));
+            contains = (λ h. absurd (none-some _ (sym h ∙ new)), λ h. absurd (none-some _ (sym h)));
+            events = λ h. refused_not_done s _ r h;
+            at_most_three_events = rw w.told-is (leb-true 0 3 refl);
+            unchanged = λ h. (w.out-is, w.told-is, e.unchanged.1, (new ∙ ap Some e.unchanged.0));
             cause = record { memory = r.memory; numbers = r.numbers };
             status = ((λ h. refused_not_unfit s _ r h, λ h. absurd (omega (arith, c.if-events-lt3.false, h.1))), refused_status s _ r, r.not_none, r.not_held);
           }

@@ -4,8 +4,8 @@ use Rattle.indexset_c.proofs.PairLemmas.{absent_entry}
 use Rattle.indexset_c.proofs.map_keys.indexset_map_remove.Goals as goal
 
 -- a key that is not found is absent, and the map without it is the map
-pub returns-clause-same : goal.returns-clause-same
-returns-clause-same c h =
+pub returns-clause-unchanged : goal.returns-clause-unchanged
+returns-clause-unchanged c h =
     let m = c.deref_mut.result.now in
     let was : Some m ≡ c.args.map.now.slot.value = ap Some c.deref_mut.ensures.value ∙ c.in-Some.ensures.taken in
     let none = sym c.remove-found.ensures.value ∙ c.write.ensures.absent h in

@@ -3,7 +3,7 @@ use Rattle.std.proofs.lemmas.Bool.{leb-true}
 use Rattle.std.proofs.lemmas.Option.{none-some}
 use Rattle.std.specs.Ordering.{nat_cmp}
 use Rattle.indexset_core.specs.MultiPairs.{numbered_pair}
-use Rattle.indexset_core.specs.Nodes.{joined}
+use Rattle.indexset_core.specs.Nodes.{concat}
 use Rattle.indexset_core.specs.Pairs.{pair_values}
 use Rattle.indexset_multi.specs.Changed.{addition_refusal}
 use Rattle.indexset_multi.specs.Keys.{entries, pairs_of}
@@ -21,7 +21,7 @@ returns-in_default c =
     rw (← none) record {
       last = λ h. not_at 3 NONE YES refl refl h;
       others = λ h. not_at 3 NONE YES refl refl h;
-      same = λ h. c.in_default.ensures.left;
+      unchanged = λ h. c.in_default.ensures.left;
       none = (λ h. refl, λ h. refl);
       cause = tt;
       tree = λ h. tt;
@@ -36,9 +36,9 @@ returns c =
       | in-Ok w ↦
           let e = w.in-Ok.ensures in
           record {
-            last = λ h. ap (λ (o : Option (MultiTree ℕ ℕ)). values_of (numbered_pairs o) k) new ∙ (ap (λ l. pair_values (entries l)) e.added.last ∙ value_last (pairs_of nat_cmp (joined m.nodes) k) (numbered_pair k v m.pair_next));
+            last = λ h. ap (λ (o : Option (MultiTree ℕ ℕ)). values_of (numbered_pairs o) k) new ∙ (ap (λ l. pair_values (entries l)) e.added.last ∙ value_last (pairs_of nat_cmp (concat m.nodes) k) (numbered_pair k v m.pair_next));
             others = λ h other apart. ap (λ (o : Option (MultiTree ℕ ℕ)). pairs_of nat_cmp (numbered_pairs o) other) new ∙ e.added.others other apart;
-            same = λ h. absurd (h w.status-is);
+            unchanged = λ h. absurd (h w.status-is);
             none = (λ h. not_at s YES NONE w.status-is refl h, λ h. absurd (none-some _ (sym h)));
             cause = record { memory = λ h. not_at s YES MEMORY w.status-is refl h; numbers = λ h. not_at s YES NUMBERS w.status-is refl h };
             tree = λ h. new ∙ ap Some e.changed.tree;
@@ -50,7 +50,7 @@ returns c =
           record {
             last = λ h. refused_not_yes s _ r h;
             others = λ h. refused_not_yes s _ r h;
-            same = λ h. new ∙ ap Some e.unchanged;
+            unchanged = λ h. new ∙ ap Some e.unchanged;
             none = (λ h. refused_not_none s _ r h, λ h. absurd (none-some _ (sym h)));
             cause = record { memory = r.memory; numbers = r.numbers };
             tree = λ h. refused_not_yes s _ r h;

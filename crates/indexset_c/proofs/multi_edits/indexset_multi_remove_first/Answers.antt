@@ -1,7 +1,7 @@
 use Rattle.std.proofs.Common.{◌≡◌, ℕ, Option, Some, None, length, refl, ap, sym, ◌∙◌}
 use Rattle.std.proofs.lemmas.Bool.{false≢true, leb-true}
 use Rattle.std.specs.Ordering.{nat_cmp}
-use Rattle.indexset_core.specs.Nodes.{joined}
+use Rattle.indexset_core.specs.Nodes.{concat}
 use Rattle.indexset_log.specs.Tree.{refusal_for}
 use Rattle.indexset_multi.specs.Keys.{first_pair, pairs_of}
 use Rattle.indexset_multi.specs.Tree.{MultiTree, pair_removal_events}
@@ -21,7 +21,7 @@ returns-in_default c =
       ok = λ h. not_at 0 NO YES refl refl h;
       gone = λ h. not_at 0 NO YES refl refl h;
       others = λ h. not_at 0 NO YES refl refl h;
-      same = λ h. (refl, c.in_default.ensures.left);
+      unchanged = λ h. (refl, c.in_default.ensures.left);
       cause = tt;
       tree = λ h. not_at 0 NO YES refl refl h;
       status = (leb-true 0 NUMBERS refl, (λ h. not_at 0 NO NONE refl refl h), (λ h. not_at 0 NO HELD refl refl h));
@@ -30,7 +30,7 @@ returns-in_default c =
 pub returns : goal.returns
 returns c =
     let m = c.deref_mut.result.now in let s = c.match-remove_some.status in let new = c.put.ensures in
-    let p = first_pair nat_cmp (joined m.nodes) c.args.key in let n = length (pair_removal_events nat_cmp m.size m.nodes p) in
+    let p = first_pair nat_cmp (concat m.nodes) c.args.key in let n = length (pair_removal_events nat_cmp m.size m.nodes p) in
     let was : Some m ≡ c.args.multi.now.slot.value = ap Some c.deref_mut.ensures.value ∙ c.in-Some.ensures.taken in
     rw (← was) (elim c.match-remove_some.branch [
       | in-Ok-Some w ↦
@@ -41,7 +41,7 @@ returns c =
             ok = λ h. ap numbered_pairs new ∙ e.changed.contents;
             gone = λ h. ap (λ (o : Option (MultiTree ℕ ℕ)). pairs_of nat_cmp (numbered_pairs o) c.args.key) new ∙ e.gone;
             others = λ h other apart. ap (λ (o : Option (MultiTree ℕ ℕ)). pairs_of nat_cmp (numbered_pairs o) other) new ∙ e.others other apart;
-            same = λ h. absurd (h w.status-is);
+            unchanged = λ h. absurd (h w.status-is);
             cause = record { memory = λ h. not_at s YES MEMORY w.status-is refl h; numbers = λ h. not_at s YES NUMBERS w.status-is refl h };
             tree = λ h. new ∙ ap Some e.changed.tree;
             status = (rw w.status-is (leb-true YES NUMBERS refl), (λ h. not_at s YES NONE w.status-is refl h), (λ h. not_at s YES HELD w.status-is refl h));
@@ -54,7 +54,7 @@ returns c =
             ok = λ h. not_at s NO YES w.status-is refl h;
             gone = λ h. not_at s NO YES w.status-is refl h;
             others = λ h. not_at s NO YES w.status-is refl h;
-            same = λ h. (w.out-is, (new ∙ ap Some (e.changed.tree ∙ none_removed m p (no_pair p answer))));
+            unchanged = λ h. (w.out-is, (new ∙ ap Some (e.changed.tree ∙ none_removed m p (no_pair p answer))));
             cause = record { memory = λ h. not_at s NO MEMORY w.status-is refl h; numbers = λ h. not_at s NO NUMBERS w.status-is refl h };
             tree = λ h. not_at s NO YES w.status-is refl h;
             status = (rw w.status-is (leb-true NO NUMBERS refl), (λ h. not_at s NO NONE w.status-is refl h), (λ h. not_at s NO HELD w.status-is refl h));
@@ -68,7 +68,7 @@ returns c =
             ok = λ h. refused_not_yes s _ r h;
             gone = λ h. refused_not_yes s _ r h;
             others = λ h. refused_not_yes s _ r h;
-            same = λ h. (w.out-is, (new ∙ ap Some e.unchanged));
+            unchanged = λ h. (w.out-is, (new ∙ ap Some e.unchanged));
             cause = record { memory = r.memory; numbers = r.numbers };
             tree = λ h. refused_not_yes s _ r h;
             status = (r.most, r.not_none, r.not_held);

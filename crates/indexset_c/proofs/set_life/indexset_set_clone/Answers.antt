@@ -13,7 +13,7 @@ returns-in_default c =
       refused = λ h. refl;
       none = (λ h. sym none, λ h. refl);
       held = λ some. absurd (some (sym none));
-      same = c.in_default.ensures.left ∙ none;
+      unchanged = c.in_default.ensures.left ∙ none;
       status = λ made there held. absurd (there refl);
     }
 
@@ -26,7 +26,7 @@ returns-in-Some-take c =
       refused = λ h. c.put.ensures ∙ there;
       none = (λ h. not_at 4 HELD NONE refl refl h, λ h. absurd (none-some _ (sym (was ∙ h))));
       held = λ some. (λ h. sym (ap is_some there), λ h. refl);
-      same = c.put-in-Some-take.ensures ∙ was;
+      unchanged = c.put-in-Some-take.ensures ∙ was;
       status = λ made there held. absurd (held refl);
     }
 
@@ -39,7 +39,7 @@ returns-in_default-cloned c =
       refused = λ h. c.in_default-take.ensures.left ∙ empty;
       none = (λ h. not_at 2 MEMORY NONE refl refl h, λ h. absurd (none-some _ (sym (was ∙ h))));
       held = λ some. (λ h. not_at 2 MEMORY HELD refl refl h, λ h. absurd (false≢true (ap is_some empty ∙ h)));
-      same = c.put-2.ensures ∙ was;
+      unchanged = c.put-2.ensures ∙ was;
       status = λ made there held. refl;
     }
 
@@ -52,7 +52,7 @@ returns-in-Ok-new c =
       refused = λ h. absurd (h refl);
       none = (λ h. not_at 1 YES NONE refl refl h, λ h. absurd (none-some _ (sym (was ∙ h))));
       held = λ some. (λ h. not_at 1 YES HELD refl refl h, λ h. absurd (false≢true (ap is_some empty ∙ h)));
-      same = c.put-2.ensures ∙ was;
+      unchanged = c.put-2.ensures ∙ was;
       status = λ made there held. absurd (made refl);
     }
 
@@ -65,6 +65,6 @@ returns c =
       refused = λ h. c.in_default-take.ensures.left ∙ empty;
       none = (λ h. not_at 2 MEMORY NONE refl refl h, λ h. absurd (none-some _ (sym (was ∙ h))));
       held = λ some. (λ h. not_at 2 MEMORY HELD refl refl h, λ h. absurd (false≢true (ap is_some empty ∙ h)));
-      same = c.put-2.ensures ∙ was;
+      unchanged = c.put-2.ensures ∙ was;
       status = λ made there held. refl;
     }

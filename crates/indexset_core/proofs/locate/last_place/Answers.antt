@@ -6,7 +6,7 @@ use Rattle.indexset_core.proofs.locate.last_place.Goals as goal
 
 pub returns-clause-before : goal.returns-clause-before
 returns-clause-before g c =
-    let list = g.R.ReadNode.list in
+    let list = g.R.NodeItems.list in
     let vs = c.args.nodes.now in
     let last = length vs - 1 in
     let some : 1 ≤ length vs = grind (arith, common_steps) in

@@ -7,7 +7,7 @@ use Rattle.indexset_core.proofs.locate.node_far.Given as goal
 abbrev pub invariant-loop-low : goal.invariant-loop-low
 invariant-loop-low g l =
     let answer = g.P.Probe.answer l.initial.probe in
-    let lists = map g.R.ReadNode.list l.nodes in
+    let lists = map g.R.NodeItems.list l.nodes in
     record {
       order : l.low ≤ l.high;
       within : l.high ≤ length l.nodes - 1;

@@ -5,23 +5,23 @@ use Rattle.indexset_core.specs.Nodes.{node_for}
 use Rattle.indexset_core.proofs.DigitsLemmas.{digits-half, digits-mono}
 use Rattle.indexset_core.proofs.EndLemmas.{end_answer, end_found, end_is, front_parted}
 use Rattle.indexset_core.proofs.LocateLemmas.{node_some}
-use Rattle.indexset_core.proofs.NearLemmas.{equal_half, equal_met}
+use Rattle.indexset_core.proofs.NearbySearchLemmas.{equal_half, equal_met}
 use Rattle.indexset_core.proofs.NodeLemmas.{node_read}
 use Rattle.indexset_core.proofs.PartedLemmas.{narrowed_half, front-is_lt}
 use Rattle.indexset_core.proofs.locate.node_near.Goals as goal
 
 pub overflow_sub-node : goal.overflow_sub-node
 overflow_sub-node g c =
-    rw c.items_of-node.ensures (node_some (g.P.Probe.answer c.args.probe.now) g.R.ReadNode.list c.args.nodes.now _ c.index-nodes-middle.result (omega arith) c.index-nodes-middle.is (c.requires.filled (omega arith)))
+    rw c.items_of-node.ensures (node_some (g.P.Probe.answer c.args.probe.now) g.R.NodeItems.list c.args.nodes.now _ c.index-nodes-middle.result (omega arith) c.index-nodes-middle.is (c.requires.filled (omega arith)))
 
 pub bounds-node-node : goal.bounds-node-node
 bounds-node-node g c =
-    let some = node_some (g.P.Probe.answer c.args.probe.now) g.R.ReadNode.list c.args.nodes.now _ c.index-nodes-middle.result (omega arith) c.index-nodes-middle.is (c.requires.filled (omega arith)) in
+    let some = node_some (g.P.Probe.answer c.args.probe.now) g.R.NodeItems.list c.args.nodes.now _ c.index-nodes-middle.result (omega arith) c.index-nodes-middle.is (c.requires.filled (omega arith)) in
     rw c.items_of-node.ensures (omega arith)
 
 pub loop-left-preserved : goal.loop-left-preserved
 loop-left-preserved g c =
-    let at = c.loop-left in let nodes = c.args.nodes.now in let list = g.R.ReadNode.list in
+    let at = c.loop-left in let nodes = c.args.nodes.now in let list = g.R.NodeItems.list in
     let answer = g.P.Probe.answer c.args.probe.now in
     let front = take (length nodes - 1) (map list nodes) in
     let node = c.index-nodes-middle.result in
@@ -39,12 +39,12 @@ loop-left-preserved g c =
       narrowed = next;
       equal = equal_half (end_answer answer) front parted at.low at.left at.equal (omega arith) now.within at.invariant.equal (list node) (sym read) _ _ (rw end goes) (rw end kept);
       fixed = cc;
-      few = omega (arith, digits-half at.left (omega arith));
+      comparisons = omega (arith, digits-half at.left (omega arith));
     }
 
 pub returns-clause-node : goal.returns-clause-node
 returns-clause-node g c =
-    let at = c.loop-left in let nodes = c.args.nodes.now in let list = g.R.ReadNode.list in
+    let at = c.loop-left in let nodes = c.args.nodes.now in let list = g.R.NodeItems.list in
     let answer = g.P.Probe.answer c.args.probe.now in
     let front = take (length nodes - 1) (map list nodes) in
     let long : length front ≡ length nodes - 1 = length-take-le _ (map list nodes) (omega (arith, length-map nodes list)) in
@@ -53,5 +53,5 @@ returns-clause-node g c =
     let found : at.low ≡ node_for answer (map list nodes) = end_found answer (map list nodes) (length nodes - 1) at.low (omega (arith, length-map nodes list)) (omega (arith, length-map nodes list)) (rw done at at.invariant.narrowed) in
     c.choose.ensures ∙ (rw long at met ∙ found)
 
-pub returns-clause-few : goal.returns-clause-few
-returns-clause-few g c = omega (arith, digits-mono (length c.args.nodes.now - 1) (length c.args.nodes.now) (omega arith))
+pub returns-clause-comparisons : goal.returns-clause-comparisons
+returns-clause-comparisons g c = omega (arith, digits-mono (length c.args.nodes.now - 1) (length c.args.nodes.now) (omega arith))

@@ -1,7 +1,7 @@
 use Rattle.std.proofs.Common.{◌≡◌, ◌+◌, ◌/◌, ◌%◌, cond, ◌∙◌, arith}
 use Rattle.std.specs.Ordering.{is_eq, is_le}
 use Rattle.indexset_core.proofs.DigitsLemmas.{digits-half}
-use Rattle.indexset_core.proofs.NearLemmas.{past_half, past_met}
+use Rattle.indexset_core.proofs.NearbySearchLemmas.{past_half, past_met}
 use Rattle.indexset_core.proofs.PartedLemmas.{narrowed_half, narrowed_met, front-is_le}
 use Rattle.indexset_core.proofs.search.first_greater_near.Goals as goal
 
@@ -15,7 +15,7 @@ loop-left-preserved g c =
       narrowed = narrowed_half is_le front-is_le answer c.args.items.now c.requires at.low at.left (omega arith) now _ c.index-items-middle.is _ goes;
       past = past_half answer c.args.items.now c.requires at.low at.left at.past (omega arith) now.within at.invariant.past _ c.index-items-middle.is _ _ goes kept;
       fixed = cc;
-      few = omega (arith, digits-half at.left (omega arith));
+      comparisons = omega (arith, digits-half at.left (omega arith));
     }
 
 pub returns-clause-count : goal.returns-clause-count

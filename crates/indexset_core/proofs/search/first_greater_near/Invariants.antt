@@ -1,7 +1,7 @@
 use Rattle.std.proofs.Common.{◌+◌, ◌<◌, ◌≡◌, ◌≤◌, length}
 use Rattle.std.specs.Ordering.{is_le}
 use Rattle.indexset_core.specs.Digits.{digits}
-use Rattle.indexset_core.proofs.NearLemmas.{IsPastEqual}
+use Rattle.indexset_core.proofs.NearbySearchLemmas.{IsPastEqual}
 use Rattle.indexset_core.proofs.PartedLemmas.{Narrowed}
 use Rattle.indexset_core.proofs.search.first_greater_near.Given as goal
 

@@ -1,7 +1,7 @@
 use Rattle.std.proofs.Common.{◌≡◌, ◌+◌, ◌/◌, ◌%◌, cond, is_lt, ◌∙◌, arith}
 use Rattle.std.specs.Ordering.{is_eq}
 use Rattle.indexset_core.proofs.DigitsLemmas.{digits-half}
-use Rattle.indexset_core.proofs.NearLemmas.{equal_half, equal_met}
+use Rattle.indexset_core.proofs.NearbySearchLemmas.{equal_half, equal_met}
 use Rattle.indexset_core.proofs.PartedLemmas.{narrowed_half, narrowed_met, front-is_lt}
 use Rattle.indexset_core.proofs.search.first_not_less_near.Goals as goal
 
@@ -15,7 +15,7 @@ loop-left-preserved g c =
       narrowed = narrowed_half is_lt front-is_lt answer c.args.items.now c.requires at.low at.left (omega arith) now _ c.index-items-middle.is _ goes;
       equal = equal_half answer c.args.items.now c.requires at.low at.left at.equal (omega arith) now.within at.invariant.equal _ c.index-items-middle.is _ _ goes kept;
       fixed = cc;
-      few = omega (arith, digits-half at.left (omega arith));
+      comparisons = omega (arith, digits-half at.left (omega arith));
     }
 
 pub returns-clause-count : goal.returns-clause-count

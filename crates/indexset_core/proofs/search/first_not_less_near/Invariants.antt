@@ -1,7 +1,7 @@
 use Rattle.std.proofs.Common.{◌+◌, ◌≡◌, ◌≤◌, length}
 use Rattle.std.specs.Ordering.{is_lt}
 use Rattle.indexset_core.specs.Digits.{digits}
-use Rattle.indexset_core.proofs.NearLemmas.{IsEqualAt}
+use Rattle.indexset_core.proofs.NearbySearchLemmas.{IsEqualAt}
 use Rattle.indexset_core.proofs.PartedLemmas.{Narrowed}
 use Rattle.indexset_core.proofs.search.first_not_less_near.Given as goal
 

@@ -10,7 +10,7 @@ loop-low-preserved-then-comes_first g c =
     record {
       narrowed = narrowed_right (comes_first or_equal) (front-comes_first or_equal) (g.P.Probe.answer c.args.probe.now) c.args.items.now c.requires at.low at.high (omega arith) at.invariant.narrowed _ c.index-items-middle.is cc;
       fixed = cc;
-      few = omega (arith, digits-right at.low at.high (omega arith));
+      comparisons = omega (arith, digits-right at.low at.high (omega arith));
     }
 
 pub loop-low-preserved : goal.loop-low-preserved
@@ -19,7 +19,7 @@ loop-low-preserved g c =
     record {
       narrowed = narrowed_left (comes_first or_equal) (front-comes_first or_equal) (g.P.Probe.answer c.args.probe.now) c.args.items.now c.requires at.low at.high (omega arith) at.invariant.narrowed _ c.index-items-middle.is cc;
       fixed = cc;
-      few = omega (arith, digits-left at.low at.high (omega arith));
+      comparisons = omega (arith, digits-left at.low at.high (omega arith));
     }
 
 pub returns-clause-count : goal.returns-clause-count

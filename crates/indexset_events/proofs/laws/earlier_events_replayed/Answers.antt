@@ -1,4 +1,4 @@
-use Rattle.indexset_events.proofs.Theorem.{earlier_same}
+use Rattle.indexset_events.proofs.ReplayTheorem.{earlier_same}
 use Rattle.indexset_events.proofs.laws.earlier_events_replayed.Goals as goal
 
 pub returns : goal.returns

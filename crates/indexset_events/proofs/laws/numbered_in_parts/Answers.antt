@@ -1,4 +1,4 @@
-use Rattle.indexset_events.proofs.Theorem.{numbered-append}
+use Rattle.indexset_events.proofs.ReplayTheorem.{numbered-append}
 use Rattle.indexset_events.proofs.laws.numbered_in_parts.Goals as goal
 
 pub returns : goal.returns

@@ -1,4 +1,4 @@
-use Rattle.indexset_events.proofs.Theorem.{replay-append}
+use Rattle.indexset_events.proofs.ReplayTheorem.{replay-append}
 use Rattle.indexset_events.proofs.laws.replay_in_parts.Goals as goal
 
 pub returns : goal.returns

@@ -1,5 +1,5 @@
-use Rattle.indexset_events.proofs.Theorem.{step_nodes}
-use Rattle.indexset_events.proofs.Ups.{nodes_tested, tested_nodes}
+use Rattle.indexset_events.proofs.ReplayTheorem.{step_nodes}
+use Rattle.indexset_events.proofs.AscendingListLemmas.{nodes_tested, tested_nodes}
 use Rattle.indexset_events.proofs.laws.steps_lead_to_nodes.Goals as goal
 
 pub returns-clause-passed : goal.returns-clause-passed

@@ -1,4 +1,4 @@
-use Rattle.indexset_events.proofs.EventTexts.{event_one, event_sound, event_told, text_shown}
+use Rattle.indexset_events.proofs.EventTextLemmas.{event_one, event_sound, event_told, text_shown}
 use Rattle.indexset_events.proofs.laws.texts_are_read.Goals as goal
 
 pub returns-clause-written : goal.returns-clause-written

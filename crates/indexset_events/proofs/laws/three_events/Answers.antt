@@ -1,6 +1,6 @@
 use Rattle.std.proofs.Common.{arith}
-use Rattle.indexset_events.proofs.Takes.{few_at, removal_few, two_at_most}
-use Rattle.indexset_events.proofs.Theorem.{three_at_most, three_checked}
+use Rattle.indexset_events.proofs.RemovalLemmas.{few_at, removal_few, two_at_most}
+use Rattle.indexset_events.proofs.ReplayTheorem.{three_at_most, three_checked}
 use Rattle.indexset_events.proofs.laws.three_events.Goals as goal
 
 pub returns-clause-put : goal.returns-clause-put

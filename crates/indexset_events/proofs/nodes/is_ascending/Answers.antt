@@ -1,7 +1,7 @@
 use Rattle.std.proofs.Common.{rules}
 use Rattle.std.specs.Ordering.{is_lt}
 use Rattle.std.proofs.lemmas.List.Sorted.{answers_always}
-use Rattle.indexset_events.proofs.Attaches.{ascending_answer}
+use Rattle.indexset_events.proofs.AttachLemmas.{ascending_answer}
 use Rattle.indexset_events.proofs.nodes.is_ascending.Goals as goal
 
 pub returns : goal.returns

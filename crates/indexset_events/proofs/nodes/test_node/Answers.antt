@@ -1,7 +1,7 @@
 use Rattle.std.proofs.Common.{◌≡◌, ◌∙◌, true, [], arith, sym, refl}
 use Rattle.indexset_events.specs.Nodes.{is_filled}
-use Rattle.indexset_events.proofs.Attaches.{refused_empty, refused_large, refused_unsorted, filled_first}
-use Rattle.indexset_events.proofs.Follows.{follow_told}
+use Rattle.indexset_events.proofs.AttachLemmas.{refused_empty, refused_large, refused_unsorted, filled_first}
+use Rattle.indexset_events.proofs.NodeOrderLemmas.{follow_told}
 use Rattle.indexset_events.proofs.nodes.test_node.Given.{Over}
 use Rattle.indexset_events.proofs.nodes.test_node.Goals.{In-Some}
 use Rattle.indexset_events.proofs.nodes.test_node.Goals as goal

@@ -1,6 +1,6 @@
 use Rattle.std.proofs.Common.{◌≡◌, ◌∙◌, Some, arith, map, refl}
 use Rattle.indexset_events.specs.Attach.{nodes_refusal}
-use Rattle.indexset_events.proofs.Follows.{follow_step, follow_end, follow_lawful, lawful_taken, not_both}
+use Rattle.indexset_events.proofs.NodeOrderLemmas.{follow_step, follow_end, follow_lawful, lawful_taken, not_both}
 use Rattle.indexset_events.proofs.nodes.test_nodes.Goals as goal
 
 pub loop-node-preserved : goal.loop-node-preserved

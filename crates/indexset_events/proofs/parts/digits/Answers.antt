@@ -2,7 +2,7 @@ use Rattle.std.proofs.Common.{◌≡◌, ap, arith, get_or, subst, take, ◌∙�
 use Rattle.std.proofs.lemmas.List.{take_all}
 use Rattle.std.specs.Str.Parse.{AllDigits, digits_value}
 use Rattle.std.specs.Int.{IsInRange}
-use Rattle.indexset_events.proofs.Digits.{all_more, no_digit, reads_none, too_large, value_more}
+use Rattle.indexset_events.proofs.DecimalLemmas.{all_more, no_digit, reads_none, too_large, value_more}
 use Rattle.indexset_events.proofs.parts.digits.Goals as goal
 use Rattle.indexset_events.proofs.parts.digits.Goals.{then-byte-lt48-via-then-byte-lt48, then-byte-lt48-via-else-byte-lt48+then-byte-gt57}
 

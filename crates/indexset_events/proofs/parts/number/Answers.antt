@@ -1,5 +1,5 @@
 use Rattle.std.proofs.Common.{rules, arith, ◌≡◌, ◌<◌, length, get_or}
-use Rattle.indexset_events.proofs.Digits.{no_number-empty, no_number-zero, written}
+use Rattle.indexset_events.proofs.DecimalLemmas.{no_number-empty, no_number-zero, written}
 use Rattle.indexset_events.proofs.parts.number.Goals as goal
 use Rattle.indexset_events.proofs.parts.number.Goals.{else-text-eq48-via-then-text-eq48+else-text-gt1, else-text-eq48-via-else-text-eq48}
 

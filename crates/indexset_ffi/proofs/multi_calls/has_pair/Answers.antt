@@ -1,10 +1,10 @@
 use Rattle.std.proofs.Common.{ℕ, nat_eq, ap, ◌∙◌}
 use Rattle.std.specs.List.{list_any}
 use Rattle.indexset_core.specs.declared.pair.Pair.{Pair}
-use Rattle.indexset_core.specs.Nodes.{joined}
+use Rattle.indexset_core.specs.Nodes.{concat}
 use Rattle.indexset_ffi.proofs.MultiLemmas.{told_pair}
 use Rattle.indexset_ffi.proofs.multi_calls.has_pair.Goals as goal
 
 -- src/multi_keys.rt:43:1
 pub returns : goal.returns
-returns c = c.has_value.ensures ∙ ap (list_any (λ (p : Pair ℕ ℕ). nat_eq p.value c.args.value)) c.get.ensures.rest ∙ told_pair (joined c.args.multi.now.nodes) c.args.key c.args.value
+returns c = c.has_value.ensures ∙ ap (list_any (λ (p : Pair ℕ ℕ). nat_eq p.value c.args.value)) c.get.ensures.rest ∙ told_pair (concat c.args.multi.now.nodes) c.args.key c.args.value

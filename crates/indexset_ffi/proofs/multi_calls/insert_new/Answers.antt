@@ -2,7 +2,7 @@ use Rattle.std.proofs.Common.{ap, ◌∙◌}
 use Rattle.std.specs.Ordering.{nat_cmp}
 use Rattle.std.specs.Prelude.{nat_eq}
 use Rattle.indexset_core.specs.MultiPairs.{by_number}
-use Rattle.indexset_core.specs.Nodes.{joined}
+use Rattle.indexset_core.specs.Nodes.{concat}
 use Rattle.indexset_core.specs.Order.{put}
 use Rattle.indexset_core.specs.Pairs.{pair_values}
 use Rattle.indexset_multi.specs.Keys.{entries, pairs_of}
@@ -14,10 +14,10 @@ use Rattle.indexset_ffi.proofs.multi_calls.insert_new.Goals as goal
 pub returns-in-Ok-clause-ok : goal.returns-in-Ok-clause-ok
 returns-in-Ok-clause-ok c =
     let m = c.args.multi.now in let k = c.args.key in let w = c.args.value in
-    c.in-Ok.ensures.changed.contents ∙ ap (put (by_number nat_cmp) (joined m.nodes)) (new_pair m k w c.requires)
+    c.in-Ok.ensures.changed.contents ∙ ap (put (by_number nat_cmp) (concat m.nodes)) (new_pair m k w c.requires)
 
 -- src/multi_edits.rt:20:1
 pub returns-in-Ok-clause-last : goal.returns-in-Ok-clause-last
 returns-in-Ok-clause-last c =
     let m = c.args.multi.now in let k = c.args.key in let w = c.args.value in
-    ap (λ l. pair_values (entries l)) (c.in-Ok.ensures.inserted.last (new_number m k w c.requires)) ∙ value_last (pairs_of nat_cmp (joined m.nodes) k) (inserted_pair nat_cmp nat_eq m k w)
+    ap (λ l. pair_values (entries l)) (c.in-Ok.ensures.inserted.last (new_number m k w c.requires)) ∙ value_last (pairs_of nat_cmp (concat m.nodes) k) (inserted_pair nat_cmp nat_eq m k w)

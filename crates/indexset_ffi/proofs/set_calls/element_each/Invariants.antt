@@ -1,6 +1,6 @@
 use Rattle.std.proofs.Common.{◌≡◌, ◌-◌, ◌<◌, ◌≤◌, length, map}
 use Rattle.std.specs.List.{AllWithin}
-use Rattle.indexset_spine.specs.Cut.{items}
+use Rattle.indexset_spine.specs.NodeList.{items}
 use Rattle.indexset_ffi.specs.Elements.{element_at, written}
 use Rattle.indexset_ffi.proofs.set_calls.element_each.Given as goal
 

@@ -2,7 +2,7 @@ use Rattle.std.proofs.Common.{map, slice_set, Some, ap, sym, ◌∙◌, arith}
 use Rattle.std.proofs.lemmas.List.{length-set}
 use Rattle.std.specs.Ordering.{nat_cmp}
 use Rattle.indexset_core.specs.Order.{rank}
-use Rattle.indexset_spine.specs.Cut.{items}
+use Rattle.indexset_spine.specs.NodeList.{items}
 use Rattle.indexset_ffi.proofs.WrittenLemmas.{written_more, answer_at}
 use Rattle.indexset_ffi.proofs.set_calls.rank_each.Goals as goal
 

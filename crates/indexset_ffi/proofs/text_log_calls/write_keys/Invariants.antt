@@ -1,5 +1,5 @@
 use Rattle.std.proofs.Common.{◌≡◌, ◌≤◌, length, drop, min, take}
-use Rattle.indexset_core.specs.Nodes.{joined}
+use Rattle.indexset_core.specs.Nodes.{concat}
 use Rattle.indexset_core.specs.Pairs.{pair_keys}
 use Rattle.indexset_ffi.specs.Elements.{written}
 use Rattle.indexset_ffi.specs.Text.{key_lengths, written_over}
@@ -13,7 +13,7 @@ invariant-loop-count l = record {
   long : length l.lengths ≡ length l.fn.lengths;
   walked : l.walk ≡ drop l.count l.fn.walk;
   measured : l.lengths ≡ written l.count (key_lengths l.fn.walk) l.fn.lengths;
-  used : l.used ≡ min (length l.fn.bytes) (length (joined (take l.count (pair_keys l.fn.walk))));
+  used : l.used ≡ min (length l.fn.bytes) (length (concat (take l.count (pair_keys l.fn.walk))));
   wide : length l.bytes ≡ length l.fn.bytes;
-  bytes : l.bytes ≡ written_over (joined (take l.count (pair_keys l.fn.walk))) l.fn.bytes;
+  bytes : l.bytes ≡ written_over (concat (take l.count (pair_keys l.fn.walk))) l.fn.bytes;
 }

@@ -2,7 +2,7 @@ use Rattle.std.proofs.Common.{◌≡◌, ◌+◌, ◌-◌, ◌<◌, ◌≤◌, t
 use Rattle.std.specs.Ordering.{is_gt}
 use Rattle.std.proofs.lemmas.List.{length-map}
 use Rattle.indexset_core.specs.Nodes.{node_at}
-use Rattle.indexset_log.proofs.Runs.{next_inside, no_first, starts, starts_not, stepped_back, stepped_first, stepped_on, whole_le}
+use Rattle.indexset_log.proofs.GallopLemmas.{next_inside, no_first, starts, starts_not, stepped_back, stepped_first, stepped_on, whole_le}
 use Rattle.indexset_events.proofs.CallerLemmas.{filled_here, view_at}
 use Rattle.indexset_log.proofs.locate.last_started.Given.{Over}
 use Rattle.indexset_log.proofs.locate.last_started.Goals.{After-next_step-at, In-Some}
@@ -12,7 +12,7 @@ use Rattle.indexset_log.proofs.locate.last_started.Goals as goal
 at : (g : Over) (c : After-next_step-at g) → (c.loop-low.low ≤ c.next_step-at.result) × (c.next_step-at.result < c.loop-low.high)
 at g c =
     let inv = c.loop-low.invariant in
-    let inside = next_inside (c.args.node + 1) c.loop-low.low c.loop-low.high (length c.args.nodes.now) (g.P.Probe.asked c.loop-low.probe) (g.P.Probe.asked c.args.probe.now) inv.order c.loop-low-test.true inv.within inv.few in
+    let inside = next_inside (c.args.node + 1) c.loop-low.low c.loop-low.high (length c.args.nodes.now) (g.P.Probe.asked c.loop-low.probe) (g.P.Probe.asked c.args.probe.now) inv.order c.loop-low-test.true inv.within inv.at_most_three_events in
     (omega (arith, inside.0, c.next_step-at.ensures), omega (arith, inside.1, c.next_step-at.ensures))
 
 -- its first item
@@ -32,7 +32,7 @@ loop-low-init g c =
       started = λ k e. let same : k ≡ c.args.node = omega (arith, e) in rw same c.requires.started;
       ended = rw (← length-map c.args.nodes.now g.Node.NodeLike.list) (whole_le answer ns c.requires.parted);
       fixed = refl;
-      few = stepped_first (c.args.node + 1) (length c.args.nodes.now) (g.P.Probe.asked c.args.probe.now);
+      comparisons = stepped_first (c.args.node + 1) (length c.args.nodes.now) (g.P.Probe.asked c.args.probe.now);
     }
 
 pub next_step-at-requires-clause-order : goal.next_step-at-requires-clause-order
@@ -58,7 +58,7 @@ loop-low-preserved-then-is_gt g c =
       started = inv.started;
       ended = starts_not answer ns c.requires.parted c.next_step-at.result (omega (arith, inside.1, inv.within, length-map c.args.nodes.now g.Node.NodeLike.list)) c.in-Some.first.now (first g within.In-Some (omega (arith, inside.1, inv.within))) past;
       fixed = cc;
-      few = rw c.place.ensures.counted (stepped_back (c.args.node + 1) low.low low.high (length c.args.nodes.now) (g.P.Probe.asked low.probe) (g.P.Probe.asked c.args.probe.now) inv.order c.loop-low-test.true inv.within inv.few c.next_step-at.result c.next_step-at.ensures);
+      comparisons = rw c.place.ensures.counted (stepped_back (c.args.node + 1) low.low low.high (length c.args.nodes.now) (g.P.Probe.asked low.probe) (g.P.Probe.asked c.args.probe.now) inv.order c.loop-low-test.true inv.within inv.at_most_three_events c.next_step-at.result c.next_step-at.ensures);
     }
 
 pub loop-low-preserved : goal.loop-low-preserved
@@ -77,7 +77,7 @@ loop-low-preserved g c =
       started = λ k e. let same : k ≡ c.next_step-at.result = omega (arith, e) in rw same started;
       ended = inv.ended;
       fixed = cc;
-      few = rw c.place.ensures.counted (stepped_on (c.args.node + 1) low.low low.high (length c.args.nodes.now) (g.P.Probe.asked low.probe) (g.P.Probe.asked c.args.probe.now) inv.order c.loop-low-test.true inv.within inv.few c.next_step-at.result c.next_step-at.ensures);
+      comparisons = rw c.place.ensures.counted (stepped_on (c.args.node + 1) low.low low.high (length c.args.nodes.now) (g.P.Probe.asked low.probe) (g.P.Probe.asked c.args.probe.now) inv.order c.loop-low-test.true inv.within inv.at_most_three_events c.next_step-at.result c.next_step-at.ensures);
     }
 
 pub returns-clause-started : goal.returns-clause-started
@@ -90,7 +90,7 @@ returns-clause-ended g c =
     let same : c.loop-low.high ≡ c.loop-low.low - 1 + 1 = omega (arith, c.loop-low.invariant.order, c.loop-low.invariant.meet, c.loop-low-test.false) in
     rw same at c.loop-low.invariant.ended
 
-pub returns-clause-few : goal.returns-clause-few
-returns-clause-few g c =
+pub returns-clause-comparisons : goal.returns-clause-comparisons
+returns-clause-comparisons g c =
     let same : c.loop-low.low - 1 - c.args.node ≡ c.loop-low.low - (c.args.node + 1) = omega arith in
-    rw same (c.loop-low.invariant.few.met c.loop-low-test.false)
+    rw same (c.loop-low.invariant.at_most_three_events.met c.loop-low-test.false)

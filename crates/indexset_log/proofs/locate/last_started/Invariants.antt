@@ -1,5 +1,5 @@
 use Rattle.std.proofs.Common.{◌+◌, ◌-◌, ◌≡◌, ℕ, ◌<◌, ◌≤◌, length, map}
-use Rattle.indexset_log.proofs.Runs.{Stepped, before, whole}
+use Rattle.indexset_log.proofs.GallopLemmas.{Stepped, before, whole}
 use Rattle.indexset_log.proofs.locate.last_started.Given as goal
 
 abbrev pub invariant-loop-low : goal.invariant-loop-low

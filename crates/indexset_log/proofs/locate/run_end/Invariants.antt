@@ -1,6 +1,6 @@
 use Rattle.std.proofs.Common.{◌-◌, ◌≡◌, ◌≤◌, length}
 use Rattle.indexset_core.specs.Parted.{not_greater_count}
-use Rattle.indexset_log.proofs.Runs.{Stepped}
+use Rattle.indexset_log.proofs.GallopLemmas.{Stepped}
 use Rattle.indexset_log.proofs.locate.run_end.Given as goal
 
 abbrev pub invariant-loop-low : goal.invariant-loop-low

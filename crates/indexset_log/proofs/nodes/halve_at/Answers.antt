@@ -3,11 +3,11 @@ use Rattle.std.proofs.lemmas.List.{length-map}
 use Rattle.std.proofs.lemmas.Option.{slice_get-get_or}
 use Rattle.std.proofs.Math.Seq.{map-set_same}
 use Rattle.indexset_core.specs.Nodes.{node_at}
-use Rattle.indexset_core.proofs.CallerLemmas.{length-joined, on_err}
+use Rattle.indexset_core.proofs.CallerLemmas.{length-concat, on_err}
 use Rattle.indexset_events.proofs.CallerLemmas.{halved_view, node_is}
 use Rattle.indexset_events.specs.Edits.{with_halved}
 use Rattle.indexset_index.proofs.CallerLemmas.{block_there, node_in_block}
-use Rattle.indexset_log.proofs.Indexes.{halved, halved_sum}
+use Rattle.indexset_log.proofs.IndexLemmas.{halved, halved_sum}
 use Rattle.indexset_log.proofs.nodes.halve_at.Given.{Over}
 use Rattle.indexset_log.proofs.nodes.halve_at.Goals.{After-as_slice, After-from_residual-in_err-right}
 use Rattle.indexset_log.proofs.nodes.halve_at.Goals as goal
@@ -67,7 +67,7 @@ insert-requires-in-Ok-clause-fits g c =
     let list = g.Node.NodeLike.list in
     let old = c.args.nodes.now.items in
     let ns = map list old in
-    rw (made g c) (omega (arith, halved_sum ns c.args.place (omega (arith, c.requires.place, length-map old list)), length-joined ns, c.requires.fits))
+    rw (made g c) (omega (arith, halved_sum ns c.args.place (omega (arith, c.requires.place, length-map old list)), length-concat ns, c.requires.fits))
 
 pub returns-clause-nodes : goal.returns-clause-nodes
 returns-clause-nodes g c =

@@ -2,7 +2,7 @@ use Rattle.std.proofs.Common.{◌≡◌, insert, length, map, arith, ap, ◌∙�
 use Rattle.std.proofs.lemmas.List.{length-map}
 use Rattle.std.proofs.lemmas.List.Sums.{sum_by-insert}
 use Rattle.indexset_core.specs.Nodes.{node_lengths}
-use Rattle.indexset_core.proofs.CallerLemmas.{length-joined}
+use Rattle.indexset_core.proofs.CallerLemmas.{length-concat}
 use Rattle.indexset_events.proofs.CallerLemmas.{map_insert}
 use Rattle.indexset_index.proofs.CallerLemmas.{inserted, lengths-insert}
 use Rattle.indexset_log.proofs.nodes.insert_node.Given.{Over}
@@ -22,7 +22,7 @@ pub insert-requires-in-Ok-clause-fits : goal.insert-requires-in-Ok-clause-fits
 insert-requires-in-Ok-clause-fits g c =
     let list = g.Node.NodeLike.list in
     let ns = map list c.args.nodes.now.items in
-    rw (made g c, lengths-insert ns c.args.place (list c.args.node)) (omega (arith, c.requires.fits, length-joined ns, sum_by-insert (λ x. x) (node_lengths ns) c.args.place (length (list c.args.node))))
+    rw (made g c, lengths-insert ns c.args.place (list c.args.node)) (omega (arith, c.requires.fits, length-concat ns, sum_by-insert (λ x. x) (node_lengths ns) c.args.place (length (list c.args.node))))
 
 pub returns-in-Ok-clause-nodes : goal.returns-in-Ok-clause-nodes
 returns-in-Ok-clause-nodes g c =

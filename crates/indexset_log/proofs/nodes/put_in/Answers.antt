@@ -2,7 +2,7 @@ use Rattle.std.proofs.Common.{◌≡◌, ◌+◌, length, map, sum, arith, refl,
 use Rattle.std.proofs.lemmas.List.{length-map, length-set}
 use Rattle.std.proofs.lemmas.List.Edits.{length-insert}
 use Rattle.indexset_core.specs.Nodes.{node_at, node_lengths}
-use Rattle.indexset_core.proofs.CallerLemmas.{found_ascending, found_equal, gap_ascending, gap_equal, found_put, gap_put, length-joined, node_lengths-set}
+use Rattle.indexset_core.proofs.CallerLemmas.{found_ascending, found_equal, gap_ascending, gap_equal, found_put, gap_put, length-concat, node_lengths-set}
 use Rattle.indexset_events.proofs.CallerLemmas.{node_is, set_view}
 use Rattle.indexset_index.specs.Blocks.{block_sums}
 use Rattle.indexset_index.proofs.CallerLemmas.{block_there, raised, sum-blocks}
@@ -49,7 +49,7 @@ returns-in-Err-clause-nodes g c =
 pub add-requires-clause-fits : goal.add-requires-clause-fits
 add-requires-clause-fits g c =
     let ns = map g.Node.NodeLike.list c.args.nodes.now.items in
-    omega (arith, c.requires.fits (rw c.in-Err.is refl), length-joined ns, ap sum c.requires.index, sum-blocks (node_lengths ns))
+    omega (arith, c.requires.fits (rw c.in-Err.is refl), length-concat ns, ap sum c.requires.index, sum-blocks (node_lengths ns))
 
 pub add-requires-clause-inside : goal.add-requires-clause-inside
 add-requires-clause-inside g c =

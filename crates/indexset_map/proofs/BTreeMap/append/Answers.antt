@@ -1,5 +1,5 @@
 use Rattle.std.proofs.lemmas.Result.{on_ok_weaker, on_err_weaker}
-use Rattle.indexset_spine.specs.Cut.{items}
+use Rattle.indexset_spine.specs.NodeList.{items}
 use Rattle.indexset_map.proofs.PartLemmas.{all_put, some_put}
 use Rattle.indexset_map.proofs.BTreeMap.append.Goals as goal
 

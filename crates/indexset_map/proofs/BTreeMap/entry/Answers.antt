@@ -4,8 +4,8 @@ use Rattle.indexset_core.proofs.CallerLemmas.{key_absent, key_inside, key_no_pai
 use Rattle.indexset_map.proofs.EntryLemmas.{shown_key}
 use Rattle.indexset_core.specs.Pairs.{value_of}
 use Rattle.indexset_map.proofs.KeyLemmas.{put_found, without_found, without_absent}
-use Rattle.indexset_map.proofs.ThereLemmas.{value_there}
-use Rattle.indexset_core.specs.Sought.{acts_as_itself, one_as_itself}
+use Rattle.indexset_map.proofs.PutKeyLemmas.{value_there}
+use Rattle.indexset_core.specs.LookupKey.{acts_as_itself, one_as_itself}
 use Rattle.indexset_map.proofs.BTreeMap.entry.Goals as goal
 
 pub invariant_of-result : goal.invariant_of-result
@@ -31,13 +31,13 @@ returns-clause-value g c = sym (ap (option_map (λ p. p.value)) (key_no_pair g.K
 pub returns-clause-update : goal.returns-clause-update
 returns-clause-update g c = λ w. refl
 
-pub returns-then-spot-clause-there : goal.returns-then-spot-clause-there
-returns-then-spot-clause-there g c = λ w.
+pub returns-then-spot-clause-contains : goal.returns-then-spot-clause-contains
+returns-then-spot-clause-contains g c = λ w.
     let put = put_found g.K.Ord.cmp c.args.self.now c.args.key _ (c.spot-spot.ensures.spot.found c.if-spot.true) w in
     ap (λ m. value_of g.K.Ord.cmp m.pairs c.args.key) put ∙ value_there g.K.Ord.cmp g.met.K.Ord.total c.args.self.now.pairs c.args.key w
 
-pub returns-clause-there : goal.returns-clause-there
-returns-clause-there g c = λ w. value_there g.K.Ord.cmp g.met.K.Ord.total c.args.self.now.pairs c.args.key w
+pub returns-clause-contains : goal.returns-clause-contains
+returns-clause-contains g c = λ w. value_there g.K.Ord.cmp g.met.K.Ord.total c.args.self.now.pairs c.args.key w
 
 pub returns-then-spot-clause-key : goal.returns-then-spot-clause-key
 returns-then-spot-clause-key g c =

@@ -5,7 +5,7 @@ use Rattle.indexset_core.proofs.CallerLemmas.{key_absent, key_no_pair, key_pair}
 use Rattle.indexset_core.specs.Pairs.{value_of}
 use Rattle.indexset_map.specs.Contents.{with_written}
 use Rattle.indexset_map.proofs.KeyLemmas.{put_found}
-use Rattle.indexset_map.proofs.ThereLemmas.{value_beside, value_there}
+use Rattle.indexset_map.proofs.PutKeyLemmas.{value_beside, value_there}
 use Rattle.indexset_spine.specs.Lengths.{place_of}
 use Rattle.indexset_map.proofs.BTreeMap.insert.Goals as goal
 
@@ -36,8 +36,8 @@ returns-then-spot-clause-ok g c =
     let found = c.spot_from_end-spot.ensures.spot.found c.if-spot.true in
     ap (λ w. with_written m i w) c.replace.ensures.after ∙ put_found g.K.Ord.cmp m c.args.key i found _
 
-pub returns-then-spot-clause-there : goal.returns-then-spot-clause-there
-returns-then-spot-clause-there g c =
+pub returns-then-spot-clause-contains : goal.returns-then-spot-clause-contains
+returns-then-spot-clause-contains g c =
     ap (λ m. value_of g.K.Ord.cmp m.pairs c.args.key) (returns-then-spot-clause-ok g c) ∙ value_there g.K.Ord.cmp g.met.K.Ord.total c.args.self.now.pairs c.args.key c.args.value
 
 pub returns-then-spot-clause-others : goal.returns-then-spot-clause-others
@@ -50,8 +50,8 @@ returns-clause-old g c = sym (ap (option_map (λ p. p.value)) (key_no_pair g.K.O
 pub returns-clause-ok : goal.returns-clause-ok
 returns-clause-ok g c = c.in_ok-put_at.ensures.ok
 
-pub returns-clause-there : goal.returns-clause-there
-returns-clause-there g c =
+pub returns-clause-contains : goal.returns-clause-contains
+returns-clause-contains g c =
     ap (λ m. value_of g.K.Ord.cmp m.pairs c.args.key) c.in_ok-put_at.ensures.ok ∙ value_there g.K.Ord.cmp g.met.K.Ord.total c.args.self.now.pairs c.args.key c.args.value
 
 pub returns-clause-others : goal.returns-clause-others

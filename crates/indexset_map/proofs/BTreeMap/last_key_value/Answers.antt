@@ -1,7 +1,7 @@
 use Rattle.std.proofs.Common.{◌≡◌, false, sym}
 use Rattle.std.specs.Ordering.{is_gt}
 use Rattle.std.proofs.lemmas.List.Elements.{All-map}
-use Rattle.indexset_spine.specs.Cut.{items}
+use Rattle.indexset_spine.specs.NodeList.{items}
 use Rattle.indexset_map.proofs.KeyLemmas.{value_held}
 use Rattle.indexset_map.proofs.RangeLemmas.{no_keys_passing}
 use Rattle.indexset_map.proofs.BTreeMap.last_key_value.Goals as goal

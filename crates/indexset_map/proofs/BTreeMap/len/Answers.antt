@@ -1,4 +1,4 @@
-use Rattle.indexset_spine.specs.Cut.{items}
+use Rattle.indexset_spine.specs.NodeList.{items}
 use Rattle.indexset_core.proofs.CallerLemmas.{parted_by_key}
 use Rattle.indexset_set.proofs.CallerLemmas.{in_order}
 use Rattle.indexset_map.proofs.BTreeMap.len.Goals as goal

@@ -1,5 +1,5 @@
 use Rattle.std.proofs.Common.{◌-◌, length, ap, sym, ◌∙◌}
-use Rattle.indexset_spine.specs.Cut.{items}
+use Rattle.indexset_spine.specs.NodeList.{items}
 use Rattle.indexset_map.specs.Contents.{Contents, without_at}
 use Rattle.indexset_map.proofs.ContentsLemmas.{last_removed}
 use Rattle.indexset_map.proofs.KeyLemmas.{contents_removed}

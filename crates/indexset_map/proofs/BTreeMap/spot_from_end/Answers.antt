@@ -1,9 +1,9 @@
 use Rattle.std.proofs.Common.{ℕ, ap}
-use Rattle.indexset_spine.specs.Cut.{items}
+use Rattle.indexset_spine.specs.NodeList.{items}
 use Rattle.indexset_core.proofs.CallerLemmas.{parted_by_key}
 use Rattle.indexset_set.proofs.CallerLemmas.{in_order}
 use Rattle.indexset_map.proofs.SpotLemmas.{sought_key}
-use Rattle.indexset_core.specs.Sought.{acts_as_itself}
+use Rattle.indexset_core.specs.LookupKey.{acts_as_itself}
 use Rattle.indexset_map.proofs.BTreeMap.spot_from_end.Goals as goal
 
 pub spot_from_end_by-requires : goal.spot_from_end_by-requires

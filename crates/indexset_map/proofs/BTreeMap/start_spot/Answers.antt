@@ -1,12 +1,12 @@
 use Rattle.std.proofs.Common.{◌∙◌, sym}
-use Rattle.indexset_spine.specs.Cut.{items}
+use Rattle.indexset_spine.specs.NodeList.{items}
 use Rattle.indexset_spine.proofs.CallerLemmas.{place_position}
 use Rattle.indexset_core.proofs.CallerLemmas.{probed_before}
 use Rattle.indexset_map.proofs.SpanLemmas.{keys_bounded}
 use Rattle.indexset_map.proofs.BTreeMap.start_spot.Goals as goal
 
 pub start_of-spot-requires : goal.start_of-spot-requires
-start_of-spot-requires g c = keys_bounded g.Q.Sought.order g.met.Q.Sought.acts_as_key (items c.self.inside.set) c.len-len.ensures.ascending c.map.result
+start_of-spot-requires g c = keys_bounded g.Q.LookupKey.order g.met.Q.LookupKey.acts_as_key (items c.self.inside.set) c.len-len.ensures.ascending c.map.result
 
 pub returns-clause-place : goal.returns-clause-place
 returns-clause-place g c =
@@ -15,4 +15,4 @@ returns-clause-place g c =
 pub returns-clause-position : goal.returns-clause-position
 returns-clause-position g c =
     rw (← c.self.view_is)
-    (c.position-position.ensures ∙ c.start_of-spot.ensures.position ∙ probed_before g.Q.Sought.order (λ k. k.now) (λ p. p.key) (items c.self.inside.set) c.args.start c.map.result c.map.ensures)
+    (c.position-position.ensures ∙ c.start_of-spot.ensures.position ∙ probed_before g.Q.LookupKey.order (λ k. k.now) (λ p. p.key) (items c.self.inside.set) c.args.start c.map.result c.map.ensures)

@@ -1,6 +1,6 @@
 use Rattle.std.proofs.Common.{rules, ◌≡◌, Some, slice_get, refl, sym, ap, ◌∙◌}
 use Rattle.std.specs.Option.{option_map}
-use Rattle.indexset_spine.specs.Cut.{items}
+use Rattle.indexset_spine.specs.NodeList.{items}
 use Rattle.indexset_map.specs.Contents.{Contents}
 use Rattle.indexset_map.proofs.ContentsLemmas.{contents_written}
 use Rattle.indexset_map.proofs.BTreeMap.value_at_mut.Goals as goal

@@ -1,4 +1,4 @@
-use Rattle.indexset_core.proofs.PullLemmas.{is_walk}
+use Rattle.indexset_core.proofs.CallLemmas.{is_walk}
 use Rattle.indexset_map.proofs.laws.owning_iterators_yield_each_item_once.Goals as goal
 
 pub returns-clause-pairs : goal.returns-clause-pairs

@@ -1,4 +1,4 @@
-use Rattle.indexset_core.proofs.PullLemmas.{is_walk}
+use Rattle.indexset_core.proofs.CallLemmas.{is_walk}
 use Rattle.indexset_multi.proofs.laws.iterators_yield_each_pair_once.Goals as goal
 
 pub returns-clause-pairs : goal.returns-clause-pairs

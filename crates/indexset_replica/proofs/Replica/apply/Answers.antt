@@ -2,8 +2,8 @@ use Rattle.std.proofs.Common.{◌≡◌, ap, sym, refl, ◌∙◌}
 use Rattle.std.proofs.lemmas.Result.{err_from_is_err_and}
 use Rattle.indexset_events.specs.Replay.{event_number}
 use Rattle.indexset_events.proofs.CallerLemmas.{nodes_ruled, ruled_nodes}
-use Rattle.indexset_replica.proofs.Clones.{step_same}
-use Rattle.indexset_replica.proofs.ReplicaSteps.{edited_ruled, edited_step, gap_refused, last_refused, misfit_refused}
+use Rattle.indexset_replica.proofs.CloneLemmas.{step_same}
+use Rattle.indexset_replica.proofs.StepLemmas.{edited_ruled, edited_step, gap_refused, last_refused, misfit_refused}
 use Rattle.indexset_replica.proofs.Replica.apply.Goals as goal
 
 pub returns-then-inner-self-clause-refusal : goal.returns-then-inner-self-clause-refusal

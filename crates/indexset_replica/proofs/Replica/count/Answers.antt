@@ -1,8 +1,8 @@
 use Rattle.std.proofs.Common.{◌≡◌, ap, arith, Ordering}
 use Rattle.indexset_core.proofs.CallerLemmas.{parted_by_sought}
-use Rattle.indexset_core.specs.Nodes.{joined}
+use Rattle.indexset_core.specs.Nodes.{concat}
 use Rattle.indexset_core.specs.Parted.{less_count, not_greater_count}
-use Rattle.indexset_replica.proofs.KeySearches.{count_equal}
+use Rattle.indexset_replica.proofs.KeySearchLemmas.{count_equal}
 use Rattle.indexset_replica.proofs.Replica.count.Given.{Over}
 use Rattle.indexset_replica.proofs.Replica.count.Goals.{After-count_before}
 use Rattle.indexset_replica.proofs.Replica.count.Goals as goal
@@ -10,22 +10,22 @@ use Rattle.indexset_replica.proofs.Replica.count.Goals as goal
 -- so many items are below, and so many are not above
 module _ (g : Over) (c : After-count_before g) where
   abbrev answer : g.row.T.Denot → Ordering
-  answer x = g.Q.Sought.order x c.args.value
+  answer x = g.Q.LookupKey.order x c.args.value
 
-  low : c.count_before.result ≡ less_count answer (joined c.args.self.now.nodes)
+  low : c.count_before.result ≡ less_count answer (concat c.args.self.now.nodes)
   low = rw c.new-2.ensures at c.count_before.ensures
 
-  high : c.count_up_to-past.result ≡ not_greater_count answer (joined c.args.self.now.nodes)
+  high : c.count_up_to-past.result ≡ not_greater_count answer (concat c.args.self.now.nodes)
   high = rw c.new.ensures at c.count_up_to-past.ensures
 
 pub count_before-requires : goal.count_before-requires
 count_before-requires g c =
-    parted_by_sought g.met.Q.Sought.acts_as_key (joined c.args.self.now.nodes) (rw (ap (λ t. t.nodes) c.self.view_is) at c.self.invariant.nodes.ascending) c.new-2.result.0
+    parted_by_sought g.met.Q.LookupKey.acts_as_key (concat c.args.self.now.nodes) (rw (ap (λ t. t.nodes) c.self.view_is) at c.self.invariant.nodes.ascending) c.new-2.result.0
 
 pub overflow_sub-result : goal.overflow_sub-result
-overflow_sub-result g c = omega (arith, low g c, high g c, count_equal (answer g c) (joined c.args.self.now.nodes))
+overflow_sub-result g c = omega (arith, low g c, high g c, count_equal (answer g c) (concat c.args.self.now.nodes))
 
 pub returns : goal.returns
 returns g c =
     let d = (goal.at.returns g c).After-count_before in
-    omega (arith, low g d, high g d, count_equal (answer g d) (joined c.args.self.now.nodes))
+    omega (arith, low g d, high g d, count_equal (answer g d) (concat c.args.self.now.nodes))

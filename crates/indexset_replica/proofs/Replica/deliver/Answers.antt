@@ -1,6 +1,6 @@
 use Rattle.std.proofs.Common.{◌≡◌, ap, sym, refl, inl, ◌∙◌}
 use Rattle.indexset_events.specs.Replay.{event_number}
-use Rattle.indexset_replica.proofs.Clones.{delivery_where_ok}
+use Rattle.indexset_replica.proofs.CloneLemmas.{delivery_where_ok}
 use Rattle.indexset_replica.proofs.Replica.deliver.Goals as goal
 
 pub returns-then-inner-self-clause-cloned : goal.returns-then-inner-self-clause-cloned

@@ -3,11 +3,11 @@ use Rattle.std.proofs.lemmas.List.{take_all}
 use Rattle.std.proofs.lemmas.Option.{slice_get-get_or, slice_get_read}
 use Rattle.std.proofs.lemmas.Result.{err_from_is_err_and}
 use Rattle.indexset_core.specs.declared.refusal.Refusal.TheVariants.{Memory}
-use Rattle.indexset_replica.specs.Delivery.{CopiesBeginning, HasStopped, IsAlike, IsBeginning, IsDelivered, IsFollowed, IsStopped}
-use Rattle.indexset_replica.proofs.AlikeDeliveries.{alike_fits, alike_followed, alike_itself}
-use Rattle.indexset_replica.proofs.Beginnings.{all_after, all_held, beginning_after, copied_all, copied_beginning, copied_held, next_grows}
-use Rattle.indexset_replica.proofs.Clones.{followed_on, followed_same}
-use Rattle.indexset_replica.proofs.Deliveries.{at_after, delivered_after}
+use Rattle.indexset_replica.specs.Delivery.{CopiesPrefix, HasStopped, IsAlike, IsPrefix, IsDelivered, IsFollowed, IsStopped}
+use Rattle.indexset_replica.proofs.CopyDeliveryLemmas.{alike_fits, alike_followed, alike_itself}
+use Rattle.indexset_replica.proofs.PrefixLemmas.{all_after, all_held, beginning_after, copied_all, copied_beginning, copied_held, next_grows}
+use Rattle.indexset_replica.proofs.CloneLemmas.{followed_on, followed_same}
+use Rattle.indexset_replica.proofs.DeliveryLemmas.{at_after, delivered_after}
 use Rattle.indexset_replica.proofs.Replica.follow.Goals as goal
 
 pub loop-place-preserved : goal.loop-place-preserved
@@ -133,7 +133,7 @@ pub returns-in_err-deliver-clause-beginning : goal.returns-in_err-deliver-clause
 returns-in_err-deliver-clause-beginning g c = λ same s ns feed at.
     let order = take c.loop-place.place-index c.args.order.now in
     let done = followed_same g.T.Ord.cmp g.T.Clone.is_clone same c.args.events.now c.args.self.now c.loop-place.self order c.loop-place.invariant in
-    subst (IsBeginning g.T.Ord.cmp s ns c.args.events.now) (sym c.in_err-deliver.ensures.unchanged) (beginning_after g.T.Ord.cmp s ns c.args.events.now feed order c.args.self.now c.loop-place.self at done)
+    subst (IsPrefix g.T.Ord.cmp s ns c.args.events.now) (sym c.in_err-deliver.ensures.unchanged) (beginning_after g.T.Ord.cmp s ns c.args.events.now feed order c.args.self.now c.loop-place.self at done)
 
 pub returns-clause-all_came : goal.returns-clause-all_came
 returns-clause-all_came g c = λ same s ns feed at came.
@@ -153,7 +153,7 @@ pub returns-in_err-deliver-clause-all_held : goal.returns-in_err-deliver-clause-
 returns-in_err-deliver-clause-all_held g c = λ same s ns feed at end.
     let order = take c.loop-place.place-index c.args.order.now in
     let done = followed_same g.T.Ord.cmp g.T.Clone.is_clone same c.args.events.now c.args.self.now c.loop-place.self order c.loop-place.invariant in
-    all_held g.T.Ord.cmp s ns c.args.events.now c.deliver.new.self (subst (IsBeginning g.T.Ord.cmp s ns c.args.events.now) (sym c.in_err-deliver.ensures.unchanged) (beginning_after g.T.Ord.cmp s ns c.args.events.now feed order c.args.self.now c.loop-place.self at done)) end
+    all_held g.T.Ord.cmp s ns c.args.events.now c.deliver.new.self (subst (IsPrefix g.T.Ord.cmp s ns c.args.events.now) (sym c.in_err-deliver.ensures.unchanged) (beginning_after g.T.Ord.cmp s ns c.args.events.now feed order c.args.self.now c.loop-place.self at done)) end
 
 pub returns-clause-copied_beginning : goal.returns-clause-copied_beginning
 returns-clause-copied_beginning g c = λ s ns feed at.
@@ -161,7 +161,7 @@ returns-clause-copied_beginning g c = λ s ns feed at.
 
 pub returns-in_err-deliver-clause-copied_beginning : goal.returns-in_err-deliver-clause-copied_beginning
 returns-in_err-deliver-clause-copied_beginning g c = λ s ns feed at.
-    subst (CopiesBeginning g.T.Ord.cmp g.T.Clone.is_clone s ns c.args.events.now) (sym c.in_err-deliver.ensures.unchanged) (copied_beginning g.T.Ord.cmp s ns c.args.events.now feed g.met.T.Ord.total g.T.Clone.is_clone (take c.loop-place.place-index c.args.order.now) c.args.self.now c.loop-place.self at c.loop-place.invariant)
+    subst (CopiesPrefix g.T.Ord.cmp g.T.Clone.is_clone s ns c.args.events.now) (sym c.in_err-deliver.ensures.unchanged) (copied_beginning g.T.Ord.cmp s ns c.args.events.now feed g.met.T.Ord.total g.T.Clone.is_clone (take c.loop-place.place-index c.args.order.now) c.args.self.now c.loop-place.self at c.loop-place.invariant)
 
 pub returns-clause-copied_all : goal.returns-clause-copied_all
 returns-clause-copied_all g c = λ s ns feed at came.
@@ -176,4 +176,4 @@ returns-clause-copied_held g c = λ s ns feed at end.
 
 pub returns-in_err-deliver-clause-copied_held : goal.returns-in_err-deliver-clause-copied_held
 returns-in_err-deliver-clause-copied_held g c = λ s ns feed at end.
-    copied_held g.T.Ord.cmp s ns c.args.events.now g.T.Clone.is_clone c.deliver.new.self (subst (CopiesBeginning g.T.Ord.cmp g.T.Clone.is_clone s ns c.args.events.now) (sym c.in_err-deliver.ensures.unchanged) (copied_beginning g.T.Ord.cmp s ns c.args.events.now feed g.met.T.Ord.total g.T.Clone.is_clone (take c.loop-place.place-index c.args.order.now) c.args.self.now c.loop-place.self at c.loop-place.invariant)) end
+    copied_held g.T.Ord.cmp s ns c.args.events.now g.T.Clone.is_clone c.deliver.new.self (subst (CopiesPrefix g.T.Ord.cmp g.T.Clone.is_clone s ns c.args.events.now) (sym c.in_err-deliver.ensures.unchanged) (copied_beginning g.T.Ord.cmp s ns c.args.events.now feed g.met.T.Ord.total g.T.Clone.is_clone (take c.loop-place.place-index c.args.order.now) c.args.self.now c.loop-place.self at c.loop-place.invariant)) end

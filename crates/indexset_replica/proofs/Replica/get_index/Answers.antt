@@ -1,7 +1,7 @@
 use Rattle.std.proofs.Common.{◌≡◌, ◌<◌, ◌∙◌, [], length, slice_get, refl, ap, sym, arith}
 use Rattle.std.proofs.lemmas.List.{length-map}
 use Rattle.std.proofs.lemmas.Option.{slice_get_read}
-use Rattle.indexset_core.specs.Nodes.{joined, node_at, vec_items}
+use Rattle.indexset_core.specs.Nodes.{concat, node_at, vec_items}
 use Rattle.indexset_core.proofs.CallerLemmas.{get_in_node, node_read}
 use Rattle.indexset_replica.proofs.Replica.get_index.Goals as goal
 
@@ -18,4 +18,4 @@ returns g c =
     sym (slice_get_read _ _ _ _ refl within c.index-items-offset.is)
     ∙ (ap (λ l. slice_get l o) node
     ∙ (sym (get_in_node ns k o found.0 found.1)
-    ∙ (ap (slice_get (joined ns)) found.2 ∙ ap (λ r. slice_get (joined r.nodes) c.args.i) c.self.view_is)))
+    ∙ (ap (slice_get (concat ns)) found.2 ∙ ap (λ r. slice_get (concat r.nodes) c.args.i) c.self.view_is)))

@@ -3,7 +3,7 @@ use Rattle.indexset_core.specs.Nodes.{node_lengths, vec_items}
 use Rattle.indexset_events.proofs.CallerLemmas.{map_insert}
 use Rattle.indexset_index.specs.Blocks.{block_sums}
 use Rattle.indexset_index.proofs.CallerLemmas.{inserted}
-use Rattle.indexset_replica.proofs.LengthLemmas.{insert_sum}
+use Rattle.indexset_replica.proofs.IndexLemmas.{insert_sum}
 use Rattle.indexset_replica.proofs.Replica.insert_node.Given.{Over}
 use Rattle.indexset_replica.proofs.Replica.insert_node.Goals.{After-as_slice}
 use Rattle.indexset_replica.proofs.Replica.insert_node.Goals as goal

@@ -1,8 +1,8 @@
 use Rattle.std.proofs.Common.{◌≡◌, slice_get, ap, ◌∙◌, Ordering}
 use Rattle.indexset_core.proofs.CallerLemmas.{parted_by_sought}
-use Rattle.indexset_core.specs.Nodes.{joined}
+use Rattle.indexset_core.specs.Nodes.{concat}
 use Rattle.indexset_core.specs.Parted.{IsParted, less_count}
-use Rattle.indexset_replica.proofs.KeySearches.{all_before, there_inside, there_item}
+use Rattle.indexset_replica.proofs.KeySearchLemmas.{all_before, there_inside, there_item}
 use Rattle.indexset_replica.proofs.Replica.rank.Given.{Over}
 use Rattle.indexset_replica.proofs.Replica.rank.Goals.{After-drop-value}
 use Rattle.indexset_replica.proofs.Replica.rank.Goals as goal
@@ -10,16 +10,16 @@ use Rattle.indexset_replica.proofs.Replica.rank.Goals as goal
 -- the items are found in order, and so many of them are below
 module _ (g : Over) (c : After-drop-value g) where
   abbrev answer : g.row.T.Denot → Ordering
-  answer x = g.Q.Sought.order x c.args.value
+  answer x = g.Q.LookupKey.order x c.args.value
 
-  parted : IsParted answer (joined c.args.self.now.nodes)
-  parted = parted_by_sought g.met.Q.Sought.acts_as_key (joined c.args.self.now.nodes) (rw (ap (λ t. t.nodes) c.self.view_is) at c.self.invariant.nodes.ascending) c.args.value
+  parted : IsParted answer (concat c.args.self.now.nodes)
+  parted = parted_by_sought g.met.Q.LookupKey.acts_as_key (concat c.args.self.now.nodes) (rw (ap (λ t. t.nodes) c.self.view_is) at c.self.invariant.nodes.ascending) c.args.value
 
-  is : c.count_before.result ≡ less_count answer (joined c.args.self.now.nodes)
+  is : c.count_before.result ≡ less_count answer (concat c.args.self.now.nodes)
   is = rw c.new.ensures at c.count_before.ensures
 
-pub returns-clause-there : goal.returns-clause-there
-returns-clause-there g c = λ has. ap (slice_get (joined c.args.self.now.nodes)) (is g c) ∙ there_item (answer g c) _ (parted g c) has
+pub returns-clause-at_rank : goal.returns-clause-at_rank
+returns-clause-at_rank g c = λ has. ap (slice_get (concat c.args.self.now.nodes)) (is g c) ∙ there_item (answer g c) _ (parted g c) has
 
 pub returns-clause-inside : goal.returns-clause-inside
 returns-clause-inside g c = λ has. rw (is g c) (there_inside (answer g c) _ (parted g c) has)

@@ -1,5 +1,5 @@
 use Rattle.indexset_events.proofs.CallerLemmas.{on_ok_map}
-use Rattle.indexset_replica.proofs.Clones.{kept_merge, kept_remove, kept_remove_node, kept_split}
+use Rattle.indexset_replica.proofs.CloneLemmas.{kept_merge, kept_remove, kept_remove_node, kept_split}
 use Rattle.indexset_replica.proofs.edits.carry_out.Goals as goal
 
 pub returns-in-RemoveAt-clause-done : goal.returns-in-RemoveAt-clause-done

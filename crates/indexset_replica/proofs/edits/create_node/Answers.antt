@@ -3,11 +3,11 @@ use Rattle.std.proofs.lemmas.List.{length-map}
 use Rattle.std.proofs.lemmas.Result.{err_from_is_err_and}
 use Rattle.indexset_events.specs.declared.change.ChangeEventUnassigned.TheVariants.{CreateNode}
 use Rattle.indexset_events.proofs.CallerLemmas.{map_insert, nodes_ruled}
-use Rattle.indexset_replica.proofs.Clones.{created_same, reaching_same}
+use Rattle.indexset_replica.proofs.CloneLemmas.{created_same, reaching_same}
 use Rattle.indexset_replica.specs.Replica.{IsEdit}
 use Rattle.indexset_index.proofs.CallerLemmas.{inserted}
-use Rattle.indexset_replica.proofs.LengthLemmas.{insert_sum}
-use Rattle.indexset_replica.proofs.ReplicaEdits.{create_disorder, create_edit}
+use Rattle.indexset_replica.proofs.IndexLemmas.{insert_sum}
+use Rattle.indexset_replica.proofs.EditLemmas.{create_disorder, create_edit}
 use Rattle.indexset_replica.proofs.edits.create_node.Given.{Over}
 use Rattle.indexset_replica.proofs.edits.create_node.Goals as goal
 use Rattle.indexset_replica.proofs.edits.create_node.Goals.{After-as_slice-3, Else-not-fits_before}

@@ -9,8 +9,8 @@ use Rattle.std.proofs.lemmas.Result.{err_from_is_err_and}
 use Rattle.indexset_events.specs.declared.change.ChangeEventUnassigned.TheVariants.{InsertAt}
 use Rattle.indexset_replica.specs.Replica.{IsEdit}
 use Rattle.indexset_events.proofs.CallerLemmas.{nodes_ruled}
-use Rattle.indexset_replica.proofs.Clones.{inserted_same}
-use Rattle.indexset_replica.proofs.ReplicaEdits.{absent_insert, held, insert_disorder, insert_edit, insert_outside, named_inside}
+use Rattle.indexset_replica.proofs.CloneLemmas.{inserted_same}
+use Rattle.indexset_replica.proofs.EditLemmas.{absent_insert, held, insert_disorder, insert_edit, insert_outside, named_inside}
 use Rattle.indexset_replica.proofs.edits.insert_item.Given.{Over}
 use Rattle.indexset_replica.proofs.edits.insert_item.Goals as goal
 use Rattle.indexset_replica.proofs.edits.insert_item.Goals.{Else-not-fits_at}

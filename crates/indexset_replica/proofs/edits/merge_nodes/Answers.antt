@@ -3,21 +3,21 @@ use Rattle.std.proofs.lemmas.List.{length-map, set-get_or}
 use Rattle.std.proofs.lemmas.Result.{err_from_is_err_and}
 use Rattle.std.proofs.Math.Seq.{map-set_same}
 use Rattle.indexset_core.specs.Nodes.{node_at, node_lengths}
-use Rattle.indexset_events.specs.Joining.{with_joined}
+use Rattle.indexset_events.specs.Merging.{with_merged}
 use Rattle.indexset_events.specs.declared.change.ChangeEventUnassigned.TheVariants.{MergeNodes}
 use Rattle.indexset_events.proofs.CallerLemmas.{first_list, map_remove, next_list, two_seen}
 use Rattle.indexset_replica.specs.Replica.{IsEdit}
 use Rattle.indexset_index.specs.Blocks.{block_sums}
 use Rattle.std.proofs.lemmas.List.Sums.{sum_by-insert}
 use Rattle.indexset_index.proofs.CallerLemmas.{block_there, emptied, fewer, gathered, sum-blocks}
-use Rattle.indexset_replica.proofs.LengthLemmas.{merged_lengths}
-use Rattle.indexset_replica.proofs.ReplicaEdits.{absent_first, absent_next, held, held_inside, merge_apart, merge_edit, named_inside}
+use Rattle.indexset_replica.proofs.IndexLemmas.{merged_lengths}
+use Rattle.indexset_replica.proofs.EditLemmas.{absent_first, absent_next, held, held_inside, merge_apart, merge_edit, named_inside}
 use Rattle.indexset_replica.proofs.edits.merge_nodes.Given.{Over}
 use Rattle.indexset_replica.proofs.edits.merge_nodes.Goals as goal
 use Rattle.indexset_replica.proofs.edits.merge_nodes.Goals.{After-reserve}
 
 -- what the joining makes of the nodes
-merged : (g : Over) (c : After-reserve g) → let ns = map (λ v. v.items) c.args.nodes.now.items in IsEdit g.T.Ord.cmp ns (MergeNodes c.args.name.now c.args.next_name.now) (with_joined ns c.in_ok-place.place)
+merged : (g : Over) (c : After-reserve g) → let ns = map (λ v. v.items) c.args.nodes.now.items in IsEdit g.T.Ord.cmp ns (MergeNodes c.args.name.now c.args.next_name.now) (with_merged ns c.in_ok-place.place)
 merged g c =
     let named = rw c.as_slice.ensures.value at c.in_ok-place.ensures.named in
     let next = rw c.as_slice-2.ensures.value at c.in_ok-next.ensures.named in

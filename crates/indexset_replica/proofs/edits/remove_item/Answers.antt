@@ -4,7 +4,7 @@ use Rattle.std.proofs.lemmas.List.Edits.{length-remove}
 use Rattle.indexset_core.specs.Nodes.{node_at}
 use Rattle.indexset_index.proofs.CallerLemmas.{block_there, lowered, node_in_block}
 use Rattle.std.proofs.lemmas.Result.{err_from_is_err_and}
-use Rattle.indexset_replica.proofs.ReplicaEdits.{absent_remove, held, named_inside, remove_differs, remove_edit, remove_empty, remove_outside}
+use Rattle.indexset_replica.proofs.EditLemmas.{absent_remove, held, named_inside, remove_differs, remove_edit, remove_empty, remove_outside}
 use Rattle.indexset_replica.proofs.edits.remove_item.Goals as goal
 
 pub returns-in_err-place-clause-refusal : goal.returns-in_err-place-clause-refusal

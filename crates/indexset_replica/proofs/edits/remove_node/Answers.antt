@@ -3,7 +3,7 @@ use Rattle.std.proofs.lemmas.Result.{err_from_is_err_and}
 use Rattle.indexset_core.specs.Nodes.{node_at}
 use Rattle.indexset_events.proofs.CallerLemmas.{map_remove}
 use Rattle.indexset_index.proofs.CallerLemmas.{emptied}
-use Rattle.indexset_replica.proofs.ReplicaEdits.{absent_remove_node, held, named_inside, remove_node_edit}
+use Rattle.indexset_replica.proofs.EditLemmas.{absent_remove_node, held, named_inside, remove_node_edit}
 use Rattle.indexset_replica.proofs.edits.remove_node.Goals as goal
 
 pub returns-in_err-place-clause-refusal : goal.returns-in_err-place-clause-refusal

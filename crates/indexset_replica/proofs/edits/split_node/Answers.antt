@@ -7,8 +7,8 @@ use Rattle.indexset_events.specs.declared.change.ChangeEventUnassigned.TheVarian
 use Rattle.indexset_events.proofs.CallerLemmas.{halved_view}
 use Rattle.indexset_replica.specs.Replica.{IsEdit}
 use Rattle.indexset_index.proofs.CallerLemmas.{block_there, node_in_block, sum-blocks}
-use Rattle.indexset_replica.proofs.LengthLemmas.{cut_in_two, cut_sum}
-use Rattle.indexset_replica.proofs.ReplicaEdits.{absent_split, held, held_at, named_inside, split_edit, split_past, split_start}
+use Rattle.indexset_replica.proofs.IndexLemmas.{cut_in_two, cut_sum}
+use Rattle.indexset_replica.proofs.EditLemmas.{absent_split, held, held_at, named_inside, split_edit, split_past, split_start}
 use Rattle.indexset_replica.proofs.edits.split_node.Given.{Over}
 use Rattle.indexset_replica.proofs.edits.split_node.Goals as goal
 use Rattle.indexset_replica.proofs.edits.split_node.Goals.{After-as_slice-2, After-reserve, then-split_index-eq0-via-then-split_index-eq0, then-split_index-eq0-via-else-split_index-eq0+then-split_index-len}

@@ -13,8 +13,8 @@ is_none b n e f = let is : (n == 0) ≡ true = sym e ∙ f in grind (arith, nat_
 pub returns-then-is_empty : goal.returns-then-is_empty
 returns-then-is_empty g c =
     let at = c.loop-rest in
-    let empty = is_none c.is_empty.result (length c.next_run-run.result.now) c.is_empty.ensures c.if-is_empty.true in
-    let over = none_left (length at.rest) (λ some. omega (arith, c.next_run-run.ensures.some some, empty)) in
+    let empty = is_none c.is_empty.result (length c.next_chunk-run.result.now) c.is_empty.ensures c.if-is_empty.true in
+    let over = none_left (length at.rest) (λ some. omega (arith, c.next_chunk-run.ensures.some some, empty)) in
     let fits : length c.args.walk ≤ MAX = omega (arith, at.invariant.all, at.invariant.fits, over) in
     let small : nat_lt MAX (length c.args.walk) ≡ false = grind (arith, nat_tests) in
     let same : at.count ≡ length c.args.walk = omega (arith, at.invariant.all, over) in

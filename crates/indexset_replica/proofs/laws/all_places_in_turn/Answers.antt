@@ -1,4 +1,4 @@
-use Rattle.indexset_replica.proofs.Beginnings.{all_places}
+use Rattle.indexset_replica.proofs.PrefixLemmas.{all_places}
 use Rattle.indexset_replica.proofs.laws.all_places_in_turn.Goals as goal
 
 pub returns : goal.returns

@@ -1,4 +1,4 @@
-use Rattle.indexset_replica.proofs.Copies.{copies_again, copies_equal, copies_itself}
+use Rattle.indexset_replica.proofs.CopyLemmas.{copies_again, copies_equal, copies_itself}
 use Rattle.indexset_replica.proofs.laws.copies_are_equal.Goals as goal
 
 pub returns-clause-itself : goal.returns-clause-itself

@@ -1,4 +1,4 @@
-use Rattle.indexset_replica.proofs.Copies.{copies_keep}
+use Rattle.indexset_replica.proofs.CopyLemmas.{copies_keep}
 use Rattle.indexset_replica.proofs.laws.copies_keep.Goals as goal
 
 pub returns : goal.returns

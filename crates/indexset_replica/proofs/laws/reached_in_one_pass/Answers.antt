@@ -1,4 +1,4 @@
-use Rattle.indexset_replica.proofs.Deliveries.{reached, reached_once}
+use Rattle.indexset_replica.proofs.DeliveryLemmas.{reached, reached_once}
 use Rattle.indexset_replica.proofs.laws.reached_in_one_pass.Goals as goal
 
 pub returns-clause-found : goal.returns-clause-found

@@ -1,5 +1,5 @@
 use Rattle.indexset_events.proofs.CallerLemmas.{nodes_ruled}
-use Rattle.indexset_replica.proofs.ReplicaSteps.{refusal_law}
+use Rattle.indexset_replica.proofs.StepLemmas.{refusal_law}
 use Rattle.indexset_replica.proofs.laws.refused_unless_a_step.Goals as goal
 
 pub returns : goal.returns

@@ -1,5 +1,5 @@
-use Rattle.indexset_replica.proofs.Copies.{replay_copies}
-use Rattle.indexset_replica.proofs.ReplayedClones.{replay_clones}
+use Rattle.indexset_replica.proofs.CopyLemmas.{replay_copies}
+use Rattle.indexset_replica.proofs.ClonedReplayLemmas.{replay_clones}
 use Rattle.indexset_replica.proofs.laws.replay_of_clones.Goals as goal
 
 pub returns-clause-equal : goal.returns-clause-equal

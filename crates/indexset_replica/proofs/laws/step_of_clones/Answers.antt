@@ -1,4 +1,4 @@
-use Rattle.indexset_replica.proofs.Copies.{step_copies}
+use Rattle.indexset_replica.proofs.CopyLemmas.{step_copies}
 use Rattle.indexset_replica.proofs.laws.step_of_clones.Goals as goal
 
 pub returns : goal.returns

@@ -3,7 +3,7 @@ use Rattle.std.proofs.lemmas.Bool.{not-true, not-false}
 use Rattle.std.proofs.lemmas.Grind.{common_steps}
 use Rattle.indexset_core.proofs.CallerLemmas.{parted_by_item}
 use Rattle.indexset_events.proofs.CallerLemmas.{nodes_ruled}
-use Rattle.indexset_replica.proofs.ReplicaNodes.{place_here, place_past}
+use Rattle.indexset_replica.proofs.NodeSearchLemmas.{place_here, place_past}
 use Rattle.indexset_replica.proofs.places.first_reaching.Goals as goal
 
 pub node_by-place-requires-clause-parted : goal.node_by-place-requires-clause-parted

@@ -1,7 +1,7 @@
 use Rattle.std.proofs.Common.{map, refl, arith, sym, ◌∙◌}
 use Rattle.std.proofs.lemmas.List.{length-map, take_rest}
 use Rattle.indexset_events.proofs.CallerLemmas.{nodes_ruled, node_is}
-use Rattle.indexset_replica.proofs.ReplicaNodes.{copied-or, fits_node}
+use Rattle.indexset_replica.proofs.NodeSearchLemmas.{copied-or, fits_node}
 use Rattle.indexset_replica.proofs.places.fits_at.Goals as goal
 
 pub returns : goal.returns

@@ -1,6 +1,6 @@
 use Rattle.std.proofs.Common.{map, sym, ◌∙◌}
 use Rattle.indexset_events.proofs.CallerLemmas.{nodes_ruled}
-use Rattle.indexset_replica.proofs.ReplicaNodes.{fits_alone}
+use Rattle.indexset_replica.proofs.NodeSearchLemmas.{fits_alone}
 use Rattle.indexset_replica.proofs.places.fits_before.Goals as goal
 
 pub returns : goal.returns

@@ -1,6 +1,6 @@
 use Rattle.std.proofs.Common.{sym, ap, ◌∙◌}
 use Rattle.std.specs.Ordering.{is_eq}
-use Rattle.indexset_replica.proofs.ReplicaNodes.{named_by}
+use Rattle.indexset_replica.proofs.NodeSearchLemmas.{named_by}
 use Rattle.indexset_replica.proofs.places.is_named.Goals as goal
 
 pub returns-in-Some : goal.returns-in-Some

@@ -1,5 +1,5 @@
 use Rattle.std.proofs.Common.{sym, ◌∙◌}
-use Rattle.indexset_replica.proofs.ReplicaNodes.{item_before_is}
+use Rattle.indexset_replica.proofs.NodeSearchLemmas.{item_before_is}
 use Rattle.indexset_replica.proofs.places.item_before.Goals as goal
 
 pub returns : goal.returns

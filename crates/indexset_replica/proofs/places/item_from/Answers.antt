@@ -1,6 +1,6 @@
 use Rattle.std.proofs.Common.{Some, ap, sym, ◌∙◌}
 use Rattle.std.proofs.lemmas.Option.{slice_get-get_or}
-use Rattle.indexset_replica.proofs.ReplicaNodes.{item_from_is}
+use Rattle.indexset_replica.proofs.NodeSearchLemmas.{item_from_is}
 use Rattle.indexset_replica.proofs.places.item_from.Goals as goal
 
 pub returns : goal.returns

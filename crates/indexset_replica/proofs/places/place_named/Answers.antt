@@ -2,7 +2,7 @@ use Rattle.std.proofs.Common.{◌≤◌, length, arith, sym, ◌∙◌}
 use Rattle.std.proofs.lemmas.Grind.{common_steps}
 use Rattle.indexset_core.proofs.CallerLemmas.{parted_by_item}
 use Rattle.indexset_events.proofs.CallerLemmas.{nodes_ruled}
-use Rattle.indexset_replica.proofs.ReplicaNodes.{named_there, unnamed_there}
+use Rattle.indexset_replica.proofs.NodeSearchLemmas.{named_there, unnamed_there}
 use Rattle.indexset_replica.proofs.places.place_named.Goals as goal
 
 pub node_by-place-requires-clause-parted : goal.node_by-place-requires-clause-parted

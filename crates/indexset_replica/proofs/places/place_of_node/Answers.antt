@@ -2,7 +2,7 @@ use Rattle.std.proofs.Common.{Some, map, refl, ap, sym, arith, rules, ◌∙◌}
 use Rattle.std.specs.Ordering.{is_lt}
 use Rattle.std.proofs.lemmas.List.Sorted.{answers_always}
 use Rattle.indexset_events.proofs.CallerLemmas.{ascending_answer, filled_first, nodes_ruled, refused_empty, refused_unsorted}
-use Rattle.indexset_replica.proofs.ReplicaAttach.{IsPlaceFor, goes, goes_last, overlaps}
+use Rattle.indexset_replica.proofs.AttachLemmas.{IsPlaceFor, goes, goes_last, overlaps}
 use Rattle.indexset_replica.proofs.places.place_of_node.Given.{Over}
 use Rattle.indexset_replica.proofs.places.place_of_node.Goals as goal
 use Rattle.indexset_replica.proofs.places.place_of_node.Goals.{After-first_reaching-place}

@@ -2,8 +2,8 @@ use Rattle.std.proofs.Common.{◌∙◌, refl}
 use Rattle.std.proofs.lemmas.Result.{on_ok_weaker}
 use Rattle.indexset_core.specs.Order.{put}
 use Rattle.indexset_core.proofs.CallerLemmas.{on_err}
-use Rattle.indexset_spine.specs.Cut.{cut, items}
-use Rattle.indexset_spine.specs.Edits.{TakesSome}
+use Rattle.indexset_spine.specs.NodeList.{node_list, items}
+use Rattle.indexset_spine.specs.Edits.{FoldsPrefix}
 use Rattle.indexset_spine.proofs.CallerLemmas.{takes_more}
 use Rattle.indexset_set.specs.SetNodes.{nodes_put}
 use Rattle.indexset_set.proofs.SetAppendLemmas.{nodes_all, puts_some}
@@ -27,17 +27,17 @@ loop-self-preserved g c =
     let step = c.in_ok-near.ensures in
     record {
       moved = takes_more (put g.T.Ord.cmp) _ _ _ _ _ _ c.loop-self.invariant.moved step.moved;
-      nodes = takes_more (λ ns x. nodes_put g.T.Ord.cmp (cut ns c.args.self.now.size) x) _ _ _ _ _ _ c.loop-self.invariant.nodes (rw c.loop-self.invariant.size at step.nodes);
+      nodes = takes_more (λ ns x. nodes_put g.T.Ord.cmp (node_list ns c.args.self.now.size) x) _ _ _ _ _ _ c.loop-self.invariant.nodes (rw c.loop-self.invariant.size at step.nodes);
       size = step.size ∙ c.loop-self.invariant.size;
       other_size = step.other_size ∙ c.loop-self.invariant.other_size;
     }
 
 module _ (g : Over) (c : After-append_above g) where
-  moved : TakesSome (put g.T.Ord.cmp) (items c.args.self.now) (items c.args.other.now) (items c.append_above.new.self) (items c.append_above.new.other)
+  moved : FoldsPrefix (put g.T.Ord.cmp) (items c.args.self.now) (items c.args.other.now) (items c.append_above.new.self) (items c.append_above.new.other)
   moved = takes_more (put g.T.Ord.cmp) _ _ _ _ _ _ c.loop-self.invariant.moved c.append_above.ensures.moved
 
-  nodes : TakesSome (λ ns x. nodes_put g.T.Ord.cmp (cut ns c.args.self.now.size) x) c.args.self.now.nodes (items c.args.other.now) c.append_above.new.self.nodes (items c.append_above.new.other)
-  nodes = takes_more (λ ns x. nodes_put g.T.Ord.cmp (cut ns c.args.self.now.size) x) _ _ _ _ _ _ c.loop-self.invariant.nodes (rw c.loop-self.invariant.size at c.append_above.ensures.nodes)
+  nodes : FoldsPrefix (λ ns x. nodes_put g.T.Ord.cmp (node_list ns c.args.self.now.size) x) c.args.self.now.nodes (items c.args.other.now) c.append_above.new.self.nodes (items c.append_above.new.other)
+  nodes = takes_more (λ ns x. nodes_put g.T.Ord.cmp (node_list ns c.args.self.now.size) x) _ _ _ _ _ _ c.loop-self.invariant.nodes (rw c.loop-self.invariant.size at c.append_above.ensures.nodes)
 
 pub returns-clause-ok : goal.returns-clause-ok
 returns-clause-ok g c = on_ok_weaker c.append_above.result (moved_all g.T.Ord.cmp _ _ _ _ (moved g c)) c.append_above.ensures.emptied

@@ -1,5 +1,5 @@
 use Rattle.std.proofs.Common.{ℕ, ap, arith, sym}
-use Rattle.indexset_spine.specs.Cut.{items}
+use Rattle.indexset_spine.specs.NodeList.{items}
 use Rattle.indexset_set.proofs.SetCursorLemmas.{before_node, position_le}
 use Rattle.indexset_set.proofs.BTreeSet.cursor_in.Goals as goal
 

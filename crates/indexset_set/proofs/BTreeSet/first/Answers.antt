@@ -1,6 +1,6 @@
 use Rattle.std.proofs.Common.{◌≡◌, Some, slice_get}
 use Rattle.indexset_set.proofs.SetEndLemmas.{all_from_first, first_held, first_least}
-use Rattle.indexset_spine.specs.Cut.{items}
+use Rattle.indexset_spine.specs.NodeList.{items}
 use Rattle.indexset_set.proofs.BTreeSet.first.Goals as goal
 
 -- the item at the first spot is that at position 0

@@ -1,7 +1,7 @@
 use Rattle.std.proofs.Common.{◌≡◌, IfOk, [], refl, sym, ap, ◌∙◌, subst}
 use Rattle.std.specs.List.{fold}
 use Rattle.indexset_core.specs.Order.{IsAscending, keep}
-use Rattle.indexset_spine.specs.Cut.{items}
+use Rattle.indexset_spine.specs.NodeList.{items}
 use Rattle.indexset_set.proofs.SetCopyLemmas.{kept_all_behind}
 use Rattle.indexset_set.proofs.BTreeSet.from.Goals as goal
 

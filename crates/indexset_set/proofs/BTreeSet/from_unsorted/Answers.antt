@@ -1,7 +1,7 @@
 use Rattle.std.proofs.Common.{◌≡◌, IfOk, ◌∙◌, subst, rules}
 use Rattle.std.specs.List.{dedup}
 use Rattle.std.proofs.lemmas.Fn.{dedup_same}
-use Rattle.indexset_spine.specs.Cut.{items}
+use Rattle.indexset_spine.specs.NodeList.{items}
 use Rattle.indexset_set.proofs.SetSortLemmas.{dedup_ascending, nodes_of_items, same, sorted_kept}
 use Rattle.indexset_set.proofs.BTreeSet.from_unsorted.Goals as goal
 

@@ -1,6 +1,6 @@
 use Rattle.std.proofs.Common.{sym, ◌∙◌}
 use Rattle.std.specs.Ordering.{is_eq}
-use Rattle.indexset_spine.specs.Cut.{items}
+use Rattle.indexset_spine.specs.NodeList.{items}
 use Rattle.indexset_core.proofs.CallerLemmas.{find_absent, find_position, position_found, position_absent}
 use Rattle.indexset_set.proofs.SetProbeLemmas.{parted}
 use Rattle.indexset_set.proofs.BTreeSet.get_by.Goals as goal

@@ -10,9 +10,9 @@ returns-then-spot g c =
     rw (← c.self.view_is) (record {
       added = ap not (sym has);
       ok = sym (found_keep _ _ _ _ there);
-      there = has;
+      contains = has;
       nodes = sym (kept_there g.T.Ord.cmp c.self.inside.spine c.args.value has);
-      same = λ _. refl;
+      if_present = λ _. refl;
       size = refl;
       no_memory = λ _. refl;
       given_back = tt;
@@ -36,9 +36,9 @@ returns g c =
     rw (← c.self.view_is) (record {
       added = ap not (sym absent);
       ok = c.in_ok-insert.ensures.items ∙ sym (gap_keep _ _ _ _ gap);
-      there = rw (c.in_ok-insert.ensures.items ∙ sym (gap_put _ _ _ _ gap)) (has_put g.T.Ord.cmp _ _ g.met.T.Ord.total);
+      contains = rw (c.in_ok-insert.ensures.items ∙ sym (gap_put _ _ _ _ gap)) (has_put g.T.Ord.cmp _ _ g.met.T.Ord.total);
       nodes = kept_new g.T.Ord.cmp c.self.inside.spine c.args.value c.locate_from_end-spot.result _ c.locate_from_end-spot.ensures.place absent c.in_ok-insert.ensures.nodes;
-      same = gap_no_equal _ _ _ _ gap;
+      if_present = gap_no_equal _ _ _ _ gap;
       size = c.insert.ensures.size;
       no_memory = λ _. refl;
       given_back = tt;

@@ -1,5 +1,5 @@
 use Rattle.std.proofs.Common.{refl}
-use Rattle.indexset_spine.specs.Cut.{items}
+use Rattle.indexset_spine.specs.NodeList.{items}
 use Rattle.indexset_set.proofs.SetAppendLemmas.{before_none, behind_none, ends_tell, some}
 use Rattle.indexset_set.proofs.BTreeSet.is_below.Goals as goal
 

@@ -1,7 +1,7 @@
 use Rattle.std.proofs.Common.{◌≡◌, ◌∙◌, rules, subst}
 use Rattle.std.proofs.lemmas.List.{append-nil}
 use Rattle.indexset_core.specs.Order.{IsAscending, keep}
-use Rattle.indexset_spine.specs.Cut.{items}
+use Rattle.indexset_spine.specs.NodeList.{items}
 use Rattle.indexset_set.specs.SetNodes.{nodes_kept}
 use Rattle.indexset_set.proofs.SetAppendLemmas.{run_kept, run_nodes, run_then_kept, run_then_nodes}
 use Rattle.indexset_set.proofs.BTreeSet.keep_behind.Goals as goal
@@ -14,14 +14,14 @@ returns-in-Ok-None-clause-order g c = c.in-Ok-None.ensures.order
 
 pub returns-in-Ok-None-clause-kept : goal.returns-in-Ok-None-clause-kept
 returns-in-Ok-None-clause-kept g c =
-    let joined = (rw c.in-Ok-None.is at c.join_run.ensures.items) c.in-Ok-None.field-0-is in
-    joined ∙ run_kept g.T.Ord.cmp c.args.self.now.size c.args.self.now.nodes c.args.run.now.items c.args.value c.node_count-count.ensures.cut (subst (IsAscending g.T.Ord.cmp) joined (rw c.in-Ok-None.is at c.join_run.ensures.order))
+    let concat = (rw c.in-Ok-None.is at c.join_run.ensures.items) c.in-Ok-None.field-0-is in
+    concat ∙ run_kept g.T.Ord.cmp c.args.self.now.size c.args.self.now.nodes c.args.run.now.items c.args.value c.node_count-count.ensures.cut (subst (IsAscending g.T.Ord.cmp) concat (rw c.in-Ok-None.is at c.join_run.ensures.order))
 
 pub returns-in-Ok-None-clause-nodes : goal.returns-in-Ok-None-clause-nodes
 returns-in-Ok-None-clause-nodes g c =
-    let joined = (rw c.in-Ok-None.is at c.join_run.ensures.items) c.in-Ok-None.field-0-is in
+    let concat = (rw c.in-Ok-None.is at c.join_run.ensures.items) c.in-Ok-None.field-0-is in
     (rw c.in-Ok-None.is at c.join_run.ensures.nodes) c.in-Ok-None.field-0-is
-    ∙ run_nodes g.T.Ord.cmp c.args.self.now.size c.args.self.now.nodes c.args.run.now.items c.args.value c.node_count-count.ensures.cut (subst (IsAscending g.T.Ord.cmp) joined (rw c.in-Ok-None.is at c.join_run.ensures.order))
+    ∙ run_nodes g.T.Ord.cmp c.args.self.now.size c.args.self.now.nodes c.args.run.now.items c.args.value c.node_count-count.ensures.cut (subst (IsAscending g.T.Ord.cmp) concat (rw c.in-Ok-None.is at c.join_run.ensures.order))
 
 pub returns-in_ok-insert-in-Ok-Some-clause-order : goal.returns-in_ok-insert-in-Ok-Some-clause-order
 returns-in_ok-insert-in-Ok-Some-clause-order g c =

@@ -3,7 +3,7 @@ use Rattle.std.specs.Iterator.{Drains}
 use Rattle.std.proofs.iter.runs.Made.{run, to_end}
 use Rattle.std.proofs.lemmas.List.Sums.{fold-append}
 use Rattle.indexset_core.specs.Order.{keep}
-use Rattle.indexset_spine.specs.Cut.{cut, with_all_last}
+use Rattle.indexset_spine.specs.NodeList.{node_list, with_all_last}
 use Rattle.indexset_set.specs.SetNodes.{nodes_kept, nodes_kept_all}
 use Rattle.indexset_set.proofs.SetAppendLemmas.{all_items, all_nodes}
 use Rattle.indexset_set.proofs.BTreeSet.kept_in.Goals as goal
@@ -31,7 +31,7 @@ loop-value-preserved g c =
     record {
       order = step.order;
       kept = step.kept ∙ (ap (λ l. keep cmp l v) held.kept ∙ sym (fold-append (keep cmp) [] came (v ∷ [])));
-      nodes = (rw held.size at step.nodes) ∙ (ap (λ ns. nodes_kept cmp (cut ns c.args.size) v) held.nodes ∙ sym (fold-append (λ ns x. nodes_kept cmp (cut ns c.args.size) x) ([] ∷ []) came (v ∷ [])));
+      nodes = (rw held.size at step.nodes) ∙ (ap (λ ns. nodes_kept cmp (node_list ns c.args.size) v) held.nodes ∙ sym (fold-append (λ ns x. nodes_kept cmp (node_list ns c.args.size) x) ([] ∷ []) came (v ∷ [])));
       size = step.size ∙ held.size;
     }
 

@@ -1,6 +1,6 @@
 use Rattle.std.proofs.Common.{◌≡◌, ◌-◌, Some, length, slice_get}
 use Rattle.indexset_set.proofs.SetEndLemmas.{all_up_to_last, last_greatest, last_held}
-use Rattle.indexset_spine.specs.Cut.{items}
+use Rattle.indexset_spine.specs.NodeList.{items}
 use Rattle.indexset_set.proofs.BTreeSet.last.Goals as goal
 
 -- the item at the last spot is that at the last position

@@ -1,4 +1,4 @@
-use Rattle.indexset_spine.specs.Cut.{items}
+use Rattle.indexset_spine.specs.NodeList.{items}
 use Rattle.indexset_core.proofs.CallerLemmas.{parted_by_item}
 use Rattle.indexset_set.proofs.SetProbeLemmas.{in_order}
 use Rattle.indexset_set.proofs.BTreeSet.len.Goals as goal

@@ -1,5 +1,5 @@
 use Rattle.std.proofs.Common.{sym, ◌∙◌}
-use Rattle.indexset_spine.specs.Cut.{items}
+use Rattle.indexset_spine.specs.NodeList.{items}
 use Rattle.indexset_core.proofs.CallerLemmas.{position_found, position_absent}
 use Rattle.indexset_set.proofs.SetProbeLemmas.{parted}
 use Rattle.indexset_set.proofs.BTreeSet.locate_by.Goals as goal

@@ -1,11 +1,11 @@
 use Rattle.std.proofs.Common.{◌≡◌, ◌<◌, List, length, take, drop, Some, slice_get, ◌∙◌, sym, ap, subst, arith, length-drop}
 use Rattle.std.specs.List.{fold, slice_set}
-use Rattle.indexset_core.specs.Nodes.{joined, node_at, node_for}
+use Rattle.indexset_core.specs.Nodes.{concat, node_at, node_for}
 use Rattle.indexset_core.specs.Order.{IsAscending, put}
 use Rattle.indexset_core.proofs.CallerLemmas.{found_ascending, found_has_equal, found_put, gap_has_equal, gap_put, gap_ascending}
 use Rattle.indexset_spine.specs.declared.spot.Spot.{Spot}
-use Rattle.indexset_spine.specs.Cut.{cut, items, position_of, with_replaced}
-use Rattle.indexset_spine.specs.Edits.{TakesSome}
+use Rattle.indexset_spine.specs.NodeList.{node_list, items, position_of, with_replaced}
+use Rattle.indexset_spine.specs.Edits.{FoldsPrefix}
 use Rattle.indexset_spine.proofs.CallerLemmas.{takes_first}
 use Rattle.indexset_set.specs.SetNodes.{nodes_put}
 use Rattle.indexset_set.proofs.SetBulkLemmas.{item_is, rest_ascending}
@@ -31,12 +31,12 @@ module _ (g : Over) (c : After-count_inside-run g) where
       slice_set ns k (fold (put g.T.Ord.cmp) (node_at ns k) (take c.count_inside-run.result (items c.other.inside.spine)))
 
   module _ (positive : 0 < c.count_inside-run.result) where
-    run_moved : TakesSome (put g.T.Ord.cmp) (items c.self.inside.spine) (items c.other.inside.spine) (joined nodes) (drop c.count_inside-run.result (items c.other.inside.spine))
+    run_moved : FoldsPrefix (put g.T.Ord.cmp) (items c.self.inside.spine) (items c.other.inside.spine) (concat nodes) (drop c.count_inside-run.result (items c.other.inside.spine))
     run_moved =
         taken_run g.T.Ord.cmp g.met.T.Ord.total c.self.inside.spine.nodes c.locate_near-spot.result.node c.locate_near-spot.ensures.spot.node_in c.self.inside.spine.size c.node_count-count.ensures.cut c.self.invariant c.item.result.now found
         (items c.other.inside.spine) c.count_inside-run.result c.other.invariant begins positive c.count_inside-run.ensures.below
 
-    run_nodes : TakesSome (λ ms x. nodes_put g.T.Ord.cmp (cut ms c.self.inside.spine.size) x) c.self.inside.spine.nodes (items c.other.inside.spine) nodes (drop c.count_inside-run.result (items c.other.inside.spine))
+    run_nodes : FoldsPrefix (λ ms x. nodes_put g.T.Ord.cmp (node_list ms c.self.inside.spine.size) x) c.self.inside.spine.nodes (items c.other.inside.spine) nodes (drop c.count_inside-run.result (items c.other.inside.spine))
     run_nodes =
         taken_run_nodes g.T.Ord.cmp g.met.T.Ord.total c.self.inside.spine.nodes c.locate_near-spot.result.node c.locate_near-spot.ensures.spot.node_in c.self.inside.spine.size c.node_count-count.ensures.cut c.self.invariant c.item.result.now found
         (items c.other.inside.spine) c.count_inside-run.result c.other.invariant begins positive c.count_inside-run.ensures.below c.count_inside-run.ensures.room
@@ -116,7 +116,7 @@ returns-then-spot-clause-nodes g c =
     let same = item_is (items c.other.inside.spine) (position_of c.other.inside.spine.nodes c.in-Some.first) _ _ c.item.ensures c.remove.ensures.value in
     let first = rw c.in-Some.ensures.1 at c.item.ensures in
     rw (← c.self.view_is, ← c.other.view_is)
-    (takes_first (λ ns x. nodes_put g.T.Ord.cmp (cut ns c.self.inside.spine.size) x) _ _ _ _ some
+    (takes_first (λ ns x. nodes_put g.T.Ord.cmp (node_list ns c.self.inside.spine.size) x) _ _ _ _ some
     (rw first
     (put_there g.T.Ord.cmp c.self.inside.spine c.item.result.now c.locate_near-spot.result _ c.locate_near-spot.ensures.place (found_has_equal _ _ _ _ there)
     (c.replace.ensures.nodes ∙ ap (with_replaced c.self.inside.spine.nodes c.locate_near-spot.result) (sym same))))
@@ -154,7 +154,7 @@ returns-clause-nodes g c =
     let first = rw c.in-Some.ensures.1 at c.item.ensures in
     let inserted = rw first at c.in_ok-insert_from.ensures.nodes in
     rw (← c.self.view_is, ← c.other.view_is)
-    (takes_first (λ ns x. nodes_put g.T.Ord.cmp (cut ns c.self.inside.spine.size) x) _ _ _ _ some
+    (takes_first (λ ns x. nodes_put g.T.Ord.cmp (node_list ns c.self.inside.spine.size) x) _ _ _ _ some
     (rw first (put_new g.T.Ord.cmp c.self.inside.spine c.item.result.now c.locate_near-spot.result _ c.locate_near-spot.ensures.place (gap_has_equal _ _ _ _ gap) inserted))
     c.in_ok-insert_from.ensures.rest)
 

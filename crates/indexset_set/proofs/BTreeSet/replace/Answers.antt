@@ -15,7 +15,7 @@ returns-then-spot g c =
     rw (← c.self.view_is) (record {
       old = sym (found_equal _ _ _ _ there ∙ c.replace.ensures.value);
       ok = put;
-      there = rw put (has_put g.T.Ord.cmp _ _ g.met.T.Ord.total);
+      contains = rw put (has_put g.T.Ord.cmp _ _ g.met.T.Ord.total);
       nodes = put_there g.T.Ord.cmp c.self.inside.spine c.args.value c.locate-spot.result _ c.locate-spot.ensures.place (found_has_equal _ _ _ _ there) c.replace.ensures.nodes;
       size = c.replace.ensures.size;
       no_memory = λ _. refl;
@@ -40,7 +40,7 @@ returns g c =
     rw (← c.self.view_is) (record {
       old = sym (gap_equal _ _ _ _ gap);
       ok = put;
-      there = rw put (has_put g.T.Ord.cmp _ _ g.met.T.Ord.total);
+      contains = rw put (has_put g.T.Ord.cmp _ _ g.met.T.Ord.total);
       nodes = put_new g.T.Ord.cmp c.self.inside.spine c.args.value c.locate-spot.result _ c.locate-spot.ensures.place (gap_has_equal _ _ _ _ gap) c.in_ok-insert.ensures.nodes;
       size = c.insert.ensures.size;
       no_memory = λ _. refl;

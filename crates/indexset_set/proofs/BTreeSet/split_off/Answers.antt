@@ -16,16 +16,16 @@ invariant_of-result g c = rw c.in_ok-spine.ensures.right (tail_up g.T.Ord.cmp _ 
 
 pub returns-clause-below : goal.returns-clause-below
 returns-clause-below g c =
-    rw (← c.self.view_is) (c.in_ok-spine.ensures.left ∙ take_below g.Q.Sought.order _ _ (parted_by_sought g.met.Q.Sought.acts_as_key _ c.self.invariant c.args.value) _ c.locate-spot.ensures.position)
+    rw (← c.self.view_is) (c.in_ok-spine.ensures.left ∙ take_below g.Q.LookupKey.order _ _ (parted_by_sought g.met.Q.LookupKey.acts_as_key _ c.self.invariant c.args.value) _ c.locate-spot.ensures.position)
 
 pub returns-clause-rest : goal.returns-clause-rest
 returns-clause-rest g c =
-    rw (← c.self.view_is) (c.in_ok-spine.ensures.right ∙ drop_not_below g.Q.Sought.order _ _ (parted_by_sought g.met.Q.Sought.acts_as_key _ c.self.invariant c.args.value) _ c.locate-spot.ensures.position)
+    rw (← c.self.view_is) (c.in_ok-spine.ensures.right ∙ drop_not_below g.Q.LookupKey.order _ _ (parted_by_sought g.met.Q.LookupKey.acts_as_key _ c.self.invariant c.args.value) _ c.locate-spot.ensures.position)
 
 pub returns-clause-all_below : goal.returns-clause-all_below
 returns-clause-all_below g c =
-    subst (All (λ x. is_lt (g.Q.Sought.order x c.args.value) ≡ true)) (sym (returns-clause-below g c)) (below_all g.Q.Sought.order _ c.args.value)
+    subst (All (λ x. is_lt (g.Q.LookupKey.order x c.args.value) ≡ true)) (sym (returns-clause-below g c)) (below_all g.Q.LookupKey.order _ c.args.value)
 
 pub returns-clause-all_from : goal.returns-clause-all_from
 returns-clause-all_from g c =
-    subst (All (λ x. is_lt (g.Q.Sought.order x c.args.value) ≡ false)) (sym (returns-clause-rest g c)) (not_below_all g.Q.Sought.order _ c.args.value)
+    subst (All (λ x. is_lt (g.Q.LookupKey.order x c.args.value) ≡ false)) (sym (returns-clause-rest g c)) (not_below_all g.Q.LookupKey.order _ c.args.value)

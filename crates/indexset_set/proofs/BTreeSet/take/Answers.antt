@@ -11,12 +11,12 @@ invariant_of-self g c =
 pub returns-then-spot : goal.returns-then-spot
 returns-then-spot g c =
     let there = rw c.if-spot.true at c.locate-spot.ensures.found in
-    let rest = c.remove.ensures.items ∙ sym (sought_without g.met.T.Ord.total g.met.Q.Names.names_one _ _ _ c.self.invariant there) in
+    let rest = c.remove.ensures.items ∙ sym (sought_without g.met.T.Ord.total g.met.Q.UniqueKey.equals_at_most_one _ _ _ c.self.invariant there) in
     rw (← c.self.view_is) (record {
       value = sym (found_equal _ _ _ _ there ∙ c.remove.ensures.value);
       rest = rest;
-      gone = rw rest (has_none g.Q.Sought.order _ _);
-      nodes = without_there g.Q.Sought.order c.self.inside.spine c.args.value c.locate-spot.result _ c.locate-spot.ensures.place (found_has_equal _ _ _ _ there) c.remove.ensures.nodes;
+      gone = rw rest (has_none g.Q.LookupKey.order _ _);
+      nodes = without_there g.Q.LookupKey.order c.self.inside.spine c.args.value c.locate-spot.result _ c.locate-spot.ensures.place (found_has_equal _ _ _ _ there) c.remove.ensures.nodes;
       size = c.remove.ensures.size;
     })
 
@@ -28,6 +28,6 @@ returns-else-spot g c =
       value = sym (gap_equal _ _ _ _ gap);
       rest = sym (gap_without _ _ _ _ gap);
       gone = absent;
-      nodes = sym (without_none g.Q.Sought.order c.self.inside.spine c.args.value absent);
+      nodes = sym (without_none g.Q.LookupKey.order c.self.inside.spine c.args.value absent);
       size = refl;
     })

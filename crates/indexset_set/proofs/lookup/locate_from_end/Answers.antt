@@ -1,5 +1,5 @@
 use Rattle.std.proofs.Common.{ap}
-use Rattle.indexset_spine.specs.Cut.{items}
+use Rattle.indexset_spine.specs.NodeList.{items}
 use Rattle.indexset_core.proofs.CallerLemmas.{parted_by_item}
 use Rattle.indexset_set.proofs.SetNodeLemmas.{tells_of}
 use Rattle.indexset_set.proofs.lookup.locate_from_end.Goals as goal

@@ -1,5 +1,5 @@
 use Rattle.std.proofs.Common.{◌≡◌, [], ◌∷◌, rules}
-use Rattle.indexset_spine.specs.Cut.{items}
+use Rattle.indexset_spine.specs.NodeList.{items}
 use Rattle.indexset_set.proofs.SetCopyLemmas.{ascends_all, tells_first, tells_next}
 use Rattle.indexset_set.proofs.make.is_ascending.Goals as goal
 

@@ -2,7 +2,7 @@ use Rattle.std.proofs.Common.{rules, ◌≡◌, ℕ, List, [], ◌∷◌, Some, 
 use Rattle.std.proofs.lemmas.Option.{option_and_then_some}
 use Rattle.std.specs.Ordering.{nat_cmp}
 use Rattle.std.specs.Result.{IsErr, IsErrAnd}
-use Rattle.indexset.specs.Words.{replay, step, ChangeEvent, IsAt, IsBeginning, IsNodeList, ReplicaState}
+use Rattle.indexset.specs.Words.{replay, step, ChangeEvent, IsAt, IsPrefix, IsNodeList, ReplicaState}
 use Rattle.indexset_uses.proofs.takeover.resume.Goals as goal
 
 -- where each step leads to nodes, events lead from nodes to nodes
@@ -38,7 +38,7 @@ returns-clause-delivered c =
     (record { within = c.requires.within; nodes = c.requires.snapshot ∙ ap (λ r. Some r.nodes) (sym made); next = omega (arith, ap (λ r. r.next) made) })
 
 -- what the first n events lead to is a beginning
-begins : (es : List (ChangeEvent ℕ)) (n : ℕ) (copy : ReplicaState ℕ) → IsAt nat_cmp 0 [] es n copy → IsBeginning nat_cmp 0 [] es copy
+begins : (es : List (ChangeEvent ℕ)) (n : ℕ) (copy : ReplicaState ℕ) → IsAt nat_cmp 0 [] es n copy → IsPrefix nat_cmp 0 [] es copy
 begins es n copy at = subst (λ m. IsAt nat_cmp 0 [] es m copy) (omega (arith, at.next)) at
 
 pub returns-clause-beginning : goal.returns-clause-beginning

@@ -1,6 +1,6 @@
 use Rattle.indexset_core.proofs.CallerLemmas.{each_bounded, parted_by_key}
-use Rattle.indexset_core.specs.Nodes.{joined}
+use Rattle.indexset_core.specs.Nodes.{concat}
 use Rattle.test_script_logged.proofs.trees.pairs_up_to.Goals as goal
 
 pub count_up_to-requires : goal.count_up_to-requires
-count_up_to-requires g c = each_bounded _ (λ p. parted_by_key g.K.Ord.cmp g.met.K.Ord.total (joined c.args.map.now.nodes) c.node_count-nodes.ensures.lawful.nodes.ascending p.0) c.map.result
+count_up_to-requires g c = each_bounded _ (λ p. parted_by_key g.K.Ord.cmp g.met.K.Ord.total (concat c.args.map.now.nodes) c.node_count-nodes.ensures.lawful.nodes.ascending p.0) c.map.result

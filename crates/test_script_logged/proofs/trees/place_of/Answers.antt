@@ -1,5 +1,5 @@
 use Rattle.std.proofs.Common.{◌≡◌, ℕ, zero, suc, ◌<◌, Result, Ok, Err, IfOk, List, [], ◌∷◌, length, Ordering, true, refl, arith}
-use Rattle.indexset_core.specs.Nodes.{joined, node_at}
+use Rattle.indexset_core.specs.Nodes.{concat, node_at}
 use Rattle.test_script_logged.proofs.trees.place_of.Goals as goal
 use Rattle.indexset_core.specs.Places.{located}
 use Rattle.indexset_core.proofs.CallerLemmas.{IsEnd, located_end, parted_by_item}
@@ -19,7 +19,7 @@ pub locate_by-requires : goal.locate_by-requires
 locate_by-requires g c =
     let law = c.node_count-count.ensures.lawful in
     let rule = law.nodes in
-    rw c.new.ensures (parted_by_item g.T.Ord.cmp g.met.T.Ord.total (joined c.args.tree.now.nodes) rule.ascending c.args.value.now)
+    rw c.new.ensures (parted_by_item g.T.Ord.cmp g.met.T.Ord.total (concat c.args.tree.now.nodes) rule.ascending c.args.value.now)
 
 pub returns-clause-node : goal.returns-clause-node
 returns-clause-node g c =
@@ -27,7 +27,7 @@ returns-clause-node g c =
     let answer : g.row.T.Denot → Ordering = λ x. g.T.Ord.cmp x c.args.value.now in
     let law = c.node_count-count.ensures.lawful in
     let rule = law.nodes in
-    let ends = located_end answer nodes rule.filled (parted_by_item g.T.Ord.cmp g.met.T.Ord.total (joined nodes) rule.ascending c.args.value.now) in
+    let ends = located_end answer nodes rule.filled (parted_by_item g.T.Ord.cmp g.met.T.Ord.total (concat nodes) rule.ascending c.args.value.now) in
     let is : c.locate_by.result ≡ located answer nodes = rw c.new.ensures at c.locate_by.ensures.place in
     let told : IfOk c.locate_by.result (IsEnd answer true nodes) = rw is ends.0 in
     if_ok_map c.locate_by.result (λ p. p.0 < length nodes) told (λ p end. let after = end.after refl in has_node nodes p.0 p.1 (omega (arith, after.offset_in)))
@@ -38,7 +38,7 @@ returns-clause-offset g c =
     let answer : g.row.T.Denot → Ordering = λ x. g.T.Ord.cmp x c.args.value.now in
     let law = c.node_count-count.ensures.lawful in
     let rule = law.nodes in
-    let ends = located_end answer nodes rule.filled (parted_by_item g.T.Ord.cmp g.met.T.Ord.total (joined nodes) rule.ascending c.args.value.now) in
+    let ends = located_end answer nodes rule.filled (parted_by_item g.T.Ord.cmp g.met.T.Ord.total (concat nodes) rule.ascending c.args.value.now) in
     let is : c.locate_by.result ≡ located answer nodes = rw c.new.ensures at c.locate_by.ensures.place in
     let told : IfOk c.locate_by.result (IsEnd answer true nodes) = rw is ends.0 in
     if_ok_map c.locate_by.result (λ p. p.1 < length (node_at nodes p.0)) told (λ p end. let after = end.after refl in omega (arith, after.offset_in))

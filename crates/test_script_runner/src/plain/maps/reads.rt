@@ -5,7 +5,7 @@ use crate::plain::walks::{
     follow, tell_pair, walk_all, walk_keys, walk_owned, walk_owned_keys, walk_owned_values,
     walk_values,
 };
-use indexset_core::bounds::bounds_are_ordered;
+use indexset_core::key_range::bounds_are_ordered;
 use std::hash::{BuildHasher, BuildHasherDefault, FoldHasher};
 use std::str::SplitWhitespace;
 use test_script::script::{Stop, read, read_bound, tell, tell_option};

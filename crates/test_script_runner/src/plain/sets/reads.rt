@@ -1,7 +1,7 @@
 //! Calls that read a set.
 
 use super::{Sets, tell_nodes};
-use indexset_core::bounds::bounds_are_ordered;
+use indexset_core::key_range::bounds_are_ordered;
 use indexset_core::probe::{ByItem, Counting};
 use indexset_set::{BTreeSet, Iter};
 use std::hash::{BuildHasher, BuildHasherDefault, FoldHasher};

@@ -1,6 +1,6 @@
 -- The pairs before the walk have 100 more, and the others wait.
 use Rattle.std.proofs.Common.{◌-◌}
-use Rattle.indexset_map.specs.Walk.{HasWritten, walk_back, walk_front}
+use Rattle.indexset_map.specs.ItemIter.{HasWritten, walk_back, walk_front}
 use Rattle.test_units.specs.Callers.{more}
 use Rattle.test_units.proofs.callers.add_hundred.Given as goal
 

@@ -1,5 +1,5 @@
 use Rattle.std.proofs.Common.{◌≡◌, take}
-use Rattle.indexset_spine.specs.Cut.{items}
+use Rattle.indexset_spine.specs.NodeList.{items}
 use Rattle.test_units.proofs.spine.spine_of.Given as goal
 
 abbrev pub invariant-loop-value : goal.invariant-loop-value

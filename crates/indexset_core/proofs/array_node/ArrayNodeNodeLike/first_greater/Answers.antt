@@ -9,5 +9,5 @@ returns-clause-count g c = rw (c.as_slice.ensures.value, c.self.view_is) at c.fi
 pub returns-clause-fixed : goal.returns-clause-fixed
 returns-clause-fixed g c = c.first_greater.ensures.fixed
 
-pub returns-clause-few : goal.returns-clause-few
-returns-clause-few g c = rw (c.as_slice.ensures.value, c.self.view_is) at c.first_greater.ensures.few
+pub returns-clause-comparisons : goal.returns-clause-comparisons
+returns-clause-comparisons g c = rw (c.as_slice.ensures.value, c.self.view_is) at c.first_greater.ensures.comparisons

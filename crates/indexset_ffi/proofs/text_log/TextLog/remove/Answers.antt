@@ -3,7 +3,7 @@ use Rattle.std.proofs.lemmas.Bool.{false≢true}
 use Rattle.std.proofs.lemmas.Result.{err_from_is_err_and}
 use Rattle.std.specs.Cmp.Lexicographic.{slice_cmp}
 use Rattle.std.specs.Ordering.{nat_cmp}
-use Rattle.indexset_core.specs.Nodes.{joined}
+use Rattle.indexset_core.specs.Nodes.{concat}
 use Rattle.indexset_core.specs.Pairs.{entry_of, pair_of, value_of}
 use Rattle.indexset_log.specs.Changed.{key_removal, refusal_of}
 use Rattle.indexset_ffi.specs.TextLogs.{ToldTree}
@@ -26,6 +26,6 @@ returns-in_err-found-clause-refusal c =
 pub returns-in_err-found-clause-no_event : goal.returns-in_err-found-clause-no_event
 returns-in_err-found-clause-no_event c none =
     let t = c.self.inside.tree in
-    let before = subst (λ (s : ToldTree). value_of (slice_cmp nat_cmp) (joined s.tree.nodes) c.args.key.now ≡ None) (sym c.self.view_is) none in
-    let gone = mapped_none (λ p. p.value) (pair_of (slice_cmp nat_cmp) (joined t.nodes) c.args.key.now) before in
+    let before = subst (λ (s : ToldTree). value_of (slice_cmp nat_cmp) (concat s.tree.nodes) c.args.key.now ≡ None) (sym c.self.view_is) none in
+    let gone = mapped_none (λ p. p.value) (pair_of (slice_cmp nat_cmp) (concat t.nodes) c.args.key.now) before in
     absurd (false≢true (c.in_err-found.ensures.no_event (none_told (slice_cmp nat_cmp) t.size t.nodes c.args.key.now gone)))

@@ -9,10 +9,10 @@ use Rattle.indexset_index.proofs.blocks.Blocks.find.Given.{Over}
 use Rattle.indexset_index.proofs.blocks.Blocks.find.Goals as goal
 
 -- where the block stands
-at : (g : Over) (c : goal.In_ok-block g) → let ls = node_lengths (map g.R.ReadNode.list c.args.nodes.now) in (c.in_ok-block.block < block_count (length c.args.nodes.now)) × (prefix_sum ls (32 * c.in_ok-block.block) + c.in_ok-block.offset ≡ c.args.position) × (c.args.position < sum ls)
+at : (g : Over) (c : goal.In_ok-block g) → let ls = node_lengths (map g.R.NodeItems.list c.args.nodes.now) in (c.in_ok-block.block < block_count (length c.args.nodes.now)) × (prefix_sum ls (32 * c.in_ok-block.block) + c.in_ok-block.offset ≡ c.args.position) × (c.args.position < sum ls)
 at g c =
-    let ls = node_lengths (map g.R.ReadNode.list c.args.nodes.now) in
-    let count = length-lengths g.R.ReadNode.list c.args.nodes.now in
+    let ls = node_lengths (map g.R.NodeItems.list c.args.nodes.now) in
+    let count = length-lengths g.R.NodeItems.list c.args.nodes.now in
     let seen = ap (λ v. v.sums) c.self.view_is ∙ c.requires.sums in
     let found = rw seen at c.in_ok-block.ensures in
     let inside : c.in_ok-block.block < block_count (length ls) = omega (arith, found.0, count-blocks ls) in
@@ -21,7 +21,7 @@ at g c =
 
 pub returns-in_err-block : goal.returns-in_err-block
 returns-in_err-block g c =
-    let ls = node_lengths (map g.R.ReadNode.list c.args.nodes.now) in
+    let ls = node_lengths (map g.R.NodeItems.list c.args.nodes.now) in
     let seen = ap (λ v. v.sums) c.self.view_is ∙ c.requires.sums in
     rw c.from_residual.ensures (omega (arith, c.in_err-block.ensures, ap sum seen, sum-blocks ls))
 
@@ -33,7 +33,7 @@ find_from-requires g c = let there = at g c in omega (arith, there.1, there.2)
 
 pub returns : goal.returns
 returns g c =
-    let ls = node_lengths (map g.R.ReadNode.list c.args.nodes.now) in
+    let ls = node_lengths (map g.R.NodeItems.list c.args.nodes.now) in
     let found = rw (ap (λ v. v.sums) c.self.view_is ∙ c.requires.sums) at c.in_ok-block.ensures in
     let there = prefix-blocks ls c.in_ok-block.block (omega (arith, found.0, count-blocks ls)) in
-    (omega (arith, c.find_from.ensures.node, length-lengths g.R.ReadNode.list c.args.nodes.now), c.find_from.ensures.offset, omega (arith, c.find_from.ensures.place, found.2, there))
+    (omega (arith, c.find_from.ensures.node, length-lengths g.R.NodeItems.list c.args.nodes.now), c.find_from.ensures.offset, omega (arith, c.find_from.ensures.place, found.2, there))

@@ -10,23 +10,23 @@ use Rattle.indexset_index.proofs.blocks.Blocks.remove.Given.{Over}
 use Rattle.indexset_index.proofs.blocks.Blocks.remove.Goals as goal
 
 -- the sums of the blocks that stay are those before
-kept : (g : Over) (c : goal.After-shift_down-arg-1 g) → c.truncate.new.self.lengths ≡ take (block_count (length c.args.nodes.now)) (block_sums (insert (node_lengths (map g.R.ReadNode.list c.args.nodes.now)) c.args.k c.args.n))
+kept : (g : Over) (c : goal.After-shift_down-arg-1 g) → c.truncate.new.self.lengths ≡ take (block_count (length c.args.nodes.now)) (block_sums (insert (node_lengths (map g.R.NodeItems.list c.args.nodes.now)) c.args.k c.args.n))
 kept g c =
     let seen = ap (λ v. v.sums) c.self.view_is ∙ c.requires.before in
     rw (c.truncate.ensures.lengths, seen, c.div_ceil.ensures, div_ceil-is (length c.args.nodes.now)) refl
 
 pub shift_down-requires-clause-count : goal.shift_down-requires-clause-count
 shift_down-requires-clause-count g c =
-    let ls = node_lengths (map g.R.ReadNode.list c.args.nodes.now) in
-    let count = length-lengths g.R.ReadNode.list c.args.nodes.now in
+    let ls = node_lengths (map g.R.NodeItems.list c.args.nodes.now) in
+    let count = length-lengths g.R.NodeItems.list c.args.nodes.now in
     let all = insert ls c.args.k c.args.n in
     let more = length-insert ls c.args.k c.args.n (omega (arith, count, c.requires.inside)) in
     ap (λ l. length l) (kept g c) ∙ length-take-le (block_count (length c.args.nodes.now)) (block_sums all) (omega (arith, count-blocks all, more, count))
 
 pub shift_down-requires-clause-before : goal.shift_down-requires-clause-before
 shift_down-requires-clause-before g c =
-    let ls = node_lengths (map g.R.ReadNode.list c.args.nodes.now) in
-    let count = length-lengths g.R.ReadNode.list c.args.nodes.now in
+    let ls = node_lengths (map g.R.NodeItems.list c.args.nodes.now) in
+    let count = length-lengths g.R.NodeItems.list c.args.nodes.now in
     let all = insert ls c.args.k c.args.n in
     let more = length-insert ls c.args.k c.args.n (omega (arith, count, c.requires.inside)) in
     let blocks = block_count (length c.args.nodes.now) in
@@ -36,5 +36,5 @@ shift_down-requires-clause-before g c =
 
 pub shift_down-requires-clause-fits : goal.shift_down-requires-clause-fits
 shift_down-requires-clause-fits g c =
-    let ls = node_lengths (map g.R.ReadNode.list c.args.nodes.now) in
+    let ls = node_lengths (map g.R.NodeItems.list c.args.nodes.now) in
     omega (arith, ap sum (ap (λ v. v.sums) c.self.view_is ∙ c.requires.before), sum-blocks (insert ls c.args.k c.args.n), sum_by-insert (λ x. x) ls c.args.k c.args.n, c.len-count.ensures.fits)

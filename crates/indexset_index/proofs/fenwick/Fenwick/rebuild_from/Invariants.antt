@@ -5,7 +5,7 @@ use Rattle.indexset_index.proofs.fenwick.Fenwick.rebuild_from.Given as goal
 abbrev pub invariant-loop-self : goal.invariant-loop-self
 invariant-loop-self g l =
     record {
-      same : l.self.lengths ≡ take (length l.self.lengths) (node_lengths (map g.R.ReadNode.list l.nodes));
+      same : l.self.lengths ≡ take (length l.self.lengths) (node_lengths (map g.R.NodeItems.list l.nodes));
       room : l.self.room ≡ l.fn.self.room;
     }
 

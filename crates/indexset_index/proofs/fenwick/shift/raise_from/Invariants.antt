@@ -8,7 +8,7 @@ use Rattle.indexset_index.proofs.fenwick.shift.raise_from.Given as goal
 abbrev pub invariant-loop-i : goal.invariant-loop-i
 invariant-loop-i g l =
     record {
-      cells : IsShifted (lengths_of l.initial.cells) (block_sums (node_lengths (map g.R.ReadNode.list l.nodes))) l.cells l.i;
+      cells : IsShifted (lengths_of l.initial.cells) (block_sums (node_lengths (map g.R.NodeItems.list l.nodes))) l.cells l.i;
       past : l.k < 32 * l.i;
     }
 

@@ -16,7 +16,7 @@ loop-step-init g c =
       power = rw same (omega arith);
       fixed = cc;
       stays = cc;
-      few = omega arith;
+      comparisons = omega arith;
     }
 
 pub overflow_add-sum : goal.overflow_add-sum
@@ -43,7 +43,7 @@ loop-step-preserved g c =
             power = half.2;
             fixed = cc;
             stays = cc;
-            few = rw w.cells-is (omega arith);
+            comparisons = rw w.cells-is (omega arith);
           }
       | then-step-count+else-sum-position w ↦
           let cell : w.read.result ≡ cell_of g.lengths (node + step) = cc (c.requires.1.each (node + step) (omega arith) (omega arith)) in
@@ -52,7 +52,7 @@ loop-step-preserved g c =
             power = half.2;
             fixed = cc;
             stays = cc;
-            few = rw w.cells-is (omega arith);
+            comparisons = rw w.cells-is (omega arith);
           }
       | else-step-count w ↦
           record {
@@ -60,6 +60,6 @@ loop-step-preserved g c =
             power = half.2;
             fixed = cc;
             stays = cc;
-            few = rw w.cells-is (omega arith);
+            comparisons = rw w.cells-is (omega arith);
           }
     ]

@@ -1,6 +1,6 @@
 use Rattle.std.proofs.Common.{rules, ap, ◌∙◌}
 use Rattle.std.proofs.lemmas.Result.{err_from_is_err_and}
-use Rattle.indexset_log.proofs.Beside.{added_written}
+use Rattle.indexset_log.proofs.OtherKeyLemmas.{added_written}
 use Rattle.indexset_log.proofs.map.BTreeMap.checked_insert.Goals as goal
 
 pub returns-in_err-added : goal.returns-in_err-added
@@ -14,7 +14,7 @@ returns-in_err-added g c =
       no_event = done.no_event;
       given_back = e.2.0 ∙ ap (λ p. (p.key, p.value)) done.given_back;
       unchanged = done.unchanged;
-      there = tt;
+      contains = tt;
       written = tt;
       changed = tt;
     })
@@ -28,7 +28,7 @@ returns g c =
       no_event = done.no_event;
       given_back = tt;
       unchanged = tt;
-      there = done.there;
+      contains = done.contains;
       written = added_written g.met.K.Ord.total _ _ c.args.key c.args.value c.then_some.result (search rules) done.changed.contents;
       changed = done.changed;
     }

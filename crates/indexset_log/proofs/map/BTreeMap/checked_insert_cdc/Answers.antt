@@ -1,7 +1,7 @@
 use Rattle.std.proofs.Common.{ap, ◌∙◌}
 use Rattle.std.proofs.lemmas.Result.{err_from_is_err_and}
-use Rattle.indexset_log.proofs.Beside.{added_written}
-use Rattle.indexset_log.proofs.Changed.{if_some_map, pairs_told}
+use Rattle.indexset_log.proofs.OtherKeyLemmas.{added_written}
+use Rattle.indexset_log.proofs.ChangeLemmas.{if_some_map, pairs_told}
 use Rattle.indexset_log.proofs.map.BTreeMap.checked_insert_cdc.Goals as goal
 
 pub returns-in_err-put_cdc_checked : goal.returns-in_err-put_cdc_checked
@@ -15,10 +15,10 @@ returns-in_err-put_cdc_checked g c =
       no_event = done.no_event;
       given_back = e.2.0 ∙ ap (λ p. (p.key, p.value)) done.given_back;
       unchanged = done.unchanged;
-      there = tt;
+      contains = tt;
       written = tt;
       changed = tt;
-      told = tt;
+      events = tt;
     })
 
 pub returns : goal.returns
@@ -30,8 +30,8 @@ returns g c =
       no_event = done.no_event;
       given_back = tt;
       unchanged = tt;
-      there = done.there;
+      contains = done.contains;
       written = added_written g.met.K.Ord.total _ _ c.args.key c.args.value c.in_ok-put_cdc_checked.field-0 done.answer done.changed.contents;
       changed = done.changed;
-      told = if_some_map c.in_ok-put_cdc_checked.field-0 done.told (λ _ told. pairs_told g.K.Ord.cmp g.K.Clone.is_clone g.V.Clone.is_clone told);
+      events = if_some_map c.in_ok-put_cdc_checked.field-0 done.events (λ _ told. pairs_told g.K.Ord.cmp g.K.Clone.is_clone g.V.Clone.is_clone told);
     }

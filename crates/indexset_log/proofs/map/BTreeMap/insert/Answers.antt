@@ -2,7 +2,7 @@ use Rattle.std.proofs.Common.{rules, ap, ◌∙◌}
 use Rattle.std.proofs.lemmas.Result.{err_from_is_err_and}
 use Rattle.indexset_core.proofs.CallerLemmas.{value_put}
 use Rattle.indexset_core.specs.Pairs.{value_of}
-use Rattle.indexset_log.proofs.Beside.{others_put}
+use Rattle.indexset_log.proofs.OtherKeyLemmas.{others_put}
 use Rattle.indexset_log.proofs.map.BTreeMap.insert.Goals as goal
 
 pub returns : goal.returns
@@ -14,7 +14,7 @@ returns g c =
       refusal = tt;
       given_back = tt;
       unchanged = tt;
-      there = done.there;
+      contains = done.contains;
       written = ap (λ l. value_of g.K.Ord.cmp l c.args.key) contents ∙ value_put g.K.Ord.cmp g.met.K.Ord.total _ c.args.key c.args.value;
       others = others_put c.args.self.now.nodes c.put.new.self.nodes g.met.K.Ord.total c.args.key c.args.value contents;
       changed = done.changed;
@@ -30,7 +30,7 @@ returns-in_err-old g c =
       refusal = why.2.1 ∙ done.refusal;
       given_back = why.2.0 ∙ ap (λ p. (p.key, p.value)) done.given_back;
       unchanged = done.unchanged;
-      there = tt;
+      contains = tt;
       written = tt;
       others = tt;
       changed = tt;

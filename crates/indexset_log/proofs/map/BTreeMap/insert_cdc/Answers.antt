@@ -3,8 +3,8 @@ use Rattle.std.proofs.lemmas.Result.{err_from_is_err_and}
 use Rattle.std.specs.Option.{option_map}
 use Rattle.indexset_core.proofs.CallerLemmas.{value_put}
 use Rattle.indexset_core.specs.Pairs.{value_of}
-use Rattle.indexset_log.proofs.Beside.{others_put}
-use Rattle.indexset_log.proofs.Changed.{pairs_told}
+use Rattle.indexset_log.proofs.OtherKeyLemmas.{others_put}
+use Rattle.indexset_log.proofs.ChangeLemmas.{pairs_told}
 use Rattle.indexset_log.proofs.map.BTreeMap.insert_cdc.Goals as goal
 
 pub returns : goal.returns
@@ -16,11 +16,11 @@ returns g c =
       refusal = tt;
       given_back = tt;
       unchanged = tt;
-      there = done.there;
+      contains = done.contains;
       written = ap (λ l. value_of g.K.Ord.cmp l c.args.key) contents ∙ value_put g.K.Ord.cmp g.met.K.Ord.total _ c.args.key c.args.value;
       others = others_put c.args.self.now.nodes c.put_cdc.new.self.nodes g.met.K.Ord.total c.args.key c.args.value contents;
       changed = done.changed;
-      told = pairs_told g.K.Ord.cmp g.K.Clone.is_clone g.V.Clone.is_clone done.told;
+      events = pairs_told g.K.Ord.cmp g.K.Clone.is_clone g.V.Clone.is_clone done.events;
     }
 
 pub returns-in_err-old : goal.returns-in_err-old
@@ -33,9 +33,9 @@ returns-in_err-old g c =
       refusal = why.2.1 ∙ done.refusal;
       given_back = why.2.0 ∙ ap (λ p. (p.key, p.value)) done.given_back;
       unchanged = done.unchanged;
-      there = tt;
+      contains = tt;
       written = tt;
       others = tt;
       changed = tt;
-      told = tt;
+      events = tt;
     })

@@ -1,7 +1,7 @@
 use Rattle.std.proofs.Common.{rules, ◌≡◌, IfErr, ap, refl, subst, ◌∙◌}
 use Rattle.std.specs.Option.{option_map}
 use Rattle.indexset_core.specs.Pairs.{entry_of}
-use Rattle.indexset_log.proofs.Changed.{pairs_told}
+use Rattle.indexset_log.proofs.ChangeLemmas.{pairs_told}
 use Rattle.indexset_log.proofs.map.BTreeMap.pop_first_cdc.Goals as goal
 
 pub returns-in_err-pair-clause-refusal : goal.returns-in_err-pair-clause-refusal
@@ -18,5 +18,5 @@ returns g c =
       no_event = λ _. refl;
       unchanged = tt;
       changed = done.changed;
-      told = pairs_told g.K.Ord.cmp g.K.Clone.is_clone g.V.Clone.is_clone done.told;
+      events = pairs_told g.K.Ord.cmp g.K.Clone.is_clone g.V.Clone.is_clone done.events;
     }

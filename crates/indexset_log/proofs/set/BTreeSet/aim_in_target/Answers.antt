@@ -4,10 +4,10 @@ use Rattle.std.specs.Ordering.{is_gt}
 use Rattle.indexset_core.specs.Nodes.{node_at, node_for}
 use Rattle.indexset_core.specs.Order.{IsFoundAt, IsGapFor}
 use Rattle.indexset_events.specs.Nodes.{last_of}
-use Rattle.indexset_events.specs.Table.{part_for, is_past}
+use Rattle.indexset_events.specs.Table.{part_for, is_after_last}
 use Rattle.indexset_events.proofs.CallerLemmas.{ascends, half_and, half_up, last_of_take, lawful_filled, lawful_parted, lawful_ruled, up_node}
 use Rattle.indexset_log.proofs.set.BTreeSet.aim_in_target.Goals as goal
-use Rattle.indexset_log.proofs.Trees.{held, node_held}
+use Rattle.indexset_log.proofs.TreeViewLemmas.{held, node_held}
 use Rattle.indexset_log.proofs.set.BTreeSet.aim_in_target.Given.{Over}
 use Rattle.indexset_log.proofs.set.BTreeSet.aim_in_target.Goals.{After-as_slice-items, then-full, else-full}
 
@@ -41,7 +41,7 @@ returns g c =
     let r = read g (goal.at.returns g c).After-as_slice-items in
     let n = node_at c.args.self.now.nodes c.node_by-node.result in
     let held = r.2 in
-    let past : Bool = is_past cmp (take (length n / 2) n) v in
+    let past : Bool = is_after_last cmp (take (length n / 2) n) v in
     let full : nat_eq (length c.as_slice-items.result.now) c.self.inside.size ≡ eqb (length n) c.args.self.now.size = rw (held, size) refl in
     let right : c.if-full.right ≡ (eqb (length n) c.args.self.now.size && past) =
     elim c.if-full.branch [

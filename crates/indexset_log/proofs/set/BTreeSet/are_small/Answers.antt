@@ -1,5 +1,5 @@
 use Rattle.std.proofs.Common.{arith}
-use Rattle.indexset_log.proofs.Trees.{held}
+use Rattle.indexset_log.proofs.TreeViewLemmas.{held}
 use Rattle.indexset_log.proofs.set.BTreeSet.are_small.Goals as goal
 
 pub overflow_add-left : goal.overflow_add-left

@@ -1,6 +1,6 @@
 use Rattle.std.proofs.Common.{arith}
 use Rattle.indexset_events.proofs.CallerLemmas.{attach_index_le, lawful_ascends}
-use Rattle.indexset_log.proofs.Trees.{attached_tree, held}
+use Rattle.indexset_log.proofs.TreeViewLemmas.{attached_tree, held}
 use Rattle.indexset_log.proofs.set.BTreeSet.attach_node.Goals as goal
 
 pub insert_node-requires-clause-place : goal.insert_node-requires-clause-place

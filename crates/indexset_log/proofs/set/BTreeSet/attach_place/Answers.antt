@@ -3,7 +3,7 @@ use Rattle.indexset_core.specs.declared.refusal.Refusal.TheVariants.{Overlaps}
 use Rattle.indexset_events.specs.Attach.{attach_index, attach_refusal}
 use Rattle.indexset_events.specs.Nodes.{is_ascending, is_filled}
 use Rattle.indexset_events.proofs.CallerLemmas.{attach_told, filled_first, lawful_ruled, refused_empty, refused_large, refused_unsorted}
-use Rattle.indexset_log.proofs.Trees.{held}
+use Rattle.indexset_log.proofs.TreeViewLemmas.{held}
 use Rattle.indexset_log.proofs.set.BTreeSet.attach_place.Given.{Over}
 use Rattle.indexset_log.proofs.set.BTreeSet.attach_place.Goals.{In-Some, After-starts_above}
 use Rattle.indexset_log.proofs.set.BTreeSet.attach_place.Goals as goal

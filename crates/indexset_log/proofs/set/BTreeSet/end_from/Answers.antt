@@ -2,8 +2,8 @@ use Rattle.std.proofs.Common.{◌≡◌, ℕ, ◌+◌, ◌-◌, ◌<◌, ◌≤�
 use Rattle.indexset_core.specs.Nodes.{node_at}
 use Rattle.indexset_core.specs.Parted.{not_greater_count}
 use Rattle.indexset_core.proofs.CallerLemmas.{parted_node}
-use Rattle.indexset_log.proofs.Runs.{at_most_all, before, ends_here, ends_inside, few_far, few_near, reaches, whole}
-use Rattle.indexset_log.proofs.Trees.{held, node_held}
+use Rattle.indexset_log.proofs.GallopLemmas.{at_most_all, before, ends_here, ends_inside, few_far, few_near, reaches, whole}
+use Rattle.indexset_log.proofs.TreeViewLemmas.{held, node_held}
 use Rattle.indexset_events.proofs.CallerLemmas.{lawful_filled, node_some}
 use Rattle.indexset_log.proofs.set.BTreeSet.end_from.Given.{Over}
 use Rattle.indexset_log.proofs.set.BTreeSet.end_from.Goals.{After-as_slice-2, After-as_slice-items, After-last_started-last, After-run_end, After-run_end-end}
@@ -91,9 +91,9 @@ returns-then-last-node-clause-before g c =
     let same : c.last_started-last.result ≡ c.args.node = c.if-last-node.true in
     rw end (ends_here (g.P.Probe.answer c.args.probe.now) c.args.self.now.nodes c.requires.parted c.args.node c.requires.node (omega (arith, some)) (rw same at l.ended))
 
-pub returns-then-last-node-clause-few : goal.returns-then-last-node-clause-few
-returns-then-last-node-clause-few g c =
-    let at = goal.at.returns-then-last-node-clause-few g c in
+pub returns-then-last-node-clause-comparisons : goal.returns-then-last-node-clause-comparisons
+returns-then-last-node-clause-comparisons g c =
+    let at = goal.at.returns-then-last-node-clause-comparisons g c in
     let is = read g at.After-as_slice-items in
     let end = end_is g at.After-run_end-end is in
     let some = begun g at.After-as_slice-items in
@@ -101,7 +101,7 @@ returns-then-last-node-clause-few g c =
     let none : c.last_started-last.result - c.args.node ≡ 0 = omega (arith, same) in
     let le = at_most_all (g.P.Probe.answer c.args.probe.now) (node_at c.args.self.now.nodes c.args.node) in
     let full : c.run_end-end.result ≡ length c.as_slice-items.result.now = omega (arith, c.if-end-items.false, end, le, ap (λ l. length l) is) in
-    few_near (before c.args.self.now.nodes c.args.node) c.args.offset c.run_end-end.result (g.P.Probe.asked c.run_end-end.new.probe) (g.P.Probe.asked c.last_started-last.new.probe) (g.P.Probe.asked c.args.probe.now) (omega (arith, end, some)) c.run_end-end.ensures.few (λ e. c.run_end-end.ensures.unasked (omega (arith, e, full))) (rw none at c.last_started-last.ensures.few)
+    few_near (before c.args.self.now.nodes c.args.node) c.args.offset c.run_end-end.result (g.P.Probe.asked c.run_end-end.new.probe) (g.P.Probe.asked c.last_started-last.new.probe) (g.P.Probe.asked c.args.probe.now) (omega (arith, end, some)) c.run_end-end.ensures.comparisons (λ e. c.run_end-end.ensures.unasked (omega (arith, e, full))) (rw none at c.last_started-last.ensures.comparisons)
 
 pub run_end-requires-clause-parted : goal.run_end-requires-clause-parted
 run_end-requires-clause-parted g c =
@@ -125,16 +125,16 @@ returns-clause-before g c =
     let l = last g at.After-last_started-last in
     rw (end_last g at.After-run_end l.fixed (read_last g at.After-as_slice-2 l.inside)) (ends_here (g.P.Probe.answer c.args.probe.now) c.args.self.now.nodes c.requires.parted c.last_started-last.result l.inside (begun_last g at.After-last_started-last l) l.ended)
 
-pub returns-clause-few : goal.returns-clause-few
-returns-clause-few g c =
-    let at = goal.at.returns-clause-few g c in
+pub returns-clause-comparisons : goal.returns-clause-comparisons
+returns-clause-comparisons g c =
+    let at = goal.at.returns-clause-comparisons g c in
     let is = read g at.After-as_slice-items in
     let end = end_is g at.After-run_end-end is in
     let l = last g at.After-last_started-last in
     let le = at_most_all (g.P.Probe.answer c.args.probe.now) (node_at c.args.self.now.nodes c.args.node) in
     let full : c.run_end-end.result ≡ length (node_at c.args.self.now.nodes c.args.node) = omega (arith, c.if-end-items.false, end, le, ap (λ l. length l) is) in
     let some = begun_last g at.After-last_started-last l in
-    few_far c.args.self.now.nodes l.filled c.args.node c.last_started-last.result c.args.offset c.run_end.result (g.P.Probe.asked c.run_end-end.new.probe) (g.P.Probe.asked c.last_started-last.new.probe) (g.P.Probe.asked c.run_end.new.probe) (g.P.Probe.asked c.args.probe.now) c.requires.offset (omega (arith, c.last_started-last.ensures.order, c.if-last-node.false)) l.inside (omega (arith, some, end_last g at.After-run_end l.fixed (read_last g at.After-as_slice-2 l.inside))) (rw full at c.run_end-end.ensures.few) c.last_started-last.ensures.few c.run_end.ensures.few
+    few_far c.args.self.now.nodes l.filled c.args.node c.last_started-last.result c.args.offset c.run_end.result (g.P.Probe.asked c.run_end-end.new.probe) (g.P.Probe.asked c.last_started-last.new.probe) (g.P.Probe.asked c.run_end.new.probe) (g.P.Probe.asked c.args.probe.now) c.requires.offset (omega (arith, c.last_started-last.ensures.order, c.if-last-node.false)) l.inside (omega (arith, some, end_last g at.After-run_end l.fixed (read_last g at.After-as_slice-2 l.inside))) (rw full at c.run_end-end.ensures.comparisons) c.last_started-last.ensures.comparisons c.run_end.ensures.comparisons
 
 pub returns-then-end-items-clause-place : goal.returns-then-end-items-clause-place
 returns-then-end-items-clause-place g c =

@@ -1,4 +1,4 @@
-use Rattle.indexset_log.proofs.Ends.{first_least}
+use Rattle.indexset_log.proofs.EndRemovalLemmas.{first_least}
 use Rattle.indexset_log.proofs.set.BTreeSet.first.Goals as goal
 
 pub returns-clause-least : goal.returns-clause-least

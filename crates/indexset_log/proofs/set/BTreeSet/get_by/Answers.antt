@@ -1,6 +1,6 @@
 use Rattle.std.proofs.Common.{ap, ◌∙◌, sym, slice_get}
 use Rattle.indexset_events.proofs.CallerLemmas.{lawful_filled}
-use Rattle.indexset_log.proofs.Trees.{held, node_held}
+use Rattle.indexset_log.proofs.TreeViewLemmas.{held, node_held}
 use Rattle.indexset_log.proofs.set.BTreeSet.get_by.Goals as goal
 use Rattle.indexset_core.proofs.CallerLemmas.{end_found, end_node, gap_found}
 

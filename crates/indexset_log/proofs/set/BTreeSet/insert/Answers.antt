@@ -1,7 +1,7 @@
 use Rattle.std.proofs.Common.{not, refl, ap, sym, ◌∙◌}
-use Rattle.indexset_core.specs.Nodes.{joined}
-use Rattle.indexset_log.proofs.Changed.{checked_changed, keep_there, there_changed}
-use Rattle.indexset_log.proofs.Trees.{tree_of}
+use Rattle.indexset_core.specs.Nodes.{concat}
+use Rattle.indexset_log.proofs.ChangeLemmas.{checked_changed, keep_there, there_changed}
+use Rattle.indexset_log.proofs.TreeViewLemmas.{tree_of}
 use Rattle.indexset_log.proofs.set.BTreeSet.insert.Goals as goal
 
 -- an equal item is there
@@ -14,7 +14,7 @@ returns-then-finds_equal g c =
       no_event = λ _. refl;
       given_back = tt;
       unchanged = tt;
-      there = sym there;
+      contains = sym there;
       changed = there_changed g.T.Ord.cmp c.args.self.now c.args.value c.aim-aim.ensures.number there;
     }
 
@@ -31,6 +31,6 @@ returns-in-Ok g c =
       no_event = λ _. refl;
       given_back = tt;
       unchanged = tt;
-      there = keep_there g.met.T.Ord.total (joined c.args.self.now.nodes) c.args.value absent d.contents;
+      contains = keep_there g.met.T.Ord.total (concat c.args.self.now.nodes) c.args.value absent d.contents;
       changed = d;
     }

@@ -1,4 +1,4 @@
-use Rattle.indexset_log.proofs.Ends.{last_greatest}
+use Rattle.indexset_log.proofs.EndRemovalLemmas.{last_greatest}
 use Rattle.indexset_log.proofs.set.BTreeSet.last.Goals as goal
 
 pub returns-clause-greatest : goal.returns-clause-greatest

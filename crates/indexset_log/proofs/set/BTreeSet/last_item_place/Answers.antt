@@ -1,8 +1,8 @@
 use Rattle.std.proofs.Common.{◌≡◌, ◌+◌, ◌-◌, ◌≤◌, length, ap, ◌∙◌, arith}
 use Rattle.std.proofs.lemmas.Grind.{common_steps}
 use Rattle.indexset_core.specs.Nodes.{node_at}
-use Rattle.indexset_log.proofs.Ends.{last_there}
-use Rattle.indexset_log.proofs.Trees.{held, node_held}
+use Rattle.indexset_log.proofs.EndRemovalLemmas.{last_there}
+use Rattle.indexset_log.proofs.TreeViewLemmas.{held, node_held}
 use Rattle.indexset_events.proofs.CallerLemmas.{node_some}
 use Rattle.indexset_log.proofs.set.BTreeSet.last_item_place.Given.{Over}
 use Rattle.indexset_log.proofs.set.BTreeSet.last_item_place.Goals as goal

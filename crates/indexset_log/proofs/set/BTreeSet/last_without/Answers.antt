@@ -4,7 +4,7 @@ use Rattle.std.proofs.lemmas.List.{get_or-set_other}
 use Rattle.indexset_core.specs.Nodes.{node_at}
 use Rattle.indexset_core.proofs.CallerLemmas.{read_item}
 use Rattle.indexset_events.proofs.CallerLemmas.{last_some, node_some}
-use Rattle.indexset_log.proofs.Trees.{held, node_held}
+use Rattle.indexset_log.proofs.TreeViewLemmas.{held, node_held}
 use Rattle.indexset_log.proofs.set.BTreeSet.last_without.Goals as goal
 
 pub overflow_sub-result : goal.overflow_sub-result

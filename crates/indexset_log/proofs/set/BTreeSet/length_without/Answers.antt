@@ -2,7 +2,7 @@ use Rattle.std.proofs.Common.{arith, length, [], ap, remove}
 use Rattle.std.proofs.lemmas.List.{get_or-set_same}
 use Rattle.std.proofs.lemmas.List.Edits.{length-remove}
 use Rattle.indexset_core.specs.Nodes.{node_at}
-use Rattle.indexset_log.proofs.Trees.{held, node_held}
+use Rattle.indexset_log.proofs.TreeViewLemmas.{held, node_held}
 use Rattle.indexset_events.proofs.CallerLemmas.{node_some}
 use Rattle.indexset_log.proofs.set.BTreeSet.length_without.Goals as goal
 

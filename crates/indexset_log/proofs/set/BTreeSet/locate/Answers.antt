@@ -2,8 +2,8 @@ use Rattle.indexset_core.specs.Digits.{digits}
 use Rattle.indexset_events.proofs.CallerLemmas.{lawful_filled}
 use Rattle.indexset_log.proofs.set.BTreeSet.locate.Goals as goal
 use Rattle.std.proofs.Common.{length, arith, ap, sym, ◌∙◌}
-use Rattle.indexset_log.proofs.Trees.{held}
-use Rattle.indexset_events.proofs.Views.{lawful_filled}
+use Rattle.indexset_log.proofs.TreeViewLemmas.{held}
+use Rattle.indexset_events.proofs.NodeViewLemmas.{lawful_filled}
 
 pub locate_by-requires-clause-filled : goal.locate_by-requires-clause-filled
 locate_by-requires-clause-filled g c = rw c.as_slice.ensures.value (λ _. lawful_filled g.T.Ord.cmp c.self.inside.size _ c.self.invariant.tree.lawful)
@@ -18,12 +18,12 @@ returns-clause-place g c =
     let t = held g.Node.NodeLike.list c.self.inside.nodes.items c.self.view_is c.self.invariant in
     rw (c.as_slice.ensures.value, t.same) at c.locate_by.ensures.place
 
-pub returns-clause-few : goal.returns-clause-few
-returns-clause-few g c =
+pub returns-clause-comparisons : goal.returns-clause-comparisons
+returns-clause-comparisons g c =
     let t = held g.Node.NodeLike.list c.self.inside.nodes.items c.self.view_is c.self.invariant in
     let law = t.rule.lawful in
     let many = ap digits (ap (λ l. length l) c.as_slice.ensures.value ∙ sym t.many) in
-    omega (arith, many, c.locate_by.ensures.few c.args.self.now.size (rw (c.as_slice.ensures.value, t.same) law.bounded))
+    omega (arith, many, c.locate_by.ensures.comparisons c.args.self.now.size (rw (c.as_slice.ensures.value, t.same) law.bounded))
 
 pub returns-clause-unasked : goal.returns-clause-unasked
 returns-clause-unasked g c none =

@@ -4,7 +4,7 @@ use Rattle.std.specs.Ordering.{is_lt}
 use Rattle.indexset_core.specs.Nodes.{node_at, node_for}
 use Rattle.indexset_events.specs.Replay.{reaches}
 use Rattle.indexset_events.proofs.CallerLemmas.{ends_at, lawful_filled, lawful_parted, min_place_here, min_place_past, never_none}
-use Rattle.indexset_log.proofs.Trees.{held}
+use Rattle.indexset_log.proofs.TreeViewLemmas.{held}
 use Rattle.indexset_log.proofs.set.BTreeSet.nodes_below.Given.{Over}
 use Rattle.indexset_log.proofs.set.BTreeSet.nodes_below.Goals.{After-index, In-Some}
 use Rattle.indexset_log.proofs.set.BTreeSet.nodes_below.Goals as goal

@@ -1,8 +1,8 @@
 use Rattle.std.proofs.Common.{◌≡◌, ◌+◌, length, ap, ◌∙◌, arith}
 use Rattle.indexset_core.specs.Nodes.{node_at}
 use Rattle.indexset_core.specs.Places.{items_before}
-use Rattle.indexset_log.proofs.Runs.{next_place}
-use Rattle.indexset_log.proofs.Trees.{held, node_held}
+use Rattle.indexset_log.proofs.GallopLemmas.{next_place}
+use Rattle.indexset_log.proofs.TreeViewLemmas.{held, node_held}
 use Rattle.indexset_log.proofs.set.BTreeSet.place_ahead.Goals as goal
 
 pub loop-offset-preserved : goal.loop-offset-preserved

@@ -1,5 +1,5 @@
 use Rattle.indexset_index.proofs.CallerLemmas.{place-found}
-use Rattle.indexset_log.proofs.Trees.{held}
+use Rattle.indexset_log.proofs.TreeViewLemmas.{held}
 use Rattle.indexset_log.proofs.set.BTreeSet.place_at.Goals as goal
 
 pub find-requires : goal.find-requires

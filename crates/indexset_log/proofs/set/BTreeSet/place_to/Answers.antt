@@ -1,5 +1,5 @@
-use Rattle.indexset_log.proofs.Trees.{held}
-use Rattle.indexset_events.proofs.Views.{lawful_filled}
+use Rattle.indexset_log.proofs.TreeViewLemmas.{held}
+use Rattle.indexset_events.proofs.NodeViewLemmas.{lawful_filled}
 use Rattle.indexset_log.proofs.set.BTreeSet.place_to.Goals as goal
 
 pub place_to-requires-clause-filled : goal.place_to-requires-clause-filled

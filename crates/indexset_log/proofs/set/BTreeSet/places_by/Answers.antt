@@ -3,17 +3,17 @@ use Rattle.std.proofs.lemmas.Grind.{common_steps}
 use Rattle.std.proofs.lemmas.List.Sums.{count_by-le-length}
 use Rattle.std.specs.Ordering.{is_lt}
 use Rattle.indexset_core.specs.Digits.{digits}
-use Rattle.indexset_core.specs.Nodes.{equal_at, joined, node_at, node_for}
+use Rattle.indexset_core.specs.Nodes.{equal_at, concat, node_at, node_for}
 use Rattle.indexset_core.specs.Parted.{less_count, not_greater_count}
 use Rattle.indexset_core.specs.Places.{IsPlace, items_before}
-use Rattle.indexset_log.proofs.Runs.{equal_goes_on, none_equal}
-use Rattle.indexset_log.proofs.Trees.{held, node_held}
+use Rattle.indexset_log.proofs.GallopLemmas.{equal_goes_on, none_equal}
+use Rattle.indexset_log.proofs.TreeViewLemmas.{held, node_held}
 use Rattle.indexset_events.proofs.CallerLemmas.{lawful_filled, lawful_small}
 use Rattle.indexset_log.proofs.set.BTreeSet.places_by.Given.{Over}
 use Rattle.indexset_log.proofs.set.BTreeSet.places_by.Goals.{After-as_slice-2, After-first_not_less_near-offset, Then-is_empty}
 use Rattle.indexset_log.proofs.set.BTreeSet.places_by.Goals as goal
 use Rattle.indexset_core.proofs.CallerLemmas.{digits-mono, equal_inside, parted_node, place_for, equal_joined}
-use Rattle.indexset_events.proofs.Views.{lawful_filled, lawful_small}
+use Rattle.indexset_events.proofs.NodeViewLemmas.{lawful_filled, lawful_small}
 
 -- the node that the search reads
 record Read {T : Type 0} (answer : T → Ordering) (ns : List (List T)) (k : ℕ) (items : List T) : Type 0 where
@@ -39,8 +39,8 @@ read g c =
 record Found (g : Over) (c : After-first_not_less_near-offset g) : Type 0 where
   pub offset : c.first_not_less_near-offset.result.0 ≡ less_count (g.P.Probe.answer c.args.probe.now) (node_at c.args.self.now.nodes c.node_by-node.result)
   pub here : equal_at (g.P.Probe.answer c.args.probe.now) (node_at c.args.self.now.nodes c.node_by-node.result) c.first_not_less_near-offset.result.0 ≡ c.first_not_less_near-offset.result.1
-  pub before : items_before c.args.self.now.nodes (c.node_by-node.result, c.first_not_less_near-offset.result.0) ≡ less_count (g.P.Probe.answer c.args.probe.now) (joined c.args.self.now.nodes)
-  pub told : equal_at (g.P.Probe.answer c.args.probe.now) (joined c.args.self.now.nodes) (less_count (g.P.Probe.answer c.args.probe.now) (joined c.args.self.now.nodes)) ≡ c.first_not_less_near-offset.result.1
+  pub before : items_before c.args.self.now.nodes (c.node_by-node.result, c.first_not_less_near-offset.result.0) ≡ less_count (g.P.Probe.answer c.args.probe.now) (concat c.args.self.now.nodes)
+  pub told : equal_at (g.P.Probe.answer c.args.probe.now) (concat c.args.self.now.nodes) (less_count (g.P.Probe.answer c.args.probe.now) (concat c.args.self.now.nodes)) ≡ c.first_not_less_near-offset.result.1
   pub fixed : g.P.Probe.answer c.first_not_less_near-offset.new.probe ≡ g.P.Probe.answer c.args.probe.now
   pub few : g.P.Probe.asked c.first_not_less_near-offset.new.probe ≤ g.P.Probe.asked c.args.probe.now + (digits (length c.args.self.now.nodes) + digits c.args.self.now.size)
 
@@ -60,7 +60,7 @@ found g c r =
       before = rw (offset, r.named) (place_for answer ns r.some (λ _. filled) c.requires);
       told = equal_joined answer ns r.some filled c.requires ∙ rw (offset, r.named) at here;
       fixed = near.fixed ∙ c.node_by-node.ensures.fixed;
-      few = omega (arith, c.node_by-node.ensures.few, near.few, ap (λ l. digits (length l)) r.is, digits-mono _ _ small, ap (λ l. digits (length l)) c.as_slice.ensures.value, ap digits t.many);
+      comparisons = omega (arith, c.node_by-node.ensures.comparisons, near.comparisons, ap (λ l. digits (length l)) r.is, digits-mono _ _ small, ap (λ l. digits (length l)) c.as_slice.ensures.value, ap digits t.many);
     }
 
 pub node_by-node-requires-clause-filled : goal.node_by-node-requires-clause-filled
@@ -86,7 +86,7 @@ pub end_from-requires-clause-started : goal.end_from-requires-clause-started
 end_from-requires-clause-started g c =
     let at = goal.at.end_from-requires-clause-started g c in
     let f = found g at.After-first_not_less_near-offset (read g at.After-as_slice-2) in
-    rw f.fixed (omega (arith, f.before, equal_goes_on (g.P.Probe.answer c.args.probe.now) (joined c.args.self.now.nodes) c.requires (f.told ∙ c.if-found.true)))
+    rw f.fixed (omega (arith, f.before, equal_goes_on (g.P.Probe.answer c.args.probe.now) (concat c.args.self.now.nodes) c.requires (f.told ∙ c.if-found.true)))
 
 pub returns-then-found-clause-before : goal.returns-then-found-clause-before
 returns-then-found-clause-before g c =
@@ -94,11 +94,11 @@ returns-then-found-clause-before g c =
     let f = found g at.After-first_not_less_near-offset (read g at.After-as_slice-2) in
     f.before
 
-pub returns-then-found-clause-few : goal.returns-then-found-clause-few
-returns-then-found-clause-few g c =
-    let at = goal.at.returns-then-found-clause-few g c in
+pub returns-then-found-clause-comparisons : goal.returns-then-found-clause-comparisons
+returns-then-found-clause-comparisons g c =
+    let at = goal.at.returns-then-found-clause-comparisons g c in
     let f = found g at.After-first_not_less_near-offset (read g at.After-as_slice-2) in
-    omega (arith, f.few, c.end_from.ensures.few)
+    omega (arith, f.few, c.end_from.ensures.comparisons)
 
 pub returns-else-found-clause-before : goal.returns-else-found-clause-before
 returns-else-found-clause-before g c =
@@ -110,11 +110,11 @@ pub returns-else-found-clause-past : goal.returns-else-found-clause-past
 returns-else-found-clause-past g c =
     let at = goal.at.returns-else-found-clause-past g c in
     let f = found g at.After-first_not_less_near-offset (read g at.After-as_slice-2) in
-    f.before ∙ none_equal (g.P.Probe.answer c.args.probe.now) (joined c.args.self.now.nodes) c.requires (f.told ∙ c.if-found.false)
+    f.before ∙ none_equal (g.P.Probe.answer c.args.probe.now) (concat c.args.self.now.nodes) c.requires (f.told ∙ c.if-found.false)
 
-pub returns-else-found-clause-few : goal.returns-else-found-clause-few
-returns-else-found-clause-few g c =
-    let at = goal.at.returns-else-found-clause-few g c in
+pub returns-else-found-clause-comparisons : goal.returns-else-found-clause-comparisons
+returns-else-found-clause-comparisons g c =
+    let at = goal.at.returns-else-found-clause-comparisons g c in
     let f = found g at.After-first_not_less_near-offset (read g at.After-as_slice-2) in
     omega (arith, f.few)
 
@@ -129,7 +129,7 @@ returns-then-found-clause-to g c = c.end_from.ensures.place
 
 pub returns-then-found-clause-past : goal.returns-then-found-clause-past
 returns-then-found-clause-past g c =
-    c.end_from.ensures.before ∙ ap (λ answer. not_greater_count answer (joined c.args.self.now.nodes)) (c.first_not_less_near-offset.ensures.fixed ∙ c.node_by-node.ensures.fixed)
+    c.end_from.ensures.before ∙ ap (λ answer. not_greater_count answer (concat c.args.self.now.nodes)) (c.first_not_less_near-offset.ensures.fixed ∙ c.node_by-node.ensures.fixed)
 
 pub returns-then-found-clause-fixed : goal.returns-then-found-clause-fixed
 returns-then-found-clause-fixed g c =
@@ -157,7 +157,7 @@ returns-then-is_empty g c =
       before = rw none refl;
       past = rw none refl;
       fixed = refl;
-      few = omega arith;
+      comparisons = omega arith;
     }
 
 -- the place before the items that are found

@@ -1,8 +1,8 @@
 use Rattle.std.proofs.Common.{◌∙◌}
-use Rattle.indexset_log.proofs.Changed.{on_ok_both}
-use Rattle.indexset_log.proofs.Ends.{first_changed, position_goes}
+use Rattle.indexset_log.proofs.ChangeLemmas.{on_ok_both}
+use Rattle.indexset_log.proofs.EndRemovalLemmas.{first_changed, position_goes}
 use Rattle.indexset_events.proofs.CallerLemmas.{on_ok_map}
-use Rattle.indexset_log.proofs.Trees.{tree_of}
+use Rattle.indexset_log.proofs.TreeViewLemmas.{tree_of}
 use Rattle.indexset_log.proofs.set.BTreeSet.pop_first.Goals as goal
 
 pub remove_from-requires : goal.remove_from-requires

@@ -1,8 +1,8 @@
 use Rattle.std.proofs.Common.{◌∙◌}
-use Rattle.indexset_log.proofs.Changed.{if_ok_map, on_ok_both, told}
-use Rattle.indexset_log.proofs.Ends.{first_changed, position_goes}
+use Rattle.indexset_log.proofs.ChangeLemmas.{if_ok_map, on_ok_both, told}
+use Rattle.indexset_log.proofs.EndRemovalLemmas.{first_changed, position_goes}
 use Rattle.indexset_events.proofs.CallerLemmas.{on_ok_map}
-use Rattle.indexset_log.proofs.Trees.{tree_of}
+use Rattle.indexset_log.proofs.TreeViewLemmas.{tree_of}
 use Rattle.indexset_log.proofs.set.BTreeSet.pop_first_cdc.Goals as goal
 
 pub remove_from_cdc-requires : goal.remove_from_cdc-requires
@@ -25,5 +25,5 @@ returns g c =
       no_event = rw w.events at done.no_event;
       unchanged = done.unchanged;
       changed = d;
-      told = if_ok_map r (rw w.events at done.told) d (λ x clones d. told g.T.Clone.is_clone x.1.items d clones);
+      events = if_ok_map r (rw w.events at done.events) d (λ x clones d. told g.T.Clone.is_clone x.1.items d clones);
     }

@@ -1,7 +1,7 @@
 use Rattle.std.proofs.Common.{arith}
-use Rattle.indexset_core.proofs.CallerLemmas.{length-joined}
-use Rattle.indexset_index.proofs.CallerLemmas.{count-lengths, node-le, place-fits, prefix-joined}
-use Rattle.indexset_log.proofs.Trees.{held}
+use Rattle.indexset_core.proofs.CallerLemmas.{length-concat}
+use Rattle.indexset_index.proofs.CallerLemmas.{count-lengths, node-le, place-fits, prefix-concat}
+use Rattle.indexset_log.proofs.TreeViewLemmas.{held}
 use Rattle.indexset_log.proofs.set.BTreeSet.position.Goals as goal
 
 pub prefix-requires-clause-sums : goal.prefix-requires-clause-sums
@@ -20,10 +20,10 @@ overflow_add-result g c =
     let t = held g.Node.NodeLike.list c.self.inside.nodes.items c.self.view_is c.self.invariant in
     let ns = c.args.self.now.nodes in
     let sum = rw (c.as_slice.ensures.value, t.same) at c.prefix.ensures in
-    record { fits = omega (arith, sum, prefix-joined ns c.args.place.0, place-fits ns c.args.place c.requires, length-joined ns, t.rule.counted) }
+    record { fits = omega (arith, sum, prefix-concat ns c.args.place.0, place-fits ns c.args.place c.requires, length-concat ns, t.rule.counted) }
 
 pub returns : goal.returns
 returns g c =
     let t = held g.Node.NodeLike.list c.self.inside.nodes.items c.self.view_is c.self.invariant in
     let sum = rw (c.as_slice.ensures.value, t.same) at c.prefix.ensures in
-    omega (arith, sum, prefix-joined c.args.self.now.nodes c.args.place.0)
+    omega (arith, sum, prefix-concat c.args.self.now.nodes c.args.place.0)

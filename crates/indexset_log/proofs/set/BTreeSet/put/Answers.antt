@@ -1,7 +1,7 @@
-use Rattle.indexset_core.specs.Nodes.{joined}
-use Rattle.indexset_log.proofs.Changed.{on_ok_both, put_changed, put_there}
+use Rattle.indexset_core.specs.Nodes.{concat}
+use Rattle.indexset_log.proofs.ChangeLemmas.{on_ok_both, put_changed, put_there}
 use Rattle.indexset_events.proofs.CallerLemmas.{on_ok_map}
-use Rattle.indexset_log.proofs.Trees.{tree_of}
+use Rattle.indexset_log.proofs.TreeViewLemmas.{tree_of}
 use Rattle.indexset_log.proofs.set.BTreeSet.put.Goals as goal
 
 pub returns : goal.returns
@@ -15,6 +15,6 @@ returns g c =
       refusal = done.refusal;
       given_back = done.given_back;
       unchanged = done.unchanged;
-      there = on_ok_map r d (λ d. put_there g.met.T.Ord.total (joined c.args.self.now.nodes) c.args.value d.contents);
+      contains = on_ok_map r d (λ d. put_there g.met.T.Ord.total (concat c.args.self.now.nodes) c.args.value d.contents);
       changed = d;
     }

@@ -1,6 +1,6 @@
-use Rattle.indexset_log.proofs.Puts.{count_aimed}
+use Rattle.indexset_log.proofs.PutLemmas.{count_aimed}
 use Rattle.indexset_events.proofs.CallerLemmas.{on_ok_map}
-use Rattle.indexset_log.proofs.Trees.{tree_of}
+use Rattle.indexset_log.proofs.TreeViewLemmas.{tree_of}
 use Rattle.indexset_log.proofs.set.BTreeSet.put_at.Goals as goal
 
 pub returns-in-Ok-clause-fits : goal.returns-in-Ok-clause-fits

@@ -1,5 +1,5 @@
-use Rattle.indexset_log.proofs.Puts.{count_aimed}
-use Rattle.indexset_log.proofs.Trees.{tree_of}
+use Rattle.indexset_log.proofs.PutLemmas.{count_aimed}
+use Rattle.indexset_log.proofs.TreeViewLemmas.{tree_of}
 use Rattle.indexset_log.proofs.set.BTreeSet.put_cdc_at.Goals as goal
 
 pub returns-in-Err-clause-refusal : goal.returns-in-Err-clause-refusal

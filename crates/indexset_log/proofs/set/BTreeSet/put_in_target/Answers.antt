@@ -1,8 +1,8 @@
 use Rattle.std.proofs.Common.{◌≡◌, ◌+◌, length, map, arith, refl, ap, ◌∙◌}
 use Rattle.std.proofs.lemmas.List.{length-map}
 use Rattle.indexset_events.specs.Table.{put_events}
-use Rattle.indexset_log.proofs.Puts.{element_is, equal_is, events_count, grown, part_up, spot, whole_room}
-use Rattle.indexset_log.proofs.Trees.{held, put_tree}
+use Rattle.indexset_log.proofs.PutLemmas.{element_is, equal_is, events_count, grown, part_up, spot, whole_room}
+use Rattle.indexset_log.proofs.TreeViewLemmas.{held, put_tree}
 use Rattle.indexset_log.proofs.set.BTreeSet.put_in_target.Goals as goal
 
 pub make_room-requires-clause-most : goal.make_room-requires-clause-most

@@ -1,7 +1,7 @@
 use Rattle.std.proofs.Common.{length, arith, ap, sym, refl}
 use Rattle.std.proofs.lemmas.Bool.{false≢true}
 use Rattle.std.proofs.lemmas.Grind.{common_steps}
-use Rattle.indexset_log.proofs.Changed.{events_counted}
+use Rattle.indexset_log.proofs.ChangeLemmas.{events_counted}
 use Rattle.indexset_events.proofs.CallerLemmas.{some_taken}
 use Rattle.indexset_log.proofs.set.BTreeSet.remove_from.Goals as goal
 

@@ -1,6 +1,6 @@
 use Rattle.std.proofs.Common.{length, arith, ap, sym, refl}
 use Rattle.std.proofs.lemmas.Grind.{common_steps}
-use Rattle.indexset_log.proofs.Changed.{events_counted}
+use Rattle.indexset_log.proofs.ChangeLemmas.{events_counted}
 use Rattle.indexset_events.proofs.CallerLemmas.{some_taken}
 use Rattle.indexset_log.proofs.set.BTreeSet.remove_from_cdc.Goals as goal
 
@@ -25,7 +25,7 @@ returns-in_ok-item-in-Some g c =
     record {
       tree = rw c.in-Some.is done.changed.tree;
       answer = rw c.in-Some.is (sym done.item);
-      told = rw (c.in-Some.is, done.item) done.told.clones;
+      events = rw (c.in-Some.is, done.item) done.events.clones;
       fits = rw (c.in-Some.is, count) (omega (arith, ap (λ t. t.next) done.changed.tree, done.changed.next, done.changed.fits));
       refusal = tt;
       no_event = λ _. refl;

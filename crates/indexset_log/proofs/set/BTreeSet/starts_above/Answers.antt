@@ -3,7 +3,7 @@ use Rattle.std.specs.Ordering.{is_lt}
 use Rattle.std.proofs.lemmas.List.{get_or_past}
 use Rattle.indexset_core.specs.Nodes.{node_at}
 use Rattle.indexset_core.proofs.CallerLemmas.{read_item}
-use Rattle.indexset_log.proofs.Trees.{held, node_held}
+use Rattle.indexset_log.proofs.TreeViewLemmas.{held, node_held}
 use Rattle.indexset_events.proofs.CallerLemmas.{node_some}
 use Rattle.indexset_log.proofs.set.BTreeSet.starts_above.Given.{Over}
 use Rattle.indexset_log.proofs.set.BTreeSet.starts_above.Goals.{After-as_slice-items}

@@ -2,8 +2,8 @@ use Rattle.std.proofs.Common.{◌≡◌, arith, ◌∙◌}
 use Rattle.indexset_core.specs.Nodes.{node_at}
 use Rattle.indexset_events.specs.Table.{part_for}
 use Rattle.indexset_events.proofs.CallerLemmas.{node_some, zip_on}
-use Rattle.indexset_log.proofs.Puts.{events_count, events_numbered, half_is, part_some, part_up, parts_length}
-use Rattle.indexset_log.proofs.Trees.{held, node_held}
+use Rattle.indexset_log.proofs.PutLemmas.{events_count, events_numbered, half_is, part_some, part_up, parts_length}
+use Rattle.indexset_log.proofs.TreeViewLemmas.{held, node_held}
 use Rattle.indexset_log.proofs.set.BTreeSet.target_log.Given.{Over}
 use Rattle.indexset_log.proofs.set.BTreeSet.target_log.Goals.{After-as_slice-items, After-part_of}
 use Rattle.indexset_log.proofs.set.BTreeSet.target_log.Goals as goal
@@ -43,10 +43,10 @@ add_put-requires g c =
       fits = rw part (omega (arith, c.requires.fits, events_count g.met.T.Ord.total t.rule c.requires.aim, parts_length g.met.T.Ord.total t.rule c.requires.aim, next));
     }
 
-pub returns-clause-told : goal.returns-clause-told
-returns-clause-told g c =
+pub returns-clause-events : goal.returns-clause-events
+returns-clause-events g c =
     let t = held g.Node.NodeLike.list c.self.inside.nodes.items c.self.view_is c.self.invariant in
-    let next = rw (c.new-log.ensures.next, t.numbered, t.sized, read g (goal.at.returns-clause-told g c).After-as_slice-items) at c.in_ok-add_halving.ensures.next in
-    let halving = rw (c.new-log.ensures.events, c.new-log.ensures.next, t.numbered, t.sized, read g (goal.at.returns-clause-told g c).After-as_slice-items) at (c.in_ok-add_halving.ensures.clones c.args.value.now) in
+    let next = rw (c.new-log.ensures.next, t.numbered, t.sized, read g (goal.at.returns-clause-events g c).After-as_slice-items) at c.in_ok-add_halving.ensures.next in
+    let halving = rw (c.new-log.ensures.events, c.new-log.ensures.next, t.numbered, t.sized, read g (goal.at.returns-clause-events g c).After-as_slice-items) at (c.in_ok-add_halving.ensures.clones c.args.value.now) in
     let told = c.in_ok-add_put.ensures.clones in
-    rw (events_numbered g.met.T.Ord.total t.rule c.requires.aim c.args.self.now.next, ← next, ← half g (goal.at.returns-clause-told g c).After-part_of) (rw (told.1, halving.1) (zip_on _ _ _ _ _ halving.2 told.2))
+    rw (events_numbered g.met.T.Ord.total t.rule c.requires.aim c.args.self.now.next, ← next, ← half g (goal.at.returns-clause-events g c).After-part_of) (rw (told.1, halving.1) (zip_on _ _ _ _ _ halving.2 told.2))

@@ -1,4 +1,4 @@
-use Rattle.indexset_core.proofs.PullLemmas.{is_walk}
+use Rattle.indexset_core.proofs.CallLemmas.{is_walk}
 use Rattle.indexset_log.proofs.set.laws.iterators_yield_each_item_once.Goals as goal
 
 pub returns-clause-items : goal.returns-clause-items

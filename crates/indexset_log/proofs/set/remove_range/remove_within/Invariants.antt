@@ -1,7 +1,7 @@
 -- The nodes so far have lost their items within the bounds.
 use Rattle.std.proofs.Common.{◌≡◌, ◌++◌, length, map, take, drop}
 use Rattle.std.specs.Range.Bound.{bound_map}
-use Rattle.indexset_core.specs.Nodes.{joined}
+use Rattle.indexset_core.specs.Nodes.{concat}
 use Rattle.indexset_log.specs.Made.{outside}
 use Rattle.indexset_log.proofs.set.remove_range.remove_within.Given as goal
 
@@ -10,8 +10,8 @@ invariant-loop-node g l =
     let start = bound_map (λ v. v.now) l.range.0 in
     let end = bound_map (λ v. v.now) l.range.1 in
     let old = map (λ v. v.items) l.initial.nodes in
-    let made = map (outside g.Q.Sought.order start end) old in
+    let made = map (outside g.Q.LookupKey.order start end) old in
     record {
       nodes : map (λ v. v.items) l.nodes ≡ take l.node-index made ++ drop l.node-index old;
-      count : l.left ≡ length (joined (take l.node-index made));
+      count : l.left ≡ length (concat (take l.node-index made));
     }

@@ -3,10 +3,10 @@ use Rattle.std.proofs.lemmas.Bool.{false≢true}
 use Rattle.std.proofs.lemmas.Grind.{common_steps}
 use Rattle.indexset_core.specs.declared.refusal.Refusal.TheVariants.{PairNumber}
 use Rattle.indexset_core.specs.MultiPairs.{by_number}
-use Rattle.indexset_core.specs.Nodes.{joined}
+use Rattle.indexset_core.specs.Nodes.{concat}
 use Rattle.indexset_events.specs.Attach.{attach_index, attached}
 use Rattle.indexset_multi.specs.Attach.{free_number, has_greatest, pairs_refusal}
-use Rattle.indexset_multi.proofs.Below.{below_free, below_insert, below_more}
+use Rattle.indexset_multi.proofs.PairNumberLemmas.{below_free, below_insert, below_more}
 use Rattle.indexset_multi.proofs.multimap.BTreeMultiMap.attach_multi_node.Goals as goal
 
 pub returns-in_default : goal.returns-in_default
@@ -47,7 +47,7 @@ invariant_of-self-2 g c =
     let free : c.in-Some.free ≡ free_number list = rw (← whole) c.in-Some.ensures.1 in
     let old : c.self.inside.pair_next ≤ n = omega (arith, c.max-self-inside.ensures) in
     let new : free_number list ≤ n = omega (arith, c.max-self-inside.ensures, free) in
-    rw c.in_ok-attach_node.ensures.nodes (below_insert n nodes (attach_index (by_number g.K.Ord.cmp) nodes list) list (below_more c.self.inside.pair_next n old (joined nodes) c.self.invariant) (below_more (free_number list) n new list (below_free list)))
+    rw c.in_ok-attach_node.ensures.nodes (below_insert n nodes (attach_index (by_number g.K.Ord.cmp) nodes list) list (below_more c.self.inside.pair_next n old (concat nodes) c.self.invariant) (below_more (free_number list) n new list (below_free list)))
 
 pub returns-clause-attached : goal.returns-clause-attached
 returns-clause-attached g c =
@@ -64,7 +64,7 @@ returns-clause-attached g c =
     record {
       nodes = done.nodes ∙ ap (λ ns. attached (by_number cmp) ns list) same;
       ascending = done.ascending;
-      count = done.count ∙ ap (λ ns. length (joined ns) + length list) same;
+      count = done.count ∙ ap (λ ns. length (concat ns) + length list) same;
       size = done.size ∙ size;
       next = done.next ∙ next;
       pair_next = omega (arith, c.max-self-inside.ensures, free, pair_next);

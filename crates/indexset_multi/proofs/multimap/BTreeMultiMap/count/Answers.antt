@@ -1,5 +1,5 @@
 use Rattle.std.proofs.Common.{◌≡◌, ◌∙◌, ◌-◌, ap, length}
-use Rattle.indexset_multi.proofs.Positions.{count_between}
+use Rattle.indexset_multi.proofs.PositionLemmas.{count_between}
 use Rattle.indexset_multi.proofs.multimap.BTreeMultiMap.count.Goals as goal
 
 pub returns : goal.returns

@@ -1,8 +1,8 @@
 use Rattle.std.proofs.Common.{◌≡◌, find, slice_get, ap, sym, ◌∙◌}
-use Rattle.indexset_core.specs.Nodes.{joined}
+use Rattle.indexset_core.specs.Nodes.{concat}
 use Rattle.indexset_core.proofs.CallerLemmas.{get_in_node}
 use Rattle.indexset_core.specs.Places.{items_before}
-use Rattle.indexset_multi.proofs.Runs.{between_inside, slice_between}
+use Rattle.indexset_multi.proofs.ReadingLemmas.{between_inside, slice_between}
 use Rattle.indexset_multi.proofs.multimap.BTreeMultiMap.equal_place.Goals as goal
 
 pub range_between-requires : goal.range_between-requires
@@ -18,7 +18,7 @@ place_ahead-requires g c =
     let index = rw part at c.in_ok-index.ensures in
     rw same (record {
       place = c.places_of.ensures.from;
-      within = between_inside (items_before ns c.places_of.result.0) (items_before ns c.places_of.result.1) (joined ns) c.in_ok-index.index index.0;
+      within = between_inside (items_before ns c.places_of.result.0) (items_before ns c.places_of.result.1) (concat ns) c.in_ok-index.index index.0;
     })
 
 pub returns-clause-pair : goal.returns-clause-pair
@@ -33,6 +33,6 @@ returns-clause-pair g c =
     let offset = rw same at c.place_ahead.ensures.offset in
     let place = rw same at c.place_ahead.ensures.before in
     sym (get_in_node ns c.place_ahead.result.0 c.place_ahead.result.1 node offset)
-    ∙ (ap (λ i. slice_get (joined ns) i) place
-    ∙ (sym (slice_between from to (joined ns) c.in_ok-index.index index.0)
+    ∙ (ap (λ i. slice_get (concat ns) i) place
+    ∙ (sym (slice_between from to (concat ns) c.in_ok-index.index index.0)
     ∙ (index.1 ∙ ap (λ l. find (λ p. g.V.PartialEq.eq p.value c.args.value.now) l) c.places_of.ensures.pairs)))

@@ -1,6 +1,6 @@
 use Rattle.std.proofs.Common.{◌≡◌, ◌+◌, ◌∙◌, ap, slice_get, arith}
-use Rattle.indexset_core.specs.Nodes.{joined}
-use Rattle.indexset_core.proofs.CallerLemmas.{get_in_node, length-joined-more, length-joined-take}
+use Rattle.indexset_core.specs.Nodes.{concat}
+use Rattle.indexset_core.proofs.CallerLemmas.{get_in_node, length-concat-more, length-concat-take}
 use Rattle.indexset_multi.proofs.multimap.BTreeMultiMap.index_of.Goals as goal
 
 pub returns : goal.returns
@@ -10,6 +10,6 @@ returns g c =
     let place = c.in_ok-place.ensures.place in
     let same : c.self.inside.set.nodes ≡ ns = ap (λ m. m.nodes) c.self.view_is in
     let at = rw same at c.position.ensures in (
-      omega (arith, at, place.0, place.1, length-joined-more ns p.0 place.0, length-joined-take ns (p.0 + 1)),
-      ap (slice_get (joined ns)) at ∙ (get_in_node ns p.0 p.1 place.0 place.1 ∙ c.in_ok-place.ensures.pair),
+      omega (arith, at, place.0, place.1, length-concat-more ns p.0 place.0, length-concat-take ns (p.0 + 1)),
+      ap (slice_get (concat ns)) at ∙ (get_in_node ns p.0 p.1 place.0 place.1 ∙ c.in_ok-place.ensures.pair),
     )

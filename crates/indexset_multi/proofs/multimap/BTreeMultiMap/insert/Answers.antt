@@ -2,9 +2,9 @@ use Rattle.std.proofs.Common.{◌≡◌, ◌∙◌, ap, refl, sym, arith}
 use Rattle.std.specs.Option.{option_map}
 use Rattle.std.proofs.lemmas.Grind.{common_steps}
 use Rattle.indexset_multi.specs.Changed.{set_tree}
-use Rattle.indexset_multi.proofs.Inserts.{replaced_pair}
-use Rattle.indexset_multi.proofs.Lists.{inserted}
-use Rattle.indexset_multi.proofs.Puts.{put_changed, put_numbers, put_refusal, put_replaced}
+use Rattle.indexset_multi.proofs.InsertLemmas.{replaced_pair}
+use Rattle.indexset_multi.proofs.KeyListLemmas.{inserted}
+use Rattle.indexset_multi.proofs.PutLemmas.{put_changed, put_numbers, put_refusal, put_replaced}
 use Rattle.indexset_multi.proofs.multimap.BTreeMultiMap.insert.Goals as goal
 
 pub invariant_of-self : goal.invariant_of-self

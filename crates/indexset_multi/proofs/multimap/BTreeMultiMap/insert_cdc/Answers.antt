@@ -2,9 +2,9 @@ use Rattle.std.proofs.Common.{◌≡◌, ◌∙◌, ap, refl, sym, arith}
 use Rattle.std.specs.Option.{option_map}
 use Rattle.std.proofs.lemmas.Grind.{common_steps}
 use Rattle.indexset_multi.specs.Changed.{set_tree}
-use Rattle.indexset_multi.proofs.Inserts.{replaced_pair}
-use Rattle.indexset_multi.proofs.Lists.{inserted}
-use Rattle.indexset_multi.proofs.Puts.{put_changed, put_numbers, put_refusal, put_replaced, put_told}
+use Rattle.indexset_multi.proofs.InsertLemmas.{replaced_pair}
+use Rattle.indexset_multi.proofs.KeyListLemmas.{inserted}
+use Rattle.indexset_multi.proofs.PutLemmas.{put_changed, put_numbers, put_refusal, put_replaced, put_told}
 use Rattle.indexset_multi.proofs.multimap.BTreeMultiMap.insert_cdc.Goals as goal
 
 pub invariant_of-self : goal.invariant_of-self
@@ -39,5 +39,5 @@ returns g c =
       number_left = sym c.in_ok-pair.ensures.refusal;
       inserted = record { there = d.there; last = d.last; others = d.others };
       changed = changed;
-      told = put_told cmp eq m k w seen pair (ap (λ q. q.1) c.in_ok-pair.ensures.answer) done.changed c.in_ok-old.events.items done.told.clones;
+      events = put_told cmp eq m k w seen pair (ap (λ q. q.1) c.in_ok-pair.ensures.answer) done.changed c.in_ok-old.events.items done.events.clones;
     }

@@ -4,18 +4,18 @@ use Rattle.std.specs.Option.{option_map}
 use Rattle.std.proofs.lemmas.Bool.{false≢true}
 use Rattle.std.proofs.lemmas.List.Elements.{All-drop}
 use Rattle.indexset_core.specs.MultiPairs.{by_number}
-use Rattle.indexset_core.specs.Nodes.{joined}
+use Rattle.indexset_core.specs.Nodes.{concat}
 use Rattle.indexset_log.specs.Changed.{Changed}
 use Rattle.indexset_log.specs.Changed.{first_removal as first_item_removal}
-use Rattle.indexset_events.specs.Clones.{IsTold}
+use Rattle.indexset_events.specs.Clones.{AreTableEvents}
 use Rattle.indexset_events.specs.Ends.{removal_events_at}
 use Rattle.indexset_events.specs.Replay.{numbered_from, replay}
 use Rattle.indexset_log.specs.Tree.{refusal_for}
 use Rattle.indexset_multi.specs.Changed.{first_removal, set_tree}
 use Rattle.indexset_multi.specs.Keys.{AreNumberedBelow, key_and_value}
 use Rattle.indexset_multi.specs.Tree.{IsPairClone}
-use Rattle.indexset_multi.proofs.Ends.{told_at}
-use Rattle.indexset_multi.proofs.Takes.{multi_changed, multi_told, removal_tree}
+use Rattle.indexset_multi.proofs.EndLemmas.{told_at}
+use Rattle.indexset_multi.proofs.PairRemovalLemmas.{multi_changed, multi_told, removal_tree}
 use Rattle.indexset_multi.proofs.multimap.BTreeMultiMap.pop_first_cdc.Goals as goal
 
 pub invariant_of-self : goal.invariant_of-self
@@ -35,7 +35,7 @@ returns-in_err-pair-clause-no_event g c none =
 
 pub invariant_of-self-2 : goal.invariant_of-self-2
 invariant_of-self-2 g c =
-    subst (AreNumberedBelow c.self.inside.pair_next) (sym c.in_ok-pair.ensures.changed.contents) (All-drop (λ p. p.discriminator < c.self.inside.pair_next) 1 (joined c.self.inside.set.nodes) c.self.invariant)
+    subst (AreNumberedBelow c.self.inside.pair_next) (sym c.in_ok-pair.ensures.changed.contents) (All-drop (λ p. p.discriminator < c.self.inside.pair_next) 1 (concat c.self.inside.set.nodes) c.self.invariant)
 
 pub returns : goal.returns
 returns g c =
@@ -51,22 +51,22 @@ returns g c =
     let replayed = subst (λ es. replay (by_number g.K.Ord.cmp) m.nodes (numbered_from m.next es) ≡ Some after.nodes) told made.table in
     let all_next = made.next ∙ ap (λ es. m.next + length es) told in
     let pair_next = ap (λ t. t.pair_next) c.self.view_is in
-    let tree = removal_tree g.K.Ord.cmp m (slice_get (joined m.nodes) 0) replayed made.size all_next pair_next in
+    let tree = removal_tree g.K.Ord.cmp m (slice_get (concat m.nodes) 0) replayed made.size all_next pair_next in
     let changed = multi_changed {cmp = g.K.Ord.cmp} {old = m} {made = first_removal g.K.Ord.cmp m} tree (subst (λ es. m.next + length es ≤ MAX) told made.fits) (record {
       contents = made.contents;
       size = made.size;
       next = all_next;
       table = replayed;
-      few = subst (λ es. length es ≤ 3) told made.few;
-      spaced = made.spaced;
+      at_most_three_events = subst (λ es. length es ≤ 3) told made.at_most_three_events;
+      dense = made.dense;
     }) in
-    let all = subst (λ es. IsTold (IsPairClone g.K.Clone.is_clone g.V.Clone.is_clone) m.next es c.in_ok-pair.events.items) told
-    (subst (λ t. IsTold (IsPairClone g.K.Clone.is_clone g.V.Clone.is_clone) t.next (removal_events_at (by_number g.K.Ord.cmp) t.size t.nodes 0) c.in_ok-pair.events.items) seen done.told.clones) in
+    let all = subst (λ es. AreTableEvents (IsPairClone g.K.Clone.is_clone g.V.Clone.is_clone) m.next es c.in_ok-pair.events.items) told
+    (subst (λ t. AreTableEvents (IsPairClone g.K.Clone.is_clone g.V.Clone.is_clone) t.next (removal_events_at (by_number g.K.Ord.cmp) t.size t.nodes 0) c.in_ok-pair.events.items) seen done.events.clones) in
     record {
-      answer = c.entry_of.ensures ∙ ap (option_map key_and_value) (done.answer ∙ (λ i. slice_get (joined (same i)) 0));
+      answer = c.entry_of.ensures ∙ ap (option_map key_and_value) (done.answer ∙ (λ i. slice_get (concat (same i)) 0));
       refusal = tt;
       no_event = λ _. refl;
       unchanged = tt;
       changed = changed;
-      told = multi_told g.K.Clone.is_clone g.V.Clone.is_clone c.in_ok-pair.events.items changed all;
+      events = multi_told g.K.Clone.is_clone g.V.Clone.is_clone c.in_ok-pair.events.items changed all;
     }

@@ -1,9 +1,9 @@
 use Rattle.std.proofs.Common.{◌≡◌, ap, slice_get}
 use Rattle.std.proofs.lemmas.Option.{slice_get_past}
-use Rattle.indexset_core.specs.Nodes.{joined}
+use Rattle.indexset_core.specs.Nodes.{concat}
 use Rattle.indexset_multi.specs.Tree.{pair_removal_events}
-use Rattle.indexset_multi.proofs.Searches.{at_item, at_place}
-use Rattle.indexset_multi.proofs.Takes.{removed}
+use Rattle.indexset_multi.proofs.SearchLemmas.{at_item, at_place}
+use Rattle.indexset_multi.proofs.PairRemovalLemmas.{removed}
 use Rattle.indexset_multi.proofs.multimap.BTreeMultiMap.pop_index.Goals as goal
 
 pub take-requires : goal.take-requires
@@ -16,7 +16,7 @@ returns g c =
     let cmp = g.K.Ord.cmp in
     let o = g.met.K.Ord.total in
     let m = c.args.self.now in
-    let l = joined m.nodes in
+    let l = concat m.nodes in
     let same : c.self.inside.set.nodes ≡ m.nodes = ap (λ m. m.nodes) c.self.view_is in
     let is = at_item m.nodes c.args.i c.place_at-place.result (rw same at c.place_at-place.ensures) in
     let r = c.take.result in

@@ -4,18 +4,18 @@ use Rattle.std.specs.Option.{option_map}
 use Rattle.std.proofs.lemmas.Bool.{false≢true}
 use Rattle.std.proofs.lemmas.List.Elements.{All-take}
 use Rattle.indexset_core.specs.MultiPairs.{by_number}
-use Rattle.indexset_core.specs.Nodes.{joined}
+use Rattle.indexset_core.specs.Nodes.{concat}
 use Rattle.indexset_log.specs.Changed.{Changed}
 use Rattle.indexset_log.specs.Changed.{last_removal as last_item_removal}
-use Rattle.indexset_events.specs.Clones.{IsTold}
+use Rattle.indexset_events.specs.Clones.{AreTableEvents}
 use Rattle.indexset_events.specs.Ends.{removal_events_at}
 use Rattle.indexset_events.specs.Replay.{numbered_from, replay}
 use Rattle.indexset_log.specs.Tree.{refusal_for}
 use Rattle.indexset_multi.specs.Changed.{last_removal, set_tree}
 use Rattle.indexset_multi.specs.Keys.{AreNumberedBelow, key_and_value}
 use Rattle.indexset_multi.specs.Tree.{IsPairClone}
-use Rattle.indexset_multi.proofs.Ends.{told_at}
-use Rattle.indexset_multi.proofs.Takes.{multi_changed, multi_told, removal_tree}
+use Rattle.indexset_multi.proofs.EndLemmas.{told_at}
+use Rattle.indexset_multi.proofs.PairRemovalLemmas.{multi_changed, multi_told, removal_tree}
 use Rattle.indexset_multi.proofs.multimap.BTreeMultiMap.pop_last_cdc.Goals as goal
 
 pub invariant_of-self : goal.invariant_of-self
@@ -23,19 +23,19 @@ invariant_of-self g c = rw c.in_err-pair.ensures.unchanged c.self.invariant
 
 pub returns-in_err-pair-clause-refusal : goal.returns-in_err-pair-clause-refusal
 returns-in_err-pair-clause-refusal g c =
-    let told = told_at g.K.Ord.cmp (λ t. length (joined t.nodes) - 1) c.self.view_is in
+    let told = told_at g.K.Ord.cmp (λ t. length (concat t.nodes) - 1) c.self.view_is in
     let next : c.self.inside.set.next ≡ c.args.self.now.next = ap (λ t. t.next) c.self.view_is in
     let kept : IfErr c.from_residual.result (λ e. e ≡ c.in_err-pair.field-0.0) = search rules in
     subst (λ r. IfErr c.from_residual.result (λ e. e ≡ r)) (c.in_err-pair.ensures.refusal ∙ (λ i. refusal_for (next i) (length (told i)))) kept
 
 pub returns-in_err-pair-clause-no_event : goal.returns-in_err-pair-clause-no_event
 returns-in_err-pair-clause-no_event g c none =
-    let told = told_at g.K.Ord.cmp (λ t. length (joined t.nodes) - 1) c.self.view_is in
+    let told = told_at g.K.Ord.cmp (λ t. length (concat t.nodes) - 1) c.self.view_is in
     absurd (false≢true (c.in_err-pair.ensures.no_event (told ∙ none)))
 
 pub invariant_of-self-2 : goal.invariant_of-self-2
 invariant_of-self-2 g c =
-    subst (AreNumberedBelow c.self.inside.pair_next) (sym c.in_ok-pair.ensures.changed.contents) (All-take (λ p. p.discriminator < c.self.inside.pair_next) (length (joined c.self.inside.set.nodes) - 1) (joined c.self.inside.set.nodes) c.self.invariant)
+    subst (AreNumberedBelow c.self.inside.pair_next) (sym c.in_ok-pair.ensures.changed.contents) (All-take (λ p. p.discriminator < c.self.inside.pair_next) (length (concat c.self.inside.set.nodes) - 1) (concat c.self.inside.set.nodes) c.self.invariant)
 
 pub returns : goal.returns
 returns g c =
@@ -46,27 +46,27 @@ returns g c =
     let size : c.self.inside.set.size ≡ m.size = ap (λ t. t.size) c.self.view_is in
     let next : c.self.inside.set.next ≡ m.next = ap (λ t. t.next) c.self.view_is in
     let seen : c.self.inside.set ≡ set_tree m = λ i. record { nodes = same i; size = size i; next = next i } in
-    let told = told_at g.K.Ord.cmp (λ t. length (joined t.nodes) - 1) {m = m} {n = m} refl in
+    let told = told_at g.K.Ord.cmp (λ t. length (concat t.nodes) - 1) {m = m} {n = m} refl in
     let made = subst (λ t. Changed (by_number g.K.Ord.cmp) t after (last_item_removal (by_number g.K.Ord.cmp) t)) seen done.changed in
     let replayed = subst (λ es. replay (by_number g.K.Ord.cmp) m.nodes (numbered_from m.next es) ≡ Some after.nodes) told made.table in
     let all_next = made.next ∙ ap (λ es. m.next + length es) told in
     let pair_next = ap (λ t. t.pair_next) c.self.view_is in
-    let tree = removal_tree g.K.Ord.cmp m (slice_get (joined m.nodes) (length (joined m.nodes) - 1)) replayed made.size all_next pair_next in
+    let tree = removal_tree g.K.Ord.cmp m (slice_get (concat m.nodes) (length (concat m.nodes) - 1)) replayed made.size all_next pair_next in
     let changed = multi_changed {cmp = g.K.Ord.cmp} {old = m} {made = last_removal g.K.Ord.cmp m} tree (subst (λ es. m.next + length es ≤ MAX) told made.fits) (record {
       contents = made.contents;
       size = made.size;
       next = all_next;
       table = replayed;
-      few = subst (λ es. length es ≤ 3) told made.few;
-      spaced = made.spaced;
+      at_most_three_events = subst (λ es. length es ≤ 3) told made.at_most_three_events;
+      dense = made.dense;
     }) in
-    let all = subst (λ es. IsTold (IsPairClone g.K.Clone.is_clone g.V.Clone.is_clone) m.next es c.in_ok-pair.events.items) told
-    (subst (λ t. IsTold (IsPairClone g.K.Clone.is_clone g.V.Clone.is_clone) t.next (removal_events_at (by_number g.K.Ord.cmp) t.size t.nodes (length (joined t.nodes) - 1)) c.in_ok-pair.events.items) seen done.told.clones) in
+    let all = subst (λ es. AreTableEvents (IsPairClone g.K.Clone.is_clone g.V.Clone.is_clone) m.next es c.in_ok-pair.events.items) told
+    (subst (λ t. AreTableEvents (IsPairClone g.K.Clone.is_clone g.V.Clone.is_clone) t.next (removal_events_at (by_number g.K.Ord.cmp) t.size t.nodes (length (concat t.nodes) - 1)) c.in_ok-pair.events.items) seen done.events.clones) in
     record {
-      answer = c.entry_of.ensures ∙ ap (option_map key_and_value) (done.answer ∙ (λ i. slice_get (joined (same i)) (length (joined (same i)) - 1)));
+      answer = c.entry_of.ensures ∙ ap (option_map key_and_value) (done.answer ∙ (λ i. slice_get (concat (same i)) (length (concat (same i)) - 1)));
       refusal = tt;
       no_event = λ _. refl;
       unchanged = tt;
       changed = changed;
-      told = multi_told g.K.Clone.is_clone g.V.Clone.is_clone c.in_ok-pair.events.items changed all;
+      events = multi_told g.K.Clone.is_clone g.V.Clone.is_clone c.in_ok-pair.events.items changed all;
     }

@@ -1,7 +1,7 @@
 use Rattle.std.proofs.Common.{rules, ◌≡◌, false, IfErr, ◌∙◌, ap, sym, subst}
 use Rattle.indexset_multi.specs.Changed.{set_tree}
-use Rattle.indexset_multi.proofs.Additions.{added, new_is, next_is, none_left, some_left}
-use Rattle.indexset_multi.proofs.Puts.{put_changed, put_numbers, put_refusal}
+use Rattle.indexset_multi.proofs.AdditionLemmas.{added, new_is, next_is, none_left, some_left}
+use Rattle.indexset_multi.proofs.PutLemmas.{put_changed, put_numbers, put_refusal}
 use Rattle.indexset_multi.proofs.multimap.BTreeMultiMap.push.Goals as goal
 
 pub invariant_of-self : goal.invariant_of-self

@@ -1,7 +1,7 @@
 use Rattle.std.proofs.Common.{rules, ◌≡◌, false, IfErr, ◌∙◌, ap, sym, subst}
 use Rattle.indexset_multi.specs.Changed.{set_tree}
-use Rattle.indexset_multi.proofs.Additions.{added, new_is, next_is, none_left, some_left}
-use Rattle.indexset_multi.proofs.Puts.{put_changed, put_numbers, put_refusal, put_told}
+use Rattle.indexset_multi.proofs.AdditionLemmas.{added, new_is, next_is, none_left, some_left}
+use Rattle.indexset_multi.proofs.PutLemmas.{put_changed, put_numbers, put_refusal, put_told}
 use Rattle.indexset_multi.proofs.multimap.BTreeMultiMap.push_cdc.Goals as goal
 
 pub invariant_of-self : goal.invariant_of-self
@@ -52,5 +52,5 @@ returns g c =
       unchanged = tt;
       added = added cmp m k w g.met.K.Ord.total now.lawful now.numbers _ changed.contents;
       changed = changed;
-      told = put_told cmp (λ _ _. false) m k w seen pair pair_next done.changed c.in_ok-events.events.items done.told.clones;
+      events = put_told cmp (λ _ _. false) m k w seen pair pair_next done.changed c.in_ok-events.events.items done.events.clones;
     }

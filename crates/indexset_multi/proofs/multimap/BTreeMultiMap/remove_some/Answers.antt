@@ -1,10 +1,10 @@
 use Rattle.std.proofs.Common.{ap, ◌∙◌}
 use Rattle.indexset_core.specs.MultiPairs.{by_number}
-use Rattle.indexset_core.specs.Nodes.{joined}
+use Rattle.indexset_core.specs.Nodes.{concat}
 use Rattle.indexset_events.proofs.CallerLemmas.{lawful_ascends, on_ok_map}
 use Rattle.indexset_multi.specs.Keys.{first_pair, pairs_of}
-use Rattle.indexset_multi.proofs.Lists.{first_pair_gone, others_left_first}
-use Rattle.indexset_multi.proofs.Takes.{removed}
+use Rattle.indexset_multi.proofs.KeyListLemmas.{first_pair_gone, others_left_first}
+use Rattle.indexset_multi.proofs.PairRemovalLemmas.{removed}
 use Rattle.indexset_multi.proofs.multimap.BTreeMultiMap.remove_some.Goals as goal
 
 pub returns : goal.returns
@@ -12,9 +12,9 @@ returns g c =
     let cmp = g.K.Ord.cmp in
     let o = g.met.K.Ord.total in
     let m = c.args.self.now in
-    let l = joined m.nodes in
-    let order = g.Q.Sought.order in
-    let acts = g.met.Q.Sought.acts_as_key in
+    let l = concat m.nodes in
+    let order = g.Q.LookupKey.order in
+    let acts = g.met.Q.LookupKey.acts_as_key in
     let k = c.args.key in
     let is = c.first_place-first.ensures.pair in
     let r = c.take.result in

@@ -1,11 +1,11 @@
 use Rattle.std.proofs.Common.{ap, ◌∙◌}
 use Rattle.indexset_core.specs.MultiPairs.{by_number}
-use Rattle.indexset_core.specs.Nodes.{joined}
+use Rattle.indexset_core.specs.Nodes.{concat}
 use Rattle.indexset_events.proofs.CallerLemmas.{lawful_ascends, on_ok_map}
 use Rattle.indexset_log.proofs.CallerLemmas.{if_ok_map}
 use Rattle.indexset_multi.specs.Keys.{first_pair, pairs_of}
-use Rattle.indexset_multi.proofs.Lists.{first_pair_gone, others_left_first}
-use Rattle.indexset_multi.proofs.Takes.{multi_told, removed}
+use Rattle.indexset_multi.proofs.KeyListLemmas.{first_pair_gone, others_left_first}
+use Rattle.indexset_multi.proofs.PairRemovalLemmas.{multi_told, removed}
 use Rattle.indexset_multi.proofs.multimap.BTreeMultiMap.remove_some_cdc.Goals as goal
 
 pub returns : goal.returns
@@ -13,9 +13,9 @@ returns g c =
     let cmp = g.K.Ord.cmp in
     let o = g.met.K.Ord.total in
     let m = c.args.self.now in
-    let l = joined m.nodes in
-    let order = g.Q.Sought.order in
-    let acts = g.met.Q.Sought.acts_as_key in
+    let l = concat m.nodes in
+    let order = g.Q.LookupKey.order in
+    let acts = g.met.Q.LookupKey.acts_as_key in
     let k = c.args.key in
     let is = c.first_place-first.ensures.pair in
     let r = c.take_cdc.result in
@@ -30,5 +30,5 @@ returns g c =
       gone = on_ok_map r d (λ d. ap (λ l. pairs_of order l k) d.contents ∙ first_pair_gone o acts k l up);
       others = on_ok_map r d (λ d other ne. ap (λ l. pairs_of cmp l other) d.contents ∙ others_left_first o acts k l other ne);
       changed = d;
-      told = if_ok_map r (rw is at done.told) d (λ x clones d. multi_told g.K.Clone.is_clone g.V.Clone.is_clone x.1.items d clones);
+      events = if_ok_map r (rw is at done.events) d (λ x clones d. multi_told g.K.Clone.is_clone g.V.Clone.is_clone x.1.items d clones);
     }

@@ -1,10 +1,10 @@
 use Rattle.std.proofs.Common.{rules, ◌≡◌, ◌+◌, IfErr, None, length, refl, ap, subst, arith}
 use Rattle.std.proofs.lemmas.Bool.{false≢true}
-use Rattle.indexset_core.specs.Nodes.{joined}
+use Rattle.indexset_core.specs.Nodes.{concat}
 use Rattle.indexset_events.proofs.CallerLemmas.{some_taken}
 use Rattle.indexset_multi.specs.Keys.{AreNumberedBelow}
 use Rattle.indexset_multi.specs.Places.{placed_item}
-use Rattle.indexset_multi.proofs.Takes.{pair_below, removal_tree, taken, taken_count}
+use Rattle.indexset_multi.proofs.PairRemovalLemmas.{pair_below, removal_tree, taken, taken_count}
 use Rattle.indexset_multi.proofs.multimap.BTreeMultiMap.take.Goals as goal
 
 pub remove_at-requires : goal.remove_at-requires
@@ -45,7 +45,7 @@ pub invariant_of-self-in-Some : goal.invariant_of-self-in-Some
 invariant_of-self-in-Some g c =
     let done = c.in_ok-pair-in-Some.ensures in
     let taken = taken g.K.Ord.cmp g.met.K.Ord.total c.self.view_is c.rule.ensures.tree c.in-Some.is c.requires done.item done.changed.tree done.changed.table in
-    let below = subst (λ m. AreNumberedBelow c.self.inside.pair_next (joined m.nodes)) c.self.view_is c.self.invariant in
+    let below = subst (λ m. AreNumberedBelow c.self.inside.pair_next (concat m.nodes)) c.self.view_is c.self.invariant in
     pair_below g.met.K.Ord.total c.args.self.now c.rule.ensures.tree (placed_item c.args.self.now.nodes c.args.place) taken.tree c.self.inside.pair_next below
 
 pub returns-in-None-clause-tree : goal.returns-in-None-clause-tree

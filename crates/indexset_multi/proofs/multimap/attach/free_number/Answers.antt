@@ -1,5 +1,5 @@
 use Rattle.std.proofs.Common.{◌<◌, length, arith}
-use Rattle.indexset_multi.proofs.Free.{free_more, greatest_more}
+use Rattle.indexset_multi.proofs.FreeNumberLemmas.{free_more, greatest_more}
 use Rattle.indexset_multi.proofs.multimap.attach.free_number.Goals as goal
 
 pub loop-pair-preserved : goal.loop-pair-preserved

@@ -1,6 +1,6 @@
 use Rattle.std.proofs.Common.{◌≡◌, ◌<◌, ◌∙◌, ◌||◌, false, length, ap, arith}
 use Rattle.indexset_multi.specs.Attach.{has_greatest}
-use Rattle.indexset_multi.proofs.Free.{free_read, greatest_among, greatest_read}
+use Rattle.indexset_multi.proofs.FreeNumberLemmas.{free_read, greatest_among, greatest_read}
 use Rattle.indexset_multi.proofs.multimap.from_nodes.free_number_of_nodes.Goals as goal
 
 pub returns-in_err-free_number : goal.returns-in_err-free_number

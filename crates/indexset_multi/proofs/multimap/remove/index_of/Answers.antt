@@ -1,5 +1,5 @@
 use Rattle.std.proofs.Common.{◌≡◌, ◌∙◌, false, find, length, true, ap, arith, refl, sym}
-use Rattle.indexset_multi.proofs.Runs.{first_is, first_later, read}
+use Rattle.indexset_multi.proofs.ReadingLemmas.{first_is, first_later, read}
 use Rattle.indexset_multi.proofs.multimap.remove.index_of.Goals as goal
 
 pub loop-pair-init : goal.loop-pair-init

@@ -1,4 +1,4 @@
-use Rattle.indexset_replica.proofs.EqualClones.{lists_equal}
+use Rattle.indexset_replica.proofs.EqualCloneLemmas.{lists_equal}
 use Rattle.indexset_replica.proofs.laws.clones.holders.Goals as goal
 
 pub returns-clause-vec : goal.returns-clause-vec

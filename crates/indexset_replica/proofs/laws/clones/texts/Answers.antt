@@ -1,5 +1,5 @@
 use Rattle.std.proofs.Common.{ap, sym}
-use Rattle.indexset_replica.proofs.EqualClones.{same_texts}
+use Rattle.indexset_replica.proofs.EqualCloneLemmas.{same_texts}
 use Rattle.indexset_replica.proofs.laws.clones.texts.Goals as goal
 
 pub returns-clause-string : goal.returns-clause-string

@@ -1,7 +1,7 @@
 use Rattle.std.proofs.Common.{◌≡◌, refl, ◌∙◌}
 use Rattle.std.proofs.lemmas.Iterator.Consumers.{YieldsList-from_rest}
 use Rattle.std.proofs.lemmas.Iterator.Search.{cmp_from_yields_List}
-use Rattle.indexset_spine.specs.Cut.{items}
+use Rattle.indexset_spine.specs.NodeList.{items}
 use Rattle.indexset_set.proofs.compare.BTreeSetOrd.cmp.Goals as goal
 
 pub returns : goal.returns

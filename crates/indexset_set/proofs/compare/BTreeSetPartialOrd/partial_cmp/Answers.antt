@@ -1,6 +1,6 @@
 use Rattle.std.proofs.Common.{Some, sym, ap, ◌∙◌}
 use Rattle.std.specs.Cmp.Lexicographic.{lists_agrees}
-use Rattle.indexset_spine.specs.Cut.{items}
+use Rattle.indexset_spine.specs.NodeList.{items}
 use Rattle.indexset_set.proofs.compare.BTreeSetPartialOrd.partial_cmp.Goals as goal
 
 pub returns : goal.returns

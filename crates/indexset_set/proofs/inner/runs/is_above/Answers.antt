@@ -1,5 +1,5 @@
 use Rattle.std.proofs.Common.{◌≡◌, length, sym, inr, true, is_lt, rules}
-use Rattle.indexset_spine.specs.Cut.{items}
+use Rattle.indexset_spine.specs.NodeList.{items}
 use Rattle.indexset_set.proofs.SetAppendLemmas.{joins_none, joins_run}
 use Rattle.indexset_set.proofs.inner.runs.is_above.Goals as goal
 

@@ -1,6 +1,6 @@
 use Rattle.std.proofs.Common.{◌≡◌, [], ◌∷◌, ◌++◌, sym, subst}
 use Rattle.indexset_core.specs.Order.{IsAscending}
-use Rattle.indexset_spine.specs.Cut.{items}
+use Rattle.indexset_spine.specs.NodeList.{items}
 use Rattle.indexset_set.proofs.SetAppendLemmas.{all_nodes, pushed_items, pushed_nodes}
 use Rattle.indexset_set.proofs.inner.runs.join_run.Given.{Over}
 use Rattle.indexset_set.proofs.inner.runs.join_run.Goals as goal

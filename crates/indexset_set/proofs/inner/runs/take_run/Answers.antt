@@ -1,4 +1,4 @@
-use Rattle.indexset_spine.specs.Cut.{with_all_last, with_last}
+use Rattle.indexset_spine.specs.NodeList.{with_all_last, with_last}
 use Rattle.indexset_spine.proofs.CallerLemmas.{takes_rest}
 use Rattle.indexset_set.proofs.SetAppendLemmas.{taken_ascending}
 use Rattle.indexset_set.proofs.inner.runs.take_run.Goals as goal

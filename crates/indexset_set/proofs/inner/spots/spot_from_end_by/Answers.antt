@@ -1,4 +1,4 @@
-use Rattle.indexset_spine.specs.Cut.{items}
+use Rattle.indexset_spine.specs.NodeList.{items}
 use Rattle.indexset_set.proofs.SetProbeLemmas.{parted}
 use Rattle.indexset_set.proofs.inner.spots.spot_from_end_by.Goals as goal
 

@@ -1,4 +1,4 @@
-use Rattle.indexset_spine.specs.Cut.{items}
+use Rattle.indexset_spine.specs.NodeList.{items}
 use Rattle.indexset_set.proofs.SetProbeLemmas.{bound_parted}
 use Rattle.indexset_set.proofs.inner.spots.start_of.Goals as goal
 

@@ -1,4 +1,4 @@
-use Rattle.indexset_spine.specs.Cut.{position_of}
+use Rattle.indexset_spine.specs.NodeList.{position_of}
 use Rattle.indexset_set.proofs.SetValueLemmas.{nodes_ascending}
 use Rattle.indexset_set.proofs.inner.values.pair_in_mut.Goals as goal
 

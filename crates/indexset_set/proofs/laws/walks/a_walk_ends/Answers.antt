@@ -1,4 +1,4 @@
-use Rattle.indexset_core.proofs.PullLemmas.{ends_at_last}
+use Rattle.indexset_core.proofs.CallLemmas.{ends_at_last}
 use Rattle.indexset_set.proofs.laws.walks.a_walk_ends.Goals as goal
 
 pub returns : goal.returns

@@ -1,4 +1,4 @@
-use Rattle.indexset_core.proofs.PullLemmas.{each_once}
+use Rattle.indexset_core.proofs.CallLemmas.{each_once}
 use Rattle.indexset_set.proofs.laws.walks.a_walk_gives_each_item_once.Goals as goal
 
 pub returns : goal.returns

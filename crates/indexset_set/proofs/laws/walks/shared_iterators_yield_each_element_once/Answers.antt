@@ -1,4 +1,4 @@
-use Rattle.indexset_core.proofs.PullLemmas.{is_walk}
+use Rattle.indexset_core.proofs.CallLemmas.{is_walk}
 use Rattle.indexset_set.proofs.laws.walks.shared_iterators_yield_each_element_once.Goals as goal
 
 pub returns : goal.returns

@@ -17,7 +17,7 @@ use Rattle.std.specs.contracts.option.Option as OP
 use Rattle.indexset_core.specs.Pairs.{entry_of}
 use Rattle.indexset_set.specs.SetPairs.{with_value_at}
 use Rattle.indexset_set.specs.SetLends.{pairs_row}
-use Rattle.indexset_spine.specs.Cut.{items}
+use Rattle.indexset_spine.specs.NodeList.{items}
 use Rattle.std.proofs.lemmas.Option.{slice_get_past}
 use Rattle.indexset_set.specs.contracts.pairs.BTreeSet+Pair+K+V.pair_at_mut as g
 use Rattle.indexset_set.proofs.pairs.BTreeSet+Pair+K+V.pair_at_mut.Met as theirs
@@ -26,8 +26,8 @@ use Rattle.indexset_set.specs.contracts.pairs.BTreeSet+Pair+K+V.pair_mut.Key.{na
 use Rattle.indexset_set.proofs.pairs.BTreeSet+Pair+K+V.pair_mut.Statement.{statement}
 use Rattle.indexset_set.proofs.pairs.BTreeSet+Pair+K+V.pair_mut.Code as code
 
-is_past : (a b : ℕ) (u : Bool) → u ≡ nat_lt a b → u ≡ false → b ≤ a
-is_past a b u e h = let t : nat_lt a b ≡ false = sym e ∙ h in grind (arith, nat_tests)
+is_after_last : (a b : ℕ) (u : Bool) → u ≡ nat_lt a b → u ≡ false → b ≤ a
+is_after_last a b u e h = let t : nat_lt a b ≡ false = sym e ∙ h in grind (arith, nat_tests)
 
 pub pair_mut_spec : {M : Type 1} → statement M
 unfolding follows_by
@@ -105,6 +105,6 @@ pair_mut_spec 𝓤 𝓛 𝓜 𝓡 wired X Y LX LY o₀ d₀ o₁ d₁ o₂ d₂ 
     fsplit3 ! $ drop ! $ use1 𝓛 (‵ (fres s.ghost_name (Row.coded.code s.now))) (𝓛.names.obs-res s.ghost_name (Row.coded.code s.now)) $
     returns ! (look_at ! 0 refl) $ free_all ! refl $ keep ! (0 ∷ 2 ∷ []) $
     use0 𝓛 (‵ (OL.own_val None (live 0 vnil ∷ []))) (none_of 𝓛 Lent) $
-    use0 𝓛 (raw (fact 𝓤 Told)) (fact_i 𝓤 Told (emp 𝓤) (sym (ap (option_map entry_of) (slice_get_past (items s.now) i (is_past i (length (items s.now)) has told.0 (is_false has f)))))) $
+    use0 𝓛 (raw (fact 𝓤 Told)) (fact_i 𝓤 Told (emp 𝓤) (sym (ap (option_map entry_of) (slice_get_past (items s.now) i (is_after_last i (length (items s.now)) has told.0 (is_false has f)))))) $
     move ! (2 ∷ 0 ∷ []) $ join ! $ nothing ! $ nothing ! $ fjoin ! $ nothing ! $ fjoin ! $
     keep ! (3 ∷ 0 ∷ 2 ∷ 1 ∷ []) $ by ! (leaves 𝓛 En hs c y (live 0 vnil) None (tt, (tt, tt)) (tt, (tt, tt)))))))))))))))

@@ -1,5 +1,5 @@
 use Rattle.std.proofs.Common.{rules, ◌≡◌, Some, slice_get}
-use Rattle.indexset_spine.specs.Cut.{items}
+use Rattle.indexset_spine.specs.NodeList.{items}
 use Rattle.indexset_set.proofs.SetValueLemmas.{nodes_ascending}
 use Rattle.indexset_set.proofs.pairs.BTreeSet+Pair+K+V.value_at_mut.Goals as goal
 

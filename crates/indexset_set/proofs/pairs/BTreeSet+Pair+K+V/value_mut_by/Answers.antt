@@ -1,7 +1,7 @@
 use Rattle.std.proofs.Common.{refl, sym, ap, ◌∙◌, inl}
 use Rattle.std.specs.Option.{option_map}
 use Rattle.std.specs.Ordering.{is_eq}
-use Rattle.indexset_spine.specs.Cut.{items}
+use Rattle.indexset_spine.specs.NodeList.{items}
 use Rattle.indexset_core.proofs.CallerLemmas.{find_absent, find_position, position_found, position_absent}
 use Rattle.indexset_set.specs.SetPairs.{with_value_at}
 use Rattle.indexset_set.proofs.SetProbeLemmas.{parted}
@@ -15,11 +15,11 @@ returns-then-spot g c =
     let spot = c.locate_by-spot.ensures in
     let at = position_found _ _ _ (parted (g.P.Probe.answer c.args.probe.now) (items c.self.inside.spine) (rw c.self.view_is c.requires)) spot.position (sym spot.found ∙ c.if-spot.true) in (
       ap (λ i. inl (c.value_in.result.ghost_name, with_value_at c.args.self.now i)) (rw (← c.self.view_is) spot.position),
-      record { writes_back = tt; value = sym (ap (option_map (λ p. p.value)) (rw (← c.self.view_is) (find_position _ _ _ at)) ∙ c.value_in.ensures.value); fixed = spot.fixed; few = rw (← c.self.view_is) spot.few },
+      record { writes_back = tt; value = sym (ap (option_map (λ p. p.value)) (rw (← c.self.view_is) (find_position _ _ _ at)) ∙ c.value_in.ensures.value); fixed = spot.fixed; comparisons = rw (← c.self.view_is) spot.comparisons },
     )
 
 pub returns-else-spot : goal.returns-else-spot
 returns-else-spot g c =
     let spot = c.locate_by-spot.ensures in
     let none = position_absent _ _ _ (parted (g.P.Probe.answer c.args.probe.now) (items c.self.inside.spine) (rw c.self.view_is c.requires)) spot.position (sym spot.found ∙ c.if-spot.false) in
-    (refl, record { writes_back = tt; value = rw (← c.self.view_is) (sym (ap (option_map (λ p. p.value)) (find_absent (λ x. is_eq (g.P.Probe.answer c.args.probe.now x)) (items c.self.inside.spine) none))); fixed = spot.fixed; few = rw (← c.self.view_is) spot.few })
+    (refl, record { writes_back = tt; value = rw (← c.self.view_is) (sym (ap (option_map (λ p. p.value)) (find_absent (λ x. is_eq (g.P.Probe.answer c.args.probe.now x)) (items c.self.inside.spine) none))); fixed = spot.fixed; comparisons = rw (← c.self.view_is) spot.comparisons })

@@ -2,7 +2,7 @@
 use Rattle.std.proofs.Common.{◌≡◌}
 use Rattle.std.specs.List.{fold}
 use Rattle.indexset_core.specs.Order.{keep}
-use Rattle.indexset_spine.specs.Cut.{items}
+use Rattle.indexset_spine.specs.NodeList.{items}
 use Rattle.indexset_set.proofs.traits.BTreeSetExtend.extend.Given as goal
 
 abbrev pub invariant-loop-value : goal.invariant-loop-value

@@ -1,7 +1,7 @@
 -- The set holds what it held and what came so far.
 use Rattle.std.proofs.Common.{◌≡◌, fold, map}
 use Rattle.indexset_core.specs.Order.{keep}
-use Rattle.indexset_spine.specs.Cut.{items}
+use Rattle.indexset_spine.specs.NodeList.{items}
 use Rattle.indexset_set.proofs.traits.BTreeSetExtendRef.extend.Given as goal
 
 abbrev pub invariant-loop-value : goal.invariant-loop-value

@@ -1,9 +1,9 @@
 use Rattle.std.proofs.Common.{◌≡◌, ◌∷◌, ◌++◌, [], ap, sym, ◌∙◌, length, arith}
 use Rattle.std.proofs.lemmas.List.{nil_from_length}
 use Rattle.std.specs.Vec.Iter.{into_iter_items}
-use Rattle.indexset_core.specs.Nodes.{joined, vec_items}
+use Rattle.indexset_core.specs.Nodes.{concat, vec_items}
 use Rattle.indexset_core.proofs.CallerLemmas.{back_turn}
-use Rattle.indexset_spine.proofs.IntoLemmas.{alone_gives_last, back_gives, fewer_last, last_gone, none_left}
+use Rattle.indexset_spine.proofs.IntoIterLemmas.{alone_gives_last, back_gives, fewer_last, last_gone, none_left}
 use Rattle.indexset_spine.proofs.into_iter.IntoIterDoubleEndedIterator.next_back.Given.{Over}
 use Rattle.indexset_spine.proofs.into_iter.IntoIterDoubleEndedIterator.next_back.Goals as goal
 use Rattle.indexset_spine.proofs.into_iter.IntoIterDoubleEndedIterator.next_back.Goals.{In-Some, In_ok-last}
@@ -15,14 +15,14 @@ loop-last-preserved g c =
     let mid = into_iter_items c.next_back-in-loop-last.new.self in
     let none : length (into_iter_items s.back) ≡ 0 = omega (arith, c.in_default.ensures.steps.0, s.back.rest.ok) in
     record {
-      rest = ap (λ l. into_iter_items s.front ++ (joined (vec_items mid) ++ l)) c.into_iter.ensures.rest
+      rest = ap (λ l. into_iter_items s.front ++ (concat (vec_items mid) ++ l)) c.into_iter.ensures.rest
           ∙ (back_turn (λ v. v.items) mid (into_iter_items s.middle) turn.node (into_iter_items s.front) (into_iter_items s.back) turn.ensures.steps (nil_from_length (into_iter_items s.back) none) ∙ c.loop-last.invariant.rest);
       left = c.loop-last.invariant.left;
     }
 
 -- the back node gives its last item
 module _ (g : Over) (c : In-Some g) where
-  gives : c.args.self.now ≡ (into_iter_items c.loop-last.self-inside.front ++ (joined (vec_items (into_iter_items c.loop-last.self-inside.middle)) ++ into_iter_items c.next_back.new.self)) ++ c.in-Some.last ∷ []
+  gives : c.args.self.now ≡ (into_iter_items c.loop-last.self-inside.front ++ (concat (vec_items (into_iter_items c.loop-last.self-inside.middle)) ++ into_iter_items c.next_back.new.self)) ++ c.in-Some.last ∷ []
   gives = back_gives (into_iter_items c.loop-last.self-inside.front) _ (into_iter_items c.loop-last.self-inside.back) (into_iter_items c.next_back.new.self) c.args.self.now c.in-Some.last c.loop-last.invariant.rest c.in-Some.ensures.steps
 
 pub overflow_sub-self : goal.overflow_sub-self
@@ -36,7 +36,7 @@ returns-in-Some-clause-steps g c = gives g (goal.at.returns-in-Some-clause-steps
 
 -- the front node alone is left, and gives its last item
 module _ (g : Over) (c : In_ok-last g) where
-  alone_gives : c.args.self.now ≡ (into_iter_items c.next_back-in_default-next_back.new.self ++ (joined (vec_items (into_iter_items c.next_back-in-loop-last.new.self)) ++ into_iter_items c.next_back.new.self)) ++ c.in_ok-last.last ∷ []
+  alone_gives : c.args.self.now ≡ (into_iter_items c.next_back-in_default-next_back.new.self ++ (concat (vec_items (into_iter_items c.next_back-in-loop-last.new.self)) ++ into_iter_items c.next_back.new.self)) ++ c.in_ok-last.last ∷ []
   alone_gives =
       let s = c.loop-last.self-inside in
       let t = c.next_back-in-loop-last.new.self in

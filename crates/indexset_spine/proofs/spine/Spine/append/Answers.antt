@@ -1,12 +1,12 @@
 use Rattle.std.proofs.Common.{◌≡◌, ◌≤◌, List, length, sum, ap, sym, arith, ◌∙◌}
 use Rattle.std.proofs.lemmas.Result.{on_ok_weaker}
-use Rattle.indexset_core.specs.Nodes.{joined, node_lengths, vec_items}
-use Rattle.indexset_core.proofs.CallerLemmas.{length-joined}
-use Rattle.indexset_spine.specs.Cut.{with_last, with_all_last}
+use Rattle.indexset_core.specs.Nodes.{concat, node_lengths, vec_items}
+use Rattle.indexset_core.proofs.CallerLemmas.{length-concat}
+use Rattle.indexset_spine.specs.NodeList.{with_last, with_all_last}
 use Rattle.indexset_spine.proofs.AppendLemmas.{emptied_all, takes_items}
-use Rattle.indexset_spine.proofs.TakenLemmas.{taken_shorter, takes_all}
-use Rattle.indexset_spine.proofs.CutEdits.{spine_of}
-use Rattle.indexset_spine.proofs.CutSplits.{cut_all_emptied, joined_all_emptied}
+use Rattle.indexset_spine.proofs.FoldPrefixLemmas.{taken_shorter, takes_all}
+use Rattle.indexset_spine.proofs.NodeListEdits.{spine_of}
+use Rattle.indexset_spine.proofs.NodeListSplits.{cut_all_emptied, joined_all_emptied}
 use Rattle.indexset_index.proofs.CallerLemmas.{count-lengths}
 use Rattle.indexset_spine.proofs.IndexLemmas.{emptied_few}
 use Rattle.indexset_spine.proofs.VecNodes.{length-vec_items}
@@ -18,14 +18,14 @@ module _ (g : Over) (c : After-drop_emptied g) where
   abbrev kept : List (List g.row.T.Denot)
   kept = vec_items c.drop_emptied.new.nodes.items
 
-  same : joined kept ≡ joined (vec_items c.move_nodes-moved.new.from.items)
-  same = ap joined c.drop_emptied.ensures ∙ joined_all_emptied (vec_items c.move_nodes-moved.new.from.items)
+  same : concat kept ≡ concat (vec_items c.move_nodes-moved.new.from.items)
+  same = ap concat c.drop_emptied.ensures ∙ joined_all_emptied (vec_items c.move_nodes-moved.new.from.items)
 
-  fewer : length (joined kept) ≤ length (joined (vec_items c.other.inside.nodes.items))
+  fewer : length (concat kept) ≤ length (concat (vec_items c.other.inside.nodes.items))
   fewer = omega (arith, ap (λ (l : List g.row.T.Denot). length l) same, taken_shorter (with_last c.args.self.now.size) _ _ _ _ c.move_nodes-moved.ensures.moved)
 
-  total : c.other.inside.len ≡ length (joined (vec_items c.other.inside.nodes.items))
-  total = c.other.invariant.is_spine.total_is ∙ sym (length-joined (vec_items c.other.inside.nodes.items))
+  total : c.other.inside.len ≡ length (concat (vec_items c.other.inside.nodes.items))
+  total = c.other.invariant.is_spine.total_is ∙ sym (length-concat (vec_items c.other.inside.nodes.items))
 
 pub count_items-other-inside-requires : goal.count_items-other-inside-requires
 count_items-other-inside-requires g c =
@@ -43,7 +43,7 @@ rebuild-requires-clause-room g c =
 pub rebuild-requires-clause-fits : goal.rebuild-requires-clause-fits
 rebuild-requires-clause-fits g c =
     let at = (goal.at.rebuild-requires-clause-fits g c).After-drop_emptied in
-    omega (arith, fewer g at, total g at, length-joined (kept g at), ap (λ v. sum (node_lengths (vec_items v))) c.as_slice-2.ensures.value)
+    omega (arith, fewer g at, total g at, length-concat (kept g at), ap (λ v. sum (node_lengths (vec_items v))) c.as_slice-2.ensures.value)
 
 pub invariant_of-other : goal.invariant_of-other
 invariant_of-other g c =

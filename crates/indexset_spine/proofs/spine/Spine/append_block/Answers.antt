@@ -3,7 +3,7 @@ use Rattle.std.specs.declared.vec.Vec.{Vec}
 use Rattle.std.proofs.lemmas.List.{length-take-le, length-drop, take-append-drop}
 use Rattle.std.specs.List.{fold}
 use Rattle.indexset_core.specs.Nodes.{node_at, node_lengths, vec_items}
-use Rattle.indexset_spine.specs.Cut.{Cut, cut, end_spot, with_inserted, with_last}
+use Rattle.indexset_spine.specs.NodeList.{NodeList, node_list, end_spot, with_inserted, with_last}
 use Rattle.indexset_spine.specs.Edits.{IsShortEnd}
 use Rattle.indexset_spine.proofs.AppendLemmas.{block_taken, block_writes, lengths-block, short_end, spine_all_last}
 use Rattle.indexset_core.proofs.CallerLemmas.{on_err}
@@ -16,7 +16,7 @@ use Rattle.indexset_spine.proofs.spine.Spine.append_block.Goals.{After-move_fron
 
 module _ (g : Over) (c : After-move_front g) where
   place : c.end-end.result ≡ end_spot (vec_items c.self.inside.nodes.items)
-  place = c.end-end.ensures.place ∙ ap (λ (t : Cut g.row.T.Denot). end_spot t.nodes) (sym c.self.view_is)
+  place = c.end-end.ensures.place ∙ ap (λ (t : NodeList g.row.T.Denot). end_spot t.nodes) (sym c.self.view_is)
 
   end : IsShortEnd c.self.inside.size (vec_items c.make_room.new.nodes.items) c.in_ok-to.to
   end = c.in_ok-to.ensures.end (short_end _ _ _ c.self.invariant.is_spine.is_cut place)
@@ -71,7 +71,7 @@ returns-clause-moved g c =
     let at = (goal.at.returns-clause-moved g c).After-move_front in (
       moved g at,
       sym (ap (λ l. moved g at ++ l) c.move_front.ensures.left ∙ take-append-drop c.min-count.result c.args.from.now.items),
-      writes g at ∙ (nodes g at ∙ ap (λ (t : Cut g.row.T.Denot). fold (with_last t.size) t.nodes (moved g at)) c.self.view_is),
+      writes g at ∙ (nodes g at ∙ ap (λ (t : NodeList g.row.T.Denot). fold (with_last t.size) t.nodes (moved g at)) c.self.view_is),
     )
 
 pub returns-clause-fewer : goal.returns-clause-fewer
@@ -81,7 +81,7 @@ returns-clause-fewer g c =
 
 pub overflow_sub-self-inside : goal.overflow_sub-self-inside
 overflow_sub-self-inside g c =
-    let place = c.end-end.ensures.place ∙ ap (λ (t : Cut g.row.T.Denot). end_spot t.nodes) (sym c.self.view_is) in
+    let place = c.end-end.ensures.place ∙ ap (λ (t : NodeList g.row.T.Denot). end_spot t.nodes) (sym c.self.view_is) in
     omega (arith, (short_end c.self.inside.size (vec_items c.self.inside.nodes.items) c.end-end.result c.self.invariant.is_spine.is_cut place).short)
 
 pub make_room-requires-clause-spot : goal.make_room-requires-clause-spot
@@ -94,10 +94,10 @@ pub invariant_of-self : goal.invariant_of-self
 invariant_of-self g c = record { is_spine = rw c.in_err-to.ensures.unchanged c.self.invariant.is_spine; index_is = c.make_room.ensures.index }
 
 pub returns-in_err-to-clause-unchanged : goal.returns-in_err-to-clause-unchanged
-returns-in_err-to-clause-unchanged g c = on_err c.from_residual.result (ap (λ (ns : List (List g.row.T.Denot)). cut ns c.self.inside.size) c.in_err-to.ensures.unchanged ∙ c.self.view_is)
+returns-in_err-to-clause-unchanged g c = on_err c.from_residual.result (ap (λ (ns : List (List g.row.T.Denot)). node_list ns c.self.inside.size) c.in_err-to.ensures.unchanged ∙ c.self.view_is)
 
 pub returns-in_err-to-clause-moved : goal.returns-in_err-to-clause-moved
-returns-in_err-to-clause-moved g c = ([], refl, c.in_err-to.ensures.unchanged ∙ ap (λ (t : Cut g.row.T.Denot). t.nodes) c.self.view_is)
+returns-in_err-to-clause-moved g c = ([], refl, c.in_err-to.ensures.unchanged ∙ ap (λ (t : NodeList g.row.T.Denot). t.nodes) c.self.view_is)
 
 pub index_mut-node-requires : goal.index_mut-node-requires
 index_mut-node-requires g c = omega (arith, c.in_ok-to.ensures.spot.node_in, length-vec_items c.make_room.new.nodes.items, c.make_room.new.nodes.ok)
@@ -110,7 +110,7 @@ add-requires-clause-fits g c = omega (arith, c.make_room.ensures.sum, ap sum c.s
 
 pub overflow_sub-room : goal.overflow_sub-room
 overflow_sub-room g c =
-    let place = c.end-end.ensures.place ∙ ap (λ (t : Cut g.row.T.Denot). end_spot t.nodes) (sym c.self.view_is) in
+    let place = c.end-end.ensures.place ∙ ap (λ (t : NodeList g.row.T.Denot). end_spot t.nodes) (sym c.self.view_is) in
     let end = c.in_ok-to.ensures.end (short_end c.self.inside.size (vec_items c.self.inside.nodes.items) c.end-end.result c.self.invariant.is_spine.is_cut place) in
     let long = node_len c.make_room.new.nodes.items c.in_ok-to.to.node c.index_mut-node.result.now c.in_ok-to.ensures.spot.node_in c.index_mut-node.ensures.value in
     omega (arith, c.len-2.ensures, c.min-2.ensures, c.capacity.ensures, long, end.end, end.short, c.index_mut-node.result.now.ok)

@@ -1,9 +1,9 @@
 use Rattle.std.proofs.Common.{◌≡◌, [], arith, ◌∙◌}
 use Rattle.std.proofs.lemmas.List.{nil_from_length}
 use Rattle.std.proofs.lemmas.Bool.Decides.{nat_tests}
-use Rattle.indexset_spine.specs.Cut.{with_last, with_all_last}
+use Rattle.indexset_spine.specs.NodeList.{with_last, with_all_last}
 use Rattle.indexset_spine.proofs.AppendLemmas.{takes_items}
-use Rattle.indexset_spine.proofs.TakenLemmas.{takes_all, takes_more}
+use Rattle.indexset_spine.proofs.FoldPrefixLemmas.{takes_all, takes_more}
 use Rattle.indexset_spine.proofs.spine.Spine.append_items.Goals as goal
 
 pub loop-self-preserved : goal.loop-self-preserved

@@ -1,8 +1,8 @@
 use Rattle.std.proofs.Common.{◌≡◌, ◌+◌, ◌<◌, ◌≤◌, length, arith, ap, sym, ◌∙◌, subst}
 use Rattle.indexset_core.specs.Nodes.{node_at, vec_items}
 use Rattle.indexset_core.specs.Order.{IsAscending}
-use Rattle.indexset_spine.specs.Cut.{Cut, items}
-use Rattle.indexset_spine.proofs.CutEdits.{node_bounded}
+use Rattle.indexset_spine.specs.NodeList.{NodeList, items}
+use Rattle.indexset_spine.proofs.NodeListEdits.{node_bounded}
 use Rattle.indexset_spine.proofs.EditSteps.{node_len, node_is, spot_in}
 use Rattle.indexset_spine.proofs.MergeSteps.{below_read}
 use Rattle.indexset_spine.proofs.PutLemmas.{node_up}
@@ -22,14 +22,14 @@ module _ (g : Over) (c : After-as_slice-from g) where
       node_bounded (vec_items c.self.inside.nodes.items) c.args.spot.now.node c.self.inside.size spot.node_in c.self.invariant.is_spine.is_cut
 
   some_node : 0 < length (vec_items c.other.inside.nodes.items)
-  some_node = subst (λ (t : Cut g.row.T.Denot). 0 < length t.nodes) (sym c.other.view_is) (omega (arith, c.node_count-count.ensures.value, c.node_count-count.ensures.some))
+  some_node = subst (λ (t : NodeList g.row.T.Denot). 0 < length t.nodes) (sym c.other.view_is) (omega (arith, c.node_count-count.ensures.value, c.node_count-count.ensures.some))
 
   from_is : node_at (vec_items c.other.inside.nodes.items) 0 ≡ c.as_slice-from.result.now
   from_is = node_is c.other.inside.nodes.items 0 c.index-2.result.now some_node c.index-2.ensures ∙ sym c.as_slice-from.ensures.value
 
 pub count_below_last-count-requires : goal.count_below_last-count-requires
 count_below_last-count-requires g c =
-    let order = subst (λ (t : Cut g.row.T.Denot). IsAscending g.T.Ord.cmp (items t)) (sym c.other.view_is) c.requires.order in
+    let order = subst (λ (t : NodeList g.row.T.Denot). IsAscending g.T.Ord.cmp (items t)) (sym c.other.view_is) c.requires.order in
     subst (IsAscending g.T.Ord.cmp) (from_is g c) (node_up (vec_items c.other.inside.nodes.items) 0 (some_node g c) g.T.Ord.cmp order)
 
 pub overflow_sub-self-inside : goal.overflow_sub-self-inside
@@ -38,18 +38,18 @@ overflow_sub-self-inside g c = omega (arith, node_long g c, low g c)
 pub returns-then-saturating_mul-node-clause-room : goal.returns-then-saturating_mul-node-clause-room
 returns-then-saturating_mul-node-clause-room g c =
     let at = (goal.at.returns-then-saturating_mul-node-clause-room g c).After-as_slice-from in
-    subst (λ (t : Cut g.row.T.Denot). length (node_at t.nodes c.args.spot.now.node) + 0 ≤ t.size) c.self.view_is (omega (arith, low g at))
+    subst (λ (t : NodeList g.row.T.Denot). length (node_at t.nodes c.args.spot.now.node) + 0 ≤ t.size) c.self.view_is (omega (arith, low g at))
 
 pub returns-clause-room : goal.returns-clause-room
 returns-clause-room g c =
     let at = (goal.at.returns-clause-room g c).After-as_slice-from in
-    subst (λ (t : Cut g.row.T.Denot). length (node_at t.nodes c.args.spot.now.node) + c.count_below_last-count.result ≤ t.size) c.self.view_is
+    subst (λ (t : NodeList g.row.T.Denot). length (node_at t.nodes c.args.spot.now.node) + c.count_below_last-count.result ≤ t.size) c.self.view_is
     (omega (arith, low g at, node_long g at, c.count_below_last-count.ensures.most))
 
 pub returns-clause-within : goal.returns-clause-within
 returns-clause-within g c =
     let at = (goal.at.returns-clause-within g c).After-as_slice-from in
-    omega (arith, c.count_below_last-count.ensures.within, ap (λ (t : Cut g.row.T.Denot). length (node_at t.nodes 0)) c.other.view_is, ap (λ l. length l) (from_is g at))
+    omega (arith, c.count_below_last-count.ensures.within, ap (λ (t : NodeList g.row.T.Denot). length (node_at t.nodes 0)) c.other.view_is, ap (λ l. length l) (from_is g at))
 
 pub returns-clause-below : goal.returns-clause-below
 returns-clause-below g c =

@@ -4,9 +4,9 @@ use Rattle.std.proofs.RetainMut.{Called-Mut}
 use Rattle.std.proofs.lemmas.List.{get_or-set_same}
 use Rattle.std.proofs.lemmas.Option.{get_or_from_slice_get, slice_get_within}
 use Rattle.indexset_core.specs.Nodes.{node_lengths}
-use Rattle.indexset_spine.specs.Cut.{items, position_of, set_joined, without_item}
+use Rattle.indexset_spine.specs.NodeList.{items, position_of, set_joined, without_item}
 use Rattle.indexset_spine.specs.Lengths.{lengths_without}
-use Rattle.indexset_spine.proofs.CutLemmas.{joined-set}
+use Rattle.indexset_spine.proofs.NodeListLemmas.{concat-set}
 use Rattle.indexset_spine.proofs.NodeLengthLemmas.{node_lengths-set_joined}
 use Rattle.indexset_spine.proofs.ExtractSteps.{asked_at, asked_spot, lengths_gone, picked, stretch_after, stretch_without, turned_down}
 use Rattle.indexset_spine.proofs.spine.Spine.extract.Given.{Over}
@@ -25,7 +25,7 @@ module _ (g : Over) (c : After-remove g) where
       let i = position_of ns spot in
       let y = c.f.new.arg2 in
       let read =
-      sym (ap (λ l. slice_get l (position_of (set_joined ns i y) spot)) (joined-set ns i y) ∙ ap (slice_get (slice_set (items c.loop-at.self) i y)) (asked_at ns spot i y c.spot_near-spot.ensures.spot refl)) ∙ c.remove.ensures.value in
+      sym (ap (λ l. slice_get l (position_of (set_joined ns i y) spot)) (concat-set ns i y) ∙ ap (slice_get (slice_set (items c.loop-at.self) i y)) (asked_at ns spot i y c.spot_near-spot.ensures.spot refl)) ∙ c.remove.ensures.value in
       sym (get_or_from_slice_get (slice_set (items c.loop-at.self) i y) i c.remove.result y read) ∙ get_or-set_same (items c.loop-at.self) i y y (slice_get_within (items c.loop-at.self) i _ c.item_mut.ensures.value)
 
   taken : items c.remove.new.self ≡ remove (slice_set (items c.loop-at.self) c.loop-at.at.front c.f.new.arg2) c.loop-at.at.front
@@ -35,7 +35,7 @@ module _ (g : Over) (c : After-remove g) where
       let i = position_of ns spot in
       let y = c.f.new.arg2 in
       c.remove.ensures.items
-      ∙ (ap (λ l. remove l (position_of (set_joined ns i y) spot)) (joined-set ns i y)
+      ∙ (ap (λ l. remove l (position_of (set_joined ns i y) spot)) (concat-set ns i y)
       ∙ (ap (remove (slice_set (items c.loop-at.self) i y)) (asked_at ns spot i y c.spot_near-spot.ensures.spot refl)
       ∙ ap (λ j. remove (slice_set (items c.loop-at.self) j y) j) c.spot_near-spot.ensures.position))
 
@@ -69,7 +69,7 @@ loop-at-preserved g c =
     let called : CalledAtMut g.F.FnMut c.loop-at.f c.item_mut.result.now c.f.result c.f.new.self c.f.new.arg2 = Called-Mut g.F.FnMut c.f.ensures in
     let read = rw c.spot_near-spot.ensures.position at c.item_mut.ensures.value in
     rw c.spot_near-spot.ensures.position (record {
-      extracted = rw (joined-set ns p y) (turned_down (CalledAtMut g.F.FnMut) c.loop-at.f (items c.loop-at.self) p c.loop-at.at.back _ _ _ _ _ c.loop-at-test.true read (rw c.if-f.false at called) c.loop-at.invariant.extracted);
+      extracted = rw (concat-set ns p y) (turned_down (CalledAtMut g.F.FnMut) c.loop-at.f (items c.loop-at.self) p c.loop-at.at.back _ _ _ _ _ c.loop-at-test.true read (rw c.if-f.false at called) c.loop-at.invariant.extracted);
       lengths = node_lengths-set_joined ns p y ∙ c.loop-at.invariant.lengths;
       stretch = stretch_after ns c.spot_near-spot.result p y c.spot_near-spot.ensures.spot c.spot_near-spot.ensures.position c.loop-at.at.back c.loop-at-test.true c.loop-at.invariant.stretch.inside;
       back = c.loop-at.invariant.back;

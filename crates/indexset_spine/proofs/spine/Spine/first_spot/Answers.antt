@@ -1,6 +1,6 @@
 use Rattle.std.proofs.Common.{refl, arith}
-use Rattle.indexset_spine.proofs.CutEdits.{first_in}
-use Rattle.indexset_spine.proofs.CutLemmas.{spine_len}
+use Rattle.indexset_spine.proofs.NodeListEdits.{first_in}
+use Rattle.indexset_spine.proofs.NodeListLemmas.{spine_len}
 use Rattle.indexset_spine.proofs.spine.Spine.first_spot.Goals as goal
 
 pub returns-then-self-eq0 : goal.returns-then-self-eq0

@@ -1,8 +1,8 @@
 use Rattle.std.proofs.Common.{◌∙◌, ap, arith, insert, sum}
-use Rattle.indexset_core.specs.Nodes.{joined}
-use Rattle.indexset_spine.specs.Cut.{Cut, items, position_of, with_inserted}
+use Rattle.indexset_core.specs.Nodes.{concat}
+use Rattle.indexset_spine.specs.NodeList.{NodeList, items, position_of, with_inserted}
 use Rattle.indexset_spine.proofs.EditSteps.{spot_in, some_is}
-use Rattle.indexset_spine.proofs.CutEdits.{spine_inserted, joined_inserted, first_in}
+use Rattle.indexset_spine.proofs.NodeListEdits.{spine_inserted, joined_inserted, first_in}
 use Rattle.indexset_spine.proofs.spine.Spine.insert_from.Goals as goal
 
 pub make_room-requires-clause-index : goal.make_room-requires-clause-index
@@ -28,11 +28,11 @@ invariant_of-self-2 g c =
 pub returns-clause-nodes : goal.returns-clause-nodes
 returns-clause-nodes g c =
     some_is _ c.remove-value.result _ c.remove-value.ensures.value
-    (c.insert_in_room.ensures.nodes ∙ (c.in_ok-to.ensures.nodes c.remove-value.result ∙ ap (λ (t : Cut g.row.T.Denot). with_inserted t.size t.nodes c.args.spot c.remove-value.result) c.self.view_is))
+    (c.insert_in_room.ensures.nodes ∙ (c.in_ok-to.ensures.nodes c.remove-value.result ∙ ap (λ (t : NodeList g.row.T.Denot). with_inserted t.size t.nodes c.args.spot c.remove-value.result) c.self.view_is))
 
 pub returns-clause-items : goal.returns-clause-items
 returns-clause-items g c =
     let spot = spot_in _ _ c.args.self.now c.args.spot c.self.view_is c.requires.spot in
     some_is _ c.remove-value.result _ c.remove-value.ensures.value
-    (ap joined (c.insert_in_room.ensures.nodes ∙ c.in_ok-to.ensures.nodes c.remove-value.result)
-    ∙ (joined_inserted _ _ c.args.spot c.remove-value.result spot ∙ ap (λ (t : Cut g.row.T.Denot). insert (items t) (position_of t.nodes c.args.spot) c.remove-value.result) c.self.view_is))
+    (ap concat (c.insert_in_room.ensures.nodes ∙ c.in_ok-to.ensures.nodes c.remove-value.result)
+    ∙ (joined_inserted _ _ c.args.spot c.remove-value.result spot ∙ ap (λ (t : NodeList g.row.T.Denot). insert (items t) (position_of t.nodes c.args.spot) c.remove-value.result) c.self.view_is))

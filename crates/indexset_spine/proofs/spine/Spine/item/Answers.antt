@@ -1,4 +1,4 @@
-use Rattle.indexset_spine.proofs.CutLemmas.{spot_reads}
+use Rattle.indexset_spine.proofs.NodeListLemmas.{spot_reads}
 use Rattle.indexset_spine.proofs.spine.Spine.item.Goals as goal
 
 pub returns : goal.returns

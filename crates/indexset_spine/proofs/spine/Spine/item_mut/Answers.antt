@@ -1,5 +1,5 @@
 use Rattle.std.proofs.Common.{refl}
-use Rattle.indexset_spine.proofs.CutLemmas.{spot_keeps, spot_writes, spot_reads}
+use Rattle.indexset_spine.proofs.NodeListLemmas.{spot_keeps, spot_writes, spot_reads}
 use Rattle.indexset_spine.proofs.spine.Spine.item_mut.Goals as goal
 
 pub invariant_of-self-lent : goal.invariant_of-self-lent

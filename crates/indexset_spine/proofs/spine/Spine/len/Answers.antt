@@ -1,4 +1,4 @@
-use Rattle.indexset_spine.proofs.CutLemmas.{spine_len}
+use Rattle.indexset_spine.proofs.NodeListLemmas.{spine_len}
 use Rattle.indexset_spine.proofs.spine.Spine.len.Goals as goal
 
 pub returns : goal.returns

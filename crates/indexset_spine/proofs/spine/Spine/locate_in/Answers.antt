@@ -20,10 +20,10 @@ returns-clause-found g c =
     let equal = rw c.as_slice-items.ensures.value at c.place_in-offset.ensures.found in
     equal ∙ told _ _ _ _ here c.requires.parted _ offset
 
-pub returns-clause-few : goal.returns-clause-few
-returns-clause-few g c =
+pub returns-clause-comparisons : goal.returns-clause-comparisons
+returns-clause-comparisons g c =
     let s = c.args.self.now in
     let here = read_named _ _ s c.self.view_is c.self.invariant.is_spine.is_cut _ _ c.index.result.now c.requires.node c.index.ensures in
     let within = node_within _ _ _ _ here in
     let node = ap (λ l. length l) c.as_slice-items.ensures.value in
-    omega (arith, c.place_in-offset.ensures.few, digits-mono (length c.as_slice-items.result.now) s.size (omega arith))
+    omega (arith, c.place_in-offset.ensures.comparisons, digits-mono (length c.as_slice-items.result.now) s.size (omega arith))

@@ -1,7 +1,7 @@
 use Rattle.std.proofs.Common.{◌≡◌, sym, ap, ◌∙◌, subst}
 use Rattle.indexset_core.specs.Nodes.{node_for, vec_items}
 use Rattle.indexset_core.specs.Parted.{IsParted}
-use Rattle.indexset_spine.specs.Cut.{Cut, items}
+use Rattle.indexset_spine.specs.NodeList.{NodeList, items}
 use Rattle.indexset_spine.proofs.spine.Spine.locate_near_by.Given.{Over}
 use Rattle.indexset_spine.proofs.spine.Spine.locate_near_by.Goals as goal
 use Rattle.indexset_spine.proofs.spine.Spine.locate_near_by.Goals.{Then-is_sought}
@@ -10,10 +10,10 @@ use Rattle.indexset_spine.proofs.spine.Spine.locate_near_by.Goals.{Then-is_sough
 near_is : (g : Over) (c : Then-is_sought g) → c.args.near ≡ node_for (g.P.Probe.answer c.args.probe.now) c.args.self.now.nodes
 near_is g c =
     let answer = g.P.Probe.answer c.args.probe.now in
-    c.is_sought.ensures.node c.if-is_sought.true ∙ (ap (λ vs. node_for answer (vec_items vs)) c.as_slice.ensures.value ∙ ap (λ (t : Cut g.row.T.Denot). node_for answer t.nodes) c.self.view_is)
+    c.is_sought.ensures.node c.if-is_sought.true ∙ (ap (λ vs. node_for answer (vec_items vs)) c.as_slice.ensures.value ∙ ap (λ (t : NodeList g.row.T.Denot). node_for answer t.nodes) c.self.view_is)
 
 pub is_sought-requires-clause-parted : goal.is_sought-requires-clause-parted
-is_sought-requires-clause-parted g c = rw c.as_slice.ensures.value (subst (λ (t : Cut g.row.T.Denot). IsParted (g.P.Probe.answer c.args.probe.now) (items t)) (sym c.self.view_is) c.requires)
+is_sought-requires-clause-parted g c = rw c.as_slice.ensures.value (subst (λ (t : NodeList g.row.T.Denot). IsParted (g.P.Probe.answer c.args.probe.now) (items t)) (sym c.self.view_is) c.requires)
 
 pub locate_in-requires-clause-parted : goal.locate_in-requires-clause-parted
 locate_in-requires-clause-parted g c = rw c.is_sought.ensures.fixed c.requires

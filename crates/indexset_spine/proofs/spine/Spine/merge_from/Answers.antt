@@ -1,9 +1,9 @@
 use Rattle.std.proofs.Common.{◌≡◌, ℕ, ◌+◌, ◌-◌, ◌<◌, ◌≤◌, List, length, sum, take, drop, get_or, slice_set, Vec, Global, sym, ap, ◌∙◌, subst, arith}
 use Rattle.std.specs.List.{fold}
-use Rattle.indexset_core.specs.Nodes.{joined, node_at, vec_items}
+use Rattle.indexset_core.specs.Nodes.{concat, node_at, vec_items}
 use Rattle.indexset_core.specs.Order.{IsAscending, put}
 use Rattle.indexset_core.proofs.CallerLemmas.{on_err}
-use Rattle.indexset_spine.specs.Cut.{Cut, cut, items}
+use Rattle.indexset_spine.specs.NodeList.{NodeList, node_list, items}
 use Rattle.indexset_spine.proofs.EditSteps.{lists_kept, node_is}
 use Rattle.indexset_spine.proofs.MergeSteps.{Merges, grown, length_after, length_before, lengths_after, count_within, other_items, other_lengths, other_some, other_spine, spine_after, writes}
 use Rattle.indexset_index.proofs.CallerLemmas.{count-lengths, length-at}
@@ -16,16 +16,16 @@ use Rattle.indexset_spine.proofs.spine.Spine.merge_from.Goals.{After-index_mut-2
 -- the nodes before the merge
 module _ (g : Over) (c : After-index_mut-2 g) where
   inside : c.args.node < length (vec_items c.self.inside.nodes.items)
-  inside = subst (λ (t : Cut g.row.T.Denot). c.args.node < length t.nodes) (sym c.self.view_is) c.requires.node
+  inside = subst (λ (t : NodeList g.row.T.Denot). c.args.node < length t.nodes) (sym c.self.view_is) c.requires.node
 
   some_node : 0 < length (vec_items c.other.inside.nodes.items)
-  some_node = subst (λ (t : Cut g.row.T.Denot). 0 < length t.nodes) (sym c.other.view_is) (omega (arith, c.node_count-count.ensures.value, c.node_count-count.ensures.some))
+  some_node = subst (λ (t : NodeList g.row.T.Denot). 0 < length t.nodes) (sym c.other.view_is) (omega (arith, c.node_count-count.ensures.value, c.node_count-count.ensures.some))
 
-  order : IsAscending g.T.Ord.cmp (joined (vec_items c.self.inside.nodes.items))
-  order = subst (λ (t : Cut g.row.T.Denot). IsAscending g.T.Ord.cmp (items t)) (sym c.self.view_is) c.requires.order
+  order : IsAscending g.T.Ord.cmp (concat (vec_items c.self.inside.nodes.items))
+  order = subst (λ (t : NodeList g.row.T.Denot). IsAscending g.T.Ord.cmp (items t)) (sym c.self.view_is) c.requires.order
 
-  other_order : IsAscending g.T.Ord.cmp (joined (vec_items c.other.inside.nodes.items))
-  other_order = subst (λ (t : Cut g.row.T.Denot). IsAscending g.T.Ord.cmp (items t)) (sym c.other.view_is) c.requires.other_order
+  other_order : IsAscending g.T.Ord.cmp (concat (vec_items c.other.inside.nodes.items))
+  other_order = subst (λ (t : NodeList g.row.T.Denot). IsAscending g.T.Ord.cmp (items t)) (sym c.other.view_is) c.requires.other_order
 
 pub merge_first-requires-clause-order : goal.merge_first-requires-clause-order
 merge_first-requires-clause-order g c =
@@ -46,7 +46,7 @@ pub returns-in_err-merge_first-clause-unchanged : goal.returns-in_err-merge_firs
 returns-in_err-merge_first-clause-unchanged g c =
     let at = (goal.at.returns-in_err-merge_first-clause-unchanged g c).After-index_mut-2 in
     on_err c.from_residual.result
-    (ap (λ (ns : List (List g.row.T.Denot)). cut ns c.self.inside.size) (lists_kept c.self.inside.nodes.items c.args.node c.index_mut.result.now c.merge_first.new.items (inside g at) c.index_mut.ensures.value c.in_err-merge_first.ensures.unchanged)
+    (ap (λ (ns : List (List g.row.T.Denot)). node_list ns c.self.inside.size) (lists_kept c.self.inside.nodes.items c.args.node c.index_mut.result.now c.merge_first.new.items (inside g at) c.index_mut.ensures.value c.in_err-merge_first.ensures.unchanged)
     ∙ c.self.view_is)
 
 -- the nodes after it
@@ -62,13 +62,13 @@ module _ (g : Over) (c : After-len g) where
 
   merges : Merges g.T.Ord.cmp g.met.T.Ord.total vs ws c.args.node c.args.count c.index_mut.result.now c.merge_first.new.items c.index_mut-2.result.now c.merge_first.new.from
   merges = record {
-    inside = subst (λ (t : Cut g.row.T.Denot). c.args.node < length t.nodes) (sym c.self.view_is) c.requires.node;
+    inside = subst (λ (t : NodeList g.row.T.Denot). c.args.node < length t.nodes) (sym c.self.view_is) c.requires.node;
     node = c.index_mut.ensures.value;
-    some_node = subst (λ (t : Cut g.row.T.Denot). 0 < length t.nodes) (sym c.other.view_is) (omega (arith, c.node_count-count.ensures.value, c.node_count-count.ensures.some));
+    some_node = subst (λ (t : NodeList g.row.T.Denot). 0 < length t.nodes) (sym c.other.view_is) (omega (arith, c.node_count-count.ensures.value, c.node_count-count.ensures.some));
     first = c.index_mut-2.ensures.value;
-    order = subst (λ (t : Cut g.row.T.Denot). IsAscending g.T.Ord.cmp (items t)) (sym c.self.view_is) c.requires.order;
+    order = subst (λ (t : NodeList g.row.T.Denot). IsAscending g.T.Ord.cmp (items t)) (sym c.self.view_is) c.requires.order;
     some = c.requires.some;
-    within = subst (λ (t : Cut g.row.T.Denot). c.args.count ≤ length (node_at t.nodes 0)) (sym c.other.view_is) c.requires.within;
+    within = subst (λ (t : NodeList g.row.T.Denot). c.args.count ≤ length (node_at t.nodes 0)) (sym c.other.view_is) c.requires.within;
     merged = c.in_ok-merge_first.ensures.merged;
     rest = c.in_ok-merge_first.ensures.rest;
   }
@@ -76,13 +76,13 @@ module _ (g : Over) (c : After-len g) where
   before_is : c.len-before.result ≡ length (node_at (vec_items vs) c.args.node)
   before_is = c.len-before.ensures ∙ length_before _ _ _ _ _ _ _ _ _ _ merges c.index.result.now c.index.ensures
 
-  after_is : c.len.result ≡ length (fold (put g.T.Ord.cmp) (node_at (vec_items vs) c.args.node) (take c.args.count (joined (vec_items ws))))
+  after_is : c.len.result ≡ length (fold (put g.T.Ord.cmp) (node_at (vec_items vs) c.args.node) (take c.args.count (concat (vec_items ws))))
   after_is = c.len.ensures ∙ length_after _ _ _ _ _ _ _ _ _ _ merges c.index-2.result.now c.index-2.ensures
 
   grows : c.len-before.result ≤ c.len.result
   grows = omega (arith, before_is, after_is, (grown _ _ _ _ _ _ _ _ _ _ merges).least)
 
-  more_is : more + length (node_at (vec_items vs) c.args.node) ≡ length (fold (put g.T.Ord.cmp) (node_at (vec_items vs) c.args.node) (take c.args.count (joined (vec_items ws))))
+  more_is : more + length (node_at (vec_items vs) c.args.node) ≡ length (fold (put g.T.Ord.cmp) (node_at (vec_items vs) c.args.node) (take c.args.count (concat (vec_items ws))))
   more_is = omega (arith, before_is, after_is, grows)
 
   few : c.self.inside.len + more < 18446744073709551616
@@ -103,7 +103,7 @@ pub invariant_of-self-2 : goal.invariant_of-self-2
 invariant_of-self-2 g c =
     let at = (goal.at.invariant_of-self-2 g c).After-len in
     let k = c.args.node in
-    let room : length (node_at (vec_items (vs g at)) k) + c.args.count ≤ c.self.inside.size = subst (λ (t : Cut g.row.T.Denot). length (node_at t.nodes k) + c.args.count ≤ t.size) (sym c.self.view_is) c.requires.room in
+    let room : length (node_at (vec_items (vs g at)) k) + c.args.count ≤ c.self.inside.size = subst (λ (t : NodeList g.row.T.Denot). length (node_at t.nodes k) + c.args.count ≤ t.size) (sym c.self.view_is) c.requires.room in
     record {
       is_spine = spine_after _ _ _ _ _ _ _ _ _ _ (merges g at) (more g at) (more_is g at) c.self.inside.size c.self.inside.len room c.self.invariant.is_spine;
       index_is = c.add.ensures.lengths ∙ (ap (λ ls. slice_set ls k (get_or ls k 0 + more g at)) c.self.invariant.index_is ∙ lengths_after _ _ _ _ _ _ _ _ _ _ (merges g at) (more g at) (more_is g at));
@@ -122,29 +122,29 @@ returns-clause-nodes g c =
     let at = (goal.at.returns-clause-nodes g c).After-len in
     let k = c.args.node in
     writes _ _ _ _ _ _ _ _ _ _ (merges g at)
-    ∙ (ap (λ (t : Cut g.row.T.Denot). slice_set t.nodes k (fold (put g.T.Ord.cmp) (node_at t.nodes k) (take c.args.count (joined (vec_items (ws g at)))))) c.self.view_is
-    ∙ ap (λ (t : Cut g.row.T.Denot). slice_set c.args.self.now.nodes k (fold (put g.T.Ord.cmp) (node_at c.args.self.now.nodes k) (take c.args.count (items t)))) c.other.view_is)
+    ∙ (ap (λ (t : NodeList g.row.T.Denot). slice_set t.nodes k (fold (put g.T.Ord.cmp) (node_at t.nodes k) (take c.args.count (concat (vec_items (ws g at)))))) c.self.view_is
+    ∙ ap (λ (t : NodeList g.row.T.Denot). slice_set c.args.self.now.nodes k (fold (put g.T.Ord.cmp) (node_at c.args.self.now.nodes k) (take c.args.count (items t)))) c.other.view_is)
 
 pub returns-clause-rest : goal.returns-clause-rest
 returns-clause-rest g c =
     let at = (goal.at.returns-clause-rest g c).After-len in
-    other_items _ _ _ _ _ _ _ _ _ _ (merges g at) _ c.drop_indexed_if_empty.ensures.nodes ∙ ap (λ (t : Cut g.row.T.Denot). drop c.args.count (items t)) c.other.view_is
+    other_items _ _ _ _ _ _ _ _ _ _ (merges g at) _ c.drop_indexed_if_empty.ensures.nodes ∙ ap (λ (t : NodeList g.row.T.Denot). drop c.args.count (items t)) c.other.view_is
 
 pub index-requires : goal.index-requires
-index-requires g c = omega (arith, subst (λ (t : Cut g.row.T.Denot). c.args.node < length t.nodes) (sym c.self.view_is) c.requires.node, length-vec_items c.self.inside.nodes.items, c.self.inside.nodes.ok)
+index-requires g c = omega (arith, subst (λ (t : NodeList g.row.T.Denot). c.args.node < length t.nodes) (sym c.self.view_is) c.requires.node, length-vec_items c.self.inside.nodes.items, c.self.inside.nodes.ok)
 
 pub index_mut-requires : goal.index_mut-requires
-index_mut-requires g c = omega (arith, subst (λ (t : Cut g.row.T.Denot). c.args.node < length t.nodes) (sym c.self.view_is) c.requires.node, length-vec_items c.self.inside.nodes.items, c.self.inside.nodes.ok)
+index_mut-requires g c = omega (arith, subst (λ (t : NodeList g.row.T.Denot). c.args.node < length t.nodes) (sym c.self.view_is) c.requires.node, length-vec_items c.self.inside.nodes.items, c.self.inside.nodes.ok)
 
 pub index-requires-2 : goal.index-requires-2
-index-requires-2 g c = omega (arith, subst (λ (t : Cut g.row.T.Denot). c.args.node < length t.nodes) (sym c.self.view_is) c.requires.node, length-vec_items c.self.inside.nodes.items, c.self.inside.nodes.ok)
+index-requires-2 g c = omega (arith, subst (λ (t : NodeList g.row.T.Denot). c.args.node < length t.nodes) (sym c.self.view_is) c.requires.node, length-vec_items c.self.inside.nodes.items, c.self.inside.nodes.ok)
 
 pub index_mut-requires-2 : goal.index_mut-requires-2
-index_mut-requires-2 g c = omega (arith, subst (λ (t : Cut g.row.T.Denot). 0 < length t.nodes) (sym c.other.view_is) (omega (arith, c.node_count-count.ensures.value, c.node_count-count.ensures.some)), length-vec_items c.other.inside.nodes.items, c.other.inside.nodes.ok)
+index_mut-requires-2 g c = omega (arith, subst (λ (t : NodeList g.row.T.Denot). 0 < length t.nodes) (sym c.other.view_is) (omega (arith, c.node_count-count.ensures.value, c.node_count-count.ensures.some)), length-vec_items c.other.inside.nodes.items, c.other.inside.nodes.ok)
 
 pub merge_first-requires-clause-within : goal.merge_first-requires-clause-within
 merge_first-requires-clause-within g c =
-    omega (arith, c.requires.within, ap (λ (t : Cut g.row.T.Denot). length (node_at t.nodes 0)) c.other.view_is, ap (λ l. length l) (node_is c.other.inside.nodes.items 0 c.index_mut-2.result.now (some_node g c) c.index_mut-2.ensures.value))
+    omega (arith, c.requires.within, ap (λ (t : NodeList g.row.T.Denot). length (node_at t.nodes 0)) c.other.view_is, ap (λ l. length l) (node_is c.other.inside.nodes.items 0 c.index_mut-2.result.now (some_node g c) c.index_mut-2.ensures.value))
 
 pub invariant_of-other : goal.invariant_of-other
 invariant_of-other g c =
@@ -155,7 +155,7 @@ pub returns-in_err-merge_first-clause-other_unchanged : goal.returns-in_err-merg
 returns-in_err-merge_first-clause-other_unchanged g c =
     let at = (goal.at.returns-in_err-merge_first-clause-other_unchanged g c).After-index_mut-2 in
     on_err c.from_residual.result
-    (ap (λ (ns : List (List g.row.T.Denot)). cut ns c.other.inside.size) (lists_kept c.other.inside.nodes.items 0 c.index_mut-2.result.now c.merge_first.new.from (some_node g at) c.index_mut-2.ensures.value c.in_err-merge_first.ensures.from_unchanged)
+    (ap (λ (ns : List (List g.row.T.Denot)). node_list ns c.other.inside.size) (lists_kept c.other.inside.nodes.items 0 c.index_mut-2.result.now c.merge_first.new.from (some_node g at) c.index_mut-2.ensures.value c.in_err-merge_first.ensures.from_unchanged)
     ∙ c.other.view_is)
 
 pub add-requires-clause-inside : goal.add-requires-clause-inside

@@ -1,8 +1,8 @@
 use Rattle.std.proofs.Common.{◌∙◌, ap, remove}
-use Rattle.indexset_core.specs.Nodes.{joined}
-use Rattle.indexset_spine.specs.Cut.{Cut, items, position_of}
+use Rattle.indexset_core.specs.Nodes.{concat}
+use Rattle.indexset_spine.specs.NodeList.{NodeList, items, position_of}
 use Rattle.indexset_spine.proofs.EditSteps.{item_spot_in}
-use Rattle.indexset_spine.proofs.CutEdits.{spine_without, joined_without, one_inside, item_at_spot}
+use Rattle.indexset_spine.proofs.NodeListEdits.{spine_without, joined_without, one_inside, item_at_spot}
 use Rattle.indexset_spine.proofs.spine.Spine.remove.Goals as goal
 
 pub overflow_sub-self : goal.overflow_sub-self
@@ -25,5 +25,5 @@ returns-clause-value g c =
 pub returns-clause-items : goal.returns-clause-items
 returns-clause-items g c =
     let spot = item_spot_in _ _ c.args.self.now c.args.spot c.self.view_is c.requires in
-    ap joined c.take_out.ensures.nodes
-    ∙ (joined_without _ c.args.spot spot ∙ ap (λ (t : Cut g.row.T.Denot). remove (items t) (position_of t.nodes c.args.spot)) c.self.view_is)
+    ap concat c.take_out.ensures.nodes
+    ∙ (joined_without _ c.args.spot spot ∙ ap (λ (t : NodeList g.row.T.Denot). remove (items t) (position_of t.nodes c.args.spot)) c.self.view_is)

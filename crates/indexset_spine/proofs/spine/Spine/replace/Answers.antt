@@ -1,7 +1,7 @@
 use Rattle.std.proofs.Common.{◌∙◌, ap, slice_set, sym}
-use Rattle.indexset_core.specs.Nodes.{joined, vec_items}
-use Rattle.indexset_spine.specs.Cut.{position_of, with_replaced}
-use Rattle.indexset_spine.proofs.CutEdits.{joined_replaced, node_lengths-replaced, spine_replaced}
+use Rattle.indexset_core.specs.Nodes.{concat, vec_items}
+use Rattle.indexset_spine.specs.NodeList.{position_of, with_replaced}
+use Rattle.indexset_spine.proofs.NodeListEdits.{joined_replaced, node_lengths-replaced, spine_replaced}
 use Rattle.indexset_spine.proofs.RemoveSteps.{respot_writes, item_read}
 use Rattle.indexset_spine.proofs.spine.Spine.replace.Goals as goal
 
@@ -24,6 +24,6 @@ returns-clause-nodes g c =
 
 pub returns-clause-items : goal.returns-clause-items
 returns-clause-items g c =
-    ap joined (respot_writes _ _ c.args.self.now c.args.spot _ c.replace.new.dest c.self.view_is c.requires c.index_mut-node.ensures.value)
+    ap concat (respot_writes _ _ c.args.self.now c.args.spot _ c.replace.new.dest c.self.view_is c.requires c.index_mut-node.ensures.value)
     ∙ (joined_replaced c.args.self.now.nodes c.args.spot c.replace.new.dest c.requires
-    ∙ ap (slice_set (joined c.args.self.now.nodes) (position_of c.args.self.now.nodes c.args.spot)) c.replace.ensures.after)
+    ∙ ap (slice_set (concat c.args.self.now.nodes) (position_of c.args.self.now.nodes c.args.spot)) c.replace.ensures.after)

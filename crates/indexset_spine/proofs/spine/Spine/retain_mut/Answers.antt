@@ -1,7 +1,7 @@
 use Rattle.std.proofs.Common.{length, sum, ap, arith, ◌∙◌}
 use Rattle.std.specs.Fn.{CalledAtMut}
 use Rattle.indexset_core.specs.Nodes.{node_lengths, vec_items}
-use Rattle.indexset_core.proofs.CallerLemmas.{length-joined}
+use Rattle.indexset_core.proofs.CallerLemmas.{length-concat}
 use Rattle.indexset_index.proofs.CallerLemmas.{count-lengths}
 use Rattle.indexset_spine.proofs.IndexLemmas.{retained_few}
 use Rattle.indexset_spine.proofs.VecNodes.{length-vec_items}
@@ -11,7 +11,7 @@ use Rattle.indexset_spine.proofs.spine.Spine.retain_mut.Goals as goal
 pub count_items-self-inside-requires : goal.count_items-self-inside-requires
 count_items-self-inside-requires g c =
     let few = nodes_shorter (CalledAtMut g.F.FnMut) _ _ _ c.retain_nodes.ensures in
-    rw c.as_slice.ensures.value (omega (arith, few, c.self.invariant.is_spine.total_is, length-joined (vec_items c.self.inside.nodes.items)))
+    rw c.as_slice.ensures.value (omega (arith, few, c.self.invariant.is_spine.total_is, length-concat (vec_items c.self.inside.nodes.items)))
 
 pub rebuild-requires-clause-room : goal.rebuild-requires-clause-room
 rebuild-requires-clause-room g c =
@@ -25,7 +25,7 @@ pub rebuild-requires-clause-fits : goal.rebuild-requires-clause-fits
 rebuild-requires-clause-fits g c =
     let few = nodes_shorter (CalledAtMut g.F.FnMut) _ _ _ c.retain_nodes.ensures in
     let nodes = c.retain_nodes.new.nodes.items in
-    omega (arith, few, c.len-count.ensures.fits, ap sum c.self.invariant.index_is, length-joined (vec_items c.self.inside.nodes.items), length-joined (vec_items nodes), ap (λ v. sum (node_lengths (vec_items v))) c.as_slice-2.ensures.value)
+    omega (arith, few, c.len-count.ensures.fits, ap sum c.self.invariant.index_is, length-concat (vec_items c.self.inside.nodes.items), length-concat (vec_items nodes), ap (λ v. sum (node_lengths (vec_items v))) c.as_slice-2.ensures.value)
 
 pub invariant_of-self : goal.invariant_of-self
 invariant_of-self g c = record {

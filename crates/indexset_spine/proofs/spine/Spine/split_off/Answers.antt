@@ -1,8 +1,8 @@
 use Rattle.std.proofs.Common.{List, ◌∙◌, ap, sym, arith, sum, length, take, drop}
-use Rattle.indexset_core.specs.Nodes.{joined, node_lengths, vec_items}
-use Rattle.indexset_spine.specs.Cut.{Cut, items, position_of}
-use Rattle.indexset_spine.proofs.CutEdits.{position_below}
-use Rattle.indexset_spine.proofs.CutSplits.{joined_left, joined_right, spine_left, spine_right}
+use Rattle.indexset_core.specs.Nodes.{concat, node_lengths, vec_items}
+use Rattle.indexset_spine.specs.NodeList.{NodeList, items, position_of}
+use Rattle.indexset_spine.proofs.NodeListEdits.{position_below}
+use Rattle.indexset_spine.proofs.NodeListSplits.{joined_left, joined_right, spine_left, spine_right}
 use Rattle.indexset_spine.proofs.EditSteps.{spot_in}
 use Rattle.indexset_index.proofs.CallerLemmas.{count-lengths}
 use Rattle.indexset_spine.proofs.IndexLemmas.{left_keeps, right_few}
@@ -81,11 +81,11 @@ invariant_of-self-2 g c =
 pub returns-clause-left : goal.returns-clause-left
 returns-clause-left g c =
     let spot = spot_in _ _ c.args.self.now c.args.spot c.self.view_is c.requires in
-    ap joined c.in_ok-nodes.ensures.left
-    ∙ (joined_left _ c.args.spot spot ∙ ap (λ (t : Cut g.row.T.Denot). take (position_of t.nodes c.args.spot) (items t)) c.self.view_is)
+    ap concat c.in_ok-nodes.ensures.left
+    ∙ (joined_left _ c.args.spot spot ∙ ap (λ (t : NodeList g.row.T.Denot). take (position_of t.nodes c.args.spot) (items t)) c.self.view_is)
 
 pub returns-clause-right : goal.returns-clause-right
 returns-clause-right g c =
     let spot = spot_in _ _ c.args.self.now c.args.spot c.self.view_is c.requires in
-    ap joined c.in_ok-nodes.ensures.right
-    ∙ (joined_right _ c.args.spot spot ∙ ap (λ (t : Cut g.row.T.Denot). drop (position_of t.nodes c.args.spot) (items t)) c.self.view_is)
+    ap concat c.in_ok-nodes.ensures.right
+    ∙ (joined_right _ c.args.spot spot ∙ ap (λ (t : NodeList g.row.T.Denot). drop (position_of t.nodes c.args.spot) (items t)) c.self.view_is)

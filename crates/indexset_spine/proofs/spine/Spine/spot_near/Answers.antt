@@ -1,6 +1,6 @@
 use Rattle.std.proofs.Common.{◌-◌, ◌∙◌, List, ap, arith, subst}
 use Rattle.indexset_core.specs.Nodes.{vec_items}
-use Rattle.indexset_spine.specs.Cut.{Cut, IsItemSpot}
+use Rattle.indexset_spine.specs.NodeList.{NodeList, IsItemSpot}
 use Rattle.indexset_spine.specs.Lengths.{spot_at}
 use Rattle.indexset_spine.proofs.PlaceLemmas.{item_node, place_position}
 use Rattle.indexset_spine.proofs.VecNodes.{length-vec_items}
@@ -16,7 +16,7 @@ returns-then-is_in-clause-node g c =
     let told = c.is_in.ensures c.if-is_in.true in
     let vs = c.as_slice.result.now in
     let spot = spot_at c.args.near (c.args.i - c.args.start) in
-    let same = ap (λ v. vec_items v) c.as_slice.ensures.value ∙ ap (λ (t : Cut g.row.T.Denot). t.nodes) c.self.view_is in
+    let same = ap (λ v. vec_items v) c.as_slice.ensures.value ∙ ap (λ (t : NodeList g.row.T.Denot). t.nodes) c.self.view_is in
     let there : IsItemSpot (vec_items vs) spot = record { node_in = omega (arith, told.0, length-vec_items vs); offset_in = told.2 } in
     item_node c.args.self.now.nodes spot c.args.i (subst (λ (l : List (List g.row.T.Denot)). IsItemSpot l spot) same there) (returns-then-is_in-clause-position g c)
 

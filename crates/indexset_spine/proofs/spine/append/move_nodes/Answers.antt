@@ -1,9 +1,9 @@
 use Rattle.std.proofs.Common.{◌∙◌, arith}
 use Rattle.std.proofs.lemmas.List.{length-set}
 use Rattle.indexset_core.proofs.CallerLemmas.{on_err}
-use Rattle.indexset_spine.specs.Cut.{with_last}
+use Rattle.indexset_spine.specs.NodeList.{with_last}
 use Rattle.indexset_spine.proofs.AppendLemmas.{emptied_more, lower_set, some_in, takes_node}
-use Rattle.indexset_spine.proofs.TakenLemmas.{taken_shorter, takes_more}
+use Rattle.indexset_spine.proofs.FoldPrefixLemmas.{taken_shorter, takes_more}
 use Rattle.indexset_spine.proofs.spine.append.move_nodes.Goals as goal
 
 pub returns-in_err-append_items-clause-moved : goal.returns-in_err-append_items-clause-moved

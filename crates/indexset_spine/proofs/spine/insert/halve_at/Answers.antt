@@ -1,11 +1,11 @@
 use Rattle.std.proofs.Common.{◌∙◌, ◌+◌, ◌-◌, List, ap, arith, length, refl}
-use Rattle.indexset_core.specs.Nodes.{joined, vec_items}
+use Rattle.indexset_core.specs.Nodes.{concat, vec_items}
 use Rattle.indexset_core.proofs.CallerLemmas.{on_err}
 use Rattle.indexset_spine.proofs.AppendLemmas.{halved_end}
 use Rattle.indexset_spine.proofs.EditSteps.{IsHalved, lists_kept, right_puts, left_puts, right_room, left_room, halved_lists, half_of}
 use Rattle.indexset_spine.proofs.VecNodes.{length-vec_items}
 use Rattle.std.proofs.lemmas.List.{length-set}
-use Rattle.indexset_spine.proofs.StandLemmas.{halved_before, halved_position, spot_left, spot_right}
+use Rattle.indexset_spine.proofs.InsertedItemLemmas.{halved_before, halved_position, spot_left, spot_right}
 use Rattle.indexset_spine.proofs.spine.insert.halve_at.Given.{Over}
 use Rattle.indexset_spine.proofs.spine.insert.halve_at.Goals as goal
 use Rattle.indexset_spine.proofs.spine.insert.halve_at.Goals.{In_ok-right}
@@ -73,7 +73,7 @@ pub returns-clause-position : goal.returns-clause-position
 returns-clause-position g c =
     let cut = halved g (goal.at.returns-clause-position g c).In_ok-right in
     rw (ap vec_items c.insert_item.ensures.items ∙ halved_lists cut)
-    (ap (λ (ms : List (List g.row.T.Denot)). length (joined ms) + c.args.spot.offset) (halved_before (vec_items c.args.nodes.now.items) c.args.spot.node c.requires.spot.node_in))
+    (ap (λ (ms : List (List g.row.T.Denot)). length (concat ms) + c.args.spot.offset) (halved_before (vec_items c.args.nodes.now.items) c.args.spot.node c.requires.spot.node_in))
 
 pub returns-then-half-spot-clause-spot : goal.returns-then-half-spot-clause-spot
 returns-then-half-spot-clause-spot g c =

@@ -5,7 +5,7 @@ use Rattle.indexset_spine.proofs.EditSteps.{lists_kept, room_puts, node_len, ins
 use Rattle.indexset_index.proofs.CallerLemmas.{count-lengths}
 use Rattle.indexset_spine.proofs.IndexLemmas.{halved_keeps, halved_sum}
 use Rattle.indexset_spine.proofs.VecNodes.{length-vec_items}
-use Rattle.indexset_spine.specs.Cut.{position_of}
+use Rattle.indexset_spine.specs.NodeList.{position_of}
 use Rattle.indexset_spine.proofs.spine.insert.make_room.Goals as goal
 
 pub returns-in_err-reserve-clause-unchanged : goal.returns-in_err-reserve-clause-unchanged

@@ -2,7 +2,7 @@ use Rattle.std.proofs.Common.{◌≡◌, ◌+◌, ◌*◌, ◌-◌, ◌/◌, ◌
 use Rattle.std.proofs.lemmas.List.{take-take}
 use Rattle.indexset_core.specs.Nodes.{vec_items}
 use Rattle.indexset_spine.proofs.BlockLemmas.{block_before, gathered, last_block, less_one, none_of, turned}
-use Rattle.indexset_spine.specs.Cut.{with_all_last}
+use Rattle.indexset_spine.specs.NodeList.{with_all_last}
 use Rattle.indexset_spine.proofs.spine.make.nodes_of.Goals as goal
 
 pub loop-left-init : goal.loop-left-init

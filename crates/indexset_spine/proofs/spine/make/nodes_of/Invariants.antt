@@ -1,7 +1,7 @@
 -- The nodes gathered so far, the last first, are those of the items behind the rest.
 use Rattle.std.proofs.Common.{◌≡◌, ◌+◌, ◌*◌, ◌/◌, ◌<◌, ◌≤◌, [], ◌∷◌, length, take, drop, reverse, vec_len, vec_capacity}
 use Rattle.indexset_core.specs.Nodes.{vec_items}
-use Rattle.indexset_spine.specs.Cut.{with_all_last}
+use Rattle.indexset_spine.specs.NodeList.{with_all_last}
 use Rattle.indexset_spine.proofs.spine.make.nodes_of.Given as goal
 
 abbrev pub invariant-loop-left : goal.invariant-loop-left

@@ -1,7 +1,7 @@
 use Rattle.std.proofs.Common.{◌≡◌, true, not, refl, sym, ap, arith}
 use Rattle.std.below.core.specs.declared.int.u64.TheConstants.{MAX}
 use Rattle.std.proofs.lemmas.Bool.{le-ltb}
-use Rattle.indexset_core.specs.Nodes.{joined}
+use Rattle.indexset_core.specs.Nodes.{concat}
 use Rattle.indexset_core.specs.Pairs.{by_key, has_key, pair}
 use Rattle.indexset_events.specs.Keys.{key_removal_events}
 use Rattle.indexset_events.specs.Table.{checked_put_events, put_events}
@@ -22,11 +22,11 @@ returns-in_err-old-in-Insert g c =
       events = λ _. tt;
       replay = λ _. tt;
       table = tt;
-      few = tt;
+      at_most_three_events = tt;
       tree = tt;
       next = tt;
       size = ap (λ t. t.size) done.unchanged;
-      spaced = same_spaced done.unchanged;
+      dense = same_spaced done.unchanged;
       fits = tt;
       refusal = done.refusal;
       unchanged = done.unchanged;
@@ -39,15 +39,15 @@ returns-in_ok-old-in-Insert g c =
     rw c.in-Insert.is (record {
       reply = ap OldValue done.answer;
       state = done.changed.contents;
-      clones = done.told.clones;
-      events = done.told.events;
-      replay = done.told.replay;
+      clones = done.events.clones;
+      events = done.events.events;
+      replay = done.events.replay;
       table = done.changed.table;
-      few = done.told.few;
+      at_most_three_events = done.events.at_most_three_events;
       tree = tree_led (by_key g.K.Ord.cmp) old c.insert_cdc.new.self (put_events (by_key g.K.Ord.cmp) old.size old.nodes (pair c.in-Insert.key c.in-Insert.value)) done.changed.table done.changed.size done.changed.next;
       next = done.changed.next;
       size = done.changed.size;
-      spaced = done.changed.spaced;
+      dense = done.changed.dense;
       fits = le-ltb MAX _ done.changed.fits;
       refusal = tt;
       unchanged = tt;
@@ -63,11 +63,11 @@ returns-in_err-events-in-CheckedInsert g c =
       events = λ _. tt;
       replay = λ _. tt;
       table = tt;
-      few = tt;
+      at_most_three_events = tt;
       tree = tt;
       next = tt;
       size = ap (λ t. t.size) done.unchanged;
-      spaced = same_spaced done.unchanged;
+      dense = same_spaced done.unchanged;
       fits = tt;
       refusal = done.refusal;
       unchanged = done.unchanged;
@@ -80,15 +80,15 @@ returns-in-Some g c =
     rw c.in-CheckedInsert.is (record {
       reply = ap (λ b. Added (not b)) done.answer;
       state = done.changed.contents;
-      clones = done.told.clones;
-      events = done.told.events;
-      replay = λ same. rw (done.told.events same) done.changed.table;
+      clones = done.events.clones;
+      events = done.events.events;
+      replay = λ same. rw (done.events.events same) done.changed.table;
       table = done.changed.table;
-      few = done.told.few;
+      at_most_three_events = done.events.at_most_three_events;
       tree = tree_led (by_key g.K.Ord.cmp) old c.checked_insert_cdc.new.self (checked_put_events (by_key g.K.Ord.cmp) old.size old.nodes (pair c.in-CheckedInsert.key c.in-CheckedInsert.value)) done.changed.table done.changed.size done.changed.next;
       next = done.changed.next;
       size = done.changed.size;
-      spaced = done.changed.spaced;
+      dense = done.changed.dense;
       fits = le-ltb MAX _ done.changed.fits;
       refusal = tt;
       unchanged = tt;
@@ -98,7 +98,7 @@ pub returns-in-None : goal.returns-in-None
 returns-in-None g c =
     let done = rw c.in-None.is at c.in_ok-events-in-CheckedInsert.ensures in
     let old = c.args.self.now in
-    let there : has_key g.K.Ord.cmp (joined old.nodes) c.in-CheckedInsert.key ≡ true = sym done.answer in
+    let there : has_key g.K.Ord.cmp (concat old.nodes) c.in-CheckedInsert.key ≡ true = sym done.answer in
     let silent = checked_there (by_key g.K.Ord.cmp) old.size old.nodes (pair c.in-CheckedInsert.key c.in-CheckedInsert.value) there in
     let led = rw silent at done.changed.table in
     rw (c.in-CheckedInsert.is, c.new.ensures.items) (record {
@@ -108,11 +108,11 @@ returns-in-None g c =
       events = λ _. rw silent refl;
       replay = λ _. led;
       table = done.changed.table;
-      few = omega arith;
+      at_most_three_events = omega arith;
       tree = tree_led (by_key g.K.Ord.cmp) old c.checked_insert_cdc.new.self (checked_put_events (by_key g.K.Ord.cmp) old.size old.nodes (pair c.in-CheckedInsert.key c.in-CheckedInsert.value)) done.changed.table done.changed.size done.changed.next;
       next = done.changed.next;
       size = done.changed.size;
-      spaced = done.changed.spaced;
+      dense = done.changed.dense;
       fits = le-ltb MAX _ done.changed.fits;
       refusal = tt;
       unchanged = tt;
@@ -128,11 +128,11 @@ returns-in_err-out-in-Remove g c =
       events = λ _. tt;
       replay = λ _. tt;
       table = tt;
-      few = tt;
+      at_most_three_events = tt;
       tree = tt;
       next = tt;
       size = ap (λ t. t.size) done.unchanged;
-      spaced = same_spaced done.unchanged;
+      dense = same_spaced done.unchanged;
       fits = tt;
       refusal = done.refusal;
       unchanged = done.unchanged;
@@ -145,15 +145,15 @@ returns-in_ok-out-in-Remove g c =
     rw c.in-Remove.is (record {
       reply = ap Out done.answer;
       state = done.changed.contents;
-      clones = done.told.clones;
-      events = done.told.events;
-      replay = done.told.replay;
+      clones = done.events.clones;
+      events = done.events.events;
+      replay = done.events.replay;
       table = done.changed.table;
-      few = done.told.few;
+      at_most_three_events = done.events.at_most_three_events;
       tree = tree_led (by_key g.K.Ord.cmp) old c.remove_cdc.new.self (key_removal_events g.K.Ord.cmp old.size old.nodes c.in-Remove.key) done.changed.table done.changed.size done.changed.next;
       next = done.changed.next;
       size = done.changed.size;
-      spaced = done.changed.spaced;
+      dense = done.changed.dense;
       fits = le-ltb MAX _ done.changed.fits;
       refusal = tt;
       unchanged = tt;

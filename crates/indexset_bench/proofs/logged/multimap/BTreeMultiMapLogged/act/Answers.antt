@@ -1,9 +1,9 @@
 use Rattle.std.proofs.Common.{◌/◌, ap, sym, subst, ◌∙◌}
 use Rattle.std.below.core.specs.declared.int.u64.TheConstants.{MAX}
 use Rattle.std.proofs.lemmas.Bool.{le-ltb}
-use Rattle.indexset_core.specs.Nodes.{joined}
+use Rattle.indexset_core.specs.Nodes.{concat}
 use Rattle.indexset_core.specs.declared.refusal.Refusal.TheVariants.{Memory, Numbers}
-use Rattle.indexset_events.specs.Joining.{IsSpaced}
+use Rattle.indexset_events.specs.Merging.{IsDense}
 use Rattle.indexset_multi.specs.Keys.{equal_pair, first_pair}
 use Rattle.indexset_multi.specs.Tree.{insertion_events, lacks_number, pair_next_after, pair_removal_events}
 use Rattle.indexset_bench.specs.declared.logged.multimap.LoggedMultiReply.TheVariants.{OldValue, Out}
@@ -21,11 +21,11 @@ returns-in_err-old-in-Insert g c =
       events = λ _. tt;
       replay = λ _. tt;
       table = tt;
-      few = tt;
+      at_most_three_events = tt;
       tree = tt;
       next = tt;
       size = ap (λ t. t.size) done.unchanged;
-      spaced = subst (λ t. IsSpaced (t.size / 2) t.nodes) (sym done.unchanged);
+      dense = subst (λ t. IsDense (t.size / 2) t.nodes) (sym done.unchanged);
       fits = tt;
       refusal = done.refusal ∙ either_lack (lacks_number g.K.Ord.cmp g.V.PartialEq.eq c.args.self.now c.in-Insert.key c.in-Insert.value) _ Numbers Memory;
       unchanged = done.unchanged;
@@ -38,15 +38,15 @@ returns-in_ok-old-in-Insert g c =
     rw c.in-Insert.is (record {
       reply = ap OldValue done.answer;
       state = λ i. multi_state (done.changed.contents i) (done.changed.pair_next i);
-      clones = done.told.clones;
-      events = done.told.events;
-      replay = done.told.replay;
+      clones = done.events.clones;
+      events = done.events.events;
+      replay = done.events.replay;
       table = done.changed.table;
-      few = done.told.few;
+      at_most_three_events = done.events.at_most_three_events;
       tree = multi_led g.K.Ord.cmp old c.insert_cdc.new.self (insertion_events g.K.Ord.cmp g.V.PartialEq.eq old c.in-Insert.key c.in-Insert.value) (pair_next_after g.K.Ord.cmp g.V.PartialEq.eq old c.in-Insert.key c.in-Insert.value) done.changed.table done.changed.size done.changed.next done.changed.pair_next;
       next = done.changed.next;
       size = done.changed.size;
-      spaced = done.changed.spaced;
+      dense = done.changed.dense;
       fits = rw done.number_left (le-ltb MAX _ done.changed.fits);
       refusal = tt;
       unchanged = tt;
@@ -62,11 +62,11 @@ returns-in_err-out-in-RemoveSome g c =
       events = λ _. tt;
       replay = λ _. tt;
       table = tt;
-      few = tt;
+      at_most_three_events = tt;
       tree = tt;
       next = tt;
       size = ap (λ t. t.size) done.unchanged;
-      spaced = subst (λ t. IsSpaced (t.size / 2) t.nodes) (sym done.unchanged);
+      dense = subst (λ t. IsDense (t.size / 2) t.nodes) (sym done.unchanged);
       fits = tt;
       refusal = done.refusal;
       unchanged = done.unchanged;
@@ -79,15 +79,15 @@ returns-in_ok-out-in-RemoveSome g c =
     rw c.in-RemoveSome.is (record {
       reply = ap Out done.answer;
       state = λ i. multi_state (done.changed.contents i) (done.changed.pair_next i);
-      clones = done.told.clones;
-      events = done.told.events;
-      replay = done.told.replay;
+      clones = done.events.clones;
+      events = done.events.events;
+      replay = done.events.replay;
       table = done.changed.table;
-      few = done.told.few;
-      tree = multi_led g.K.Ord.cmp old c.remove_some_cdc.new.self (pair_removal_events g.K.Ord.cmp old.size old.nodes (first_pair g.K.Ord.cmp (joined old.nodes) c.in-RemoveSome.key)) (old.pair_next) done.changed.table done.changed.size done.changed.next done.changed.pair_next;
+      at_most_three_events = done.events.at_most_three_events;
+      tree = multi_led g.K.Ord.cmp old c.remove_some_cdc.new.self (pair_removal_events g.K.Ord.cmp old.size old.nodes (first_pair g.K.Ord.cmp (concat old.nodes) c.in-RemoveSome.key)) (old.pair_next) done.changed.table done.changed.size done.changed.next done.changed.pair_next;
       next = done.changed.next;
       size = done.changed.size;
-      spaced = done.changed.spaced;
+      dense = done.changed.dense;
       fits = le-ltb MAX _ done.changed.fits;
       refusal = tt;
       unchanged = tt;
@@ -103,11 +103,11 @@ returns-in_err-out-in-Remove g c =
       events = λ _. tt;
       replay = λ _. tt;
       table = tt;
-      few = tt;
+      at_most_three_events = tt;
       tree = tt;
       next = tt;
       size = ap (λ t. t.size) done.unchanged;
-      spaced = subst (λ t. IsSpaced (t.size / 2) t.nodes) (sym done.unchanged);
+      dense = subst (λ t. IsDense (t.size / 2) t.nodes) (sym done.unchanged);
       fits = tt;
       refusal = done.refusal;
       unchanged = done.unchanged;
@@ -120,15 +120,15 @@ returns-in_ok-out-in-Remove g c =
     rw c.in-Remove.is (record {
       reply = ap Out done.answer;
       state = λ i. multi_state (done.changed.contents i) (done.changed.pair_next i);
-      clones = done.told.clones;
-      events = done.told.events;
-      replay = done.told.replay;
+      clones = done.events.clones;
+      events = done.events.events;
+      replay = done.events.replay;
       table = done.changed.table;
-      few = done.told.few;
-      tree = multi_led g.K.Ord.cmp old c.remove_cdc.new.self (pair_removal_events g.K.Ord.cmp old.size old.nodes (equal_pair g.K.Ord.cmp g.V.PartialEq.eq (joined old.nodes) c.in-Remove.key c.in-Remove.value)) (old.pair_next) done.changed.table done.changed.size done.changed.next done.changed.pair_next;
+      at_most_three_events = done.events.at_most_three_events;
+      tree = multi_led g.K.Ord.cmp old c.remove_cdc.new.self (pair_removal_events g.K.Ord.cmp old.size old.nodes (equal_pair g.K.Ord.cmp g.V.PartialEq.eq (concat old.nodes) c.in-Remove.key c.in-Remove.value)) (old.pair_next) done.changed.table done.changed.size done.changed.next done.changed.pair_next;
       next = done.changed.next;
       size = done.changed.size;
-      spaced = done.changed.spaced;
+      dense = done.changed.dense;
       fits = le-ltb MAX _ done.changed.fits;
       refusal = tt;
       unchanged = tt;

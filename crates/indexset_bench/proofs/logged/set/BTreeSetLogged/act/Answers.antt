@@ -1,7 +1,7 @@
 use Rattle.std.proofs.Common.{◌≡◌, true, not, refl, sym, ap, arith}
 use Rattle.std.below.core.specs.declared.int.u64.TheConstants.{MAX}
 use Rattle.std.proofs.lemmas.Bool.{le-ltb}
-use Rattle.indexset_core.specs.Nodes.{joined}
+use Rattle.indexset_core.specs.Nodes.{concat}
 use Rattle.indexset_core.specs.Order.{has_equal}
 use Rattle.indexset_events.specs.Table.{checked_put_events, put_events, removal_events}
 use Rattle.indexset_log.proofs.CallerLemmas.{same_spaced}
@@ -21,11 +21,11 @@ returns-in_err-old-in-Put g c =
       events = λ _. tt;
       replay = λ _. tt;
       table = tt;
-      few = tt;
+      at_most_three_events = tt;
       tree = tt;
       next = tt;
       size = ap (λ t. t.size) done.unchanged;
-      spaced = same_spaced done.unchanged;
+      dense = same_spaced done.unchanged;
       fits = tt;
       refusal = done.refusal;
       unchanged = done.unchanged;
@@ -38,15 +38,15 @@ returns-in_ok-old-in-Put g c =
     rw c.in-Put.is (record {
       reply = ap Old done.answer;
       state = done.changed.contents;
-      clones = done.told.clones;
-      events = done.told.events;
-      replay = done.told.replay;
+      clones = done.events.clones;
+      events = done.events.events;
+      replay = done.events.replay;
       table = done.changed.table;
-      few = done.told.few;
+      at_most_three_events = done.events.at_most_three_events;
       tree = tree_led g.T.Ord.cmp old c.put_cdc.new.self (put_events g.T.Ord.cmp old.size old.nodes c.in-Put.value) done.changed.table done.changed.size done.changed.next;
       next = done.changed.next;
       size = done.changed.size;
-      spaced = done.changed.spaced;
+      dense = done.changed.dense;
       fits = le-ltb MAX _ done.changed.fits;
       refusal = tt;
       unchanged = tt;
@@ -62,11 +62,11 @@ returns-in_err-events-in-PutChecked g c =
       events = λ _. tt;
       replay = λ _. tt;
       table = tt;
-      few = tt;
+      at_most_three_events = tt;
       tree = tt;
       next = tt;
       size = ap (λ t. t.size) done.unchanged;
-      spaced = same_spaced done.unchanged;
+      dense = same_spaced done.unchanged;
       fits = tt;
       refusal = done.refusal;
       unchanged = done.unchanged;
@@ -79,15 +79,15 @@ returns-in-Some g c =
     rw c.in-PutChecked.is (record {
       reply = ap (λ b. Added (not b)) done.answer;
       state = done.changed.contents;
-      clones = done.told.clones;
-      events = done.told.events;
-      replay = λ same. rw (done.told.events same) done.changed.table;
+      clones = done.events.clones;
+      events = done.events.events;
+      replay = λ same. rw (done.events.events same) done.changed.table;
       table = done.changed.table;
-      few = done.told.few;
+      at_most_three_events = done.events.at_most_three_events;
       tree = tree_led g.T.Ord.cmp old c.put_cdc_checked.new.self (checked_put_events g.T.Ord.cmp old.size old.nodes c.in-PutChecked.value) done.changed.table done.changed.size done.changed.next;
       next = done.changed.next;
       size = done.changed.size;
-      spaced = done.changed.spaced;
+      dense = done.changed.dense;
       fits = le-ltb MAX _ done.changed.fits;
       refusal = tt;
       unchanged = tt;
@@ -97,7 +97,7 @@ pub returns-in-None : goal.returns-in-None
 returns-in-None g c =
     let done = rw c.in-None.is at c.in_ok-events-in-PutChecked.ensures in
     let old = c.args.self.now in
-    let there : has_equal g.T.Ord.cmp (joined old.nodes) c.in-PutChecked.value ≡ true = sym done.answer in
+    let there : has_equal g.T.Ord.cmp (concat old.nodes) c.in-PutChecked.value ≡ true = sym done.answer in
     let silent = checked_there g.T.Ord.cmp old.size old.nodes c.in-PutChecked.value there in
     let led = rw silent at done.changed.table in
     rw (c.in-PutChecked.is, c.new.ensures.items) (record {
@@ -107,11 +107,11 @@ returns-in-None g c =
       events = λ _. rw silent refl;
       replay = λ _. led;
       table = done.changed.table;
-      few = omega arith;
+      at_most_three_events = omega arith;
       tree = tree_led g.T.Ord.cmp old c.put_cdc_checked.new.self (checked_put_events g.T.Ord.cmp old.size old.nodes c.in-PutChecked.value) done.changed.table done.changed.size done.changed.next;
       next = done.changed.next;
       size = done.changed.size;
-      spaced = done.changed.spaced;
+      dense = done.changed.dense;
       fits = le-ltb MAX _ done.changed.fits;
       refusal = tt;
       unchanged = tt;
@@ -127,11 +127,11 @@ returns-in_err-old-in-Remove g c =
       events = λ _. tt;
       replay = λ _. tt;
       table = tt;
-      few = tt;
+      at_most_three_events = tt;
       tree = tt;
       next = tt;
       size = ap (λ t. t.size) done.unchanged;
-      spaced = same_spaced done.unchanged;
+      dense = same_spaced done.unchanged;
       fits = tt;
       refusal = done.refusal;
       unchanged = done.unchanged;
@@ -144,15 +144,15 @@ returns-in_ok-old-in-Remove g c =
     rw c.in-Remove.is (record {
       reply = ap Old done.answer;
       state = done.changed.contents;
-      clones = done.told.clones;
-      events = done.told.events;
-      replay = done.told.replay;
+      clones = done.events.clones;
+      events = done.events.events;
+      replay = done.events.replay;
       table = done.changed.table;
-      few = done.told.few;
+      at_most_three_events = done.events.at_most_three_events;
       tree = tree_led g.T.Ord.cmp old c.remove_cdc.new.self (removal_events g.T.Ord.cmp old.size old.nodes c.in-Remove.value) done.changed.table done.changed.size done.changed.next;
       next = done.changed.next;
       size = done.changed.size;
-      spaced = done.changed.spaced;
+      dense = done.changed.dense;
       fits = le-ltb MAX _ done.changed.fits;
       refusal = tt;
       unchanged = tt;

@@ -5,7 +5,7 @@ use Rattle.std.below.core.specs.declared.int.u64.TheConstants.{MAX}
 use Rattle.indexset_core.specs.declared.constants.TheConstants.{DEFAULT_INNER_SIZE}
 use Rattle.indexset_log.specs.Edits.{after_checked_put}
 use Rattle.indexset_log.specs.Tree.{fresh}
-use Rattle.indexset_log.proofs.Trees.{front_of_run}
+use Rattle.indexset_log.proofs.TreeViewLemmas.{front_of_run}
 use Rattle.indexset_log.proofs.set.make.BTreeSet+T+Vec+T.from.Goals as goal
 
 -- what came is a front of the list

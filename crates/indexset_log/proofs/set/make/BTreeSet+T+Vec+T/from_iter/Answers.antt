@@ -5,7 +5,7 @@ use Rattle.indexset_core.specs.declared.constants.TheConstants.{DEFAULT_INNER_SI
 use Rattle.indexset_core.specs.Order.{keep}
 use Rattle.indexset_log.specs.Edits.{after_checked_put}
 use Rattle.indexset_log.specs.Tree.{fresh}
-use Rattle.indexset_log.proofs.Trees.{ran_out}
+use Rattle.indexset_log.proofs.TreeViewLemmas.{ran_out}
 use Rattle.std.specs.Iterator.{Drains, YieldsThen}
 use Rattle.std.proofs.iter.runs.Made.{run, to_end, to_item}
 use Rattle.indexset_log.proofs.set.make.BTreeSet+T+Vec+T.from_iter.Goals as goal

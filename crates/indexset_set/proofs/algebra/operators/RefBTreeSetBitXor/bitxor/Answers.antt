@@ -2,7 +2,7 @@ use Rattle.std.proofs.Common.{◌∙◌, subst}
 use Rattle.std.specs.List.{AllZip}
 use Rattle.indexset_core.specs.Order.{IsAscending}
 use Rattle.indexset_core.specs.declared.refusal.Refusal.TheVariants.{Memory}
-use Rattle.indexset_spine.specs.Cut.{items}
+use Rattle.indexset_spine.specs.NodeList.{items}
 use Rattle.indexset_set.specs.SetAlgebra.{symmetric_difference}
 use Rattle.indexset_set.proofs.SetAlgebraLaws.{apart_ascending}
 use Rattle.indexset_set.proofs.SetOfLemmas.{made_set, shown}

@@ -1,9 +1,0 @@
-use Rattle.std.proofs.Common.{◌≡◌, ◌+◌, ◌++◌, length, map}
-use Rattle.indexset_core.specs.Nodes.{joined}
-use Rattle.indexset_core.proofs.walk.WalkDoubleEndedIterator.next_back.Given as goal
-
-abbrev pub invariant-loop-last : goal.invariant-loop-last
-invariant-loop-last g l = l.self-inside.front.now ++ (joined (map g.R.ReadNode.list l.self-inside.middle.now) ++ l.self-inside.back.now) ≡ l.fn.self
-
-abbrev pub decreases-loop-last : goal.decreases-loop-last
-decreases-loop-last g l = length l.self-inside.middle.now + length l.self-inside.front.now

@@ -1,9 +1,0 @@
-use Rattle.std.proofs.Common.{◌≡◌, ◌+◌, ◌++◌, length, map}
-use Rattle.indexset_core.specs.Nodes.{joined}
-use Rattle.indexset_core.proofs.walk.WalkIterator.next.Given as goal
-
-abbrev pub invariant-loop-first : goal.invariant-loop-first
-invariant-loop-first g l = l.self-inside.front.now ++ (joined (map g.R.ReadNode.list l.self-inside.middle.now) ++ l.self-inside.back.now) ≡ l.fn.self
-
-abbrev pub decreases-loop-first : goal.decreases-loop-first
-decreases-loop-first g l = length l.self-inside.middle.now + length l.self-inside.back.now

@@ -1,5 +1,0 @@
-use Rattle.std.proofs.Common.{length}
-use Rattle.indexset_core.proofs.walk.counted.CountedWalkDebug.fmt.Given as goal
-
-abbrev pub decreases-loop-item : goal.decreases-loop-item
-decreases-loop-item g l = length l.rest
