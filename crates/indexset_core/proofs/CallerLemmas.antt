@@ -16,4 +16,4 @@ pub use Rattle.indexset_core.proofs.ProbeLemmas.{each_bounded, probed_before, pr
 pub use Rattle.indexset_core.proofs.RangeLemmas.{found_not_above, keyed_range_is, keyed_range_order, before_parts, not_before, range_is, range_order, sought_range_is, sought_range_order, up_to_parts}
 pub use Rattle.indexset_core.proofs.RankLemmas.{IsRank, index_is, rank_is}
 pub use Rattle.indexset_core.proofs.ResultLemmas.{on_err, some_held}
-pub use Rattle.indexset_core.proofs.WalkLemmas.{back_turn, between_le, place_le}
+pub use Rattle.indexset_core.proofs.ItemIterLemmas.{back_turn, between_le, place_le}

@@ -7,7 +7,7 @@ pub mod Order
 pub mod Pairs
 pub mod Parted
 pub mod Places
-pub mod Calls
+pub mod DoubleEnded
 pub mod Refusal
 pub mod LookupKey
 pub mod Tally

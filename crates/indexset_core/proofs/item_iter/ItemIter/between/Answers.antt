@@ -1,7 +1,7 @@
 use Rattle.std.proofs.Common.{◌∙◌, arith, ap, sym, length, map, take}
 use Rattle.std.proofs.lemmas.List.{length-take-le}
 use Rattle.indexset_core.specs.Nodes.{concat}
-use Rattle.indexset_core.proofs.WalkLemmas.{walk_none, walk_back, walk_in, walk_across, place_node, place_offset, some_node, no_node}
+use Rattle.indexset_core.proofs.ItemIterLemmas.{walk_none, walk_back, walk_in, walk_across, place_node, place_offset, some_node, no_node}
 use Rattle.indexset_core.proofs.item_iter.ItemIter.between.Goals as goal
 use Rattle.indexset_core.proofs.item_iter.ItemIter.between.Goals.{then-is_empty-via-then-is_empty, then-is_empty-via-else-is_empty+then-from-to}
 

@@ -1,8 +1,8 @@
 use Rattle.std.proofs.Common.{◌++◌, ap, map, ◌∙◌}
 use Rattle.std.proofs.lemmas.List.{nil_from_length}
 use Rattle.indexset_core.specs.Nodes.{concat}
-use Rattle.indexset_core.proofs.WalkLemmas.{back_turn}
-use Rattle.indexset_core.proofs.item_iter.WalkDoubleEndedIterator.next_back.Goals as goal
+use Rattle.indexset_core.proofs.ItemIterLemmas.{back_turn}
+use Rattle.indexset_core.proofs.item_iter.ItemIterDoubleEndedIterator.next_back.Goals as goal
 
 pub loop-last-preserved-in-Some-split_last : goal.loop-last-preserved-in-Some-split_last
 loop-last-preserved-in-Some-split_last g c =
