@@ -14,7 +14,7 @@ invariant-loop-low g l =
       less : AllWithin (λ n. ends_less answer n ≡ true) lists 0 l.low;
       not_less : l.high < length l.nodes - 1 → HoldsAt (λ n. ends_less answer n ≡ false) lists l.high;
       fixed : g.P.Probe.answer l.probe ≡ answer;
-      few : g.P.Probe.asked l.probe + digits (l.high - l.low) ≤ g.P.Probe.asked l.initial.probe + digits (length l.nodes - 1);
+      comparisons : g.P.Probe.asked l.probe + digits (l.high - l.low) ≤ g.P.Probe.asked l.initial.probe + digits (length l.nodes - 1);
     }
 
 abbrev pub decreases-loop-low : goal.decreases-loop-low

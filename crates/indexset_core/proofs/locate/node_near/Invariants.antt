@@ -15,7 +15,7 @@ invariant-loop-left g l =
       narrowed : Narrowed (λ n. is_lt (answer n)) front l.low (l.low + l.left);
       equal : IsEqualAt answer front l.equal (l.low + l.left);
       fixed : g.P.Probe.answer l.probe ≡ g.P.Probe.answer l.initial.probe;
-      few : g.P.Probe.asked l.probe + digits l.left ≤ g.P.Probe.asked l.initial.probe + digits l.last;
+      comparisons : g.P.Probe.asked l.probe + digits l.left ≤ g.P.Probe.asked l.initial.probe + digits l.last;
     }
 
 abbrev pub decreases-loop-left : goal.decreases-loop-left

@@ -10,7 +10,7 @@ invariant-loop-left g l = record {
   narrowed : Narrowed (λ x. is_lt (g.P.Probe.answer l.initial.probe x)) l.items l.low (l.low + l.left);
   equal : IsEqualAt (g.P.Probe.answer l.initial.probe) l.items l.equal (l.low + l.left);
   fixed : g.P.Probe.answer l.probe ≡ g.P.Probe.answer l.initial.probe;
-  few : g.P.Probe.asked l.probe + digits l.left ≤ g.P.Probe.asked l.initial.probe + digits (length l.items);
+  comparisons : g.P.Probe.asked l.probe + digits l.left ≤ g.P.Probe.asked l.initial.probe + digits (length l.items);
 }
 
 abbrev pub decreases-loop-left : goal.decreases-loop-left

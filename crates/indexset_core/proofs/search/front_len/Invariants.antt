@@ -8,7 +8,7 @@ abbrev pub invariant-loop-low : goal.invariant-loop-low
 invariant-loop-low g l = record {
   narrowed : Narrowed (λ x. comes_first (not (g.row.OR_EQUAL == 0)) (g.P.Probe.answer l.initial.probe x)) l.items l.low l.high;
   fixed : g.P.Probe.answer l.probe ≡ g.P.Probe.answer l.initial.probe;
-  few : g.P.Probe.asked l.probe + digits (l.high - l.low) ≤ g.P.Probe.asked l.initial.probe + digits (length l.items);
+  comparisons : g.P.Probe.asked l.probe + digits (l.high - l.low) ≤ g.P.Probe.asked l.initial.probe + digits (length l.items);
 }
 
 abbrev pub decreases-loop-low : goal.decreases-loop-low

@@ -15,7 +15,7 @@ loop-count-preserved c =
     record {
       inside = omega (arith, test);
       long = length-set c.loop-count.out n x ∙ i.long;
-      contains = within_more at (length es) n i.there (omega (arith, least, test)) (slice_get_within es (slice_index_or at n 0) x found);
+      contains = within_more at (length es) n i.contains (omega (arith, least, test)) (slice_get_within es (slice_index_or at n 0) x found);
       done = ap (λ l. slice_set l n x) i.done ∙ written_more (map (element_at es) at) c.args.out.now n x
           (answer_at (element_at es) at n 0 (omega (arith, least, test)) ∙ ap Some (get_or_from_slice_get es (slice_index_or at n 0) x 0 found)) (omega (arith, least, test));
     }

@@ -9,7 +9,7 @@ abbrev pub invariant-loop-count : goal.invariant-loop-count
 invariant-loop-count l = record {
   inside : l.count ≤ l.room;
   long : length l.out ≡ length l.fn.out;
-  there : AllWithin (λ i. i < length (items l.set)) l.positions 0 l.count;
+  contains : AllWithin (λ i. i < length (items l.set)) l.positions 0 l.count;
   done : l.out ≡ written l.count (map (element_at (items l.set)) l.positions) l.fn.out;
 }
 

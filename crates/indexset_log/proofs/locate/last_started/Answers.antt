@@ -12,7 +12,7 @@ use Rattle.indexset_log.proofs.locate.last_started.Goals as goal
 at : (g : Over) (c : After-next_step-at g) → (c.loop-low.low ≤ c.next_step-at.result) × (c.next_step-at.result < c.loop-low.high)
 at g c =
     let inv = c.loop-low.invariant in
-    let inside = next_inside (c.args.node + 1) c.loop-low.low c.loop-low.high (length c.args.nodes.now) (g.P.Probe.asked c.loop-low.probe) (g.P.Probe.asked c.args.probe.now) inv.order c.loop-low-test.true inv.within inv.at_most_three_events in
+    let inside = next_inside (c.args.node + 1) c.loop-low.low c.loop-low.high (length c.args.nodes.now) (g.P.Probe.asked c.loop-low.probe) (g.P.Probe.asked c.args.probe.now) inv.order c.loop-low-test.true inv.within inv.comparisons in
     (omega (arith, inside.0, c.next_step-at.ensures), omega (arith, inside.1, c.next_step-at.ensures))
 
 -- its first item
@@ -58,7 +58,7 @@ loop-low-preserved-then-is_gt g c =
       started = inv.started;
       ended = starts_not answer ns c.requires.parted c.next_step-at.result (omega (arith, inside.1, inv.within, length-map c.args.nodes.now g.Node.NodeLike.list)) c.in-Some.first.now (first g within.In-Some (omega (arith, inside.1, inv.within))) past;
       fixed = cc;
-      comparisons = rw c.place.ensures.counted (stepped_back (c.args.node + 1) low.low low.high (length c.args.nodes.now) (g.P.Probe.asked low.probe) (g.P.Probe.asked c.args.probe.now) inv.order c.loop-low-test.true inv.within inv.at_most_three_events c.next_step-at.result c.next_step-at.ensures);
+      comparisons = rw c.place.ensures.counted (stepped_back (c.args.node + 1) low.low low.high (length c.args.nodes.now) (g.P.Probe.asked low.probe) (g.P.Probe.asked c.args.probe.now) inv.order c.loop-low-test.true inv.within inv.comparisons c.next_step-at.result c.next_step-at.ensures);
     }
 
 pub loop-low-preserved : goal.loop-low-preserved
@@ -77,7 +77,7 @@ loop-low-preserved g c =
       started = λ k e. let same : k ≡ c.next_step-at.result = omega (arith, e) in rw same started;
       ended = inv.ended;
       fixed = cc;
-      comparisons = rw c.place.ensures.counted (stepped_on (c.args.node + 1) low.low low.high (length c.args.nodes.now) (g.P.Probe.asked low.probe) (g.P.Probe.asked c.args.probe.now) inv.order c.loop-low-test.true inv.within inv.at_most_three_events c.next_step-at.result c.next_step-at.ensures);
+      comparisons = rw c.place.ensures.counted (stepped_on (c.args.node + 1) low.low low.high (length c.args.nodes.now) (g.P.Probe.asked low.probe) (g.P.Probe.asked c.args.probe.now) inv.order c.loop-low-test.true inv.within inv.comparisons c.next_step-at.result c.next_step-at.ensures);
     }
 
 pub returns-clause-started : goal.returns-clause-started
@@ -93,4 +93,4 @@ returns-clause-ended g c =
 pub returns-clause-comparisons : goal.returns-clause-comparisons
 returns-clause-comparisons g c =
     let same : c.loop-low.low - 1 - c.args.node ≡ c.loop-low.low - (c.args.node + 1) = omega arith in
-    rw same (c.loop-low.invariant.at_most_three_events.met c.loop-low-test.false)
+    rw same (c.loop-low.invariant.comparisons.met c.loop-low-test.false)

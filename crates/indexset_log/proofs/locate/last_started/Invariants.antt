@@ -13,7 +13,7 @@ invariant-loop-low g l =
       started : (k : ℕ) → k + 1 ≡ l.low → before ns k < whole answer ns;
       ended : whole answer ns ≤ before ns l.high;
       fixed : g.P.Probe.answer l.probe ≡ answer;
-      few : Stepped l.from l.low l.high (length l.nodes) (g.P.Probe.asked l.probe) (g.P.Probe.asked l.initial.probe);
+      comparisons : Stepped l.from l.low l.high (length l.nodes) (g.P.Probe.asked l.probe) (g.P.Probe.asked l.initial.probe);
     }
 
 abbrev pub decreases-loop-low : goal.decreases-loop-low

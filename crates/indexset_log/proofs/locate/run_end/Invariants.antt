@@ -12,7 +12,7 @@ invariant-loop-low g l =
       past : not_greater_count answer l.items ≤ l.high;
       within : l.high ≤ length l.items;
       fixed : g.P.Probe.answer l.probe ≡ answer;
-      few : Stepped l.from l.low l.high (length l.items) (g.P.Probe.asked l.probe) (g.P.Probe.asked l.initial.probe);
+      comparisons : Stepped l.from l.low l.high (length l.items) (g.P.Probe.asked l.probe) (g.P.Probe.asked l.initial.probe);
     }
 
 abbrev pub decreases-loop-low : goal.decreases-loop-low

@@ -21,7 +21,7 @@ loop-items-preserved-in-Less g c =
     let kept = c.loop-items.invariant in
     record {
       merging = rw c.push_reserved.ensures.items (merged_less g.T.Ord.cmp g.met.T.Ord.total _ _ _ _ kept.merging _ (told g at) c.in-Less.is _ _ c.take_last.ensures.items);
-      length_bound = omega (arith, kept.few, c.take_last.ensures.len, c.push_reserved.ensures.len);
+      length_bound = omega (arith, kept.length_bound, c.take_last.ensures.len, c.push_reserved.ensures.len);
       capacity = kept.capacity;
       room = c.push_reserved.ensures.capacity ∙ kept.room;
     }
@@ -37,7 +37,7 @@ loop-items-preserved-in-Greater g c =
     let kept = c.loop-items.invariant in
     record {
       merging = rw c.push_reserved-in-Greater.ensures.items (merged_greater g.T.Ord.cmp g.met.T.Ord.total _ _ _ _ kept.merging _ (told g at) c.in-Greater.is (some g at) _ _ c.take_last-in-Greater.ensures.items);
-      length_bound = omega (arith, kept.few, c.take_last-in-Greater.ensures.len, c.push_reserved-in-Greater.ensures.len);
+      length_bound = omega (arith, kept.length_bound, c.take_last-in-Greater.ensures.len, c.push_reserved-in-Greater.ensures.len);
       capacity = c.take_last-in-Greater.ensures.capacity ∙ kept.capacity;
       room = c.push_reserved-in-Greater.ensures.capacity ∙ kept.room;
     }
@@ -53,7 +53,7 @@ loop-items-preserved g c =
     let kept = c.loop-items.invariant in
     record {
       merging = rw c.push_reserved-in-Equal.ensures.items (merged_equal g.T.Ord.cmp g.met.T.Ord.total _ _ _ _ kept.merging _ (told g at) c.in-Equal.is _ _ _ _ c.take_last-in-Equal.ensures.items c.take_last-in-Equal-2.ensures.items);
-      length_bound = omega (arith, kept.few, c.take_last-in-Equal.ensures.len, c.take_last-in-Equal-2.ensures.len, c.push_reserved-in-Equal.ensures.len);
+      length_bound = omega (arith, kept.length_bound, c.take_last-in-Equal.ensures.len, c.take_last-in-Equal-2.ensures.len, c.push_reserved-in-Equal.ensures.len);
       capacity = c.take_last-in-Equal.ensures.capacity ∙ kept.capacity;
       room = c.push_reserved-in-Equal.ensures.capacity ∙ kept.room;
     }

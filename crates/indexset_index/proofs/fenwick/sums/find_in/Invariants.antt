@@ -10,7 +10,7 @@ invariant-loop-step g l =
       power : l.step ≡ 2 ^ digits l.step / 2;
       fixed : g.C.Cells.cell l.cells ≡ g.C.Cells.cell l.initial.cells;
       stays : g.C.Cells.number l.cells ≡ g.C.Cells.number l.initial.cells;
-      few : g.C.Cells.asked l.cells + digits l.step ≤ g.C.Cells.asked l.initial.cells + digits l.count;
+      comparisons : g.C.Cells.asked l.cells + digits l.step ≤ g.C.Cells.asked l.initial.cells + digits l.count;
     }
 
 abbrev pub decreases-loop-step : goal.decreases-loop-step

@@ -9,7 +9,7 @@ abbrev pub invariant-loop-count : goal.invariant-loop-count
 invariant-loop-count g l = record {
   tree : l.self ≡ after_removals g.K.Ord.cmp g.Q.LookupKey.order l.initial.self l.key l.count;
   within : l.count ≤ length (pairs_of g.Q.LookupKey.order (concat l.initial.self.nodes) l.key);
-  told : AreTableEvents (IsPairClone g.K.Clone.is_clone g.V.Clone.is_clone) l.initial.self.next (removals_events g.K.Ord.cmp g.Q.LookupKey.order l.initial.self l.key l.count) l.events.items;
+  events : AreTableEvents (IsPairClone g.K.Clone.is_clone g.V.Clone.is_clone) l.initial.self.next (removals_events g.K.Ord.cmp g.Q.LookupKey.order l.initial.self l.key l.count) l.events.items;
 }
 
 abbrev pub decreases-loop-count : goal.decreases-loop-count
