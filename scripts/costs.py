@@ -27,10 +27,10 @@ class Cost:
     allocates: str
 
     def text(self) -> str:
-        """One line of a page."""
+        """The cost as one sentence, without a capital."""
         parts = [f"comparisons {self.comparisons}" * bool(self.comparisons), f"moves {self.moves}" * bool(self.moves)]
         parts.append("allocates" if self.allocates == "yes" else f"allocates {self.allocates}" * bool(self.allocates))
-        return "*Cost:* " + "; ".join(part for part in parts if part) + "."
+        return "; ".join(part for part in parts if part) + "."
 
 
 @dataclasses.dataclass(frozen=True)
@@ -59,10 +59,12 @@ def key_of(page: str, owner: str, name: str) -> tuple[str, str]:
     return page, name if owner.startswith("BTree") else f"{owner}::{name}"
 
 
-def line(page: str, owner: str, name: str) -> str:
-    """The line of a page on the cost of a call, or nothing."""
+def line(page: str, owner: str, name: str, complexity: str) -> str:
+    """The line of a page on the cost of a call, or nothing: what its docs say under `Complexity`, and its numbers."""
     cost = COSTS.get(key_of(page, owner, name))
-    return cost.text() if cost else ""
+    numbers = cost.text() if cost else ""
+    said = f"{complexity} At most: {numbers}" if complexity and numbers else complexity or numbers
+    return f"*Cost:* {said}" if said else ""
 
 
 def has(page: str) -> bool:

@@ -87,9 +87,10 @@ def passed_on() -> set[str]:
 
 
 def terms() -> list[str]:
-    """The table of terms."""
+    """The table of terms and the paragraphs after it: a row is one line, and a paragraph is one."""
     head = WORDS.read_text(encoding="utf-8").split("\n\n")[0]
-    return [line[2:].strip() for line in head.split("-- Terms:\n--\n")[1].splitlines()]
+    text = "\n".join(line[3:] for line in head.split("-- Terms:\n--\n")[1].splitlines())
+    return re.sub(r"(?<!\n)\n *(?![|\n ])", " ", text).splitlines()
 
 
 def row(it: Word, star: bool) -> str:

@@ -146,17 +146,25 @@ def head_and_clauses(lines: list[str]) -> tuple[str, list[str]]:
 FAILS = re.compile(r"(?:Fails|A failed call)\b")
 
 
+def blocks(text: str) -> Iterator[str]:
+    """The paragraphs and the lists of a doc comment: a paragraph is one line, and an item of a list is one."""
+    for block in re.split(r"\n\s*\n", text.strip()):
+        yield "\n".join(" ".join(item.split()) for item in re.split(r"\n(?=- )", block))
+
+
 def doc_of(lines: list[str]) -> Doc:
-    """A doc comment by its lines. What it says of failures is its part `Errors`, under that heading or not."""
+    """A doc comment by its lines. Without a heading `Errors`, that part is what the summary says of failures."""
     text = "\n".join(lines)
     fenced = re.compile(r"^```(?:rust)?\n(.*?)^```$", re.M | re.S)
     shown = ("\n".join(it for it in code.splitlines() if not it.startswith("# ")) for code in fenced.findall(text))
     summary, *parts = re.split(r"^# ", fenced.sub("", text), flags=re.M)
-    named = {name: said for name, _, said in (part.partition("\n") for part in parts)}
-    sentences = re.split(r"(?<=\.)\s+", " ".join(summary.split()))
-    fails = " ".join(it for it in sentences if FAILS.match(it))
-    texts = {"Errors": fails, **{name: " ".join(said.split()) for name, said in named.items()}}
-    return Doc(" ".join(it for it in sentences if not FAILS.match(it)), list(shown), texts)
+    named = {name.strip(): "\n\n".join(blocks(said)) for name, _, said in (part.partition("\n") for part in parts)}
+    if "Errors" in named:
+        return Doc("\n\n".join(blocks(summary)), list(shown), named)
+    sentences = [re.split(r"(?<=\.) ", block) for block in blocks(summary)]
+    fails = " ".join(it for block in sentences for it in block if FAILS.match(it))
+    rest = (" ".join(it for it in block if not FAILS.match(it)) for block in sentences)
+    return Doc("\n\n".join(it for it in rest if it), list(shown), {"Errors": fails, **named})
 
 
 def first_sentence(doc: str) -> str:
@@ -255,6 +263,11 @@ def anchor_of(heading: str, taken: dict[str, int]) -> str:
     return f"{plain}-{taken[plain]}" if taken[plain] else plain
 
 
+def part_of(heading: str, text: str) -> str:
+    """A part of a doc comment, as a page has it: a list begins below the heading."""
+    return f"*{heading}:*\n\n{text}" if text.startswith("- ") else f"*{heading}:* {text}"
+
+
 def shown(it: Call, page: Page, taken: dict[str, int], group: str = "") -> None:
     """Adds a call to a page, with a heading and an anchor; the index has it by its type, or by this group."""
     name = name_of(it)
@@ -263,9 +276,10 @@ def shown(it: Call, page: Page, taken: dict[str, int], group: str = "") -> None:
     owner, _, function = name.rpartition("::")
     page.calls.setdefault(group or owner, []).append(Link(function, anchor, first_sentence(it.doc.summary)))
     examples = ["```rust", *"\n\n".join(it.doc.examples).splitlines(), "```"] if it.doc.examples else []
-    parts = [f"*{heading}:* {text}" for heading, text in it.doc.parts.items() if text]
-    cost = costs.line(page.name, owner, function)
-    for said in [[it.doc.summary], examples, *([part] for part in parts), [cost]]:
+    parts = {**it.doc.parts}
+    cost = costs.line(page.name, owner, function, parts.pop("Complexity", ""))
+    texts = [part_of(heading, text) for heading, text in parts.items() if text]
+    for said in [[it.doc.summary], examples, *([text] for text in texts), [cost]]:
         page.lines.extend([*said, ""] if any(said) else [])
     head = [it.owner] if it.owner else []
     page.lines.extend(["```text", *head, it.signature, *("    " + clause for clause in it.clauses), "```", ""])

@@ -54,7 +54,7 @@ module _ {K V : Type 0} where
       all_set_value P l all holds =
           subst (All P) (written l) (All-values-set_value (λ q. is_eq (cmp q k)) P (map entry_of l) w (subst (All P) (sym (values_entries l)) all) holds)
 
-      -- a key that is not there has no value to write
+      -- an absent key has no value to write
       pub set_value_absent : (l : List (Pair K V)) → value_of cmp l k ≡ None → set_value cmp l k w ≡ l
       unfolding set_found
       set_value_absent [] none = refl
@@ -63,7 +63,7 @@ module _ {K V : Type 0} where
         | false ↦ λ e. rw e (ap (λ rest. p ∷ rest) (set_value_absent l (rw e at none)))
       ] refl
 
-      -- an insertion of a key that is there writes its value
+      -- an insertion of a present key writes its value
       pub put_value_there : (l : List (Pair K V)) (v : V) → value_of cmp l k ≡ Some v → put_value cmp l k w ≡ set_value cmp l k w
       unfolding put_value
       put_value_there l v is = let there : has_key cmp l k ≡ true = found l is in rw there refl where

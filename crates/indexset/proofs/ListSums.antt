@@ -13,7 +13,7 @@ use Rattle.indexset_core.specs.Nodes.{equal_at}
 use Rattle.indexset_core.proofs.CallerLemmas.{found_equal, found_has_equal, found_put, found_without, gap_equal, gap_has_equal, gap_put, gap_without, located_found, located_gap, parted_by_item}
 
 module _ {T : Type 0} (cmp : T → T → Ordering) (o : IsTotalOrder cmp) (l : List T) (up : IsAscending cmp l) (v : T) where
-  -- a fact by whether an equal element stands at the rank
+  -- a case distinction: an equal element is at the rank, or not
   by_place : {P : Type 0} → (IsFoundAt cmp l v (rank cmp l v) → P) → (IsGapFor cmp l v (rank cmp l v) → P) → P
   by_place {P} found gap = elim (equal_at (λ x. cmp x v) l (rank cmp l v)) as (λ b. equal_at (λ x. cmp x v) l (rank cmp l v) ≡ b → P) [
     | true ↦ λ e. found (located_found cmp l v (rank cmp l v) (parted_by_item cmp o l up v) refl e)

@@ -1,31 +1,56 @@
--- The words of contracts on sets, maps and logged trees, for callers that list this crate alone.
+-- The words of contracts on sets, maps and logged trees, for callers that depend on this crate
+-- only.
 --
 -- Terms:
 --
 -- | Term | Meaning |
 -- |---|---|
 -- | item, element, pair | what a node holds: an element of a set, or a key with its value |
--- | node | an ascending list of items, at most the node size of them. It is a type with the trait `NodeLike`: `Vec<T>`, which allocates, or `ArrayNode<T, N>`, which holds up to N items in place and never allocates |
--- | node list | the nodes in order; their concatenation is the collection's list. No node is empty, except the only one of an empty plain collection |
--- | index | the Fenwick tree of the node lengths, in logged trees and replicas of their sums over 32 nodes, by which positions are found |
--- | plain family, logged family | set and map; set, map and multimap that return their changes as events |
--- | position, offset, place | an index in the whole list, counted from 0; an index in a node; a node with an offset in it |
+-- | node | an ascending list of items, at most the node size of them. Its type implements
+--   `NodeLike`: `Vec<T>`, which allocates, or `ArrayNode<T, N>`, which stores up to N items inline
+--   and never allocates |
+-- | node list | the nodes in order; their concatenation is the collection's list. No node is empty,
+--   except the only node of an empty plain collection |
+-- | index | the Fenwick tree that finds positions: of the node lengths in plain collections, of
+--   their sums over 32 nodes in logged trees and replicas |
+-- | plain family, logged family | set and map; set, map and multimap that return their changes as
+--   events |
+-- | position, offset, place | an index in the whole list, counted from 0; an index in a node; a
+--   node with an offset in it |
 -- | equal, identical | the order returns Equal, as it may for two different items; the same value |
--- | lawful | of an order: total and agreeing with `==`; of nodes: a node list within the node size |
--- | split, halve, merge | a collection is split in two; a full node is halved, at half its length; two neighbouring nodes become one |
--- | tie rule | an item that belongs between the halves of a halved node goes behind the left half in the plain family and before the right one in the logged family: the full node [0,2,4,6] at size 4, with 3 inserted, becomes [0,2,3] [4,6] in the one and [0,2] [3,4,6] in the other |
--- | small neighbours | two nodes, one directly after the other, of at most half the node size together: a removal in a logged tree merges them |
--- | event | a numbered change of a node list: an item inserted or removed, a node created, removed, split or merged with the next. It names a node by its last item before the change |
--- | event table | the definition of each call's events: `put_events`, `checked_put_events`, `removal_events` |
+-- | lawful | of an order: total and consistent with `==`; of nodes: a node list within the node
+--   size |
+-- | split, halve, merge | a collection is split in two; a full node is halved, at half its length;
+--   two neighbouring nodes are merged into one |
+-- | tie rule | an item that belongs between the halves of a halved node is inserted at the end of
+--   the left half in the plain family, and at the start of the right half in the logged family: at
+--   size 4, the full node [0,2,4,6] with 3 inserted becomes [0,2,3] [4,6] in the one and [0,2]
+--   [3,4,6] in the other |
+-- | small neighbours | two neighbouring nodes of at most half the node size together: a removal in
+--   a logged tree merges them |
+-- | event | a numbered change of a node list: an item inserted or removed, a node created, removed,
+--   split or merged with the next. It names a node by its last item before the change |
+-- | event table | the definition of each call's events: `put_events`, `checked_put_events`,
+--   `removal_events` |
 -- | replay | the steps of events in order; undefined from the first event that does not apply |
 -- | replica | a copy that holds a node list and the number of the event that it expects |
--- | text of a value | of a type that is `Spelled`, the bytes that `{}` writes, of which the identical value is read, and no other; a `Word`'s texts may stand in that of a pair |
--- | clone premise | that a clone is the same value as its source |
--- | `clones`, `cloned` | clauses: events, or the nodes of a replica, with clones in the place of items; `cloned` of `Logged` says that an item is a clone of another |
+-- | text of a value | of a type that is `Spelled`: the bytes that `{}` writes, from which the
+--   identical value is read, and no other. The text of a `Word` may be a part of a pair's text |
+-- | clone premise | the assumption that a clone is identical to its source |
+-- | `clones`, `cloned` | clauses: events, or the nodes of a replica, with clones in the place of
+--   items; `cloned` of `Logged`: an item is a clone of another |
 --
--- Names in the code, by the standard term: `Probe` is a comparator, which compares items with what it seeks, returns Less, Equal or Greater, and counts its comparisons; `Spine` is a node list with its length and index; `Spot` is a position in a node; `Refusal` is an error, and `Refused` an error with the value that the call was given; `digits` is the bit length; `_cdc` marks a call that returns its events (change data capture).
+-- Names in the code, by the standard term: `Probe` is a comparator, which compares items with a
+-- look-up key, returns Less, Equal or Greater, and counts its comparisons; `Spine` is a node list
+-- with its length and index; `Spot` is a position in a node; `Refusal` is an error, and `Refused`
+-- an error with the value that the call was given; `digits` is the bit length; `_cdc` marks a call
+-- that returns its events (change data capture).
 --
--- What contracts see of a value: of a set `cut nodes size`, whose list is `items s`; of a map `Contents`: `pairs`, node lengths, node size; of a logged tree `Tree`: nodes, node size, number of the next event, whose list is `concat t.nodes`; of a multimap `MultiTree`, with the number of the next new pair; of a replica `ReplicaState`: nodes and the number of the event that it expects.
+-- The model of a value in contracts: of a set `cut nodes size`, whose list is `items s`; of a map
+-- `Contents`: `pairs`, node lengths, node size; of a logged tree `Tree`: nodes, node size, number
+-- of the next event, whose list is `concat t.nodes`; of a multimap `MultiTree`, with the number of
+-- the next new pair; of a replica `ReplicaState`: nodes and the number of the event that it
+-- expects.
 
 pub use Rattle.indexset_spine.specs.NodeList.{items}
 pub use Rattle.indexset_spine.specs.Extract.{Extracts, ExtractState, extract_state}

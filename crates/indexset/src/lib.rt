@@ -1,16 +1,17 @@
 //! Order-statistic B-tree sets and maps, with look-ups by key and by position, and a logged family
 //! that returns its changes as numbered events.
 //!
-//! This is the crate that a user lists; it holds paths alone, those of the Rust crate. [`BTreeSet`]
-//! and [`BTreeMap`] with their types stand at the root, the logged set, map and multimap in
-//! [`concurrent`], their events in [`cdc`], what both families use in [`base`], look-ups by
-//! borrowed text in [`text`], and the replica that follows a tree by its events in [`replica`];
-//! laws of sets are in [`laws`], of iterators over maps in [`map_laws`].
-//! `Rattle.indexset.specs.Words` has the words of its contracts, and `docs/guide.md` is the page
+//! This crate re-exports the collections under the paths of the Rust crate. [`BTreeSet`] and
+//! [`BTreeMap`] with their iterators are at the root. The logged set, map and multimap are in
+//! [`concurrent`], their events in [`cdc`], the parts of both families in [`base`], look-ups by
+//! borrowed text in [`text`], and the replica, which follows a tree by its events, in [`replica`].
+//! Laws of sets are in [`laws`], laws of iterators over maps in [`map_laws`].
+//!
+//! `Rattle.indexset.specs.Words` has the words of the contracts, and `docs/guide.md` is the page
 //! for callers.
 #![tactic(auto)]
 
-/// What the collections are made of.
+/// The parts of the collections: nodes, searches, comparators, keys, bounds, pairs and errors.
 pub mod base {
     pub use indexset_core::text::Text;
     pub use indexset_core::{
@@ -19,8 +20,9 @@ pub mod base {
     };
 }
 
-/// Trees that return their changes as events. There are no threads: each has one owner. The module
-/// has the Rust crate's name.
+/// Collections that return their changes as events.
+///
+/// The module has the Rust crate's name. The collections are not concurrent: each has one owner.
 pub mod concurrent {
     /// The logged set, its iterators, and its nodes.
     pub mod set {
@@ -51,7 +53,7 @@ pub mod cdc {
     pub use indexset_events::{change, laws, spelling};
 }
 
-/// Comparators by which sets and maps look a `&str` up among text keys.
+/// Comparators for look-ups of a `&str` among text keys.
 pub mod text {
     pub use indexset_core::text_probe::{ByStr, OnKey};
 }

@@ -1,4 +1,4 @@
--- What stands where in an ascending list, and what an edit leaves of one.
+-- The positions of items in an ascending list, and what an edit leaves of one.
 use Rattle.std.proofs.Common.{◌≡◌, ℕ, zero, suc, ◌<◌, ◌≤◌, ◌≢◌, Bool, true, false, cond, ◌||◌, List, [], ◌∷◌, length, get_or, set, Ordering, Some, None, is_some, slice_get, nat_lt, not, refl, ap, sym, inl, inr, ◌∙◌, subst, arith, length-set, get_or-set_same, get_or-set_other}
 use Rattle.std.specs.declared.cmp.Ordering.TheVariants.{Less, Equal, Greater}
 use Rattle.std.specs.Bool.{OnTrue, OnFalse}
@@ -20,7 +20,7 @@ use Rattle.indexset_core.specs.LookupKey.{OrdersAsItem, acts_as_itself}
 use Rattle.indexset_core.proofs.OrderLemmas.{parted_by_item, parted_by_sought, less_from, greater_from, found_at, gap_at, found_rank, found_after, found_has_equal, gap_has_equal}
 use Rattle.indexset_core.proofs.PartedLemmas.{front-is_lt, front-is_le, count_parts, Parts, fails_above}
 
--- an item less keeps the order
+-- the removal of an item keeps the order
 pub remove_ascending : {T : Type 0} (cmp : T → T → Ordering) (l : List T) (i : ℕ) → i < length l → IsAscending cmp l → IsAscending cmp (remove l i)
 remove_ascending cmp l i lt up = all_pairs_remove (λ x y. cmp x y ≡ Less) l i lt up
 
@@ -44,7 +44,7 @@ module _ {T : Type 0} (p : T → Bool) where
   position_none l none =
       let e = first_is l (length l) (omega arith) none (λ lt. absurd (omega arith)) in let t : nat_lt (length l) (length l) ≡ false = grind (arith, nat_tests) in rw (e, t) refl
 
-  -- one is found where one passes
+  -- an item is found if one passes
   pub is_some-find : (l : List T) → is_some (find p l) ≡ list_any p l
   is_some-find [] = refl
   is_some-find (x ∷ xs) = elim (p x) as (λ b. is_some (cond b (Some x) (find p xs)) ≡ (b || list_any p xs)) [
@@ -52,7 +52,7 @@ module _ {T : Type 0} (p : T → Bool) where
     | false ↦ is_some-find xs
   ]
 
--- what a search tells of the item at its index
+-- what a search shows of the item at its index
 module _ {T : Type 0} (answer : T → Ordering) where
   pub equal_inside : (l : List T) (i : ℕ) → equal_at answer l i ≡ true → i < length l
   equal_inside [] i h = absurd (false≢true h)
@@ -90,7 +90,7 @@ module _ {T : Type 0} (answer : T → Ordering) where
           ap is_eq (greater_from _ (fails_above is_le front-is_le answer l parted i at (λ e. not_le _ (parts.after i e (omega arith) at) (unequal_here l i h at e)) k d (omega arith) high))
     ]
 
-    -- the first item found Equal, and where there is none
+    -- the first item that compares Equal, if any
     pub position_found : equal_at answer l i ≡ true → position (λ x. is_eq (answer x)) l ≡ Some i
     position_found h = position_is (λ x. is_eq (answer x)) l i (equal_inside l i h) before_unequal (equal_here l i h)
 
@@ -105,7 +105,7 @@ module _ {T Q : Type 0} (cmp : T → Q → Ordering) (l : List T) (v : Q) (i : �
   pub located_gap : IsParted (λ x. cmp x v) l → i ≡ rank cmp l v → equal_at (λ x. cmp x v) l i ≡ false → IsGapFor cmp l v i
   located_gap parted place h = gap_at cmp l v i parted place (unequal_here (λ x. cmp x v) l i h)
 
-  -- the same of a search whose probe holds an item that is v, by what it tells
+  -- the same for a search whose comparator holds an item that is v, by its result
   pub told_found : (w : Q) → w ≡ v → IsParted (λ x. cmp x v) l → (b : Bool) → i ≡ rank cmp l w → b ≡ equal_at (λ x. cmp x w) l i → OnTrue b (IsFoundAt cmp l v i)
   told_found w same parted true place told = located_found parted (place ∙ ap (rank cmp l) same) (sym (ap (λ z. equal_at (λ x. cmp x z) l i) same) ∙ sym told)
   told_found w same parted false place told = tt
@@ -128,12 +128,12 @@ module _ {T Q : Type 0} (cmp : T → Q → Ordering) (l : List T) (v : Q) (i : �
   pub gap_equal : IsGapFor cmp l v i → equal_element cmp l v ≡ None
   gap_equal gap = find_none (λ x. is_eq (cmp x v)) l (gap_unequal gap)
 
-  -- what a search tells is whether an equal item is there
+  -- the result of a search is whether an equal item is present
   pub told_has_equal : (b : Bool) → OnTrue b (IsFoundAt cmp l v i) → OnFalse b (IsGapFor cmp l v i) → b ≡ has_equal cmp l v
   told_has_equal true there gap = sym (found_has_equal cmp l v i there)
   told_has_equal false there gap = sym (gap_has_equal cmp l v i gap)
 
--- v written over the item equal to it keeps the order
+-- the replacement of an item by an equal v keeps the order
 module _ {T : Type 0} (cmp : T → T → Ordering) (l : List T) (v : T) (i : ℕ) where
   pub found_ascending : IsTotalOrder cmp → IsAscending cmp l → IsFoundAt cmp l v i → IsAscending cmp (set l i v)
   found_ascending o up f a b d lt inside =
@@ -162,7 +162,7 @@ module _ {T Q : Type 0} {cmp : T → T → Ordering} {order : T → Q → Orderi
       let parts : Parts (λ x. is_lt (order x v)) l (rank order l v) = count_parts is_lt front-is_lt (λ x. order x v) l parted in
       sym (find_is (λ x. not (is_lt (order x v))) l (rank order l v) parts.inside (λ k d low high. ap not (parts.before k d low high)) (λ lt d. ap not (parts.after (rank order l v) d (omega arith) lt)))
 
-  -- the item at the rank, where an equal one is there
+  -- the item at the rank, if an equal one is present
   pub equal_sought : has_equal order l v ≡ true → slice_get l (rank order l v) ≡ equal_element order l v
   equal_sought has =
       elim (equal_at (λ x. order x v) l (rank order l v)) as (λ b. equal_at (λ x. order x v) l (rank order l v) ≡ b → slice_get l (rank order l v) ≡ equal_element order l v) [
@@ -171,7 +171,7 @@ module _ {T Q : Type 0} {cmp : T → T → Ordering} {order : T → Q → Orderi
       ] refl
 
 module _ {T : Type 0} (cmp : T → T → Ordering) (o : IsTotalOrder cmp) (l : List T) (up : IsAscending cmp l) where
-  -- an item stands where its rank says
+  -- an item is at its rank
   stands : (i : ℕ) (x : T) → slice_get l i ≡ Some x → IsFoundAt cmp l x i
   stands i x is =
       let lt : i < length l = slice_get_within l i x is in

@@ -1,4 +1,4 @@
--- What crates above this one may cite of its proofs.
+-- Lemmas for the crates above.
 pub use Rattle.indexset_core.proofs.AscendingLemmas.{equal_inside, equal_sought, lower_sought, found_ascending, found_equal, gap_equal, is_some-find, located_found, located_gap, position_absent, position_found, position_is, position_none, rank-slice_get, remove_ascending, slice_get-rank, slice_get-rank_equal, told_found, told_gap, told_has_equal}
 pub use Rattle.indexset_core.proofs.BoundLemmas.{at_position}
 pub use Rattle.indexset_core.proofs.DigitsLemmas.{digits-half, digits-least, digits-left, digits-mono, digits-most, digits-right, digits-zero}

@@ -1,4 +1,4 @@
--- Nodes by the answers at their last items.
+-- Nodes by the comparisons of their last items.
 use Rattle.std.proofs.Common.{◌≡◌, ℕ, ◌+◌, ◌-◌, ◌<◌, ◌≤◌, false, List, [], ◌∷◌, length, get_or, take, drop, slice_get, Some, None, Ordering, refl, ◌∙◌, arith, inl, inr}
 use Rattle.std.specs.List.{All}
 use Rattle.std.specs.Option.{option_map_or}
@@ -14,7 +14,7 @@ use Rattle.indexset_core.proofs.NodeLemmas.{get_or_in_node, length-concat-mono, 
 use Rattle.indexset_core.proofs.PartedLemmas.{Narrowed}
 
 module _ {X : Type 0} (answer : X → Ordering) where
-  -- how a node's last item is found, and a node of none as Greater
+  -- how the last item of a node compares: Greater if the node is empty
   abbrev pub end_answer : List X → Ordering
   end_answer n = option_map_or answer (slice_get n (length n - 1)) Greater
 
@@ -35,7 +35,7 @@ module _ {X : Type 0} (answer : X → Ordering) where
   item_of [] some = absurd (omega arith)
   item_of (x ∷ xs) some = x
 
-  -- a later node's last item is found no less
+  -- the last item of a later node compares no less
   later : (ns : List (List X)) → All (λ n. 1 ≤ n) (node_lengths ns) → IsParted answer (concat ns) → (i j : ℕ) → i < j → j < length ns → X → ordering_index (end_answer (get_or ns i [])) ≤ ordering_index (end_answer (get_or ns j []))
   later ns filled h i j before lt d =
       let a = get_or ns i [] in let b = get_or ns j [] in
@@ -49,7 +49,7 @@ module _ {X : Type 0} (answer : X → Ordering) where
       let at_b = get_or_in_node ns j (length b - 1) d lt (omega arith) in
       rw (end_at a d some_a, end_at b d some_b) (rw (← at_a, ← at_b) (h p q d order low))
 
-  -- the answers at the last items are in order as well
+  -- the last items are partitioned as well
   ends_parted : (ns : List (List X)) → All (λ n. 1 ≤ n) (node_lengths ns) → IsParted answer (concat ns) → IsParted end_answer ns
   ends_parted ns filled h i j e le lt =
       elim (cases_lt i j) [
@@ -62,7 +62,7 @@ module _ {X : Type 0} (answer : X → Ordering) where
   pub front_parted : (ns : List (List X)) (k : ℕ) → All (λ n. 1 ≤ n) (node_lengths ns) → IsParted answer (concat ns) → IsParted end_answer (take k ns)
   front_parted ns k filled h = parted-left end_answer (take k ns) (drop k ns) (rw (take-append-drop k ns) (ends_parted ns filled h))
 
-  -- where the search ends
+  -- the end of the search
   pub end_found : (ns : List (List X)) (last k : ℕ) → 1 ≤ length ns → last ≡ length ns - 1 → Narrowed (λ n. is_lt (end_answer n)) (take last ns) k k → k ≡ node_for answer ns
   end_found ns last k some at now =
       let long : length (take last ns) ≡ last = length-take-le last ns (omega arith) in

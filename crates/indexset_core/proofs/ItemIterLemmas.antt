@@ -1,4 +1,4 @@
--- What a walk over nodes has left.
+-- The remaining items of an iterator over nodes.
 use Rattle.std.proofs.Common.{◌≡◌, Bool, true, false, ◌==◌, subst, ℕ, zero, suc, ◌+◌, ◌-◌, ◌<◌, ◌≤◌, List, [], ◌∷◌, ◌++◌, length, map, take, drop, get_or, max, refl, sym, ap, ◌∙◌, arith, append_assoc}
 use Rattle.std.specs.List.{between}
 use Rattle.std.proofs.lemmas.Bool.{false≢true}
@@ -19,7 +19,7 @@ place_le [] (zero, o) place = omega (arith, place.offset_in)
 place_le [] (suc k, o) place = absurd (omega (arith, place.node_in))
 place_le (n ∷ ns) p place = offset-le (n ∷ ns) p.0 p.1 (omega (arith, place.node_in)) place.offset_in
 
--- the nodes as the code holds them: f tells the list of each
+-- the nodes as the code stores them: f gives the list of each
 module _ {T N : Type 0} (f : N → List T) where
   concat-push : (ns : List N) (n : N) → concat (map f (ns ++ n ∷ [])) ≡ concat (map f ns) ++ f n
   concat-push [] n = append-nil (f n)
@@ -37,7 +37,7 @@ module _ {T N : Type 0} (f : N → List T) where
   pub between-map : (ns : List N) (i j : ℕ) → map f (between i j ns) ≡ between i j (map f ns)
   between-map ns i j = sym (ap (λ l. take (j - i) l) (drop-map f i ns) ∙ take-map f (j - i) (drop i ns))
 
-  -- what a walk has left from one place to before another
+  -- the remaining items from one place up to another
   module _ (ns : List N) (p q : ℕ × ℕ) (start : IsPlace (map f ns) p) (stop : IsPlace (map f ns) q) where
     abbrev walk : List T
     walk = between (items_before (map f ns) p) (items_before (map f ns) q) (concat (map f ns))
@@ -48,12 +48,12 @@ module _ {T N : Type 0} (f : N → List T) where
     walk_nothing : items_before (map f ns) q ≤ items_before (map f ns) p → [] ≡ walk
     walk_nothing le = let e : items_before (map f ns) q - items_before (map f ns) p ≡ 0 = omega arith in rw e refl
 
-    -- there is no node
+    -- without a node
     pub walk_none : length ns ≡ 0 → [] ≡ walk
     walk_none e = walk_nothing (omega (arith, place_le (map f ns) q stop, ap (λ l. length l) (concat-none ns e)))
 
     module _ (some : 1 ≤ length ns) where
-      -- the second place stands in an earlier node
+      -- the second place is in an earlier node
       pub walk_back : q.0 < p.0 → [] ≡ walk
       walk_back lt =
           let inside : q.0 < length (map f ns) = omega (arith, some, stop.node_in, length-map ns f) in
@@ -75,7 +75,7 @@ module _ {T N : Type 0} (f : N → List T) where
           let whole = between_across (map f ns) p.0 p.1 q.0 q.1 inside stop.offset_in lt start.offset_in in
           rw (take_rest (f m) p.1, between-map ns (p.0 + 1) q.0, ← opened, ← closed) (sym whole)
 
--- the places that the code reads, where there is a node
+-- the places that the code reads, if there is a node
 module _ {T N : Type 0} (f : N → List T) (ns : List N) (p : ℕ × ℕ) (place : IsPlace (map f ns) p) where
   pub place_node : 1 ≤ length ns → p.0 < length ns
   place_node some = omega (arith, some, place.node_in, length-map ns f)

@@ -1,4 +1,4 @@
--- The part of a list of pairs that two bounds on keys cut out.
+-- The part of a list of pairs between two bounds on keys.
 use Rattle.std.proofs.Common.{◌≡◌, ℕ, ◌+◌, ◌≤◌, true, List, [], ◌∷◌, Ordering, Some, None, sym, arith}
 use Rattle.std.specs.Cmp.{IsTotalOrder, on_total}
 use Rattle.std.specs.List.{between, count_by, position}
@@ -16,7 +16,7 @@ module _ {K V : Type 0} (cmp : K → K → Ordering) (o : IsTotalOrder cmp) wher
   pub pairs_total : IsTotalOrder (by_key {V = V} cmp)
   pairs_total = on_total (λ (p : Pair K V). p.key) o
 
-  -- how many keys are not above a key that is there, or is not
+  -- how many keys are not above a key, present or absent
   pub past_found : (l : List (Pair K V)) → IsAscending (by_key cmp) l → (k : K) (i : ℕ) → position (λ p. is_eq (cmp p.key k)) l ≡ Some i → i + 1 ≡ count_by (λ p. is_le (cmp p.key k)) l
   past_found [] up k i h = let lt = key_inside {V = V} cmp [] k i h in absurd (omega (arith, lt))
   past_found (p ∷ l) up k i h = sym (found_not_above (by_key cmp) (p ∷ l) (pair k p.value) i pairs_total up (key_found cmp (p ∷ l) k i h (parted_by_key cmp o (p ∷ l) up k) p.value))
@@ -31,11 +31,11 @@ module _ {K V : Type 0} (cmp : K → K → Ordering) (o : IsTotalOrder cmp) wher
     pub key_range_is : between i j l ≡ pairs_within cmp l start end
     key_range_is = keyed_range_is cmp o (λ p. p.key) l (parted_by_key cmp o l up) start end ordered i j from to
 
-    -- the start is not behind the end
+    -- the start is not after the end
     pub key_range_order : i ≤ j
     key_range_order = keyed_range_order cmp o (λ p. p.key) l (parted_by_key cmp o l up) start end ordered i j from to
 
--- the same of bounds on what is sought
+-- the same for bounds on look-up keys
 module _ {K V Q : Type 0} {cmp : K → K → Ordering} {order : K → Q → Ordering} {among : Q → Q → Ordering} (acts : OrdersAsItem cmp order among) (l : List (Pair K V)) (up : IsAscending (by_key cmp) l) (start end : Bound Q) (ordered : are_ordered among start end ≡ true) (i j : ℕ) (from : i ≡ count_by (λ p. is_before order start p.key) l) (to : j ≡ count_by (λ p. is_up_to_end order end p.key) l) where
   pub sought_keys_are : between i j l ≡ pairs_within order l start end
   sought_keys_are = sought_range_is order (λ (p : Pair K V). p.key) l (parted_by_sought_key acts l up) acts start end ordered i j from to

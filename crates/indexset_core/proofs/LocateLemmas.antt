@@ -1,4 +1,4 @@
--- The node that the answers name, and the spot in it.
+-- The node in which a search ends, and the spot in it.
 use Rattle.std.proofs.Common.{◌≡◌, ℕ, zero, suc, ◌+◌, ◌-◌, ◌<◌, ◌≤◌, true, false, not, cond, List, [], ◌∷◌, ◌++◌, length, map, get_or, take, slice_get, Some, None, Ordering, refl, sym, ap, ◌∙◌, arith, subst, length-append, inl, inr}
 use Rattle.std.specs.List.{All, AllWithin, HoldsAt, position_or_len}
 use Rattle.std.specs.Ordering.{is_lt, is_eq}
@@ -29,7 +29,7 @@ module _ {X : Type 0} (answer : X → Ordering) where
       let same : get_or n (length n - 1) d ≡ get_or n (length n - 1) (get_or n (length n - 1) d) = get_or_default n (length n - 1) d _ inside in
       rw (slice_get_read n (length n) (length n - 1) (get_or n (length n - 1) d) refl inside same) refl
 
-  -- a node that ends Less is found Less throughout
+  -- all items of a node whose last item compares Less compare Less
   less_all : (n : List X) → IsParted answer n → ends_less answer n ≡ true → less_count answer n ≡ length n
   less_all [] h e = absurd (false≢true e)
   less_all (x ∷ xs) h e =
@@ -38,7 +38,7 @@ module _ {X : Type 0} (answer : X → Ordering) where
       let all : AllWithin (λ y. is_lt (answer y) ≡ true) n 0 (length n - 1 + 1) = passes_below is_lt front-is_lt answer n h (length n - 1) lt (λ d. sym (ends_last n d (omega arith)) ∙ e) in
       count_parted (λ y. is_lt (answer y)) n (length n) (omega arith) (λ k d low high. all k d low (omega arith)) (λ k d low high. absurd (omega arith))
 
-  -- nothing after a node that doesn't end Less is
+  -- no item after a node whose last item does not compare Less compares Less
   less_none : (n xs : List X) → 0 < length n → IsParted answer (n ++ xs) → ends_less answer n ≡ false → less_count answer xs ≡ 0
   less_none n xs some h e =
       let lt : length n - 1 < length (n ++ xs) = omega (arith, length-append n xs) in
@@ -54,7 +54,7 @@ module _ {X : Type 0} (answer : X → Ordering) where
   first [] some h = absurd (omega arith)
   first (x ∷ xs) some h = ends_last (x ∷ xs) x some ∙ h x
 
-  -- where each node has an item, one that ends Less has only such before it
+  -- if each node has an item, the nodes before one that ends Less end Less too
   pub ends_before : (ns : List (List X)) → All (λ n. 1 ≤ n) (node_lengths ns) → IsParted answer (concat ns) → (j k : ℕ) → j < k → k < length ns → ends_less answer (get_or ns k []) ≡ true → ends_less answer (get_or ns j []) ≡ true
   ends_before ns filled h j k lt inside e =
       let a = get_or ns j [] in let b = get_or ns k [] in
@@ -93,7 +93,7 @@ module _ {X : Type 0} (answer : X → Ordering) where
   place_here : (n : List X) (ns : List (List X)) → less_count answer (concat ns) ≡ 0 → Place (n ∷ ns) 0
   place_here n ns none = omega (arith, less_count-append n (concat ns))
 
-  -- all before the spot are found Less, and no others
+  -- the items before the spot compare Less, and no others do
   pub place_for : (ns : List (List X)) → 1 ≤ length ns → Filled ns → IsParted answer (concat ns) → Place ns (node_for answer ns)
   place_for [] some filled h = absurd (omega arith)
   place_for (n ∷ []) some filled h = rw (node_for-one n) (place_here n [] refl)
@@ -110,7 +110,7 @@ module _ {X : Type 0} (answer : X → Ordering) where
       let p = position_or_len (λ n. not (ends_less answer n)) ns in
       false≢true (sym (prefix_len_stops (λ n. not (not (ends_less answer n))) ns [] (omega arith)) ∙ ap (λ b. not (not b)) (before p [] (omega arith) early))
 
-  -- a node that doesn't end Less has an item that isn't
+  -- a node that does not end Less has an item that does not compare Less
   less_some : (n : List X) → 0 < length n → IsParted answer n → ends_less answer n ≡ false → less_count answer n < length n
   less_some n some h e =
       let parts = count_parts is_lt front-is_lt answer n h in
@@ -125,7 +125,7 @@ module _ {X : Type 0} (answer : X → Ordering) where
   ends_past : (n : List X) (ns : List (List X)) (k : ℕ) → Ends ns k → Ends (n ∷ ns) (suc k)
   ends_past n ns k h le = omega (arith, h le, length-append n (concat ns), length-append n (concat (take k ns)))
 
-  -- a spot behind its node's last item is behind the last item of all
+  -- a spot after its node's last item is after the last item of all
   pub ends_for : (ns : List (List X)) → 1 ≤ length ns → Filled ns → IsParted answer (concat ns) → Ends ns (node_for answer ns)
   ends_for [] some filled h = absurd (omega arith)
   ends_for (n ∷ []) some filled h = rw (node_for-one n) (λ le. omega (arith, le, length-append n []))
@@ -137,13 +137,13 @@ module _ {X : Type 0} (answer : X → Ordering) where
         | false ↦ λ e. rw (node_for-here n (m ∷ ms) e) (λ le. absurd (omega (arith, le, less_some n (all 0 0 (omega arith)) (parted-left n (concat (m ∷ ms)) h) e)))
       ] refl
 
-  -- a node's answers are in order
+  -- the items of a node are partitioned
   pub parted_node : (ns : List (List X)) (k : ℕ) → k < length ns → IsParted answer (concat ns) → IsParted answer (node_at ns k)
   parted_node [] k lt h = absurd (omega arith)
   parted_node (n ∷ ns) zero lt h = parted-left n (concat ns) h
   parted_node (n ∷ ns) (suc k) lt h = parted_node ns k (omega arith) (parted-right n (concat ns) h)
 
-  -- the search's end
+  -- the end of the search
   pub node_found : (ns : List (List X)) (k : ℕ) → 1 ≤ length ns → k ≤ length ns - 1 → AllWithin (λ n. ends_less answer n ≡ true) ns 0 k → (k < length ns - 1 → HoldsAt (λ n. ends_less answer n ≡ false) ns k) → k ≡ node_for answer ns
   node_found ns k some le before here =
       let test = λ (n : List X). not (ends_less answer n) in
@@ -164,7 +164,7 @@ module _ {X : Type 0} (answer : X → Ordering) where
         | inr ge ↦ let at : k ≡ j = omega arith in subst (λ i. ends_less answer (get_or ns i []) ≡ true) at e
       ])
 
--- the nodes as the code holds them
+-- the nodes as the code stores them
 module _ {N X : Type 0} (answer : X → Ordering) (held : N → List X) where
   pub node_some : (vs : List N) (k : ℕ) (v : N) → k < length vs → v ≡ get_or vs k v → All (λ n. 1 ≤ n) (node_lengths (map held vs)) → 1 ≤ length (held v)
   node_some vs k v h e filled = subst (λ (l : List X). 1 ≤ length l) (node_read held vs k v h e []) (filled_at answer (map held vs) filled k (omega (arith, length-held held vs)))
@@ -184,7 +184,7 @@ pub small_at : {X : Type 0} (ns : List (List X)) (size k : ℕ) → k < length n
 small_at ns size k lt small =
     omega (arith, get_or-map (λ n. length n) ns k [] 0 lt, small k 0 (omega (arith, lt, length-map ns (λ n. length n))))
 
--- what is read at a position tells whether the item there is found Equal
+-- what is read at a position shows whether the item there compares Equal
 pub equal_read : {X : Type 0} (answer : X → Ordering) (l : List X) (i : ℕ) (x : X) → slice_get l i ≡ Some x → equal_at answer l i ≡ is_eq (answer x)
 equal_read answer l i x e = rw e refl
 

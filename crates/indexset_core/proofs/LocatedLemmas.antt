@@ -1,4 +1,4 @@
--- Where a search of a list of nodes ends, and what it finds.
+-- The end of a search of a list of nodes, and what it finds.
 use Rattle.std.proofs.Common.{◌≡◌, ℕ, ◌+◌, ◌<◌, ◌≤◌, Bool, true, false, if◌then◌else◌, List, [], ◌∷◌, length, Result, Ok, Err, IfOk, IfErr, Ordering, Some, None, slice_get, refl, sym, ◌∙◌, subst, arith, inl, inr}
 use Rattle.std.specs.List.{All, find, position}
 use Rattle.std.specs.Ordering.{is_lt, is_eq}
@@ -13,7 +13,7 @@ use Rattle.indexset_core.proofs.LocateLemmas.{ends_for, place_for}
 use Rattle.indexset_core.proofs.NodeLemmas.{get_in_node}
 use Rattle.indexset_core.proofs.PairLemmas.{find_absent, find_position}
 
--- a search of the whole list asks the same as one of the node
+-- a search of the whole list has the result of one of the node
 module _ {T : Type 0} (answer : T → Ordering) (ns : List (List T)) (some : 1 ≤ length ns) (filled : All (λ n. 1 ≤ n) (node_lengths ns)) (parted : IsParted answer (concat ns)) where
   pub node_inside : node_for answer ns < length ns
   node_inside = omega (arith, some)
@@ -34,7 +34,8 @@ module _ {T : Type 0} (answer : T → Ordering) (ns : List (List T)) (some : 1 �
   pub equal_joined : equal_at answer (concat ns) (less_count answer (concat ns)) ≡ equal_at answer (node_at ns (node_for answer ns)) (less_count answer (node_at ns (node_for answer ns)))
   equal_joined = rw read_joined refl
 
--- where a search ends: the place before the first item not found Less, which the next one follows where it is found Equal
+-- the end of a search: the place before the first item that does not compare Less, which the next
+-- place follows if that item compares Equal
 module _ {T : Type 0} (answer : T → Ordering) where
   pub record IsEnd (found : Bool) (ns : List (List T)) (p : ℕ × ℕ) : Type 0 where
     pub node_is : p.0 ≡ node_for answer ns
@@ -74,7 +75,7 @@ module _ {T : Type 0} (answer : T → Ordering) where
   located_end [] filled parted = (tt, record { node_is = refl; offset_is = refl; place = record { node_in = omega arith; offset_in = omega arith }; after = λ yes. absurd (false≢true yes); before = refl; equal = refl })
   located_end (n ∷ ns) filled parted = some_end (n ∷ ns) filled parted (omega arith)
 
--- a place that another follows in its node stands in a node that is there
+-- a place that is not at the end of its node is in an existing node
 pub place_inside : {T : Type 0} (ns : List (List T)) (p : ℕ × ℕ) → IsPlace ns (p.0, p.1 + 1) → p.0 < length ns
 place_inside [] p after = absurd (omega (arith, after.offset_in))
 place_inside (n ∷ ns) p after = omega (arith, after.node_in)

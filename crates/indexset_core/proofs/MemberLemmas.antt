@@ -1,4 +1,4 @@
--- Whether a value has an equal one, or a key a pair, once it was inserted or removed.
+-- Whether a value has an equal element, or a key a pair, after an insertion or a removal.
 use Rattle.std.proofs.Common.{◌≡◌, ℕ, Bool, true, false, not, ◌||◌, List, [], ◌∷◌, ◌++◌, Ordering, if◌then◌else◌, Option, Some, None, find, is_some, refl, ap, sym, ◌∙◌}
 use Rattle.std.specs.Cmp.{IsTotalOrder}
 use Rattle.std.specs.List.{filter, list_any}

@@ -1,4 +1,4 @@
--- Items moved one by one from the front of a list behind those of another.
+-- Items that are moved one by one from the front of a list to the end of another.
 use Rattle.std.proofs.Common.{◌≡◌, ℕ, ◌+◌, ◌-◌, List, [], ◌∷◌, ◌++◌, length, take, drop, sym, ap, ◌∙◌, arith, append_assoc, length-append}
 use Rattle.std.proofs.lemmas.List.{append-nil, drop_all, length-drop, take_all}
 use Rattle.std.specs.List.{slice_range, remove_range}
@@ -12,11 +12,11 @@ module _ {X : Type 0} where
   pub room_on : (front on left rest : List X) (x : X) → on ≡ front ++ x ∷ [] → left ≡ x ∷ rest → length on + length rest ≡ length front + length left
   room_on front on left rest x e f = omega (arith, ap (λ (l : List X). length l) e, ap (λ (l : List X). length l) f, length-append front (x ∷ []))
 
-  -- none is left
+  -- no item remains
   pub moved_all : (front left all : List X) → left ≡ [] → front ++ left ≡ all → front ≡ all
   moved_all front left all e g = sym (append-nil front) ∙ (sym (ap (λ l. front ++ l) e) ∙ g)
 
-  -- the range from an index to the end, and what is left without it
+  -- the range from an index to the end, and the list without it
   pub tail_range : (xs : List X) (i n : ℕ) → n ≡ length xs → slice_range xs i n ≡ drop i xs
   tail_range xs i n e = take_all (n - i) (drop i xs) (omega (arith, length-drop i xs))
 

@@ -1,5 +1,5 @@
--- What a search knows that keeps the place of the item last found Equal, or the place past it: where the
--- search ends, this is the place that it ends at.
+-- The invariants of a search that keeps the place of the item last found Equal, or the place past
+-- it: if there is one, it is where the search ends.
 use Rattle.std.proofs.Common.{◌≡◌, ℕ, zero, suc, ◌+◌, ◌-◌, ◌/◌, ◌%◌, ◌<◌, ◌≤◌, true, false, cond, List, [], ◌∷◌, length, get_or, slice_get, Some, nat_lt, Ordering, refl, ap, sym, subst, inl, inr, ◌∙◌, arith}
 use Rattle.std.specs.declared.cmp.Ordering.TheVariants.{Less, Equal, Greater}
 use Rattle.std.specs.List.{HoldsAt}
@@ -24,7 +24,7 @@ equal_past o Equal le greater equal = let late : 2 ≤ 1 = rw greater at le in a
 equal_past o Greater le greater equal = false≢true equal
 
 module _ {T : Type 0} (answer : T → Ordering) (xs : List T) (parted : IsParted answer xs) where
-  -- from one that is found Greater on, none is found Equal
+  -- from an item that compares Greater on, none compares Equal
   none_from : (m i : ℕ) (x : T) → answer (get_or xs m x) ≡ Greater → m ≤ i → equal_at answer xs i ≡ false
   none_from m i x greater le =
       elim (equal_at answer xs i) as (λ b. equal_at answer xs i ≡ b → b ≡ false) [
@@ -64,7 +64,7 @@ module _ {T : Type 0} (answer : T → Ordering) (xs : List T) (parted : IsParted
           | Greater ↦ λ e goes keeps. rw (goes, keeps) (halved_greater e)
         ] refl goes keeps
 
--- where one was found, its place is the bound
+-- if an item was found, its place is the bound
 pub equal_met : {T : Type 0} (answer : T → Ordering) (xs : List T) (low at : ℕ) → IsEqualAt answer xs at low → cond (nat_lt at (length xs)) at low ≡ low
 equal_met answer xs low at now =
     elim (nat_lt at (length xs)) as (λ b. nat_lt at (length xs) ≡ b → cond b at low ≡ low) [
@@ -72,7 +72,7 @@ equal_met answer xs low at now =
       | false ↦ λ e. refl
     ] refl
 
--- the item before the place is found Equal, and the search for the last such item has not gone past it
+-- the item before the place compares Equal, and the search for the last such item is not past it
 pub record IsPastEqual {T : Type 0} (answer : T → Ordering) (xs : List T) (past low : ℕ) : Type 0 where
   pub within : past ≤ length xs
   pub order : low ≤ past
@@ -104,7 +104,7 @@ module _ {T : Type 0} (answer : T → Ordering) (xs : List T) (parted : IsParted
           | Greater ↦ λ e goes keeps. rw (goes, keeps) now
         ] refl goes keeps
 
--- where the search has ended, that place is the count
+-- at the end of the search, that place is the count
 pub past_met : {T : Type 0} (answer : T → Ordering) (xs : List T) (low high past : ℕ) → high ≤ low → Narrowed (λ x. is_le (answer x)) xs low high → (0 < past → IsPastEqual answer xs past low) → cond (nat_lt 0 past) past low ≡ low
 past_met answer xs low high zero met now told = refl
 past_met answer [] low high (suc past) met now told = absurd (omega (arith, (told (omega arith)).within))

@@ -81,7 +81,7 @@ module _ {X : Type 0} where
   pub length-concat-mono : (ns : List (List X)) (j k : ℕ) → j ≤ k → length (concat (take j ns)) ≤ length (concat (take k ns))
   length-concat-mono ns j k le = subst (λ (l : List (List X)). length (concat l) ≤ length (concat (take k ns))) (take-take j k ns le) (length-concat-take (take k ns) j)
 
--- the nodes as the code holds them: `held` tells the items of each
+-- the nodes as the code stores them: `held` gives the items of each
 module _ {N X : Type 0} (held : N → List X) where
   pub length-held : (vs : List N) → length (map held vs) ≡ length vs
   length-held vs = length-map vs held

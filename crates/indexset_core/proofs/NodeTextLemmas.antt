@@ -47,7 +47,7 @@ module _ {T : Type 0} (shown : T → Option (List ℕ)) where
       rw later (ap (λ t. shown y ++? rest_shown shown t) (take_there l i x (omega arith) there)
       ∙ (ap (λ o. shown y ++? o) (rest_more (take i l) x) ∙ sym (shown_assoc (shown y) (rest_shown shown (take i l)) (Some (codes ", ") ++? shown x))))
 
-  -- the text with one item more, behind a front
+  -- the text with one item more, after a prefix
   pub items_more : (front : Option (List ℕ)) (l : List T) (i : ℕ) (x : T) → i < length l → x ≡ get_or l i x → (front ++? items_shown shown (take i l)) ++? (before_item (i == 0) ++? shown x) ≡ front ++? items_shown shown (take (i + 1) l)
   items_more front l i x lt there =
       let on : suc i ≡ i + 1 = omega arith in
@@ -60,7 +60,7 @@ then_shown took f g h r None b p q = tt
 then_shown took f g h r (Some a) None p q = tt
 then_shown took f g h r (Some a) (Some b) p q = λ plain ok. let x = p plain refl in put_two took f g h a b (a ++ b) x (q x.plain ok) refl
 
--- the text of an item, behind a comma unless it is the first
+-- the text of an item, after a comma unless it is the first
 module _ {W : Type 0} (took : W → List ℕ → W → Type 0) (f g h : Formatter W) where
   pub behind_comma : (is_first : Bool) (a : Option (List ℕ)) → is_first ≡ false → DisplaysOnOk took f (Ok tt) (Some (codes ", ")) g → DisplaysOnOk took g (Ok tt) a h → DisplaysOnOk took f (Ok tt) (before_item is_first ++? a) h
   behind_comma true a later p q = absurd (false≢true (sym later))

@@ -1,4 +1,4 @@
--- What a search for a key, and a written value, say of a list of pairs.
+-- Searches for a key, and written values, in a list of pairs.
 use Rattle.std.proofs.Common.{◌≡◌, ℕ, zero, suc, ◌+◌, ◌<◌, ◌≤◌, Bool, true, false, cond, ◌||◌, not, List, [], ◌∷◌, length, get_or, Ordering, Some, None, is_some, slice_get, nat_lt, refl, ap, sym, ◌∙◌, arith, length-set}
 use Rattle.std.specs.declared.cmp.Ordering.TheVariants.{Less, Equal, Greater}
 use Rattle.std.specs.Option.{option_map_or}
@@ -21,7 +21,7 @@ use Rattle.indexset_core.proofs.OrderLemmas.{equal_from, gap_at, parted_by_sough
 use Rattle.indexset_core.proofs.PartedLemmas.{front-is_le, passes_below, filter_all}
 
 module _ {K V : Type 0} where
-  -- a written value leaves the keys, and so their order
+  -- a written value leaves the keys, and so their order, as they were
   key_kept : (l : List (Pair K V)) (i k : ℕ) (p d : Pair K V) (w : V) → slice_get l i ≡ Some p → (get_or (slice_set l i (valued p w)) k d).key ≡ (get_or l k d).key
   key_kept [] i k p d w at = refl
   key_kept (q ∷ l) zero zero p d w at = let same : q ≡ p = cc in ap (λ (t : Pair K V). t.key) (sym same)
@@ -77,11 +77,11 @@ not_below : {K : Type 0} {cmp : K → K → Ordering} (o : IsTotalOrder cmp) (x 
 not_below o x y h = rw (o.antisymm y x) (rw h refl)
 
 module _ {K V : Type 0} (cmp : K → K → Ordering) where
-  -- a probe by a key finds the pairs in order
+  -- a comparator by a key partitions the pairs
   pub parted_by_key : IsTotalOrder cmp → (l : List (Pair K V)) → IsAscending (by_key cmp) l → (k : K) → IsParted (λ p. cmp p.key k) l
   parted_by_key o l up k = searchable_from_sorted o (λ (p : Pair K V). p.key) l k (λ j d low high. not_below o _ _ (up j (j + 1) d (omega arith) high))
 
--- the same of what is sought
+-- the same for a look-up key
 pub parted_by_sought_key : {K V Q : Type 0} {cmp : K → K → Ordering} {order : K → Q → Ordering} {among : Q → Q → Ordering} → OrdersAsItem cmp order among → (l : List (Pair K V)) → IsAscending (by_key cmp) l → (k : Q) → IsParted (λ p. order p.key k) l
 parted_by_sought_key acts l up k = parted_by_sought (acts_on (λ (p : Pair _ _). p.key) acts) l up k
 
@@ -119,7 +119,7 @@ module _ {K V Q : Type 0} (cmp : K → Q → Ordering) where
       pub key_written : (w : V) → set_value_at l i w ≡ set_value cmp l k w
       key_written w = sym (set_value-at l k w ∙ ap (λ j. set_value_at l j w) (position_is (λ p. is_eq (cmp p.key k)) l i h))
 
-      -- the pair stands where the search found it
+      -- the pair is where the search found it
       pub found_key : IsParted (λ p. cmp p.key k) l → IsFoundAt (λ (p : Pair K V). cmp p.key) l k i
       found_key parted =
           let told = λ (d : Pair K V). position-Some (λ q. is_eq (cmp q.key k)) l i d h in
@@ -146,12 +146,12 @@ module _ {K V Q : Type 0} (cmp : K → Q → Ordering) where
     unfolding unequal
     absent_without h = filter_all (λ p. not (is_eq (cmp p.key k))) l (λ j d low high. ap not (any_false (λ p. is_eq (cmp p.key k)) l h j d low high))
 
-    -- a key that is not there would stand at its rank
+    -- the insertion point of an absent key is its rank
     pub gap_key : has_key cmp l k ≡ false → IsParted (λ p. cmp p.key k) l → (i : ℕ) → i ≡ key_rank cmp l k → IsGapFor (λ (p : Pair K V). cmp p.key) l k i
     gap_key h parted i place = gap_at (λ (p : Pair K V). cmp p.key) l k i parted place (λ lt d. any_false (λ p. is_eq (cmp p.key k)) l h i d (omega arith) lt)
 
 module _ {K V : Type 0} (cmp : K → K → Ordering) where
-  -- the same of the pair of the key and a value
+  -- the same for the pair of the key and a value
   module _ (l : List (Pair K V)) (k : K) (i : ℕ) where
     pub key_found : position (λ p. is_eq (cmp p.key k)) l ≡ Some i → IsParted (λ p. cmp p.key k) l → (w : V) → IsFoundAt (by_key cmp) l (pair k w) i
     key_found h parted w = let f = found_key cmp l k i h parted in record { inside = f.inside; equal = f.equal; below_before = f.below_before }

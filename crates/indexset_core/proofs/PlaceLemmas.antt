@@ -1,4 +1,4 @@
--- The items between two places of nodes that are joined.
+-- The items between two places in the concatenation of nodes.
 use Rattle.std.proofs.Common.{◌≡◌, ℕ, zero, suc, ◌+◌, ◌<◌, ◌≤◌, List, [], ◌∷◌, ◌++◌, length, take, drop, sym, ap, ◌∙◌, arith, append_assoc, add-one, length-append, inl, inr}
 use Rattle.std.proofs.Math.Seq.{take-append-add, drop-append-add}
 use Rattle.std.proofs.lemmas.Bool.{cases_lt}
@@ -51,13 +51,13 @@ module _ {X : Type 0} where
         ∙ (ap (λ m. m ++ take q (node_at ns l)) (rw (same, node, ← add-one, ← between_is) at cut_up)
         ∙ append_assoc (drop o (node_at ns k)) (concat (between (k + 1) l ns)) (take q (node_at ns l)))))
 
-  -- the earlier of two places stands in no later node
+  -- the earlier of two places is in no later node
   pub places_order : (ns : List (List X)) (k o l q : ℕ) → l < length ns → q ≤ length (node_at ns l) → length (concat (take k ns)) + o < length (concat (take l ns)) + q → k ≤ l
   places_order ns k o l q lt inside le = elim (cases_lt l k) [
     | inl below ↦ absurd (omega (arith, length-concat-more ns l lt, length-concat-mono ns (l + 1) k (omega arith)))
     | inr above ↦ above
   ]
 
-  -- the place behind the last item
+  -- the place after the last item
   pub last_before : (ns : List (List X)) (k o : ℕ) → k + 1 ≡ length ns → o ≡ length (node_at ns k) → length (concat (take k ns)) + o ≡ length (concat ns)
   last_before ns k o last end = omega (arith, length-concat-more ns k (omega arith), ap (λ (l : List (List X)). length (concat l)) (take_all (k + 1) ns (omega arith)))

@@ -1,4 +1,4 @@
--- The part of a list that two bounds cut out.
+-- The part of a list between two bounds.
 use Rattle.std.proofs.Common.{◌≡◌, ℕ, zero, suc, ◌+◌, ◌-◌, ◌<◌, ◌≤◌, Bool, true, false, not, ◌&&◌, List, [], ◌∷◌, length, get_or, take, drop, filter, Ordering, refl, ap, sym, inl, inr, ◌∙◌, arith}
 use Rattle.std.specs.declared.cmp.Ordering.TheVariants.{Less, Equal, Greater}
 use Rattle.std.specs.declared.ops.Bound.{Bound}
@@ -15,7 +15,7 @@ use Rattle.indexset_core.proofs.OrderLemmas.{found_after, parted_by_item}
 use Rattle.indexset_core.proofs.PartedLemmas.{Parts, count_parts, count_parted, front-is_lt, front-is_le}
 
 module _ {T : Type 0} where
-  -- what passes is n elements from place i on
+  -- the elements that pass are the n from place i on
   filter_part : (r : T → Bool) (l : List T) (i n : ℕ) → i + n ≤ length l → AllWithin (λ x. r x ≡ false) l 0 i → AllWithin (λ x. r x ≡ true) l i (i + n) → AllWithin (λ x. r x ≡ false) l (i + n) (length l) → filter r l ≡ take n (drop i l)
   filter_part r [] zero zero le before inside after = refl
   filter_part r [] zero (suc n) le before inside after = refl
@@ -28,9 +28,9 @@ module _ {T : Type 0} where
   filter_part r (x ∷ xs) (suc i) n le before inside after =
       rw (before 0 x (omega arith) (omega arith)) (filter_part r xs i n (omega arith) (λ k d low high. before (suc k) d (omega arith) (omega arith)) (λ k d low high. inside (suc k) d (omega arith) (omega arith)) (λ k d low high. after (suc k) d (omega arith) (omega arith)))
 
-  -- where p passes the front up to i, and q the front up to j
+  -- if p passes the elements before i, and q those before j
   module _ (p q : T → Bool) (l : List T) (i j : ℕ) (ps : Parts p l i) (qs : Parts q l j) where
-    -- q passes where p does
+    -- q passes what p passes
     pub parts_le : ((x : T) → p x ≡ true → q x ≡ true) → i ≤ j
     parts_le weaker = elim (cases_lt j i) [
       | inl lt ↦ absurd (stops (omega (arith, ps.inside)) lt)
@@ -94,7 +94,7 @@ not_before order (Included a) x = not_less (order x a)
 not_before order (Excluded a) x = not_le (order x a)
 not_before order Unbounded x = refl
 
--- a list that a probe by whatever is sought finds in order: f tells what of an item is compared
+-- a list that a comparator by a look-up key partitions: f is the part of an item that is compared
 module _ {X T Q : Type 0} (order : T → Q → Ordering) (f : X → T) (l : List X) (parted : (v : Q) → IsParted (λ x. order (f x) v) l) where
   none_parts : Parts (λ x. false) l (count_by (λ x. false) l)
   none_parts = rw (count_parted (λ (x : X). false) l 0 (omega arith) (λ k d low high. absurd (omega arith)) (λ k d low high. refl)) (record { inside = omega arith; before = λ k d low high. absurd (omega arith); after = λ k d low high. refl })
@@ -121,7 +121,7 @@ module _ {X T Q : Type 0} (order : T → Q → Ordering) (f : X → T) (l : List
         sym (parts_between (λ x. is_before order start (f x)) (λ x. is_up_to_end order end (f x)) l i j (rw from (before_parts start)) (rw to (up_to_parts end)) sought_range_order)
         ∙ ap (λ (r : X → Bool). filter r l) (λ k x. not_before order start (f x) k && is_up_to_end order end (f x))
 
--- the same of bounds that are what is compared
+-- the same for bounds that are themselves compared
 module _ {T : Type 0} (cmp : T → T → Ordering) (o : IsTotalOrder cmp) where
   module _ {X : Type 0} (f : X → T) (l : List X) (parted : (v : T) → IsParted (λ x. cmp (f x) v) l) (start end : Bound T) (ordered : are_ordered cmp start end ≡ true) (i j : ℕ) (from : i ≡ count_by (λ x. is_before cmp start (f x)) l) (to : j ≡ count_by (λ x. is_up_to_end cmp end (f x)) l) where
     pub keyed_range_order : i ≤ j
@@ -130,7 +130,7 @@ module _ {T : Type 0} (cmp : T → T → Ordering) (o : IsTotalOrder cmp) where
     pub keyed_range_is : between i j l ≡ filter (λ x. is_within cmp start end (f x)) l
     keyed_range_is = sought_range_is cmp f l parted (acts_as_itself o) start end ordered i j from to
 
-  -- of an ascending list, the part that two bounds on its items cut out
+  -- the part of an ascending list between two bounds on its items
   module _ (l : List T) (up : IsAscending cmp l) (start end : Bound T) (ordered : are_ordered cmp start end ≡ true) (i j : ℕ) (from : i ≡ count_by (is_before cmp start) l) (to : j ≡ count_by (is_up_to_end cmp end) l) where
     pub range_order : i ≤ j
     range_order = keyed_range_order (λ x. x) l (parted_by_item cmp o l up) start end ordered i j from to

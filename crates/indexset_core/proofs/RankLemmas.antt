@@ -1,4 +1,4 @@
--- What a rank says of a list that a probe finds in order, and what a position does.
+-- The rank and the position of an item in a list that a comparator partitions.
 use Rattle.std.proofs.Common.{◌≡◌, ℕ, ◌<◌, Bool, true, false, if◌then◌else◌, List, length, Ordering, Option, Some, None, IfSome, Result, Ok, Err, IfOk, IfErr, is_some, slice_get, refl, ap, sym, inl, inr, ◌∙◌}
 use Rattle.std.specs.declared.cmp.Ordering.TheVariants.{Less}
 use Rattle.std.specs.List.{AllWithin, find, list_any, position}
@@ -17,13 +17,13 @@ module _ {T : Type 0} (answer : T → Ordering) (l : List T) where
   abbrev equal : T → Bool
   equal x = is_eq (answer x)
 
-  -- i is how many are answered Less: the first that is answered Equal stands there, where there is one
+  -- i is how many items compare Less: the first that compares Equal, if any, is at i
   pub record IsRank (i : ℕ) : Type 0 where
     pub there : list_any equal l ≡ true → slice_get l i ≡ find equal l
     pub inside : list_any equal l ≡ true → i < length l
     pub before : AllWithin (λ x. answer x ≡ Less) l 0 i
 
-  -- the same of the position of the first that is answered Equal
+  -- the same for the position of the first that compares Equal
   pub record IsIndex (o : Option ℕ) : Type 0 where
     pub value : o ≡ (if list_any equal l then Some (less_count answer l) else None)
     pub there : IfSome o (λ i. slice_get l i ≡ find equal l)
@@ -54,7 +54,7 @@ module _ {T : Type 0} (answer : T → Ordering) (l : List T) where
           before = λ k d low high. less_from _ (parts.before k d low high);
         })
 
-    -- as a search answers it
+    -- as a search returns it
     pub index_is : (r : Result ℕ ℕ) → IfOk r (λ i. position equal l ≡ Some i) → IfErr r (λ _. position equal l ≡ None) → IsIndex (result_ok r)
     index_is (Err i) found absent =
         let none = find_absent equal l absent in

@@ -1,4 +1,4 @@
--- A list whose last item came from an index, by turns of parts that begin where the one before ended.
+-- A list whose last item was moved from an index by rotations of successive parts.
 use Rattle.std.proofs.Common.{◌≡◌, ℕ, suc, ◌+◌, ◌<◌, ◌≤◌, List, [], ◌∷◌, ◌++◌, length, take, drop, get_or, sym, ap, ap₂, ◌∙◌, arith, append_assoc}
 use Rattle.std.proofs.Math.Seq.{drop-cons, take-add}
 use Rattle.std.proofs.lemmas.List.{drop-drop, drop_at, length-take-le, same_from_push, take-append-drop, take_at, with_items_is}
@@ -9,14 +9,14 @@ use Rattle.std.specs.declared.vec.Vec.{Vec}
 use borrow.Rule.Slice.PartMut.{put_mid, mid_of}
 
 module _ {X : Type 0} where
-  -- before the first turn
+  -- before the first rotation
   pub not_turned : (xs : List X) (i : ℕ) (d : X) → i < length xs → xs ≡ insert (remove xs i) i (get_or xs i d)
   not_turned xs i d h =
       let long = length-take-le i xs (omega (arith, h)) in
       sym (ap₂ (λ u v. u ++ get_or xs i d ∷ v) (take_at (take i xs) (drop (suc i) xs) i long) (drop_at (take i xs) (drop (suc i) xs) i long)
       ∙ ap (λ l. take i xs ++ l) (sym (drop-cons xs i d h)) ∙ take-append-drop i xs)
 
-  -- a turn brings x further back
+  -- a rotation moves x towards the end
   module _ (xs : List X) (x : X) (a k : ℕ) (inside : a ≤ length xs) where
     part : mid_of a (suc k) (insert xs a x) ≡ x ∷ take k (drop a xs)
     part = ap (take (suc k)) (drop_at (take a xs) (x ∷ drop a xs) a (length-take-le a xs inside))
@@ -41,6 +41,6 @@ module _ {X : Type 0} where
         omega (arith, ap (λ (l : List X). length l) on, ap (λ (l : List X). length l) held, length-insert xs (a + k) x inside, length-insert xs a x (omega (arith, inside)), v.ok) in
         with_items_is v (put_mid a n v.items ys) long ∙ on
 
-  -- after the last turn x stands behind the others
+  -- after the last rotation x is the last item
   pub turned_out : (xs left : List X) (x y : X) (a : ℕ) → a ≡ length xs → insert xs a x ≡ left ++ y ∷ [] → (left ≡ xs) × (y ≡ x)
   turned_out xs left x y a e last = same_from_push left xs y x (sym last ∙ (ap (λ i. insert xs i x) e ∙ insert_end xs x))

@@ -15,7 +15,7 @@ IsOrderedBy {T} cmp among view = (x y : T) → cmp x y ≡ among (view x) (view 
 abbrev pub IsOrderedByBytes : {T : Type 0} → (T → T → Ordering) → (T → List ℕ) → Type 0
 IsOrderedByBytes cmp bytes = IsOrderedBy cmp (slice_cmp nat_cmp) bytes
 
--- a key that is compared with the views of items acts as a key among the items
+-- a key that is compared with the views of items is a look-up key of the items
 module _ {T C Q : Type 0} {cmp : T → T → Ordering} {among : C → C → Ordering} (o : IsTotalOrder among) (view : T → C) (key : Q → C) (ordered : IsOrderedBy cmp among view) where
   pub acts_by_view : OrdersAsItem cmp (λ x q. among (view x) (key q)) (λ a b. among (key a) (key b))
   acts_by_view =

@@ -3,7 +3,7 @@ use Rattle.std.specs.Prelude.{◌≡◌, ◌-◌, Bool, true, false, List, [], �
 use Rattle.std.specs.Map.Iter.{TakesFirst, TakesLast}
 
 module _ {A X : Type 0} (next back : List X → Option A → List X → Type 0) where
-  -- calls of `next`, at true, or of `next_back`, at false, returned rs, and took s to t
+  -- the calls of `next`, for true, and of `next_back`, for false, returned rs and changed s to t
   abbrev pub CallsBy : List Bool → List X → List (Option A) → List X → Type 0
   CallsBy [] s [] t = s ≡ t
   CallsBy [] s (r ∷ rs) t = ⊥
@@ -12,7 +12,8 @@ module _ {A X : Type 0} (next back : List X → Option A → List X → Type 0) 
   CallsBy (false ∷ ends) s (r ∷ rs) t = (u : List X) × back s r u × CallsBy ends u rs t
 
 module _ {A X : Type 0} (shows : A → X) where
-  -- these calls, of an iterator that yields its items in order from both ends, returned rs, and took s to t
+  -- the calls of `next`, for true, and of `next_back`, for false, of an iterator that yields its
+  -- items in order from both ends, returned rs and changed s to t
   abbrev pub Calls : List Bool → List X → List (Option A) → List X → Type 0
   Calls ends s rs t = CallsBy (TakesFirst shows) (TakesLast shows) ends s rs t
 
@@ -24,7 +25,7 @@ module _ {A X : Type 0} (shows : A → X) where
   front_items (true ∷ ends) (Some x ∷ rs) = shows x ∷ front_items ends rs
   front_items (false ∷ ends) (Some x ∷ rs) = front_items ends rs
 
-  -- what the calls of `next_back` returned, the last one first
+  -- what the calls of `next_back` returned, in reverse
   abbrev pub back_items : List Bool → List (Option A) → List X
   back_items [] rs = []
   back_items (end ∷ ends) [] = []
@@ -32,8 +33,8 @@ module _ {A X : Type 0} (shows : A → X) where
   back_items (true ∷ ends) (Some x ∷ rs) = back_items ends rs
   back_items (false ∷ ends) (Some x ∷ rs) = back_items ends rs ++ shows x ∷ []
 
--- by the clauses of its `next` and `next_back` an iterator yields each item once, whatever calls of either; each call
--- leaves one item less; and with no item left both return `None`
+-- for any calls of `next` and `next_back`, the iterator yields each item once; each call leaves one
+-- item less; with no item remaining both return `None`
 pub record IsDoubleEnded {A X : Type 0} (shows : A → X) (next back : List X → Option A → List X → Type 0) : Type 0 where
   pub each_once : (ends : List Bool) (s t : List X) (rs : List (Option A)) → CallsBy next back ends s rs t → s ≡ front_items shows ends rs ++ (t ++ back_items shows ends rs)
   pub ends : (ends : List Bool) (s t : List X) (rs : List (Option A)) → CallsBy next back ends s rs t → length t ≡ length s - length ends

@@ -1,4 +1,4 @@
--- Parts of a list between two bounds, by a comparison or by positions.
+-- The part of a list between two bounds, on the items or on their positions.
 use Rattle.std.specs.Prelude.{ℕ, Bool, true, false, ◌&&◌, List, length, filter}
 use Rattle.std.specs.List.{between}
 use Rattle.std.specs.Ordering.{is_lt, is_le, is_gt, is_ge, nat_cmp}
@@ -7,15 +7,15 @@ use Rattle.std.specs.declared.cmp.Ordering.{Ordering}
 use Rattle.std.specs.declared.ops.Bound.{Bound}
 use Rattle.std.specs.declared.ops.Bound.TheVariants.{Included, Excluded, Unbounded}
 
--- P holds of what the bound names, where it names something
+-- P holds of the bound's key, if it has one
 abbrev pub IfBounded : {Q : Type 0} → (Q → Type 0) → Bound Q → Type 0
 IfBounded P (Included v) = P v
 IfBounded P (Excluded v) = P v
 IfBounded P Unbounded = Unit {0}
 
--- an item is compared with what a bound names, which may be of another type
+-- items are compared with the keys of bounds, which may be of another type
 module _ {T Q : Type 0} (cmp : T → Q → Ordering) where
-  -- x stands before the start
+  -- x is before the start
   abbrev pub is_before : Bound Q → T → Bool
   is_before (Included v) x = is_lt (cmp x v)
   is_before (Excluded v) x = is_le (cmp x v)
@@ -42,7 +42,7 @@ module _ {T Q : Type 0} (cmp : T → Q → Ordering) where
   in_range l start end = filter (is_within start end) l
 
 module _ {T : Type 0} (cmp : T → T → Ordering) where
-  -- the start is not above the end, nor equal to it where both are excluded
+  -- the start is at most the end, and below it if both are excluded
   abbrev pub are_ordered : Bound T → Bound T → Bool
   are_ordered Unbounded end = true
   are_ordered (Included v) Unbounded = true
@@ -56,6 +56,6 @@ module _ {T : Type 0} (cmp : T → T → Ordering) where
 abbrev pub is_at_position : Bound ℕ → Bound ℕ → ℕ → Bool
 is_at_position start end i = is_within nat_cmp start end i
 
--- the items at the positions that satisfy both bounds: none where the bounds run backwards
+-- the items at the positions that satisfy both bounds: none if the start is past the end
 abbrev pub in_positions : {T : Type 0} → List T → Bound ℕ → Bound ℕ → List T
 in_positions l start end = between (start_index start) (end_index end (length l)) l

@@ -1,4 +1,4 @@
--- What stands for an item in a look-up: it orders among items as some item would.
+-- Look-up keys: each compares with items as some item does.
 use Rattle.std.specs.Prelude.{◌≡◌, ◌≤◌, true}
 use Rattle.std.proofs.Common.{refl, sym, ap, ◌∙◌, ◌⊎◌, inl, inr, arith}
 use Rattle.std.proofs.lemmas.Bool.{false≢true}
@@ -8,18 +8,21 @@ use Rattle.indexset_core.specs.MultiPairs.{by_number}
 use Rattle.std.specs.declared.cmp.Ordering.{Ordering}
 use Rattle.std.specs.declared.cmp.Ordering.TheVariants.{Less, Equal, Greater}
 
--- items compare by cmp with each other and by order with what is sought, and among compares what is sought: items in ascending order are found first Less, then Equal, then Greater, equal items are found alike, and what is not below another is not below it among items either
+-- the keys are look-up keys: cmp compares items, order an item with a key, and among compares keys.
+-- Items in ascending order compare first Less, then Equal, then Greater; equal items compare alike;
+-- keys compare with items as among orders them
 pub record OrdersAsItem {T Q : Type 0} (cmp : T → T → Ordering) (order : T → Q → Ordering) (among : Q → Q → Ordering) : Type 0 where
   pub in_order : (q : Q) (x y : T) → cmp x y ≡ Less → ordering_index (order x q) ≤ ordering_index (order y q)
   pub alike : (q : Q) (x y : T) → cmp x y ≡ Equal → order x q ≡ order y q
   pub below : (x : T) (a b : Q) → order x a ≡ Less → is_le (among a b) ≡ true → order x b ≡ Less
   pub tied : (x : T) (a b : Q) → order x a ≡ Equal → order x b ≡ among a b
 
--- an item that is found Equal compares with others as what is sought does: there is one at most
+-- an item that compares Equal with a key compares with other items as the key does: there is at
+-- most one
 abbrev pub EqualsAtMostOne : {T Q : Type 0} → (T → T → Ordering) → (T → Q → Ordering) → Type 0
 EqualsAtMostOne {T} {Q} cmp order = (q : Q) (x y : T) → order x q ≡ Equal → order y q ≡ cmp y x
 
--- both are compared by what f and g see of them, in one order
+-- items and keys are compared by their views f and g, in one order
 module _ {C T Q : Type 0} (c : C → C → Ordering) (o : IsTotalOrder c) (f : T → C) (g : Q → C) where
   over : (u v w : C) → c u w ≡ Less → (r s : Ordering) → c u v ≡ r → c w v ≡ s → ordering_index r ≤ ordering_index s
   over u v w up Less s e h = omega arith
@@ -50,7 +53,7 @@ module _ {C T Q : Type 0} (c : C → C → Ordering) (o : IsTotalOrder c) (f : T
   pub one_by : EqualsAtMostOne (λ x y. c (f x) (f y)) (λ x q. c (f x) (g q))
   one_by q x y e = one (f x) (g q) (f y) e
 
--- an item acts as itself
+-- an item is a look-up key of itself
 module _ {T : Type 0} {cmp : T → T → Ordering} (o : IsTotalOrder cmp) where
   pub acts_as_itself : OrdersAsItem cmp cmp cmp
   acts_as_itself = acts_by cmp o (λ x. x) (λ x. x)
@@ -58,21 +61,21 @@ module _ {T : Type 0} {cmp : T → T → Ordering} (o : IsTotalOrder cmp) where
   pub one_as_itself : EqualsAtMostOne cmp cmp
   one_as_itself = one_by cmp o (λ x. x) (λ x. x)
 
--- two parts compare by the first, and where those are equal by the second
+-- pairs of parts compare by the first part, then by the second
 abbrev pub then_both : {A B : Type 0} → (A → A → Ordering) → (B → B → Ordering) → A × B → A × B → Ordering
 then_both first second x y = ordering_then (first x.0 y.0) (second x.1 y.1)
 
 pub both_total : {A B : Type 0} {first : A → A → Ordering} {second : B → B → Ordering} → IsTotalOrder first → IsTotalOrder second → IsTotalOrder (then_both first second)
 both_total o p = then_total (on_total (λ t. t.0) o) (on_total (λ t. t.1) p)
 
--- three parts compare by the first two, and where those are equal by the third
+-- triples of parts compare by the first two parts, then by the third
 abbrev pub then_three : {A B C : Type 0} → (A → A → Ordering) → (B → B → Ordering) → (C → C → Ordering) → A × B × C → A × B × C → Ordering
 then_three first second third x y = ordering_then (ordering_then (first x.0 y.0) (second x.1 y.1)) (third x.2 y.2)
 
 pub three_total : {A B C : Type 0} {first : A → A → Ordering} {second : B → B → Ordering} {third : C → C → Ordering} → IsTotalOrder first → IsTotalOrder second → IsTotalOrder third → IsTotalOrder (then_three first second third)
 three_total o p r = then_total (then_total (on_total (λ t. t.0) o) (on_total (λ t. t.1) p)) (on_total (λ t. t.2) r)
 
--- a key acts for the items that have it, as it acts for their keys
+-- a look-up key of a part of items is a look-up key of the items
 module _ {X T Q : Type 0} {cmp : T → T → Ordering} {order : T → Q → Ordering} (f : X → T) where
   pub acts_on : {among : Q → Q → Ordering} → OrdersAsItem cmp order among → OrdersAsItem (λ x y. cmp (f x) (f y)) (λ x q. order (f x) q) among
   acts_on acts = record {
@@ -95,7 +98,7 @@ first_equal Less b e = absurd (cc)
 first_equal Equal b e = refl
 first_equal Greater b e = absurd (cc)
 
--- a key acts for numbered pairs, of which several may have it
+-- a look-up key of keys is a look-up key of numbered pairs, of which several may have the key
 module _ {K V Q : Type 0} {cmp : K → K → Ordering} {order : K → Q → Ordering} where
   pub acts_on_numbered : {among : Q → Q → Ordering} → OrdersAsItem cmp order among → OrdersAsItem (by_number {V = V} cmp) (λ p q. order p.key q) among
   acts_on_numbered acts = record {

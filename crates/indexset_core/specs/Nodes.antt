@@ -8,11 +8,11 @@ use Rattle.std.specs.declared.vec.Vec.{Vec}
 use Rattle.indexset_core.specs.Order.{IsAscending}
 
 module _ {X : Type 0} where
-  -- what each `Vec` holds
+  -- the items of each `Vec`
   abbrev pub vec_items : {Z : Type 0} → List (Vec X Z) → List (List X)
   vec_items vs = map (λ v. v.items) vs
 
-  -- the nodes, one after another
+  -- the concatenation of the nodes
   abbrev pub concat : List (List X) → List X
   concat [] = []
   concat (n ∷ ns) = n ++ concat ns
@@ -25,24 +25,24 @@ module _ {X : Type 0} where
   abbrev pub node_at : List (List X) → ℕ → List X
   node_at ns k = get_or ns k []
 
-  -- no node is empty, and the items of all ascend, one node after another
+  -- no node is empty, and the concatenation of the nodes ascends
   pub record IsNodeList (cmp : X → X → Ordering) (ns : List (List X)) : Type 0 where
     pub filled : All (λ n. 1 ≤ n) (node_lengths ns)
     pub ascending : IsAscending cmp (concat ns)
 
-  -- besides, no node holds more than the size
+  -- a node list of nodes within the size
   pub record IsLawful (cmp : X → X → Ordering) (size : ℕ) (ns : List (List X)) : Type 0 where
     pub nodes : IsNodeList cmp ns
     pub bounded : All (λ n. n ≤ size) (node_lengths ns)
 
-  -- the last item of a node is found Less
+  -- the last item of the node compares Less
   abbrev pub ends_less : (X → Ordering) → List X → Bool
   ends_less answer n = option_map_or (λ x. is_lt (answer x)) (slice_get n (length n - 1)) false
 
-  -- the index of the first node whose last item is not found Less, else of the last node
+  -- the index of the first node whose last item does not compare Less, else of the last node
   abbrev pub node_for : (X → Ordering) → List (List X) → ℕ
   node_for answer ns = min (position_or_len (λ n. not (ends_less answer n)) ns) (length ns - 1)
 
-  -- the item at the position is found Equal
+  -- the item at the position compares Equal
   abbrev pub equal_at : (X → Ordering) → List X → ℕ → Bool
   equal_at answer l i = option_map_or (λ x. is_eq (answer x)) (slice_get l i) false

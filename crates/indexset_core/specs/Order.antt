@@ -1,4 +1,5 @@
--- Lists in the order of a comparison. Equal by the comparison isn't identical. What an item is compared with may be of another type, as in a look-up.
+-- Lists in the order of a comparison. Equal does not mean identical. An item may be compared with a
+-- value of another type, as in a look-up.
 use Rattle.std.specs.Prelude.{◌≡◌, ℕ, ◌-◌, ◌<◌, ◌≤◌, ◌==◌, length, Bool, true, false, List, ◌∷◌, ◌++◌, if◌then◌else◌, filter, not, AllPairs, count_by, Option, Some, None, find}
 use Rattle.std.specs.declared.cmp.Ordering.{Ordering}
 use Rattle.std.specs.declared.cmp.Ordering.TheVariants.{Less, Equal, Greater}
@@ -39,23 +40,24 @@ equal_element cmp l v = find (λ x. is_eq (cmp x v)) l
 abbrev pub lower_element : {T Q : Type 0} → (T → Q → Ordering) → List T → Q → Option T
 lower_element cmp l v = find (λ x. not (is_lt (cmp x v))) l
 
--- v where it belongs, replacing any equal element
+-- the elements, with v inserted in order, replacing any equal element
 unfoldable pub put : {T : Type 0} → (T → T → Ordering) → List T → T → List T
 put cmp l v = below cmp l v ++ v ∷ above cmp l v
 
--- `put`, unless an equal element is present
+-- the elements, with v inserted in order, unless an equal element is present
 unfoldable pub keep : {T : Type 0} → (T → T → Ordering) → List T → T → List T
 keep cmp l v = if has_equal cmp l v then l else put cmp l v
 
--- the elements that are not found Equal
+-- the elements that do not compare Equal
 unfoldable pub unequal : {T : Type 0} → (T → Ordering) → List T → List T
 unequal answer l = filter (λ x. not (is_eq (answer x))) l
 
--- the elements that don't equal v
+-- the elements that are not equal to v
 abbrev pub without : {T Q : Type 0} → (T → Q → Ordering) → List T → Q → List T
 without cmp l v = unequal (λ x. cmp x v) l
 
--- how many elements are strictly outside the bound, seen from the start of the list or from its end
+-- how many elements are strictly outside the bound, counted from the start of the list or from its
+-- end
 abbrev pub outside_count : {T Q : Type 0} → (T → Q → Ordering) → List T → Bound Q → Bool → ℕ
 outside_count cmp l (Included v) true = count_by (λ x. is_lt (cmp x v)) l
 outside_count cmp l (Excluded v) true = count_by (λ x. is_le (cmp x v)) l
@@ -63,17 +65,18 @@ outside_count cmp l (Included v) false = count_by (λ x. is_gt (cmp x v)) l
 outside_count cmp l (Excluded v) false = count_by (λ x. not (is_lt (cmp x v))) l
 outside_count cmp l Unbounded from_start = 0
 
--- the index of the last of n things, if any
+-- the index of the last of n elements, if any
 abbrev pub last_index : ℕ → Option ℕ
 last_index n = if n == 0 then None else Some (n - 1)
 
--- an element equal to v stands at index i, and all before it are below v
+-- the element at index i equals v, and all before it are below v
 pub record IsFoundAt {T Q : Type 0} (cmp : T → Q → Ordering) (l : List T) (v : Q) (i : ℕ) : Type 0 where
   pub inside : i < length l
   pub equal : HoldsAt (λ x. cmp x v ≡ Equal) l i
   pub below_before : AllWithin (λ x. cmp x v ≡ Less) l 0 i
 
--- v would go at index i: all before it are below v, and all from it on are above v
+-- index i is the insertion point of v: all elements before it are below v, and all from it on are
+-- above v
 pub record IsGapFor {T Q : Type 0} (cmp : T → Q → Ordering) (l : List T) (v : Q) (i : ℕ) : Type 0 where
   pub inside : i ≤ length l
   pub below_before : AllWithin (λ x. cmp x v ≡ Less) l 0 i

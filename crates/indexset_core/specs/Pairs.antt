@@ -25,7 +25,7 @@ module _ {K V : Type 0} where
   abbrev pub entry_of : Pair K V → K × V
   entry_of p = (p.key, p.value)
 
-  -- what a `(&K, &V)` points to
+  -- the key and the value to which a `(&K, &V)` refers
   abbrev pub pair_deref : Bor K × Bor V → Pair K V
   pair_deref p = pair p.0.now p.1.now
 
@@ -45,7 +45,7 @@ module _ {K V : Type 0} where
   abbrev pub pair_values : List (Pair K V) → List V
   pair_values l = map (λ p. p.value) l
 
-  -- a call of the closure at the key and the value of p may return b, and leave the value of q
+  -- a call of the closure at the key and the value of p may return b and leave the value of q
   abbrev pub CalledOnPair : {F : Type 0} → Mut F (Bor K × (MutBor V × Unit {0})) (Bool × (MutBor V × Unit {0})) → F → Pair K V → Bool → F → Pair K V → Type 0
   CalledOnPair g f p b f' q = CalledAtPair g f p.key p.value b q.value f' × (q.key ≡ p.key)
 
@@ -82,15 +82,16 @@ module _ {K V : Type 0} where
     abbrev pub without_key : List (Pair K V) → Q → List (Pair K V)
     without_key l k = unequal (λ p. cmp p.key k) l
 
-  -- the pairs, with w as the value of the first pair that is found Equal, whose own key stays
+  -- the pairs, with w as the value of the first pair that compares Equal, which keeps its key
   unfoldable pub set_found : (Pair K V → Ordering) → List (Pair K V) → V → List (Pair K V)
   set_found answer [] w = []
   set_found answer (p ∷ l) w = if is_eq (answer p) then valued p w ∷ l else p ∷ set_found answer l w
 
-  -- the pairs, with w as the value of the pair of the key, whose own key stays
+  -- the pairs, with w as the value of the pair of the key, which keeps its key
   abbrev pub set_value : {Q : Type 0} → (K → Q → Ordering) → List (Pair K V) → Q → V → List (Pair K V)
   set_value cmp l k w = set_found (λ p. cmp p.key k) l w
 
-  -- the same, or where the key is not there, with k and w in their place
+  -- the pairs, with w as the value of the pair of k, or, if there is none, with the pair of k and w
+  -- inserted
   unfoldable pub put_value : (K → K → Ordering) → List (Pair K V) → K → V → List (Pair K V)
   put_value cmp l k w = if has_key cmp l k then set_value cmp l k w else put (by_key cmp) l (pair k w)

@@ -1,11 +1,11 @@
--- Places between the items of nodes, and where a search ends.
+-- Places in a list of nodes, and the result of a search.
 use Rattle.std.specs.Prelude.{ℕ, ◌+◌, ◌<◌, ◌≤◌, max, length, List, take, Result, Ok, Err, if◌then◌else◌}
 use Rattle.std.specs.declared.cmp.Ordering.{Ordering}
 use Rattle.indexset_core.specs.Nodes.{concat, node_at, node_for, equal_at}
 use Rattle.indexset_core.specs.Parted.{less_count}
 
 module _ {T : Type 0} where
-  -- the node is there, and the offset is at most its length: (0, 0) where there is no node
+  -- the node exists, and the offset is at most its length; (0, 0) if there are no nodes
   pub record IsPlace (ns : List (List T)) (p : ℕ × ℕ) : Type 0 where
     pub node_in : p.0 < max 1 (length ns)
     pub offset_in : p.1 ≤ length (node_at ns p.0)
@@ -14,7 +14,8 @@ module _ {T : Type 0} where
   abbrev pub items_before : List (List T) → ℕ × ℕ → ℕ
   items_before ns p = length (concat (take p.0 ns)) + p.1
 
-  -- the node and the offset of the first item not found Less, and whether it is found Equal: a place behind all stands in the last node
+  -- the node and the offset of the first item that does not compare Less, and whether it compares
+  -- Equal; the place after all items is in the last node
   abbrev pub located : (T → Ordering) → List (List T) → Result (ℕ × ℕ) (ℕ × ℕ)
   located answer ns =
       let node = node_for answer ns in

@@ -1,4 +1,4 @@
--- The numbers by which refusals are known, and their texts.
+-- The numbers and the texts of errors.
 use Rattle.std.specs.Prelude.{ℕ, List, codes}
 use Rattle.indexset_core.specs.declared.refusal.Refusal.{Refusal}
 use Rattle.indexset_core.specs.declared.refusal.Refusal.TheVariants.{Memory, Numbers, Empty, TooLarge, Unsorted, Overlaps, PairNumber, Gap, NoSuchNode, IndexOutside, ValueDiffers, WouldBeEmpty, OutOfOrder, BadSplit, NotNeighbours}

@@ -11,9 +11,9 @@ use std::marker::Model;
 use std::ops::Bound;
 use std::{mem, slice};
 
-/// A node of at most `N` items, which lie in the node itself: it allocates nothing, and none of its
-/// calls fails. A node of fewer than two items can't be halved, so a tree needs an `N` of at least
-/// 2.
+/// A node of at most `N` items, stored inline: it never allocates, and none of its calls fails.
+///
+/// A node of fewer than two items cannot be halved, so a tree needs an `N` of at least 2.
 ///
 /// ```
 /// # use indexset::base::array_node::ArrayNode;

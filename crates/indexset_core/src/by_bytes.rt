@@ -1,4 +1,4 @@
-//! Items in the order of their bytes, such as `String`, `BoxedStr` and
+//! Items that are ordered by their bytes, such as `String`, `BoxedStr` and
 //! [`Text`](crate::text::Text).
 ghost use Rattle.std.specs.Prelude.{◌≡◌, ◌≤◌, ℕ, List, length, refl, take};
 ghost use Rattle.std.specs.Cmp.Lexicographic.{slice_cmp};
@@ -12,8 +12,10 @@ use std::alloc::Allocator;
 use std::boxed::BoxedStr;
 use std::cmp::Ordering;
 
-/// An item in the order of its bytes. Collections of such items are searched by a `&str` or a
-/// `&[u8]`, and so are maps with such keys. A text key of your own needs this impl alone.
+/// An item that is ordered by its bytes.
+///
+/// Collections of such items, and maps with such keys, accept a `&str` or a `&[u8]` in look-ups. A
+/// text key type of your own needs only this impl.
 ///
 /// ```
 /// # use indexset::base::by_bytes::ByBytes;
@@ -53,7 +55,7 @@ impl<A: Allocator> ByBytes for BoxedStr<A> {
     }
 }
 
-/// Returns how two byte strings compare. It compares eight bytes at a time.
+/// Compares two byte strings, eight bytes at a time.
 ///
 /// ```
 /// # use indexset::base::by_bytes::compare_bytes;
@@ -63,8 +65,8 @@ impl<A: Allocator> ByBytes for BoxedStr<A> {
 pub fn compare_bytes<'a>(first: &'a [u8], second: &'a [u8]) -> Ordering
     ensures { result ≡ slice_cmp nat_cmp first.now second.now }
 {
-    // The first eight bytes are compared outside the loop. The loop is a function of its own, so
-    // that the loop of a search stays an innermost one, of which the compiler makes branches: with
+    // The first eight bytes are compared outside the loop. The loop is a separate function, so that
+    // the loop of a search remains an innermost loop, which the compiler compiles to branches: with
     // conditional moves it waits for items that are not in the cache.
     if first.len() >= 8 && second.len() >= 8 {
         let found = first_word(first).cmp(&first_word(second));
@@ -75,7 +77,7 @@ pub fn compare_bytes<'a>(first: &'a [u8], second: &'a [u8]) -> Ordering
     compare_words(first, second)
 }
 
-// Returns the same as `compare_bytes`, by a loop over words of eight bytes.
+// Does the same as `compare_bytes`, by a loop over words of eight bytes.
 #[inline(never)]
 fn compare_words<'a>(first: &'a [u8], second: &'a [u8]) -> Ordering
     ensures { result ≡ slice_cmp nat_cmp first.now second.now }

@@ -1,10 +1,15 @@
-//! A node that is halved.
+//! The halving of a node.
 ghost use Rattle.std.specs.Prelude.{◌≡◌, ◌/◌, ◌≤◌, length, take, drop, IfOk, OnOk, IfErr, OnErr, vec_capacity};
 
 use crate::refusal::Refusal;
 
-/// Halves a node: it keeps the first half of its length, and returns the rest. Each half has room
-/// for as many items as the node held. A failed call leaves the node as it is.
+/// Halves a node: keeps the first half of its items, and returns the rest.
+///
+/// Each half has room for as many items as the node held.
+///
+/// # Errors
+///
+/// Fails with `Memory` only. A failed call leaves the items as they were.
 pub fn halve_node<T>(node: &mut Vec<T>) -> Result<Vec<T>, Refusal>
     ensures left { OnOk result (node.new.items ≡ take (length node.old.items / 2) node.old.items) }
     ensures left_room { OnOk result (length node.old.items ≤ vec_capacity node.new) }

@@ -14,7 +14,9 @@ use std::alloc::AllocError;
 use std::iter::FusedIterator;
 use std::marker::{Model, PhantomData};
 
-/// How an iterator reads the items of a node: one way for `Vec`s of any items, one for nodes.
+/// How an iterator reads the items of a node.
+///
+/// [`OfVec`] reads a `Vec` of any items, and [`OfNode`] a node of any type.
 pub trait NodeItems<T, Node> {
     /// The items, in order.
     ghost list: { Node → List T };
@@ -46,7 +48,10 @@ impl<T: Ord + Drop, Node: NodeLike<T>> NodeItems<T, Node> for OfNode {
     }
 }
 
-/// The remaining items: those of the front node, of the nodes between, and of the back node.
+/// A double-ended iterator over the items of nodes.
+///
+/// It holds the remaining items of the front node, the nodes between, and the remaining items of
+/// the back node.
 #[derive(Drop)]
 pub struct ItemIter<'a, T, Node, R: NodeItems<T, Node>> {
     front: &'a [T],
@@ -65,7 +70,7 @@ impl<'a, T, Node, R: NodeItems<T, Node>> Model for ItemIter<'a, T, Node, R> {
 }
 
 impl<'a, T, Node, R: NodeItems<T, Node>> ItemIter<'a, T, Node, R> {
-    /// Returns the items of all nodes.
+    /// Creates an iterator over the items of all nodes.
     pub fn over(nodes: &'a [Node]) -> Self
         ensures { result ≡ concat (map R.list nodes.now) }
     {
@@ -77,7 +82,7 @@ impl<'a, T, Node, R: NodeItems<T, Node>> ItemIter<'a, T, Node, R> {
         }
     }
 
-    /// Returns the items from one place, a node and an offset, to before another.
+    /// Creates an iterator over the items from one place, a node and an offset, up to another.
     pub fn between(nodes: &'a [Node], from: (usize, usize), to: (usize, usize)) -> Self
         requires from { IsPlace (map R.list nodes.now) from }
         requires to { IsPlace (map R.list nodes.now) to }
@@ -107,8 +112,9 @@ impl<'a, T, Node, R: NodeItems<T, Node>> ItemIter<'a, T, Node, R> {
         }
     }
 
-    /// Returns the remaining items of the front node, or of the next that has items; none only at
-    /// the end.
+    /// Returns the remaining items of the front node, or of the next node that has items.
+    ///
+    /// They are empty only at the end.
     pub fn next_chunk(&mut self) -> &'a [T]
         ensures taken { self.old ≡ result.now ++ self.new }
         ensures some { 0 < length self.old → 0 < length result.now }
@@ -128,7 +134,7 @@ impl<'a, T, Node, R: NodeItems<T, Node>> ItemIter<'a, T, Node, R> {
         run
     }
 
-    /// Returns how many items remain, by adding up the lengths of the nodes.
+    /// Returns how many items remain, as the sum of the lengths of the nodes.
     pub fn item_count(&self) -> usize
         requires { length self.now ≤ usize.MAX }
         ensures { result ≡ length self.now }
@@ -156,8 +162,9 @@ impl<'a, T, Node, R: NodeItems<T, Node>> Iterator for ItemIter<'a, T, Node, R> {
                 self.front = rest;
                 return Some(first);
             }
-            // Both at once: after a test of the back alone the compiler enters a loop over the walk
-            // from here, behind its test, and copies registers for that at each item.
+            // Both are tested at once: after a test of only the back, the compiler enters the
+            // caller's loop from here, behind that loop's test, and copies registers for it at each
+            // item.
             if self.middle.len().max(self.back.len()) == 0 {
                 return None;
             }
@@ -195,8 +202,8 @@ impl<'a, T, Node, R: NodeItems<T, Node>> DoubleEndedIterator for ItemIter<'a, T,
             } else if self.front.is_empty() {
                 return None;
             } else {
-                // The front keeps half: were it emptied, two ends that take in turn would pass the
-                // rest to and fro at each step.
+                // The front keeps half: if it were emptied, calls at alternating ends would move
+                // the rest at each step.
                 let front = self.front;
                 let (first, last) = front.split_at(front.len() / 2);
                 self.front = first;

@@ -1,4 +1,4 @@
-//! Bounds of a range: two bounds, or one of Rust's ranges, of whatever a look-up takes.
+//! Bounds of a range of keys: two bounds, or one of Rust's ranges.
 ghost use Rattle.std.specs.Prelude.{◌≡◌};
 ghost use Rattle.std.specs.Range.{range_inclusive_end, range_inclusive_start};
 ghost use Rattle.std.specs.Range.Bound.{bound_map};
@@ -9,10 +9,12 @@ ghost use Rattle.indexset_core.specs.KeyRange.{are_ordered};
 use crate::lookup_key::LookupKey;
 use std::ops::{Bound, Range, RangeFrom, RangeFull, RangeInclusive, RangeTo, RangeToInclusive};
 
-/// The bounds of a range of keys: `a..b`, `a..=b`, `a..`, `..b`, `..=b`, `..`, or a pair of
-/// `Bound`s, of whatever a look-up takes ([`LookupKey`]). It stands for std's `RangeBounds`. As there,
-/// `(Unbounded, Unbounded)` needs a type, and `..` does not. An `a..=b` that was iterated to its
-/// end still includes both.
+/// The bounds of a range of keys: one of Rust's ranges, or a pair of `Bound`s.
+///
+/// The keys are look-up keys of any type ([`LookupKey`]). The ranges are `a..b`, `a..=b`, `a..`,
+/// `..b`, `..=b` and `..`. The trait takes the place of std's `RangeBounds`. As there,
+/// `(Unbounded, Unbounded)` needs a type annotation, and `..` does not. An `a..=b` that was
+/// iterated to its end still includes both bounds.
 ///
 /// ```
 /// let board = BTreeSet::from_iter(alloc, [10, 20, 30])?;
@@ -21,7 +23,7 @@ use std::ops::{Bound, Range, RangeFrom, RangeFull, RangeInclusive, RangeTo, Rang
 /// assert!(rt; board.range((Bound::Excluded(&10), Bound::Unbounded)).len() == 2);
 /// ```
 pub trait KeyRange<T: Ord> {
-    /// What the bounds name.
+    /// The type of the keys.
     type Key: LookupKey<T>;
 
     /// The bound at the start.
@@ -151,7 +153,9 @@ impl<T: Ord, Q: LookupKey<T>> KeyRange<T> for RangeToInclusive<Q> {
     }
 }
 
-/// Returns whether the start is not above the end, nor equal to it where both are excluded.
+/// Returns whether the start is at most the end, and below it if both are excluded.
+///
+/// An unbounded start or end is in order with any other.
 ///
 /// ```
 /// # use indexset::base::key_range::bounds_are_ordered;

@@ -1,4 +1,4 @@
-//! Searches of a list of nodes, however a node is read.
+//! Binary searches of a list of nodes.
 ghost use Rattle.std.specs.Prelude.{◌≡◌, ℕ, ◌+◌, ◌≤◌, length, map};
 ghost use Rattle.std.specs.List.{All, count_by};
 ghost use Rattle.indexset_core.specs.KeyRange.{IfBounded, is_before, is_up_to_end};
@@ -12,13 +12,18 @@ use crate::probe::{After, Probe};
 use crate::search::{self, choose};
 use std::ops::Bound;
 
-// Up to how many nodes a search does without branches, where their items stay in the cache too: the
-// last items of more nodes would not.
+// The greatest number of nodes that are searched without branches, if their items fit the cache:
+// the last items of more nodes do not.
 const NEAR_NODES: usize = 1 << 10;
 
-/// Returns the place of the first node whose last item is not found Less, else of the last node, by
-/// one binary search over the nodes' last items. There must be a node, and none may be empty but an
-/// only one; the probe must find the items in order.
+/// Returns the index of the node in which the search by the comparator ends.
+///
+/// It is the first node whose last item does not compare Less, else the last node. There must be a
+/// node, and only a single node may be empty. The items must be partitioned by the comparator.
+///
+/// # Complexity
+///
+/// One binary search over the nodes' last items.
 pub fn node_by<T, Node, R: NodeItems<T, Node>, P: Probe<T>>(nodes: &[Node], probe: &mut P) -> usize
     requires some { 1 ≤ length nodes.now }
     requires filled { 2 ≤ length nodes.now → All (λ n. 1 ≤ n)
@@ -31,7 +36,7 @@ pub fn node_by<T, Node, R: NodeItems<T, Node>, P: Probe<T>>(nodes: &[Node], prob
     if nodes.len() == 1 {
         return 0;
     }
-    // The node that either search reads first stands for all.
+    // The node that both searches read first is taken as a sample of all.
     let items = R::items_of(&nodes[(nodes.len() - 1) / 2]);
     if nodes.len() <= NEAR_NODES && search::is_near(items, nodes.len()) {
         node_near::<T, Node, R, P>(nodes, probe)
@@ -40,7 +45,7 @@ pub fn node_by<T, Node, R: NodeItems<T, Node>, P: Probe<T>>(nodes: &[Node], prob
     }
 }
 
-// Returns the same by a search without branches on comparisons, as `first_not_less_near` does it.
+// Does the same by a search without branches on comparisons, as `first_not_less_near` does.
 fn node_near<T, Node, R: NodeItems<T, Node>, P: Probe<T>>(nodes: &[Node], probe: &mut P) -> usize
     requires some { 1 ≤ length nodes.now }
     requires filled { 2 ≤ length nodes.now → All (λ n. 1 ≤ n)
@@ -65,7 +70,7 @@ fn node_near<T, Node, R: NodeItems<T, Node>, P: Probe<T>>(nodes: &[Node], probe:
     choose(equal < last, equal, low)
 }
 
-// Returns the same by a search whose predicted branches fetch ahead.
+// Does the same by a search whose predicted branches fetch ahead.
 fn node_far<T, Node, R: NodeItems<T, Node>, P: Probe<T>>(nodes: &[Node], probe: &mut P) -> usize
     requires some { 1 ≤ length nodes.now }
     requires filled { 2 ≤ length nodes.now → All (λ n. 1 ≤ n)
@@ -89,8 +94,13 @@ fn node_far<T, Node, R: NodeItems<T, Node>, P: Probe<T>>(nodes: &[Node], probe: 
     low
 }
 
-/// Returns the place before the first item that is not found Less, by two binary searches: one
-/// among the nodes and one in a node, or by none where there is no node.
+/// Returns the place before the first item that does not compare Less.
+///
+/// The place is (0, 0) if there is no node.
+///
+/// # Complexity
+///
+/// Two binary searches, one over the nodes and one in a node, or no comparison if there is no node.
 pub fn place_by<T, Node, R: NodeItems<T, Node>, P: Probe<T>>(
     nodes: &[Node],
     probe: &mut P,
@@ -111,8 +121,8 @@ pub fn place_by<T, Node, R: NodeItems<T, Node>, P: Probe<T>>(
     (node, offset)
 }
 
-// Returns the place before the first item that is found Greater, as `place_by` finds one: in an only
-// node by a search that needs no `After`, whose answers are never Equal.
+// Returns the place before the first item that compares Greater. A single node is searched without
+// `After`, whose answers are never Equal.
 fn place_past<T, Node, R: NodeItems<T, Node>, P: Probe<T> + Drop>(
     nodes: &[Node],
     mut probe: P,
@@ -131,8 +141,11 @@ fn place_past<T, Node, R: NodeItems<T, Node>, P: Probe<T> + Drop>(
     place_by::<T, Node, R, After<P>>(nodes, &mut After::new(probe))
 }
 
-/// Returns the place after the items before the start, by two binary searches, or by no comparison
-/// where it is unbounded.
+/// Returns the place after the items before the start.
+///
+/// # Complexity
+///
+/// Two binary searches, or no comparison if the start is unbounded.
 pub fn place_from<T, Node, R: NodeItems<T, Node>, P: Probe<T> + Drop>(
     nodes: &[Node],
     start: Bound<P>,
@@ -151,7 +164,11 @@ pub fn place_from<T, Node, R: NodeItems<T, Node>, P: Probe<T> + Drop>(
     }
 }
 
-/// Returns the place after the items that are not past the end, found in the same way.
+/// Returns the place after the items that are not past the end.
+///
+/// # Complexity
+///
+/// Two binary searches, or no comparison if the end is unbounded.
 pub fn place_to<T, Node, R: NodeItems<T, Node>, P: Probe<T> + Drop>(
     nodes: &[Node],
     end: Bound<P>,
@@ -184,8 +201,11 @@ pub fn last_place<T, Node, R: NodeItems<T, Node>>(nodes: &[Node]) -> (usize, usi
     (last, items.len())
 }
 
-/// Returns the node and the offset of the first item that the probe finds Equal, or its insertion
-/// point, by two binary searches. It makes no comparison where there is no node.
+/// Returns the node and the offset of the first item that compares Equal, or its insertion point.
+///
+/// # Complexity
+///
+/// Two binary searches, or no comparison if there is no node.
 pub fn locate_by<T, Node, R: NodeItems<T, Node>, P: Probe<T>>(
     nodes: &[Node],
     probe: &mut P,

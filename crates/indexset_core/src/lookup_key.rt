@@ -1,6 +1,6 @@
-//! What a look-up takes in the place of an item or a key.
+//! Look-up keys: what a look-up takes in the place of an item or a key.
 //!
-//! [`LookupKey`] is compared with items, and [`UniqueKey`] is what finds one of them at most.
+//! [`LookupKey`] is compared with items; a key that is [`UniqueKey`] equals at most one of them.
 ghost use Rattle.std.specs.Prelude.{◌≡◌};
 ghost use Rattle.std.specs.Cmp.Lexicographic.{lists_total, nat_list_cmp_total, slice_cmp};
 ghost use Rattle.std.specs.Ordering.{nat_cmp};
@@ -15,24 +15,33 @@ use crate::by_bytes::{ByBytes, compare_bytes};
 use std::alloc::Allocator;
 use std::cmp::Ordering;
 
-/// What a look-up takes: an item or a reference to one; a `&str` or a `&[u8]` for items in the order
-/// of their bytes ([`ByBytes`]), such as `String` and `Text`; a `&[U]` for items `Vec<U>`; for a
-/// `Pair` its key, or what finds that key; for tuples of two, references to both parts, or a `&str`
-/// for a part in the order of its bytes. It stands for `Borrow`. No look-up allocates.
+/// A look-up key, which a look-up compares with items.
+///
+/// A look-up key is one of these:
+///
+/// - an item, or a reference to one
+/// - a `&str` or a `&[u8]`, for items in the order of their bytes ([`ByBytes`]), such as `String`
+///   and `Text`
+/// - a `&[U]`, for items `Vec<U>`
+/// - a key, a reference to one, or a `&str` or a `&[u8]` for keys in the order of their bytes, for
+///   items `Pair` and `MultiPair`
+/// - references to all parts, for tuples of two and three; for tuples of two also a `&str` for a
+///   part in the order of its bytes
+///
+/// The trait takes the place of `Borrow`. No look-up allocates. Items in ascending order must
+/// compare first Less, then Equal, then Greater, and equal items alike; a type of your own proves
+/// that by `acts_as_key`.
 ///
 /// ```
 /// let mut names = BTreeSet::new(alloc)?;
 /// names.insert(String::from_str(alloc, "pear")?)?;
 /// assert!(rt; names.contains("pear") && !names.contains("plum"));
 /// ```
-///
-/// Items in ascending order must be found first Less, then Equal, then Greater, and equal items
-/// alike; a type of your own proves that by `acts_as_key`.
 pub trait LookupKey<T: Ord>: Ord {
-    /// How an item compares with it.
+    /// How an item compares with the key.
     ghost order: { T → Self → Ordering };
 
-    /// Returns how an item compares with it.
+    /// Compares an item with the key.
     ///
     /// ```
     /// # use indexset::base::lookup_key::LookupKey;
@@ -44,8 +53,9 @@ pub trait LookupKey<T: Ord>: Ord {
     ghost acts_as_key: { OrdersAsItem T.cmp order Self.cmp };
 }
 
-/// What is sought and finds one item at most: a removal takes it. Of the types that a look-up takes
-/// only the key of numbered pairs does not.
+/// A look-up key that equals at most one item, as a removal takes it.
+///
+/// Of the look-up keys, only those of `MultiPair` are not such keys.
 pub trait UniqueKey<T: Ord>: LookupKey<T> {
     ghost equals_at_most_one: { EqualsAtMostOne T.cmp Self.order };
 }
@@ -122,7 +132,7 @@ impl<U: Ord, A: Allocator> UniqueKey<Vec<U, A>> for &[U] {
     ghost equals_at_most_one = { one_by (slice_cmp U.cmp) (lists_total U.total) (λ x. x.items) (λ q. q.now) };
 }
 
-// Returns how two slices compare. Both have one lifetime, as the borrow checker asks.
+// Compares two slices of one lifetime, as the borrow checker requires.
 fn compare_slices<'x, T: Ord>(first: &'x [T], second: &'x [T]) -> Ordering
     ensures { result ≡ slice_cmp T.cmp first.now second.now }
 {

@@ -14,10 +14,11 @@ pub fn insert_item<T>(items: &mut Vec<T>, index: usize, item: T)
     items.as_mut_slice()[index..].rotate_right(1);
 }
 
-// So many bytes go towards the front by one `memmove` of `rotate_left`, which moves more by a loop.
+// The number of bytes that one `memmove` of `rotate_left` moves to the front; it moves more by a
+// loop.
 const PART_BYTES: usize = 2048;
 
-/// Removes the item at an index.
+/// Removes the item at an index and returns it.
 pub fn remove_item<T>(items: &mut Vec<T>, index: usize) -> T
     requires { index < length items.old.items }
     ensures value { result ≡ slice_index_or items.old.items index result }
@@ -59,7 +60,7 @@ pub fn move_front<T: Drop>(items: &mut Vec<T>, count: usize, other: &mut Vec<T>)
     ensures other_capacity { vec_capacity other.old ≤ vec_capacity other.new }
 {
     if count == items.len() {
-        // There is room, and all move at once.
+        // The capacity suffices, and all items move at once.
         let _ = other.append(items);
         return;
     }

@@ -12,8 +12,9 @@ use std::cmp::Ordering;
 use std::fmt;
 use std::hash::{Hash, Hasher};
 
-/// A key with its value and a number that tells apart the pairs of one key. Its order, equality and
-/// hash are those of the key, and then of the number.
+/// A key with its value and a number that distinguishes the pairs of one key.
+///
+/// Its order, equality and hash are those of the key, and then of the number.
 ///
 /// ```
 /// let (first, second) = (MultiPair::new("fig", 5, 0), MultiPair::new("fig", 5, 1));
@@ -25,12 +26,12 @@ pub struct MultiPair<K, V> {
     pub key: K,
     /// The value.
     pub value: V,
-    /// The number, by which pairs of one key differ.
+    /// The number that distinguishes pairs of one key.
     pub discriminator: u64,
 }
 
 impl<K, V> MultiPair<K, V> {
-    /// Returns the pair of a key and a value, with its number.
+    /// Creates a pair of a key and a value, with its number.
     ///
     /// ```
     /// let pair = MultiPair::new("fig", 5, 7);
@@ -48,7 +49,7 @@ impl<K, V> MultiPair<K, V> {
 }
 
 impl<K, V> Pair<K, V> {
-    /// Returns the same key and value with a number.
+    /// Returns the pair of the same key and value, with a number.
     ///
     /// ```
     /// let pair = Pair { key: "fig", value: 5 }.numbered(7);
@@ -136,7 +137,7 @@ impl<K: Ord, V> Ord for MultiPair<K, V> {
     }
 }
 
-/// The key, a colon, the value and the number, as in `3:pears #0`.
+/// Writes the key, a colon, the value and the number, as in `3:pears #0`.
 impl<K: fmt::Display, V: fmt::Display> fmt::Display for MultiPair<K, V> {
     ghost use Rattle.indexset_core.specs.Text.{multi_pair_shown};
 

@@ -4,7 +4,9 @@ ghost use Rattle.indexset_core.specs.Text.{node_shown};
 
 use std::fmt;
 
-/// Writes the items of a node in brackets, as in `[0, 2]`, after a blank unless it is the first.
+/// Writes the items of a node in brackets, as in `[0, 2]`.
+///
+/// A space precedes the bracket unless the node is the first.
 pub fn write_node<T: fmt::Display, W: fmt::Write>(
     f: &mut fmt::Formatter<W>,
     is_first: bool,

@@ -7,8 +7,10 @@ ghost use Rattle.std.specs.declared.ops.Bound.TheVariants.{Excluded, Included, U
 
 use std::ops::{Bound, Range, RangeFrom, RangeFull, RangeInclusive, RangeTo, RangeToInclusive};
 
-/// A start and an end, as `range_idx` takes them: `(Bound<usize>, Bound<usize>)`, or `i..j`,
-/// `i..=j`, `i..`, `..j`, `..=j` and `..`.
+/// The bounds of a range of positions: one of Rust's ranges, or a pair of `Bound<usize>`s.
+///
+/// The ranges are `i..j`, `i..=j`, `i..`, `..j`, `..=j` and `..`. Calls such as `range_idx` take
+/// them.
 ///
 /// ```
 /// # use indexset::PositionRange;
@@ -131,7 +133,7 @@ impl PositionRange for RangeToInclusive<usize> {
     }
 }
 
-/// Returns the first position that is not before the start, or the length where there is none.
+/// Returns the first position that is not before the start, or the length if there is none.
 pub fn first_position(start: Bound<usize>, len: usize) -> usize
     ensures { result ≡ min (start_index start) len }
 {
@@ -142,7 +144,7 @@ pub fn first_position(start: Bound<usize>, len: usize) -> usize
     }
 }
 
-/// Returns the first position past the end, or the length where there is none.
+/// Returns the first position past the end, or the length if there is none.
 pub fn end_position(end: Bound<usize>, len: usize) -> usize
     ensures { result ≡ min (end_index end len) len }
 {

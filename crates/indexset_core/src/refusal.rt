@@ -1,12 +1,13 @@
-//! Why a call failed.
+//! The errors of calls.
 ghost use Rattle.std.specs.Prelude.{◌≡◌};
 
 use std::alloc::AllocError;
 use std::error::Error;
 use std::fmt;
 
-/// The error of a call. Where several reasons apply, the contract of the call says which one is
-/// returned.
+/// The error of a call.
+///
+/// If several reasons apply, the contract of the call says which one it returns.
 ///
 /// ```
 /// let mut copy: Replica<u64> = Replica::new(alloc, 0);
@@ -17,7 +18,7 @@ use std::fmt;
 pub enum Refusal {
     /// An allocation or an element's clone failed, or the length would pass `usize::MAX`.
     Memory,
-    /// Too few event numbers remain, or no pair number.
+    /// Too few event numbers remain, or no pair number remains.
     Numbers,
     /// The node that was attached has no item.
     Empty,
@@ -25,8 +26,7 @@ pub enum Refusal {
     TooLarge,
     /// The node that was attached is not strictly ascending.
     Unsorted,
-    /// The node that was attached does not lie wholly before, after or between two neighbouring
-    /// nodes.
+    /// The node that was attached is not wholly before, after or between two nodes.
     Overlaps,
     /// The node that was attached holds a pair whose number is `u64::MAX`.
     PairNumber,
@@ -40,7 +40,7 @@ pub enum Refusal {
     ValueDiffers,
     /// The event would remove the only item of a node.
     WouldBeEmpty,
-    /// The nodes would not be ascending as a whole afterwards.
+    /// The nodes would not ascend as a whole after the event.
     OutOfOrder,
     /// The event would split a node at its start, or at or past its end.
     BadSplit,
@@ -51,7 +51,7 @@ pub enum Refusal {
 impl Refusal {
     ghost use Rattle.indexset_core.specs.Refusal.{number_of};
 
-    /// Returns the number of this error, from 1 to 18; 8 to 10 are not in use.
+    /// Returns the number of this error, from 1 to 18; 8 to 10 are unused.
     ///
     /// ```
     /// assert!(rt; Refusal::Memory.number() == 1 && Refusal::NotNeighbours.number() == 18);
@@ -108,11 +108,12 @@ impl fmt::Display for Refusal {
 
 impl Error for Refusal {}
 
-/// The error of a failed call, with the value that the call was given. Its text is that of the
-/// error alone.
+/// The error of a failed call, with the value that the call was given.
+///
+/// Its `Display` writes the error only.
 ///
 /// ```
-/// // No event number is left, so the value comes back.
+/// // No event number remains, so the call returns the value.
 /// let mut tree: set::BTreeSet<u64, Vec<u64>> = set::BTreeSet::starting_at(alloc, 256, u64::MAX);
 /// if let Err(refused) = tree.insert(5) {
 ///     assert!(rt; refused.value == 5 && refused.cause == Refusal::Numbers);
@@ -121,7 +122,7 @@ impl Error for Refusal {}
 /// ```
 #[derive(Drop)]
 pub struct Refused<X> {
-    /// What was given, as it was.
+    /// The value that the failed call returns.
     pub value: X,
     /// The error.
     pub cause: Refusal,

@@ -1,4 +1,4 @@
-//! A text of any bytes, as a key of maps and an element of sets.
+//! Texts of any bytes, as keys of maps and elements of sets.
 ghost use Rattle.std.specs.Prelude.{◌≡◌, ◌↔◌, [], IfOk, IsTrue, IfSome, IsSome, IsUtf8, Some, length, nat_eq, refl, string_bytes};
 ghost use Rattle.std.specs.Cmp.{partial_equiv_from_equiv};
 ghost use Rattle.std.specs.Cmp.Lexicographic.{nat_list_cmp_total, nat_list_eq_equiv, pointwise, slice_cmp, texts_po, texts_ties};
@@ -15,9 +15,10 @@ use std::hash::{Hash, Hasher};
 use std::marker::Model;
 use std::{fmt, str};
 
-/// A text of any bytes, in 24 bytes and one allocation. It compares by its bytes, eight at a time,
-/// and its clones are identical to it. Sets of texts and maps from texts are searched by a `&str`
-/// or a `&[u8]`.
+/// A text of any bytes, in 24 bytes and one allocation.
+///
+/// It compares by its bytes, eight at a time, and its clones are identical to it. Sets of texts and
+/// maps from texts accept a `&str` or a `&[u8]` in look-ups.
 ///
 /// ```
 /// let mut prices = BTreeMap::new(alloc)?;
@@ -38,7 +39,9 @@ impl Model for Text {
 }
 
 impl Text {
-    /// Returns an empty text. It allocates nothing.
+    /// Creates an empty text.
+    ///
+    /// It allocates nothing.
     ///
     /// ```
     /// assert!(rt; Text::new(alloc).is_empty());
@@ -51,7 +54,9 @@ impl Text {
         }
     }
 
-    /// Returns the text of these bytes, which it takes over: it allocates nothing.
+    /// Creates a text from its bytes, without a copy.
+    ///
+    /// It allocates nothing.
     ///
     /// ```
     /// let text = Text::from_vec(b"pear".to_vec(alloc)?);
@@ -63,7 +68,9 @@ impl Text {
         Text { bytes }
     }
 
-    /// Returns the text of this string, whose bytes it takes over: it allocates nothing.
+    /// Creates a text from the bytes of a string, without a copy.
+    ///
+    /// It allocates nothing.
     ///
     /// ```
     /// let text = Text::from_string(String::from_str(alloc, "pear")?);
@@ -77,30 +84,34 @@ impl Text {
         }
     }
 
-    /// Returns a copy of a `&str`.
+    /// Creates a text from a copy of a `&str`.
     ///
-    /// # Errors
-    ///
-    /// `AllocError` without memory.
+    /// # Examples
     ///
     /// ```
     /// assert_eq!(rt; Text::copied(alloc, "pear")?.len(), 4);
     /// ```
+    ///
+    /// # Errors
+    ///
+    /// Fails with `AllocError` if the allocation fails.
     pub fn copied(alloc: Global, text: &str) -> Result<Text, AllocError>
         ensures { IfOk result (λ t. t ≡ text.now) }
     {
         Text::copied_bytes(alloc, text.as_bytes())
     }
 
-    /// Returns a copy of a `&[u8]`.
+    /// Creates a text from a copy of a `&[u8]`.
     ///
-    /// # Errors
-    ///
-    /// `AllocError` without memory.
+    /// # Examples
     ///
     /// ```
     /// assert_eq!(rt; Text::copied_bytes(alloc, b"\xFF")?.to_str(), None);
     /// ```
+    ///
+    /// # Errors
+    ///
+    /// Fails with `AllocError` if the allocation fails.
     pub fn copied_bytes(alloc: Global, bytes: &[u8]) -> Result<Text, AllocError>
         ensures { IfOk result (λ t. t ≡ bytes.now) }
     {
@@ -142,7 +153,7 @@ impl Text {
         self.bytes.is_empty()
     }
 
-    /// Returns the bytes as a `&str` if they are UTF-8.
+    /// Returns the text as a `&str` if its bytes are UTF-8.
     ///
     /// ```
     /// assert_eq!(rt; Text::copied(alloc, "pear")?.to_str(), Some("pear"));
@@ -243,7 +254,7 @@ impl ByBytes for Text {
     }
 }
 
-/// The text, with U+FFFD in the place of bytes that are not UTF-8.
+/// Writes the text, with U+FFFD in the place of bytes that are not UTF-8.
 impl fmt::Display for Text {
     ghost use Rattle.std.specs.Prelude.{Some};
     ghost use Rattle.std.specs.Str.Lossy.{utf8_lossy};
@@ -261,7 +272,7 @@ impl fmt::Display for Text {
     }
 }
 
-/// The text in quotes, as `Display` writes it.
+/// Writes the text in quotes, as `Display` writes it.
 impl fmt::Debug for Text {
     fn fmt<W: fmt::Write>(&self, f: &mut fmt::Formatter<W>) -> fmt::Result {
         write!(f, "\"{self}\"")

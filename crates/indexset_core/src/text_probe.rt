@@ -1,6 +1,6 @@
 //! Comparators for text: items are compared with a borrowed text.
 //!
-//! [`ByStr`] serves the calls that take a `Probe`, as `get_by` of sets and maps: they find a `&str`
+//! [`ByStr`] serves the calls that take a `Probe`, such as `get_by`: they find a `&str`
 //! among items in the order of their bytes ([`ByBytes`]), without an allocation. [`OnKey`] compares
 //! the keys of pairs by a comparator.
 //!
@@ -20,7 +20,9 @@ use crate::steps::Steps;
 use std::cmp::Ordering;
 use std::marker::Model;
 
-/// Compares the text of an item with a borrowed text, byte by byte. It allocates nothing.
+/// A comparator of items by a borrowed text, byte by byte.
+///
+/// It allocates nothing.
 ///
 /// ```
 /// // An element of text, found by a &str without an allocation.
@@ -43,7 +45,7 @@ impl<'a> Model for ByStr<'a> {
 }
 
 impl<'a> ByStr<'a> {
-    /// Returns a comparator with the text, which has made no comparison yet.
+    /// Creates a comparator by a text, which has made no comparison.
     ///
     /// ```
     /// let mut names = BTreeSet::new(alloc)?;
@@ -72,7 +74,7 @@ impl<'a, T: ByBytes> Probe<T> for ByStr<'a> {
     }
 }
 
-/// Compares the key of a pair, numbered or not, by its comparator.
+/// A comparator of pairs, numbered or not, by a comparator of their keys.
 #[derive(Drop)]
 pub struct OnKey<P> {
     probe: P,
@@ -85,7 +87,7 @@ impl<P> Model for OnKey<P> {
 }
 
 impl<P> OnKey<P> {
-    /// Returns the comparator of pairs whose keys this one compares.
+    /// Creates a comparator of pairs, whose keys `probe` compares.
     ///
     /// ```
     /// let mut prices = BTreeMap::new(alloc)?;

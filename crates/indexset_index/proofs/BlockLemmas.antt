@@ -1,4 +1,4 @@
--- Sums of blocks of 32 lengths, and how they change where a length is set, removed or inserted.
+-- Sums of blocks of 32 lengths, and how they change if a length is set, removed or inserted.
 use Rattle.std.proofs.Common.{◌≡◌, ℕ, zero, suc, ◌+◌, ◌-◌, ◌*◌, ◌/◌, ◌<◌, ◌≤◌, List, [], ◌∷◌, ◌++◌, length, map, min, sum, take, set, get_or, insert, remove, refl, ap, ◌∙◌, inl, inr, eq-zero-or-pos, add-one, length-append, arith}
 use Rattle.std.specs.Int.{div_ceil}
 use Rattle.std.specs.List.{between, range_with_len}
@@ -82,7 +82,7 @@ blocks-grown ls i h =
     ]
 
 module _ (ls : List ℕ) (k : ℕ) (here : k < length ls) where
-  -- the block of a length is there, and is no less than the length
+  -- the block of a length exists, and is no less than the length
   pub block-inside : k / 32 < length (block_sums ls)
   block-inside = omega (arith, count-blocks ls)
 

@@ -1,4 +1,4 @@
--- What crates above this one may cite of its proofs.
+-- Lemmas for the crates above.
 pub use Rattle.indexset_index.proofs.BlockLemmas.{count-blocks, no-blocks, sum-blocks}
 pub use Rattle.indexset_index.proofs.IndexLemmas.{block_there, both, both_inside, emptied, fewer, first_stays, gathered, inserted, lengths_set, lowered, node_in_block, raised, two_long}
 pub use Rattle.indexset_index.proofs.NodeLemmas.{lengths-insert, lengths-remove, made-of-two, without-half}

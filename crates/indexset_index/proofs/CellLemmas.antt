@@ -16,7 +16,7 @@ cell_sum-is cells ls is (suc f) (suc k) p q =
     let some = lowbit-pos (suc k) (omega arith) in
     omega (arith, is.count_is, is.each (suc k) (omega arith) (omega (arith, is.count_is)), cell_sum-is cells ls is f (suc k - lowbit (suc k)) (omega arith) (omega arith), prefix-cell ls (suc k))
 
--- the cells tell the lengths
+-- the cells determine the lengths
 pub told : (cells ls : List ℕ) → IsFenwickOf (cell_in cells) (length cells) ls → lengths_of cells ≡ ls
 unfolding lengths_of
 told cells ls is =

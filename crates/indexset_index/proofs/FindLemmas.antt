@@ -19,7 +19,7 @@ digits-some : (n : ℕ) → 0 < digits n → 0 < n
 digits-some zero h = absurd (omega (arith, digits-zero))
 digits-some (suc n) h = omega arith
 
--- no fewer digits would do, and no more are needed
+-- fewer digits do not suffice, and more are not needed
 pub digits-is : (n m : ℕ) → n < 2 ^ m → 2 ^ m ≤ 2 * n + 1 → digits n ≡ m
 digits-is n m p q =
     elim (eq-zero-or-pos (digits n - m)) [
@@ -48,7 +48,8 @@ halved step some is =
     let power : step ≡ 2 ^ digits (step / 2) = omega (arith, is, ap (λ d. 2 ^ d) one, pow-suc 2 (digits (step / 2))) in
     (one, power, ap (λ n. n / 2) power)
 
--- where the search stands: the node is a multiple of the span of the level, the position is not before it, nor past the span
+-- the state of the search: the node is a multiple of the span of the level, and the position is
+-- neither before it nor past the span
 pub record IsAt (lengths : List ℕ) (count position level node before : ℕ) : Type 0 where
   pub within : node ≤ count
   pub whole : (m : ℕ) × (node ≡ m * 2 ^ level)

@@ -5,7 +5,7 @@ use Rattle.std.specs.Int.Bits.{and_self}
 use Rattle.std.specs.Int.RustNames.{count_ones}
 use Rattle.indexset_index.specs.Fenwick.{lowbit, lowbit_within}
 
--- more bits looked at than there are change nothing
+-- more bits than there are change nothing
 enough : (f g n : ℕ) → n ≤ f → n ≤ g → lowbit_within f n ≡ lowbit_within g n
 enough zero zero n p q = refl
 enough zero (suc g) zero p q = let e : lowbit_within g 0 ≡ 0 = sym (enough zero g zero (omega arith) (omega arith)) in rw e refl
@@ -43,7 +43,7 @@ lowbit-of_even n h = let e : 2 * (n / 2) ≡ n = omega arith in subst (λ m. low
 pub lowbit-of_two : (n : ℕ) → n % 4 ≡ 2 → lowbit n ≡ 2
 lowbit-of_two n h = omega (arith, lowbit-of_even n (omega arith), lowbit-of_odd (n / 2) (omega arith))
 
--- by cases on the lowest digit: what holds of 0, and of a number where it holds of its half
+-- by cases on the lowest digit: a property of 0, and of a number if its half has it
 halved-within : (P : ℕ → Type 0) → P 0 → ((a : ℕ) → P a → P (2 * a + 1)) → ((a : ℕ) → 0 < a → P a → P (2 * a)) → (f n : ℕ) → n ≤ f → P n
 halved-within P none odd even zero zero p = none
 halved-within P none odd even zero (suc n) p = absurd (omega arith)

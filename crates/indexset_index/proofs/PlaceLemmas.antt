@@ -17,7 +17,7 @@ module _ {X : Type 0} where
   pub prefix-concat : (ns : List (List X)) (k : ℕ) → prefix_sum (node_lengths ns) k ≡ length (concat (take k ns))
   prefix-concat ns k = ap sum (take-map (λ (n : List X). length n) k ns) ∙ sym (length-concat (take k ns))
 
-  -- the node of a place is there
+  -- the node of a place exists
   node-in : (ns : List (List X)) (k o : ℕ) → IsPlace ns (k, o) → 1 ≤ length ns → k < length ns
   node-in ns k o h some = omega (arith, h.node_in)
 
@@ -31,7 +31,7 @@ module _ {X : Type 0} where
   place-fits [] (suc k, o) h = absurd (omega (arith, h.node_in))
   place-fits (n ∷ ns) (k, o) h = omega (arith, offset-le (n ∷ ns) k o (node-in (n ∷ ns) k o h (omega arith)) h.offset_in, length-concat (n ∷ ns))
 
-  -- what the lengths tell of a position is the place of its item
+  -- the place that the lengths give for a position is that of its item
   pub place-found : (ns : List (List X)) (i : ℕ) (r : Option (ℕ × ℕ)) → MatchOption r (sum (node_lengths ns) ≤ i) (λ p. (p.0 < length (node_lengths ns)) × (p.1 < get_or (node_lengths ns) p.0 0) × (prefix_sum (node_lengths ns) p.0 + p.1 ≡ i)) → MatchOption r (length (concat ns) ≤ i) (λ p. (p.0 < length ns) × (p.1 < length (node_at ns p.0)) × (items_before ns p ≡ i))
   place-found ns i None h = omega (arith, h, length-concat ns)
   place-found ns i (Some p) h =

@@ -2,12 +2,12 @@
 use Rattle.std.specs.Prelude.{ℕ, ◌+◌, ◌*◌, ◌/◌, List, length, sum, map}
 use Rattle.std.specs.List.{between, range_with_len}
 
--- the sums, and how many there is room for: what a contract sees of them
+-- the model of block sums in contracts: the sums, and how many there is capacity for
 pub record Sums : Type 0 where
   pub sums : List ℕ
   pub room : ℕ
 
--- how many blocks so many lengths make: the last may be short
+-- the number of blocks of n lengths, of which the last may be short
 abbrev pub block_count : ℕ → ℕ
 block_count n = (n + 31) / 32
 

@@ -1,18 +1,18 @@
--- A Fenwick index: what its cells hold, and of which lengths they are.
+-- A Fenwick index: its cells, and the lengths that they sum.
 use Rattle.std.specs.Prelude.{◌≡◌, ℕ, zero, suc, ◌+◌, ◌-◌, ◌*◌, ◌/◌, ◌%◌, ◌^◌, ◌<◌, ◌≤◌, ◌==◌, List, length, sum, take, map, slice_index, if◌then◌else◌}
 use Rattle.std.specs.List.{between, range_with_len}
 
--- the lengths, and how many there is room for: what a contract sees of an index
+-- the model of an index in contracts: the lengths, and how many there is capacity for
 pub record Lengths : Type 0 where
   pub lengths : List ℕ
   pub room : ℕ
 
--- the value of the lowest one bit of n, where at most the lowest f bits are looked at
+-- the value of the lowest one bit of n, if it is among the lowest f bits
 abbrev pub lowbit_within : ℕ → ℕ → ℕ
 lowbit_within zero n = 0
 lowbit_within (suc f) n = if n % 2 == 1 then 1 else 2 * lowbit_within f (n / 2)
 
--- 0 has none
+-- the value of the lowest one bit of n, or 0 for 0
 unfoldable pub lowbit : ℕ → ℕ
 lowbit n = lowbit_within n n
 
@@ -20,11 +20,11 @@ lowbit n = lowbit_within n n
 abbrev pub prefix_sum : List ℕ → ℕ → ℕ
 prefix_sum lengths k = sum (take k lengths)
 
--- what cell i holds, counted from 1: the sum of the last `lowbit i` of the first i lengths
+-- the content of cell i, counted from 1: the sum of the last `lowbit i` of the first i lengths
 abbrev pub cell_of : List ℕ → ℕ → ℕ
 cell_of lengths i = sum (between (i - lowbit i) i lengths)
 
--- the count cells are those of the lengths, whose sum is at most the greatest usize
+-- the count cells are those of the lengths, whose sum is at most `usize::MAX`
 pub record IsFenwickOf (cell : ℕ → ℕ) (count : ℕ) (lengths : List ℕ) : Type 0 where
   pub count_is : count ≡ length lengths
   pub fits : sum lengths < 2 ^ 64
@@ -34,17 +34,17 @@ pub record IsFenwickOf (cell : ℕ → ℕ) (count : ℕ) (lengths : List ℕ) :
 abbrev pub cell_in : List ℕ → ℕ → ℕ
 cell_in cells i = slice_index cells (i - 1)
 
--- the sum of the first k lengths, as the cells tell it; at most f cells are added up
+-- the sum of the first k lengths, as at most f of the cells add up to it
 abbrev pub cell_sum_within : ℕ → List ℕ → ℕ → ℕ
 cell_sum_within zero cells k = 0
 cell_sum_within (suc f) cells zero = 0
 cell_sum_within (suc f) cells (suc k) = cell_in cells (suc k) + cell_sum_within f cells (suc k - lowbit (suc k))
 
--- all that it takes are added up
+-- the sum of the first k lengths, as the cells add up to it
 abbrev pub cell_sum : List ℕ → ℕ → ℕ
 cell_sum cells k = cell_sum_within k cells k
 
--- the lengths that the cells are of
+-- the lengths that the cells sum
 unfoldable pub lengths_of : List ℕ → List ℕ
 lengths_of cells = map (λ i. cell_sum cells (i + 1) - cell_sum cells i) (range_with_len 0 (length cells))
 

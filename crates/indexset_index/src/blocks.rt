@@ -10,7 +10,9 @@ use indexset_core::refusal::Refusal;
 use std::alloc::Global;
 use std::marker::Model;
 
-/// The sums of the lengths of blocks of 32 neighbouring nodes, whose sum is at most `usize::MAX`.
+/// The lengths of nodes, summed by blocks of 32 neighbouring nodes.
+///
+/// The sum of all lengths is at most `usize::MAX`.
 #[derive(Drop)]
 pub struct Blocks {
     sums: Fenwick,
@@ -25,7 +27,9 @@ impl Model for Blocks {
 }
 
 impl Blocks {
-    /// Returns the sums of no nodes. It allocates nothing.
+    /// Creates the sums of no nodes.
+    ///
+    /// It allocates nothing.
     pub fn new(alloc: Global) -> Self
         ensures { result.sums ≡ [] }
     {
@@ -34,7 +38,11 @@ impl Blocks {
         }
     }
 
-    /// Returns the sums of these nodes.
+    /// Creates the sums of these nodes.
+    ///
+    /// # Errors
+    ///
+    /// Fails with `Memory` only.
     pub fn from_nodes<T, Node, R: NodeItems<T, Node>>(
         alloc: Global,
         nodes: &[Node],
@@ -51,7 +59,7 @@ impl Blocks {
         Ok(blocks)
     }
 
-    /// Returns the number of blocks: at most the capacity.
+    /// Returns the number of blocks, at most the capacity.
     pub fn len(&self) -> usize
         ensures value { result ≡ length self.now.sums }
         ensures within { length self.now.sums ≤ self.now.room }
@@ -60,7 +68,11 @@ impl Blocks {
         self.sums.len()
     }
 
-    /// Reserves capacity for one more block. A failed call changes nothing.
+    /// Reserves capacity for one more block.
+    ///
+    /// # Errors
+    ///
+    /// Fails with `Memory` only. A failed call leaves the sums as they were.
     pub fn reserve_one(&mut self) -> Result<(), Refusal>
         ensures room { OnOk result (length self.new.sums < self.new.room) }
         ensures sums { self.new.sums ≡ self.old.sums }
@@ -70,7 +82,7 @@ impl Blocks {
         self.sums.reserve_one()
     }
 
-    /// Adds to the length of node `k`.
+    /// Adds `n` to the length of node `k`.
     pub fn add(&mut self, k: usize, n: usize)
         requires inside { k / 32 < length self.old.sums }
         requires fits { sum self.old.sums + n < 2 ^ 64 }
@@ -81,7 +93,7 @@ impl Blocks {
         self.sums.add(k / 32, n);
     }
 
-    /// Subtracts from the length of node `k`.
+    /// Subtracts `n` from the length of node `k`.
     pub fn sub(&mut self, k: usize, n: usize)
         requires inside { k / 32 < length self.old.sums }
         requires enough { n ≤ slice_index self.old.sums (k / 32) }
@@ -92,7 +104,9 @@ impl Blocks {
         self.sums.sub(k / 32, n);
     }
 
-    /// Writes the sums of these nodes, where there is capacity. It allocates nothing.
+    /// Replaces the sums by those of these nodes.
+    ///
+    /// There must be capacity for them. It allocates nothing.
     pub fn rebuild<T, Node, R: NodeItems<T, Node>>(&mut self, nodes: &[Node])
         requires room { length (block_sums (node_lengths (map R.list nodes.now)))
             ≤ self.old.room }
@@ -106,8 +120,13 @@ impl Blocks {
         }
     }
 
-    /// Changes the sums for a node that was inserted as node `k` of these, where there is capacity
-    /// for a block. It reads two lengths for each block from there on, and allocates nothing.
+    /// Updates the sums after the insertion of node `k` of these.
+    ///
+    /// There must be capacity for one more block. It allocates nothing.
+    ///
+    /// # Complexity
+    ///
+    /// Reads two lengths for each block from that of the node on.
     pub fn insert<T, Node, R: NodeItems<T, Node>>(&mut self, k: usize, nodes: &[Node])
         requires inside { k < length nodes.now }
         requires before { self.old.sums
@@ -123,8 +142,13 @@ impl Blocks {
         self.sums.shift_up::<T, Node, R>(k, nodes);
     }
 
-    /// Changes the sums for node `k` of `n` items, which was removed and left these. It reads two
-    /// lengths for each block from there on, and allocates nothing.
+    /// Updates the sums after the removal of node `k` of `n` items, which left these nodes.
+    ///
+    /// It allocates nothing.
+    ///
+    /// # Complexity
+    ///
+    /// Reads two lengths for each block from that of the node on.
     pub fn remove<T, Node, R: NodeItems<T, Node>>(&mut self, k: usize, n: usize, nodes: &[Node])
         requires inside { k ≤ length nodes.now }
         requires before { self.old.sums
@@ -138,8 +162,11 @@ impl Blocks {
         self.sums.shift_down::<T, Node, R>(k, n, nodes);
     }
 
-    /// Returns the sum of the lengths of the first `k` of these nodes: of whole blocks, and of at
-    /// most 31 nodes.
+    /// Returns the sum of the lengths of the first `k` of these nodes.
+    ///
+    /// # Complexity
+    ///
+    /// A sum of whole blocks, and of at most 31 nodes.
     pub fn prefix<T, Node, R: NodeItems<T, Node>>(&self, k: usize, nodes: &[Node]) -> usize
         requires sums { self.now.sums ≡ block_sums (node_lengths (map R.list nodes.now)) }
         requires within { k ≤ length nodes.now }
@@ -151,8 +178,11 @@ impl Blocks {
         self.sums.prefix(block) + sum_between::<T, Node, R>(nodes, 32 * block, k)
     }
 
-    /// Returns the node of a position among these, and the offset in it, or `None` past the end: a
-    /// search of the blocks, and of at most 32 nodes.
+    /// Returns the node of a position, and the offset in it, or `None` past the end.
+    ///
+    /// # Complexity
+    ///
+    /// A search of the blocks, and of at most 32 nodes.
     pub fn find<T, Node, R: NodeItems<T, Node>>(
         &self,
         position: usize,
@@ -180,7 +210,7 @@ fn sum_of_block<T, Node, R: NodeItems<T, Node>>(nodes: &[Node], block: usize) ->
     sum_between::<T, Node, R>(nodes, start, end)
 }
 
-// Returns the sum of the lengths of these nodes from one to before another.
+// Returns the sum of the lengths of these nodes from `start` up to `end`.
 fn sum_between<T, Node, R: NodeItems<T, Node>>(nodes: &[Node], start: usize, end: usize) -> usize
     requires order { start ≤ end }
     requires within { end ≤ length nodes.now }
@@ -195,7 +225,7 @@ fn sum_between<T, Node, R: NodeItems<T, Node>>(nodes: &[Node], start: usize, end
     total
 }
 
-// Returns the node of a position that stands in these past the first `start`, and the offset in it.
+// Returns the node of a position that is counted from node `start`, and the offset in it.
 fn find_from<T, Node, R: NodeItems<T, Node>>(
     nodes: &[Node],
     start: usize,

@@ -1,4 +1,4 @@
-//! A Fenwick tree of lengths, whose prefix sums are read, searched and changed in logarithmic time.
+//! A Fenwick tree of lengths: reads, searches and changes prefix sums in logarithmic time.
 ghost use Rattle.std.specs.Prelude.{◌≡◌, ◌+◌, ◌-◌, ◌<◌, ◌≤◌, ◌^◌, ◌%◌, [], ◌∷◌, ◌++◌, length, map, sum, take, slice_index, slice_set, IfOk, IfErr, OnOk};
 ghost use Rattle.indexset_core.specs.Nodes.{node_lengths};
 
@@ -17,8 +17,7 @@ use std::marker::Model;
 /// An index of lengths, whose sum is at most `usize::MAX`.
 #[derive(Drop)]
 pub struct Fenwick {
-    // Cell i, counted from 1, is the sum of as many lengths up to the i-th as the lowest one bit of
-    // i says.
+    // Cell i, counted from 1, is the sum of the last `lowbit i` of the first i lengths.
     cells: Vec<usize>,
 }
 
@@ -37,7 +36,9 @@ impl Model for Fenwick {
 }
 
 impl Fenwick {
-    /// Returns an index of no lengths. It allocates nothing.
+    /// Creates an index of no lengths.
+    ///
+    /// It allocates nothing.
     pub fn new(alloc: Global) -> Self
         ensures { result.lengths ≡ [] }
     {
@@ -46,7 +47,11 @@ impl Fenwick {
         }
     }
 
-    /// Returns the index of no lengths, with capacity for some.
+    /// Creates an index of no lengths, with room for `capacity` of them.
+    ///
+    /// # Errors
+    ///
+    /// Fails with `Memory` only.
     pub fn with_capacity(alloc: Global, capacity: usize) -> Result<Self, Refusal>
         ensures empty { IfOk result (λ f. f.lengths ≡ []) }
         ensures room { IfOk result (λ f. capacity ≤ f.room) }
@@ -57,7 +62,11 @@ impl Fenwick {
         })
     }
 
-    /// Returns the index of these lengths.
+    /// Creates the index of these lengths.
+    ///
+    /// # Errors
+    ///
+    /// Fails with `Memory` only.
     pub fn from_lengths(alloc: Global, lengths: &[usize]) -> Result<Self, Refusal>
         requires { sum lengths.now < 2 ^ 64 }
         ensures ok { IfOk result (λ f. f.lengths ≡ lengths.now) }
@@ -70,7 +79,7 @@ impl Fenwick {
         Ok(index)
     }
 
-    /// Returns the number of lengths: at most the capacity.
+    /// Returns the number of lengths, at most the capacity.
     pub fn len(&self) -> usize
         ensures value { result ≡ length self.now.lengths }
         ensures within { length self.now.lengths ≤ self.now.room }
@@ -79,7 +88,11 @@ impl Fenwick {
         self.cells.len()
     }
 
-    /// Reserves capacity for one more length. A failed call changes nothing.
+    /// Reserves capacity for one more length.
+    ///
+    /// # Errors
+    ///
+    /// Fails with `Memory` only. A failed call leaves the lengths as they were.
     pub fn reserve_one(&mut self) -> Result<(), Refusal>
         ensures room { OnOk result (length self.new.lengths < self.new.room) }
         ensures lengths { self.new.lengths ≡ self.old.lengths }
@@ -89,7 +102,11 @@ impl Fenwick {
         self.reserve(1)
     }
 
-    /// Reserves capacity for `more` further lengths. A failed call changes nothing.
+    /// Reserves capacity for `more` further lengths.
+    ///
+    /// # Errors
+    ///
+    /// Fails with `Memory` only. A failed call leaves the lengths as they were.
     pub fn reserve(&mut self, more: usize) -> Result<(), Refusal>
         ensures room { OnOk result (length self.new.lengths + more ≤ self.new.room) }
         ensures lengths { self.new.lengths ≡ self.old.lengths }
@@ -100,7 +117,9 @@ impl Fenwick {
         Ok(())
     }
 
-    /// Appends a length, where there is capacity. It allocates nothing.
+    /// Appends a length.
+    ///
+    /// There must be capacity for it. It allocates nothing.
     pub fn push(&mut self, last: usize)
         requires room { length self.old.lengths < self.old.room }
         requires fits { sum self.old.lengths + last < 2 ^ 64 }
@@ -111,7 +130,7 @@ impl Fenwick {
         self.cells.push_reserved(cell);
     }
 
-    /// Keeps the first `k` lengths.
+    /// Keeps the first `k` lengths, and removes the others.
     pub fn truncate(&mut self, k: usize)
         ensures lengths { self.new.lengths ≡ take k self.old.lengths }
         ensures room { self.new.room ≡ self.old.room }
@@ -119,7 +138,7 @@ impl Fenwick {
         self.cells.truncate(k);
     }
 
-    /// Adds to the i-th length, counted from 0.
+    /// Adds `n` to length `i`, counted from 0.
     pub fn add(&mut self, i: usize, n: usize)
         requires inside { i < length self.old.lengths }
         requires fits { sum self.old.lengths + n < 2 ^ 64 }
@@ -130,7 +149,7 @@ impl Fenwick {
         table::raise(self.cells.as_mut_slice(), i, n);
     }
 
-    /// Subtracts from the i-th length, counted from 0.
+    /// Subtracts `n` from length `i`, counted from 0.
     pub fn sub(&mut self, i: usize, n: usize)
         requires inside { i < length self.old.lengths }
         requires enough { n ≤ slice_index self.old.lengths i }
@@ -141,7 +160,9 @@ impl Fenwick {
         table::lower(self.cells.as_mut_slice(), i, n);
     }
 
-    /// Writes the lengths of these nodes, where there is capacity. It allocates nothing.
+    /// Replaces the lengths by those of these nodes.
+    ///
+    /// There must be capacity for them. It allocates nothing.
     pub fn rebuild<T, Node, R: NodeItems<T, Node>>(&mut self, nodes: &[Node])
         requires room { length nodes.now ≤ self.old.room }
         requires fits { sum (node_lengths (map R.list nodes.now)) < 2 ^ 64 }
@@ -151,8 +172,10 @@ impl Fenwick {
         self.rebuild_from::<T, Node, R>(0, nodes);
     }
 
-    /// Writes the lengths of these nodes, of which the first `k` are there already. It allocates
-    /// nothing.
+    /// Replaces the lengths from `k` on by those of these nodes.
+    ///
+    /// The first `k` lengths must be those of the nodes, and there must be capacity for all. It
+    /// allocates nothing.
     pub fn rebuild_from<T, Node, R: NodeItems<T, Node>>(&mut self, k: usize, nodes: &[Node])
         requires same { take k self.old.lengths ≡ take k (node_lengths (map R.list nodes.now)) }
         requires within { k ≤ length nodes.now }
@@ -167,7 +190,8 @@ impl Fenwick {
         }
     }
 
-    // Appends the lengths of the next four nodes, or of one where four do not begin or are not left.
+    // Appends the lengths of the next four nodes, or of one if their index is no multiple of four
+    // or fewer than four remain.
     fn push_next<T, Node, R: NodeItems<T, Node>>(&mut self, nodes: &[Node])
         requires same { self.old.lengths
             ≡ take (length self.old.lengths) (node_lengths (map R.list nodes.now)) }
@@ -191,8 +215,8 @@ impl Fenwick {
         }
     }
 
-    // Appends four lengths to a multiple of four, where there is capacity. The first three cells
-    // then sum none of the lengths before them.
+    // Appends four lengths to a multiple of four of them. There must be capacity. The first three
+    // cells then sum none of the lengths before them.
     fn push_four(&mut self, first: usize, second: usize, third: usize, fourth: usize)
         requires begin { length self.old.lengths % 4 ≡ 0 }
         requires room { length self.old.lengths + 4 ≤ self.old.room }

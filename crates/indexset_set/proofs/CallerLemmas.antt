@@ -1,4 +1,4 @@
--- What crates above this one may cite of its proofs.
+-- Lemmas for the crates above.
 pub use Rattle.indexset_set.proofs.SetAppendLemmas.{all_nodes, front_ascending, still_up}
 pub use Rattle.indexset_set.proofs.SetBulkLemmas.{below_all, drop_not_below, not_below_all, take_below}
 pub use Rattle.indexset_set.proofs.SetCloneLemmas.{gap_behind}

@@ -1,4 +1,4 @@
--- What is read off two merged lists.
+-- The lists that are read from two merged lists.
 use Rattle.std.proofs.Common.{◌≡◌, ℕ, zero, suc, ◌+◌, ◌<◌, ◌↔◌, Bool, false, IsTrue, Option, None, Some, List, [], ◌∷◌, length, map, Ordering, refl, ap, sym, ◌∙◌, arith}
 use Rattle.std.specs.declared.cmp.Ordering.TheVariants.{Less, Equal, Greater}
 use Rattle.std.specs.Ordering.{match_ordering}
@@ -8,7 +8,7 @@ use Rattle.indexset_set.specs.declared.algebra.merge.MergeItem.{MergeItem}
 use Rattle.indexset_set.specs.declared.algebra.merge.MergeItem.TheVariants.{Left, Right, Both}
 use Rattle.indexset_set.specs.Merge.{read, merged, merged_from, of_left, of_right, of_either, of_both, of_left_alone}
 
--- what holds of merged lists where either has ended, and where an item comes before merged ones
+-- a property of merged lists, if either has ended, and if an item comes before merged ones
 module _ {T : Type 0} (cmp : T → T → Ordering) (P : List T → List T → List (MergeItem T) → Type 0) (left_ended : (r : List T) → P [] r (map Right r)) (right_ended : (l : List T) → P l [] (map Left l)) (less : (x : T) (xs : List T) (y : T) (ys : List T) (m : List (MergeItem T)) → cmp x y ≡ Less → P xs (y ∷ ys) m → P (x ∷ xs) (y ∷ ys) (Left x ∷ m)) (equal : (x : T) (xs : List T) (y : T) (ys : List T) (m : List (MergeItem T)) → cmp x y ≡ Equal → P xs ys m → P (x ∷ xs) (y ∷ ys) (Both x y ∷ m)) (greater : (x : T) (xs : List T) (y : T) (ys : List T) (m : List (MergeItem T)) → cmp x y ≡ Greater → P (x ∷ xs) ys m → P (x ∷ xs) (y ∷ ys) (Right y ∷ m)) where
   by_first : (x : T) (xs : List T) → ((r : List T) → P xs r (merged cmp xs r)) → (r : List T) → P (x ∷ xs) r (merged cmp (x ∷ xs) r)
   by_first x xs rest [] = right_ended (x ∷ xs)
@@ -31,7 +31,7 @@ module _ {T : Type 0} where
   read_none f side each [] = refl
   read_none f side each (x ∷ xs) = rw (each x) (read_none f side each xs)
 
-  -- where nothing is read by f, nothing is by g
+  -- if f reads nothing, g reads nothing
   module _ (f g : MergeItem T → Option T) (within : (s : MergeItem T) → f s ≡ None → g s ≡ None) where
     none_here : (a b : Option T) (l k : List T) → (a ≡ None → b ≡ None) → (length l ≡ 0 → k ≡ []) → length (cons_option a l) ≡ 0 → cons_option b k ≡ []
     none_here None b l k here rest none = rw (here refl) (rest none)
@@ -65,7 +65,7 @@ module _ {T : Type 0} where
   read_counts (Right y ∷ m) = omega (arith, read_counts m)
   read_counts (Both x y ∷ m) = omega (arith, read_counts m)
 
--- each list is read off again
+-- each list is read from the merged one
 module _ {T : Type 0} (cmp : T → T → Ordering) where
   pub lefts_merged : (l r : List T) → read of_left (merged cmp l r) ≡ l
   lefts_merged = merged_by cmp (λ l r m. read of_left m ≡ l) (λ r. read_none of_left Right (λ x. refl) r) (λ l. read_all of_left Left (λ x. refl) l) (λ x xs y ys m e h. ap (λ l. x ∷ l) h) (λ x xs y ys m e h. ap (λ l. x ∷ l) h) (λ x xs y ys m e h. h)

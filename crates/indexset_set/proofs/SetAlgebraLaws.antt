@@ -1,4 +1,4 @@
--- What the algebra of two ascending lists gives, by its elements.
+-- The elements of set operations on two ascending lists.
 use Rattle.std.proofs.Common.{◌≡◌, zero, suc, ◌+◌, ◌⊎◌, inl, inr, Bool, true, false, not, cond, ◌&&◌, ◌||◌, ◌≤◌, if◌then◌else◌, List, [], ◌∷◌, ◌++◌, length, take, drop, filter, Ordering, refl, ap, sym, ◌∙◌, subst, arith}
 use Rattle.std.specs.declared.cmp.Ordering.TheVariants.{Less, Equal, Greater}
 use Rattle.std.specs.Cmp.{IsTotalOrder}
@@ -53,7 +53,7 @@ module _ {T : Type 0} (cmp : T → T → Ordering) (o : IsTotalOrder cmp) where
   equal_is Equal h = refl
   equal_is Greater h = absurd (false≢true h)
 
-  -- equal ones are had alike
+  -- equal elements are in the same lists
   pub has_alike : (x y : T) → cmp x y ≡ Equal → (l : List T) → has_equal cmp l x ≡ has_equal cmp l y
   has_alike x y e [] = refl
   has_alike x y e (z ∷ zs) = rw (alike_right o x y z e, has_alike x y e zs) refl
@@ -181,7 +181,7 @@ module _ {T : Type 0} (cmp : T → T → Ordering) (o : IsTotalOrder cmp) where
     | inr q ↦ inr (in_at x r q.0, q.1)
   ]
 
-  -- what passes a test that equal ones pass alike
+  -- the elements that pass a test that equal ones pass alike
   module _ (p : T → Bool) (x : T) (b : Bool) (alike : (y : T) → cmp y x ≡ Equal → p y ≡ b) where
     both : (a : Bool) → b ≡ true → b ≡ ((true || a) && b)
     both a e = refl
@@ -220,7 +220,7 @@ module _ {T : Type 0} (cmp : T → T → Ordering) (o : IsTotalOrder cmp) where
   apart_members l r up x =
       union_members (difference cmp l r) (difference cmp r l) (difference_ascending cmp l r up) x ∙ (λ k. difference_members l r x k || difference_members r l x k)
 
-  -- how long both are
+  -- the lengths of both
   pub lengths_sum : (l r : List T) → IsAscending cmp l → IsAscending cmp r → length (union cmp l r) + length (intersection cmp l r) ≡ length l + length r
   lengths_sum l r up vp =
       rw (← union_read cmp o l r up vp, ← intersection_read cmp o l r up vp) (rw (lefts_merged, rights_merged) at (read_counts (merged cmp l r)))

@@ -1,4 +1,4 @@
--- Two ascending lists as sets, by their first items, and as they are read off the merged list.
+-- Set operations on two ascending lists, by their first items and by the merged list.
 use Rattle.std.proofs.Common.{◌≡◌, zero, suc, Option, None, Some, is_some, Bool, true, false, not, cond, ◌&&◌, if◌then◌else◌, List, [], ◌∷◌, ◌++◌, filter, map, Ordering, refl, ap, sym, ◌∙◌, subst, arith}
 use Rattle.std.specs.declared.cmp.Ordering.TheVariants.{Less, Equal, Greater}
 use Rattle.std.specs.Cmp.{IsTotalOrder}
@@ -62,14 +62,14 @@ module _ {T : Type 0} (cmp : T → T → Ordering) where
     over : (x y : T) → cmp x y ≡ Less → cmp y x ≡ Greater
     over x y h = o.antisymm y x ∙ ap ordering_reverse h
 
-    -- what is below y, or equal to it, is below what y is below
+    -- an item that is at most y is below what y is below
     pub under_less : (x y : T) (l : List T) → cmp x y ≡ Less → IsUnder y l → IsUnder x (y ∷ l)
     under_less x y l e h = (e, under_map x y (λ z f. o.trans x y z e f) l h)
 
     pub under_equal : (x y : T) (l : List T) → cmp x y ≡ Equal → IsUnder y l → IsUnder x l
     under_equal x y l e h = under_map x y (λ z f. o.congr x y z e ∙ f) l h
 
-    -- nothing that v is below is equal to it
+    -- no item that v is below is equal to it
     pub under_none : (v : T) (l : List T) → IsUnder v l → has_equal cmp l v ≡ false
     under_none v [] h = refl
     under_none v (x ∷ xs) h = rw (over v x h.0) (under_none v xs h.1)
@@ -82,12 +82,12 @@ module _ {T : Type 0} (cmp : T → T → Ordering) where
     under_above v [] h = refl
     under_above v (x ∷ xs) h = rw (over v x h.0) (ap (λ l. x ∷ l) (under_above v xs h.1))
 
-    -- v goes to the front
+    -- v is inserted at the front
     keep_front : (v : T) (l : List T) → IsUnder v l → keep cmp l v ≡ v ∷ l
     unfolding keep put
     keep_front v l h = rw (under_none v l h, under_below v l h, under_above v l h) refl
 
-    -- v goes behind the front
+    -- v is inserted after the front
     keep_behind : (x v : T) (l : List T) → cmp x v ≡ Less → keep cmp (x ∷ l) v ≡ x ∷ keep cmp l v
     unfolding keep put
     keep_behind x v l e = rw e (elim (has_equal cmp l v) as (λ b. (if b then x ∷ l else x ∷ (below cmp l v ++ v ∷ above cmp l v)) ≡ x ∷ (if b then l else below cmp l v ++ v ∷ above cmp l v)) [
@@ -95,7 +95,7 @@ module _ {T : Type 0} (cmp : T → T → Ordering) where
       | false ↦ refl
     ])
 
-    -- an equal one is there
+    -- an equal element is present
     keep_there : (x v : T) (l : List T) → cmp x v ≡ Equal → keep cmp (x ∷ l) v ≡ x ∷ l
     unfolding keep
     keep_there x v l e = rw e refl
@@ -125,7 +125,7 @@ module _ {T : Type 0} (cmp : T → T → Ordering) where
     union_alone [] h = union_none []
     union_alone (y ∷ ys) h = union_front y [] ys tt h.0 ∙ ap (λ l. y ∷ l) (union_alone ys h.1)
 
-    -- what y is below isn't equal to it
+    -- an item that y is below is not equal to it
     unequal : (y : T) (f : Bool → Bool) (r l : List T) → IsUnder y l → filter (λ z. f (has_equal cmp (y ∷ r) z)) l ≡ filter (λ z. f (has_equal cmp r z)) l
     unequal y f r [] h = refl
     unequal y f r (z ∷ zs) h = rw h.0 (ap (λ l. cond (f (has_equal cmp r z)) (z ∷ l) l) (unequal y f r zs h.1))
@@ -187,7 +187,7 @@ module _ {T : Type 0} (cmp : T → T → Ordering) where
     unfolding difference
     under_difference x l r h = under_filter x (λ z. not (has_equal cmp r z)) l h
 
-    -- what either has alone
+    -- the symmetric difference
     pub apart_none : (l : List T) → symmetric_difference cmp l [] ≡ l
     unfolding symmetric_difference
     apart_none l = rw (difference_none l, difference_first l) (union_none l)
@@ -210,7 +210,8 @@ module _ {T : Type 0} (cmp : T → T → Ordering) where
     apart_front y l r h g =
         rw (difference_over y l r h, difference_under y r l h) (union_front y (difference cmp l r) (difference cmp r l) (under_difference y l r h) (under_difference y r l g))
 
--- a reading of merged lists is a list of two ascending ones, if it is at each first item
+-- a list that is read from merged lists is a list of two ascending ones, if it is at each first
+-- item
 module _ {T : Type 0} (cmp : T → T → Ordering) where
   pub record Reads (f : MergeItem T → Option T) (whole : List T → List T → List T) : Type 0 where
     pub left_ended : (r : List T) → Up cmp r → read f (map Right r) ≡ whole [] r
@@ -279,7 +280,7 @@ module _ {T : Type 0} (cmp : T → T → Ordering) where
       pub apart_read : read of_one_alone (merged cmp l r) ≡ symmetric_difference cmp l r
       apart_read = merged_reads of_one_alone (symmetric_difference cmp) apart_reads l r (up_from cmp l up) (up_from cmp r vp)
 
--- a walk of what passes p, asked once, tells whether all pass q
+-- one call of an iterator over what passes p shows whether all pass q
 module _ {T A : Type 0} (shows : A → T) (p q : T → Bool) (other : (x : T) → q x ≡ not (p x)) where
   abbrev Passes : Bool → T → List T → Type 0
   Passes b x xs = cond b (x ∷ filter p xs) (filter p xs) ≡ [] → (not b && list_all q xs) ≡ true

@@ -1,4 +1,4 @@
--- Two ascending lists, one behind the other.
+-- Two ascending lists, one after the other.
 use Rattle.std.proofs.Common.{◌≡◌, ℕ, suc, ◌+◌, ◌-◌, ◌<◌, ◌≤◌, ◌↔◌, ◌⊎◌, true, false, List, [], ◌∷◌, ◌++◌, length, take, drop, get_or, Ordering, Some, slice_get, refl, ap, sym, ◌∙◌, inl, inr, subst, arith, length-append, append_assoc}
 use Rattle.std.specs.declared.cmp.Ordering.TheVariants.{Less}
 use Rattle.std.specs.Cmp.{IsTotalOrder}
@@ -64,11 +64,11 @@ module _ {T : Type 0} (cmp : T → T → Ordering) (l r : List T) (last first : 
       let at_first : get_or (l ++ r) (length l + 0) last ≡ first = get_or-append-add l r 0 last ∙ first_at last in
       rw (at_last, at_first) at (up (length l - 1) (length l + 0) last (omega (arith, inside)) (omega (arith, some, length-append l r)))
 
-  -- where these two ascend, so do both lists as one
+  -- if these two ascend, so do both lists as one
   pub ends_tell : IsTotalOrder cmp → IsAscending cmp l → IsAscending cmp r → (is_lt (cmp last first) ≡ true) ↔ IsAscending cmp (l ++ r)
   ends_tell o up later = (λ less. appended_ascending o up later (less_from _ less), λ apart. ap is_lt (appended_less apart))
 
--- elements that are above all others are put behind them
+-- elements that are above all others are inserted after them
 module _ {T : Type 0} (cmp : T → T → Ordering) where
   pub put_all_behind : (l xs : List T) → IsAscending cmp (l ++ xs) → l ++ xs ≡ put_all cmp l xs
   unfolding put_all
@@ -78,7 +78,7 @@ module _ {T : Type 0} (cmp : T → T → Ordering) where
       let behind : l ++ x ∷ [] ≡ put cmp l x = sym (gap_put cmp l x (length l) (gap_behind cmp l x xs up) ∙ insert_end l x) in
       sym split ∙ (put_all_behind (l ++ x ∷ []) xs (subst (IsAscending cmp) (sym split) up) ∙ ap (λ m. put_all cmp m xs) behind)
 
--- the first elements of what ascends behind a list
+-- the first elements of an ascending list after another list
 pub front_ascending : {T : Type 0} (cmp : T → T → Ordering) (l front rest : List T) → IsAscending cmp (l ++ (front ++ rest)) → IsAscending cmp (l ++ front)
 front_ascending cmp l front rest up i j d lt inside =
     let whole = rw (← append_assoc l front rest) at up in
@@ -98,7 +98,7 @@ pub before_none : {T : Type 0} (cmp : T → T → Ordering) (l r : List T) → l
 before_none cmp l [] none up = subst (IsAscending cmp) (sym (append-nil l)) up
 before_none cmp l (x ∷ r) none up = absurd (omega arith)
 
--- where v is above all elements of the nodes ns, it goes behind the last
+-- if v is above all elements of the nodes ns, it is inserted after the last
 module _ {T : Type 0} (cmp : T → T → Ordering) (size : ℕ) where
   module _ (ns : List (List T)) (v : T) (rest : List T) (is : AreNodeLengths (node_lengths ns) size) (up : IsAscending cmp (concat ns ++ v ∷ rest)) where
     gap : IsGapFor cmp (concat ns) v (length (concat ns))
@@ -162,7 +162,7 @@ module _ {T : Type 0} (cmp : T → T → Ordering) (size : ℕ) where
     pub taken_nodes : FoldsPrefix (λ ms x. nodes_put cmp (node_list ms size) x) ns xs ms rest
     taken_nodes = (taken.0, taken.1, taken.2 ∙ sym (put_all_last ns taken.0 is front_up))
 
-  -- the nodes, once all were put, or some
+  -- the nodes after all were inserted, or some
   pub nodes_all : (s : NodeList T) (xs rest : List T) (ms : List (List T)) → size ≡ s.size → FoldsPrefix (λ ms x. nodes_put cmp (node_list ms size) x) s.nodes xs ms rest → rest ≡ [] → ms ≡ nodes_put_all cmp s xs
   unfolding nodes_put_all
   nodes_all s xs rest ms same h none = rw (← same) (takes_all (λ ms x. nodes_put cmp (node_list ms size) x) s.nodes ms xs rest h none)
@@ -172,7 +172,7 @@ module _ {T : Type 0} (cmp : T → T → Ordering) (size : ℕ) where
   puts_some s xs rest ms same (front, is, made) =
       (length front, rw (← same) (made ∙ ap (fold (λ ms x. nodes_put cmp (node_list ms size) x) s.nodes) (sym (ap (take (length front)) is ∙ take_at front rest (length front) refl))), sym (ap (drop (length front)) is ∙ drop_at front rest (length front) refl))
 
-  -- v above the nodes ns and a run behind them
+  -- v above the nodes ns and a run after them
   module _ (ns : List (List T)) (run : List T) (v : T) (is : AreNodeLengths (node_lengths ns) size) (up : IsAscending cmp (concat ns ++ (run ++ v ∷ []))) where
     run_up : IsAscending cmp ((concat ns ++ run) ++ v ∷ [])
     run_up = rw (append_assoc (concat ns) run (v ∷ [])) up
@@ -186,7 +186,7 @@ module _ {T : Type 0} (cmp : T → T → Ordering) (size : ℕ) where
         fold-append (with_last size) ns run (v ∷ [])
         ∙ sym (kept_last (fold (with_last size) ns run) v [] (cut_all_last size ns run is) (rw (joined_all_last size ns run is) run_up))
 
-  -- all of the run went in, and then w, which is v
+  -- all of the run is inserted, and then w, which is v
   module _ (ns ms : List (List T)) (run others : List T) (v w : T) (none : others ≡ []) (moved : ms ≡ with_all_last size ns run) (same : w ≡ v) where
     pub run_then_kept : (l : List T) → AreNodeLengths (node_lengths ns) size → l ≡ keep cmp (concat ms) w → l ++ others ≡ keep cmp (concat ns ++ run) v
     unfolding with_all_last
@@ -199,7 +199,7 @@ module _ {T : Type 0} (cmp : T → T → Ordering) (size : ℕ) where
         ap (λ xs. fold (with_last size) all xs) none
         ∙ (kept ∙ (ap (λ i. nodes_kept cmp (node_list ms i) w) sizes ∙ (ap (nodes_kept cmp (node_list ms size)) same ∙ ap (λ z. nodes_kept cmp (node_list z size) v) moved)))
 
--- v behind a run, some first ones of which may have gone in
+-- v after a run, some first values of which may be inserted
 module _ {T : Type 0} (run others : List T) (v : T) where
   pub pushed_items : (l m : List T) → m ++ others ≡ l ++ run → m ++ (others ++ v ∷ []) ≡ l ++ (run ++ v ∷ [])
   pushed_items l m same = sym (append_assoc m others (v ∷ [])) ∙ (ap (λ xs. xs ++ v ∷ []) same ∙ append_assoc l run (v ∷ []))
@@ -218,7 +218,7 @@ module _ {T : Type 0} (others : List T) (none : others ≡ []) where
   unfolding with_all_last
   all_nodes size ms all is = ap (λ xs. fold (with_last size) ms xs) (sym none) ∙ is
 
--- v above a list and a run behind it
+-- v above a list and a run after it
 module _ {T : Type 0} (cmp : T → T → Ordering) (o : IsTotalOrder cmp) (l : List T) (v : T) where
   one_up : IsAscending cmp (v ∷ [])
   one_up i j d lt inside = absurd (omega (arith, lt, inside))

@@ -1,4 +1,4 @@
--- What a call that changes many elements leaves of an ascending list.
+-- Ascending lists after a call that changes many elements.
 use Rattle.std.proofs.Common.{◌≡◌, ℕ, zero, suc, Bool, true, false, not, cond, List, [], ◌∷◌, ◌++◌, length, take, drop, Ordering, Some, slice_get, refl, ap, sym, ◌∙◌, subst, arith}
 use Rattle.std.specs.declared.cmp.Ordering.TheVariants.{Less}
 use Rattle.std.specs.Cmp.{IsTotalOrder}
@@ -16,7 +16,7 @@ use Rattle.indexset_set.specs.SetAlgebra.{put_all, MovesPrefix}
 use Rattle.indexset_set.specs.SetRanges.{not_below}
 use Rattle.indexset_core.proofs.CallerLemmas.{parted_by_item, Parts, count_parts, front-is_lt, filter_front, filter_back}
 
--- an ascending list, cut where v would go
+-- an ascending list, split at the insertion point of v
 module _ {T Q : Type 0} (cmp : T → Q → Ordering) (l : List T) (v : Q) (parted : IsParted (λ x. cmp x v) l) (i : ℕ) (place : i ≡ rank cmp l v) where
   parts : Parts (λ x. is_lt (cmp x v)) l i
   parts = rw place (count_parts is_lt front-is_lt (λ x. cmp x v) l parted)
@@ -47,7 +47,7 @@ module _ {T : Type 0} where
     pub filtered_ascending : (cmp : T → T → Ordering) (f : F) (xs ys : List T) → IsFiltered Q f xs ys → IsAscending cmp xs → IsAscending cmp ys
     filtered_ascending cmp f xs ys h up = subst (IsAscending cmp) (sym h.4) (picked_pairs (λ x y. cmp x y ≡ Less) h.0 xs up)
 
-    -- a closure that was asked in turn through another, which wrote nothing
+    -- a closure that was called in order through another, which wrote nothing
     module _ {S : Type 0} (now : S → F) (R : S → T → Bool → S → T → Type 0) (says : (s : S) (x : T) (b : Bool) (t : S) (y : T) → R s x b t y → Q (now s) x b (now t) × (y ≡ x)) where
       picked : (b : Bool) (x y : T) (bs : List Bool) (xs zs ys : List T) → y ≡ x → zs ≡ items_where_true bs xs → ys ≡ cond b (y ∷ zs) zs → ys ≡ items_where_true (b ∷ bs) (x ∷ xs)
       picked true x y bs xs zs ys same rest is = is ∙ (ap (λ z. z ∷ zs) same ∙ ap (λ l. x ∷ l) rest)
@@ -65,7 +65,7 @@ pub rest_ascending : {T : Type 0} (cmp : T → T → Ordering) (l : List T) → 
 rest_ascending cmp [] up i j d lt inside = absurd (omega arith)
 rest_ascending cmp (x ∷ xs) up i j d lt inside = up (suc i) (suc j) d (omega arith) (omega arith)
 
--- elements inserted one after another
+-- elements that are inserted one after another
 module _ {T : Type 0} (cmp : T → T → Ordering) where
   pub moves_some : (l xs m rest : List T) → FoldsPrefix (put cmp) l xs m rest → MovesPrefix cmp l xs m rest
   unfolding put_all
@@ -80,7 +80,7 @@ module _ {T : Type 0} (cmp : T → T → Ordering) where
 pub item_is : {T : Type 0} (l : List T) (i : ℕ) (x y : T) → slice_get l i ≡ Some x → slice_get l i ≡ Some y → x ≡ y
 item_is l i x y a b = cc
 
--- a cut loses nothing
+-- a split loses nothing
 module _ {T : Type 0} (cmp : T → T → Ordering) where
   pub cut_parts : IsTotalOrder cmp → (l : List T) → IsAscending cmp l → (v : T) → below cmp l v ++ not_below cmp l v ≡ l
   cut_parts o l up v =
@@ -88,7 +88,7 @@ module _ {T : Type 0} (cmp : T → T → Ordering) where
       let parted = parted_by_item cmp o l up v in
       rw (sym (take_below cmp l v parted i refl), sym (drop_not_below cmp l v parted i refl)) (take-append-drop i l)
 
--- what is on either side of a cut
+-- the elements on either side of a split
 module _ {T Q : Type 0} (cmp : T → Q → Ordering) where
   pub below_all : (l : List T) (v : Q) → All (λ x. is_lt (cmp x v) ≡ true) (below cmp l v)
   below_all l v = filter_passes (λ x. is_lt (cmp x v)) l

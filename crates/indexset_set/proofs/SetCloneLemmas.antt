@@ -1,4 +1,4 @@
--- What an ascending list is while its items are inserted one by one.
+-- An ascending list while its items are inserted one by one.
 use Rattle.std.proofs.Common.{◌≡◌, ◌<◌, List, [], ◌∷◌, ◌++◌, length, get_or, sym, ap, ◌∙◌, arith, length-append}
 use Rattle.std.proofs.lemmas.List.{get_or_append_left}
 use Rattle.std.proofs.lemmas.List.Edits.{insert_end}
@@ -8,7 +8,7 @@ use Rattle.std.specs.declared.cmp.Ordering.TheVariants.{Less}
 use Rattle.indexset_core.specs.Order.{IsAscending, IsGapFor, keep}
 use Rattle.indexset_core.proofs.CallerLemmas.{gap_keep}
 
--- the item behind the first ones is put behind them
+-- the item after the first ones is inserted after them
 module _ {T : Type 0} (cmp : T → T → Ordering) (l : List T) (x : T) (rest : List T) (up : IsAscending cmp (l ++ x ∷ rest)) where
   pub gap_behind : IsGapFor cmp l x (length l)
   gap_behind = record {

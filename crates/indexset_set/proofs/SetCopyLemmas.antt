@@ -63,7 +63,7 @@ module _ {T : Type 0} (cmp : T → T → Ordering) where
   pub ascends_all : (all rest : List T) (x : T) → AscendsTo all x rest → rest ≡ [] → IsAscending cmp all
   ascends_all all rest x far none = subst (IsAscending cmp) (sym (far.parts ∙ ap (λ r. far.front ++ x ∷ r) none)) far.up
 
-  -- what an answer tells of the items up to the last of those seen
+  -- what a comparison shows of the items up to the last of those seen
   pub record TellsTo (ascends : Bool) (all : List T) (last : T) (rest : List T) : Type 0 where
     pub up : ascends ≡ true → AscendsTo all last rest
     pub other : ascends ≡ false → IsAscending cmp all → ⊥
@@ -78,7 +78,7 @@ module _ {T : Type 0} (cmp : T → T → Ordering) where
     | false ↦ λ not_less. record { up = λ e. absurd (false≢true e); other = λ _. descends all rest rest' x y (told.up refl) first not_less }
   ] refl
 
-  -- a list ascends where each item is below the next
+  -- a list ascends if each item is below the next
   module _ (o : IsTotalOrder cmp) (l : List T) (next : AllAdjacentBelow (λ x y. true ≡ is_lt (cmp x y)) l (length l)) where
     far_below : (n i : ℕ) (d : T) → i + n + 1 < length l → cmp (get_or l i d) (get_or l (i + n + 1) d) ≡ Less
     far_below zero i d inside = let same : i + 0 + 1 ≡ i + 1 = omega arith in rw same (less_from _ (sym (next i d (omega arith))))
@@ -94,14 +94,14 @@ module _ {T : Type 0} (cmp : T → T → Ordering) where
   adjacent_tells o [] false (k, inside, other) = absurd (omega arith)
   adjacent_tells o (x ∷ l) false (k, inside, other) = (λ e. absurd (false≢true e), λ _ up. false≢true (other x ∙ ap is_lt (up k (k + 1) x (omega arith) inside)))
 
-  -- ascending elements inserted one by one stay as they are
+  -- ascending elements that are inserted one by one stay as they are
   pub kept_all_behind : (l xs : List T) → IsAscending cmp (l ++ xs) → fold (keep cmp) l xs ≡ l ++ xs
   kept_all_behind l [] up = sym (append-nil l)
   kept_all_behind l (x ∷ xs) up =
       let split : (l ++ x ∷ []) ++ xs ≡ l ++ x ∷ xs = append_assoc l (x ∷ []) xs in
       ap (λ m. fold (keep cmp) m xs) (keep_behind cmp l x xs up) ∙ kept_all_behind (l ++ x ∷ []) xs (subst (IsAscending cmp) (sym split) up) ∙ split
 
-  -- where clones equal their sources, they ascend as these do
+  -- if clones equal their sources, they ascend as these do
   pub clones_ascend : IsTotalOrder cmp → (C : T → T → Type 0) → ((x y : T) → C x y → cmp x y ≡ Equal) → (xs ys : List T) → AllZip C xs ys → IsAscending cmp xs → IsAscending cmp ys
   clones_ascend o C equal xs ys cloned up i j d lt inside =
       let long : length xs ≡ length ys = length_all_zip C xs ys cloned in

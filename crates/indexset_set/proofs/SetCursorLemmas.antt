@@ -1,4 +1,4 @@
--- Where a cursor stands: its position, and what stands before its node.
+-- The position of a cursor, and the items before its node.
 use Rattle.std.proofs.Common.{◌≡◌, ℕ, ◌-◌, ◌≤◌, List, length, sum, take, arith}
 use Rattle.indexset_core.specs.Nodes.{concat, node_lengths}
 use Rattle.indexset_core.proofs.CallerLemmas.{offset-le}

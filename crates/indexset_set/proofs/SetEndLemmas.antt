@@ -13,7 +13,7 @@ use Rattle.std.proofs.lemmas.Option.{get_or_from_slice_get, slice_get_within}
 use Rattle.indexset_core.specs.Order.{IsAscending, above, below, has_equal}
 use Rattle.indexset_core.proofs.CallerLemmas.{count_parted, found_has_equal, rank-slice_get}
 
--- where no element is left by a test, each fails it
+-- if no element is left by a test, each fails it
 pub none_passes : {X : Type 0} (p : X → Bool) (l : List X) → filter p l ≡ [] → All (λ x. p x ≡ false) l
 none_passes p [] h = All-nil (λ x. p x ≡ false)
 none_passes p (x ∷ l) h = elim (p x) as (λ b. p x ≡ b → cond b (x ∷ filter p l) (filter p l) ≡ [] → All (λ y. p y ≡ false) (x ∷ l)) [
@@ -72,6 +72,6 @@ parted_at (y ∷ []) zero x is end = let same : y ≡ x = cc in rw same refl
 parted_at (y ∷ z ∷ l) zero x is end = absurd (omega (arith, end))
 parted_at (y ∷ l) (suc i) x is end = ap (λ q. y ∷ q) (parted_at l i x is (omega (arith, end)))
 
--- a list is what is left without its last element, and that one
+-- a list is its elements without the last one, and that one
 pub last_parted : {T : Type 0} (l : List T) (i : ℕ) (x : T) → slice_get l i ≡ Some x → i ≡ length l - 1 → l ≡ remove l i ++ x ∷ []
 last_parted l i x is end = parted_at l i x is (omega (arith, end, slice_get_within l i x is))

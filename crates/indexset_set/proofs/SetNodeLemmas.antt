@@ -1,4 +1,4 @@
--- The nodes of a set, by whether an equal element is there.
+-- The nodes of a set, with or without an equal element.
 use Rattle.std.proofs.Common.{◌≡◌, ℕ, Bool, true, false, List, Ordering, if◌then◌else◌, refl, ap, sym, ◌∙◌}
 use Rattle.indexset_spine.specs.declared.spot.Spot.{Spot}
 use Rattle.indexset_core.specs.Nodes.{equal_at, concat, node_at, node_for}
@@ -10,7 +10,7 @@ use Rattle.indexset_core.proofs.CallerLemmas.{told_found, told_gap, told_has_equ
 use Rattle.indexset_set.specs.SetNodes.{spot_of, nodes_kept, nodes_put, nodes_unequal, nodes_without}
 
 module _ {T Q : Type 0} (cmp : T → Q → Ordering) where
-  -- a search that answers the place of w, which is v
+  -- a search that returns the place of w, which is v
   pub spot_told : (ns : List (List T)) (v w : Q) (s : Spot) → w ≡ v → s.node ≡ node_for (λ x. cmp x w) ns → s.offset ≡ less_count (λ x. cmp x w) (node_at ns s.node) → s.found ≡ has_equal cmp (concat ns) v → s ≡ spot_of cmp ns v
   spot_told ns v w s same node offset found =
       let node' : s.node ≡ node_for (λ x. cmp x v) ns = node ∙ ap (λ u. node_for (λ x. cmp x u) ns) same in
@@ -18,14 +18,14 @@ module _ {T Q : Type 0} (cmp : T → Q → Ordering) where
       = offset ∙ (ap (λ u. less_count (λ x. cmp x u) (node_at ns s.node)) same ∙ ap (λ k. less_count (λ x. cmp x v) (node_at ns k)) node') in
       λ j. record { node = node' j; offset = offset' j; found = found j }
 
-  -- the spot tells where v is or goes
+  -- the spot is that of v, or its insertion point
   pub record TellsOf (s : NodeList T) (v : Q) (spot : Spot) : Type 0 where
     pub found : OnTrue spot.found (IsFoundAt cmp (items s) v (position_of s.nodes spot))
     pub gap : OnFalse spot.found (IsGapFor cmp (items s) v (position_of s.nodes spot))
     pub place : spot ≡ spot_of cmp s.nodes v
     pub position : position_of s.nodes spot ≡ rank cmp (items s) v
 
-  -- as the spot that a search for w answers does, which is v
+  -- as the spot that a search for w returns, which is v
   pub tells_of : (s : NodeList T) → (v w : Q) → IsParted (λ x. cmp x v) (items s) → w ≡ v → (spot : Spot)
       → spot.node ≡ node_for (λ x. cmp x w) s.nodes → spot.offset ≡ less_count (λ x. cmp x w) (node_at s.nodes spot.node)
       → position_of s.nodes spot ≡ less_count (λ x. cmp x w) (items s) → spot.found ≡ equal_at (λ x. cmp x w) (items s) (position_of s.nodes spot) → TellsOf s v spot
@@ -49,7 +49,7 @@ module _ {T : Type 0} (cmp : T → T → Ordering) where
     unfolding nodes_kept
     kept_there h = rw h refl
 
-    -- what an edit at the place of a search left
+    -- the result of an edit at the place of a search
     module _ (spot : Spot) (t : List (List T)) (place : spot ≡ spot_of cmp s.nodes v) where
       new : List (List T)
       new = with_inserted s.size s.nodes (spot_of cmp s.nodes v) v
@@ -66,7 +66,7 @@ module _ {T : Type 0} (cmp : T → T → Ordering) where
       unfolding nodes_put new
       put_there h is = is ∙ (ap (λ p. with_replaced s.nodes p v) place ∙ sym (ap (λ (b : Bool). if b then with_replaced s.nodes (spot_of cmp s.nodes v) v else new) h))
 
--- what a search by a reference tells is told of the item that it points to
+-- what a search by a reference shows, it shows of the item that the reference points to
 module _ {T R : Type 0} (cmp : T → T → Ordering) (f : R → T) (l : List T) (q : R) (i : ℕ) where
   pub found_of : IsFoundAt (λ x r. cmp x (f r)) l q i → IsFoundAt cmp l (f q) i
   found_of h = record { inside = h.inside; equal = h.equal; below_before = h.below_before }

@@ -1,4 +1,4 @@
--- A set that is made of clones of what an iterator showed.
+-- A set of clones of the elements that an iterator yields.
 use Rattle.std.proofs.Common.{◌≡◌, ℕ, List, [], ◌∷◌, ◌++◌, map, Ordering, Result, Ok, Err, IfErr, IfOk, MatchResult, sym, ap, ◌∙◌}
 use Rattle.std.specs.Borrow.{Bor}
 use Rattle.std.specs.Iterator.{Drains}
@@ -13,7 +13,7 @@ use Rattle.indexset_set.specs.SetCopy.{IsSetOf}
 use Rattle.indexset_set.specs.SetNodes.{nodes_kept_all}
 use Rattle.indexset_set.proofs.SetCopyLemmas.{kept_all_behind}
 
--- what came to the end is what was left
+-- the elements yielded up to the end are the remaining ones
 pub shown : {T : Type 0} (s : List T) (given : List (Bor T)) → Drains (TakesFirst (deref {X = T})) s given → map deref given ≡ s
 shown s given (u, (t, came, last)) = sym (rest_so_far deref given s t came ∙ ap (λ rest. map deref given ++ rest) last.0 ∙ append-nil (map deref given))
 
@@ -30,7 +30,7 @@ module _ {T : Type 0} (cmp : T → T → Ordering) (C : T → T → Type 0) (xs 
     size = same_size;
   }
 
-  -- what a call made of the clones
+  -- the result of a call for the clones
   pub made_set : {E : Type 0} (cause : E) (size : ℕ) (r : Result (NodeList T) E) → IfOk r (λ s. items s ≡ fold (keep cmp) [] clones) → IfOk r (λ s. s.nodes ≡ nodes_kept_all cmp (node_list ([] ∷ []) size) clones)
       → IfOk r (λ s. s.size ≡ size) → IfErr r (λ e. e ≡ cause) → MatchResult r (IsSetOf cmp C xs size) (λ e. e ≡ cause)
   made_set cause size (Ok s) elements nodes same_size refused = set_of size s elements nodes same_size

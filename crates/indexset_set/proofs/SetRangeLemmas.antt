@@ -11,7 +11,7 @@ use Rattle.std.proofs.lemmas.Bool.Decides.{nat_tests}
 use Rattle.indexset_core.specs.KeyRange.{is_at_position, in_positions}
 use Rattle.indexset_core.proofs.CallerLemmas.{at_position, clipped}
 
--- what passes by its position, counted from k
+-- the elements that pass by their position, counted from k
 module _ {T : Type 0} (r : ℕ → Bool) where
   none_at : (k : ℕ) (l : List T) → ((m : ℕ) → k ≤ m → m < k + length l → r m ≡ false) → map (λ p. p.1) (filter (λ p. r p.0) (enumerate_from k l)) ≡ []
   none_at k [] h = refl

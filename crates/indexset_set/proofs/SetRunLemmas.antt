@@ -1,4 +1,4 @@
--- Elements that go into one node, before its last element.
+-- Elements that are inserted into one node, before its last element.
 use Rattle.std.proofs.Common.{◌≡◌, ℕ, suc, ◌+◌, ◌-◌, ◌<◌, ◌≤◌, ◌||◌, Bool, true, false, List, [], ◌∷◌, ◌++◌, length, take, drop, get_or, slice_set, slice_get, Some, Ordering, refl, sym, ap, ◌∙◌, subst, inl, inr, arith, length-append, length-take, append_assoc, length-set, get_or-set_same, get_or-set_other}
 use Rattle.std.specs.declared.cmp.Ordering.TheVariants.{Less, Greater}
 use Rattle.std.specs.Cmp.{IsTotalOrder}
@@ -29,7 +29,7 @@ module _ {T : Type 0} (cmp : T → T → Ordering) (o : IsTotalOrder cmp) where
   over : (x y : T) → cmp x y ≡ Less → cmp y x ≡ Greater
   over x y h = o.antisymm y x ∙ ap ordering_reverse h
 
-  -- what has an element below its last one is not empty
+  -- a list with an element below its last one is not empty
   some_last : (x : T) (n : List T) → HoldsAt (λ l. cmp x l ≡ Less) n (length n - 1) → 0 < length n
   some_last x [] h = absurd (false≢true (ap is_eq (sym (h x) ∙ tied_itself o x)))
   some_last x (y ∷ ys) h = omega arith
@@ -47,7 +47,8 @@ module _ {T : Type 0} (cmp : T → T → Ordering) (o : IsTotalOrder cmp) where
       pub low : All (λ y. cmp y v ≡ Less) before
       pub high : All (λ y. cmp y v ≡ Greater) after
 
-    -- then v stands or goes there, whatever the node has, if its last element is above v
+    -- then v is or belongs there, independent of the node's other elements, if its last element is
+    -- above v
     module _ (m : List T) (l v : T) (goes : GoesIn v) (less : cmp v l ≡ Less) where
       abbrev n : List T
       n = m ++ l ∷ []
@@ -106,7 +107,7 @@ module _ {T : Type 0} (cmp : T → T → Ordering) (o : IsTotalOrder cmp) where
                 sym (put_new cmp (node_list ms size) v (spot false) (slice_set ns k (put cmp n v)) (place false (sym none)) none (written ∙ inserted))
           ] refl
 
-    -- each of a run in turn
+    -- each value of a run in order
     module _ (size : ℕ) where
       pub run_in : (m xs : List T) (l : T) → IsAscending cmp (m ++ l ∷ []) → All GoesIn xs → All (λ x. cmp x l ≡ Less) xs → length (m ++ l ∷ []) + length xs ≤ size
           → fold (λ ms x. nodes_put cmp (node_list ms size) x) (slice_set ns k (m ++ l ∷ [])) xs ≡ slice_set ns k (fold (put cmp) (m ++ l ∷ []) xs)
@@ -120,7 +121,7 @@ module _ {T : Type 0} (cmp : T → T → Ordering) (o : IsTotalOrder cmp) where
           ∙ (run_in (put cmp m x) xs l (subst (IsAscending cmp) next grown.up) (λ j d lt. goes (suc j) d (omega (arith, lt))) (λ j d lt. less (suc j) d (omega (arith, lt))) (omega (arith, fits, grown.most, ap (λ (u : List T). length u) next))
           ∙ ap (λ u. slice_set ns k (fold (put cmp) u xs)) (sym next))
 
-    -- and what it makes of all elements
+    -- and the result for all elements
     put_among : (n : List T) (v : T) → GoesIn v → put cmp (before ++ (n ++ after)) v ≡ before ++ (put cmp n v ++ after)
     unfolding put
     put_among n v goes =
@@ -150,7 +151,8 @@ module _ {T : Type 0} (cmp : T → T → Ordering) (o : IsTotalOrder cmp) where
         joined_set ns k (fold (put cmp) (node_at ns k) xs) inside
         ∙ (sym (fold_among (node_at ns k) xs goes) ∙ ap (λ u. fold (put cmp) u xs) (sym (joined_around ns k inside)))
 
-    -- where `first` goes into the node, so does what is not below it, if the last element of the node is above that
+    -- if `first` is inserted into the node, so is an element that is not below it, if the last
+    -- element of the node is above that
     module _ (size : ℕ) (is : AreNodeLengths (node_lengths ns) size) (up : IsAscending cmp (concat ns)) (first : T) (found : k ≡ node_for (λ y. cmp y first) ns) where
       filled : 2 ≤ length ns → All (λ i. 1 ≤ i) (node_lengths ns)
       filled two = is.filled (omega (arith, two, count-lengths ns))
@@ -200,7 +202,8 @@ module _ {T : Type 0} (cmp : T → T → Ordering) (o : IsTotalOrder cmp) where
           high = high_at;
         }
 
-      -- the first elements of an ascending list that begins with `first`, all below the last element of the node
+      -- the first elements of an ascending list that begins with `first`, all below the last
+      -- element of the node
       module _ (xs : List T) (count : ℕ) (order : IsAscending cmp xs) (begins : slice_get xs 0 ≡ Some first) (positive : 0 < count)
           (below_last : All (λ x. HoldsAt (λ l. cmp x l ≡ Less) (node_at ns k) (length (node_at ns k) - 1)) (take count xs)) where
         abbrev run : List T

@@ -1,4 +1,5 @@
--- Values that are sorted, and of which equal ones but the first are dropped, are those that are inserted one by one.
+-- A stable sort of values, without all but the first of equal ones, gives the values that are
+-- inserted one by one.
 use Rattle.std.proofs.Common.{◌≡◌, Option, None, Some, Bool, true, false, not, cond, ◌&&◌, if◌then◌else◌, find, is_some, List, [], ◌∷◌, take, drop, filter, Ordering, Result, Ok, Err, IfOk, refl, ap, sym, ◌∙◌, subst, arith}
 use Rattle.std.specs.declared.cmp.Ordering.TheVariants.{Less, Equal, Greater}
 use Rattle.std.specs.Cmp.{IsTotalOrder}
@@ -75,7 +76,7 @@ module _ {T : Type 0} (cmp : T → T → Ordering) (o : IsTotalOrder cmp) where
       let over : cmp y v ≡ Greater = o.antisymm y v ∙ ap ordering_reverse (sym (o.congr x v y e) ∙ h.0) in
       rw over (none_under x v ys e h.1)
 
-  -- an item below the first is nowhere
+  -- no item of the list is below the first
   none_below : (x y : T) (l : List T) → cmp x y ≡ Less → IsUnder cmp y l → equal_element cmp (y ∷ l) x ≡ None
   none_below x y l e h = none_under x x (y ∷ l) (itself x) (e, under_map cmp x y (λ z less. o.trans x y z e less) l h)
 
@@ -99,7 +100,7 @@ module _ {T : Type 0} (cmp : T → T → Ordering) (o : IsTotalOrder cmp) where
     | Greater ↦ λ e. some_other y (sym (none_below y x xs (o.antisymm y x ∙ ap ordering_reverse e) h.0) ∙ (same y ∙ found_first y ys))
   ] refl
 
-  -- the element equal to v, once x was inserted
+  -- the element equal to v after the insertion of x
   module _ (l : List T) (up : IsAscending cmp l) (x v : T) where
     between : (a c whole : Option T) (b : Bool) → whole ≡ option_or a c → (b ≡ true → whole ≡ None) → option_or a (cond b (Some x) c) ≡ option_or whole (cond b (Some x) None)
     between None c whole true parts none = rw (none refl) refl
@@ -131,7 +132,7 @@ module _ {T : Type 0} (cmp : T → T → Ordering) (o : IsTotalOrder cmp) where
   cond_or true x r = refl
   cond_or false x r = refl
 
-  -- the element equal to v, once all of xs were inserted
+  -- the element equal to v after the insertion of all of xs
   found_all_kept : (l xs : List T) → IsAscending cmp l → (v : T) → equal_element cmp (fold (keep cmp) l xs) v ≡ option_or (equal_element cmp l v) (equal_element cmp xs v)
   found_all_kept l [] up v = sym (or_none (equal_element cmp l v))
   found_all_kept l (x ∷ xs) up v =
@@ -191,7 +192,7 @@ module _ {T : Type 0} (cmp : T → T → Ordering) (o : IsTotalOrder cmp) where
         same_elements (dedup same ys) (fold (keep cmp) [] xs) dedup_up (up_from cmp (fold (keep cmp) [] xs) (all_kept_ascending [] xs none_ascend))
         (λ v. found_dedup ys v ∙ (found_stable xs ys stable v ∙ sym (found_all_kept [] xs none_ascend v)))
 
--- nodes that are those of a list are those of the items, where these are the list
+-- the nodes of a list are those of the items, if these are the list
 pub nodes_of_items : {T E : Type 0} (cmp : T → T → Ordering) (s : NodeList T) (l : List T) (r : Result (NodeList T) E) → IfOk r (λ made. items made ≡ l) → IfOk r (λ made. made.nodes ≡ nodes_kept_all cmp s l) → IfOk r (λ made. made.nodes ≡ nodes_kept_all cmp s (items made))
 nodes_of_items cmp s l (Ok made) is nodes = nodes ∙ ap (nodes_kept_all cmp s) (sym is)
 nodes_of_items cmp s l (Err e) is nodes = tt

@@ -8,7 +8,7 @@ use Rattle.indexset_core.proofs.CallerLemmas.{Parts, count_parts, front-is_le}
 use Rattle.indexset_set.specs.SetRanges.{upper_element}
 
 module _ {X : Type 0} where
-  -- the first that passes q, where those that pass p stand first and no other passes p
+  -- the first that passes q, if those that pass p come first and no other passes p
   find_parts : (p q : X → Bool) → ((x : X) → q x ≡ not (p x)) → (l : List X) (i : ℕ) → Parts p l i → find q l ≡ slice_get l i
   find_parts p q other [] zero ps = refl
   find_parts p q other [] (suc i) ps = let h = ps.inside in absurd (omega (arith, h))

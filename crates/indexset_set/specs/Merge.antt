@@ -1,4 +1,4 @@
--- Two lists merged by their first items, and what is read off the merged list.
+-- The merge of two ascending lists, and the lists that are read from it.
 use Rattle.std.specs.Prelude.{List, [], ◌∷◌, map, Option, Some, None}
 use Rattle.std.specs.List.{filter_map}
 use Rattle.std.specs.Ordering.{match_ordering}
@@ -12,7 +12,7 @@ map_merge_item f (Right y) = Right (f y)
 map_merge_item f (Both x y) = Both (f x) (f y)
 
 module _ {X : Type 0} where
-  -- the item as the left list has it, or the right one
+  -- the item of the left list, or of the right list, if any
   abbrev pub of_left : MergeItem X → Option X
   of_left (Left x) = Some x
   of_left (Right y) = None
@@ -23,36 +23,36 @@ module _ {X : Type 0} where
   of_right (Right y) = Some y
   of_right (Both x y) = Some y
 
-  -- the item of either list, of both the left one
+  -- the item of either list; of two the left one
   abbrev pub of_either : MergeItem X → Option X
   of_either (Left x) = Some x
   of_either (Right y) = Some y
   of_either (Both x y) = Some x
 
-  -- the left item, where both lists have one
+  -- the left item, if both lists have one
   abbrev pub of_both : MergeItem X → Option X
   of_both (Left x) = None
   of_both (Right y) = None
   of_both (Both x y) = Some x
 
-  -- the item that the left list has alone
+  -- the left item, if only the left list has one
   abbrev pub of_left_alone : MergeItem X → Option X
   of_left_alone (Left x) = Some x
   of_left_alone (Right y) = None
   of_left_alone (Both x y) = None
 
-  -- the item that one list has alone
+  -- the item, if only one list has one
   abbrev pub of_one_alone : MergeItem X → Option X
   of_one_alone (Left x) = Some x
   of_one_alone (Right y) = Some y
   of_one_alone (Both x y) = None
 
-  -- what is read off each item in order
+  -- what f reads from each item, in order
   abbrev pub read : (MergeItem X → Option X) → List (MergeItem X) → List X
   read f m = filter_map f m
 
 module _ {T : Type 0} (cmp : T → T → Ordering) where
-  -- x and more merged with a list, where `after` is how more is merged
+  -- x and more, merged with a list, where `after` is the merge of more
   abbrev pub merged_from : T → List T → (List T → List (MergeItem T)) → List T → List (MergeItem T)
   merged_from x more after [] = map Left (x ∷ more)
   merged_from x more after (y ∷ ys) = match_ordering (cmp x y) (Left x ∷ after (y ∷ ys)) (Both x y ∷ after ys) (Right y ∷ merged_from x more after ys)

@@ -13,7 +13,7 @@ module _ {T : Type 0} (cmp : T → T → Ordering) where
   unfoldable pub difference : List T → List T → List T
   difference l r = filter (λ x. not (has_equal cmp r x)) l
 
-  -- the elements of l, and each of r that has no equal one there, where it belongs
+  -- the elements of l, and those of r that have no equal one in l, in order
   unfoldable pub union : List T → List T → List T
   union l r = fold (keep cmp) l r
 
@@ -25,6 +25,6 @@ module _ {T : Type 0} (cmp : T → T → Ordering) where
   unfoldable pub put_all : List T → List T → List T
   put_all l xs = fold (put cmp) l xs
 
-  -- a prefix of xs was inserted into l in order, which gave m, and the others remain
+  -- m is l with a prefix of xs inserted in order, and rest is the rest of xs
   abbrev pub MovesPrefix : List T → List T → List T → List T → Type 0
   MovesPrefix l xs m rest = (k : ℕ) × (m ≡ put_all l (take k xs)) × (rest ≡ drop k xs)

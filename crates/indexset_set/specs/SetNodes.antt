@@ -1,4 +1,4 @@
--- The nodes of a set, once values were inserted or removed.
+-- The nodes of a set after insertions and removals.
 use Rattle.std.specs.Prelude.{◌≡◌, ℕ, List, take, drop, if◌then◌else◌}
 use Rattle.std.specs.List.{fold, list_any}
 use Rattle.std.specs.Ordering.{is_eq}
@@ -14,7 +14,9 @@ abbrev pub IsWithoutAt : {T : Type 0} → List (List T) → ℕ → List (List T
 IsWithoutAt ns i ms = (s : Spot) × IsItemSpot ns s × (position_of ns s ≡ i) × (ms ≡ without_item ns s)
 
 module _ {T : Type 0} where
-  -- where the first element found Equal is, or else where one would go: in the first node whose last element is not found Less, else in the last node, after the elements found Less
+  -- the spot of the first element that compares Equal, or its insertion point: in the first node
+  -- whose last element does not compare Less, else in the last node, after the elements that
+  -- compare Less
   abbrev pub search_spot : (T → Ordering) → List (List T) → Spot
   search_spot answer ns =
       let node = node_for answer ns in record {
@@ -23,37 +25,37 @@ module _ {T : Type 0} where
         found = list_any (λ x. is_eq (answer x)) (concat ns);
       }
 
-  -- without the first element found Equal
+  -- the nodes without the first element that compares Equal
   unfoldable pub nodes_unequal : (T → Ordering) → NodeList T → List (List T)
   nodes_unequal answer s = if list_any (λ x. is_eq (answer x)) (items s) then without_item s.nodes (search_spot answer s.nodes) else s.nodes
 
--- v is compared with elements, of which it may be one
+-- elements are compared with v, which may be of another type
 module _ {T Q : Type 0} (cmp : T → Q → Ordering) where
-  -- where the element equal to v is, or else where v would go
+  -- the spot of the element equal to v, or the insertion point of v
   abbrev pub spot_of : List (List T) → Q → Spot
   spot_of ns v = search_spot (λ x. cmp x v) ns
 
-  -- without the element equal to v
+  -- the nodes without the element equal to v
   abbrev pub nodes_without : NodeList T → Q → List (List T)
   nodes_without s v = nodes_unequal (λ x. cmp x v) s
 
 module _ {T : Type 0} (cmp : T → T → Ordering) where
-  -- v inserted, unless an equal element is present
+  -- the nodes with v inserted, unless an equal element is present
   unfoldable pub nodes_kept : NodeList T → T → List (List T)
   nodes_kept s v = if has_equal cmp (items s) v then s.nodes else with_inserted s.size s.nodes (spot_of cmp s.nodes v) v
 
-  -- v inserted, replacing any equal element
+  -- the nodes with v inserted, replacing any equal element
   unfoldable pub nodes_put : NodeList T → T → List (List T)
   nodes_put s v = if has_equal cmp (items s) v then with_replaced s.nodes (spot_of cmp s.nodes v) v else with_inserted s.size s.nodes (spot_of cmp s.nodes v) v
 
-  -- each of xs in order, unless an equal element is present
+  -- the nodes with each of xs inserted in order, unless an equal element is present
   unfoldable pub nodes_kept_all : NodeList T → List T → List (List T)
   nodes_kept_all s xs = fold (λ ns x. nodes_kept (node_list ns s.size) x) s.nodes xs
 
-  -- each of xs in order, replacing any equal element
+  -- the nodes with each of xs inserted in order, replacing any equal element
   unfoldable pub nodes_put_all : NodeList T → List T → List (List T)
   nodes_put_all s xs = fold (λ ns x. nodes_put (node_list ns s.size) x) s.nodes xs
 
-  -- a prefix of xs was inserted in order, which gave the nodes, and the others remain
+  -- ns are the nodes with a prefix of xs inserted in order, and rest is the rest of xs
   abbrev pub PutsPrefix : NodeList T → List T → List (List T) → List T → Type 0
   PutsPrefix s xs ns rest = (k : ℕ) × (ns ≡ nodes_put_all s (take k xs)) × (rest ≡ drop k xs)

@@ -1,4 +1,4 @@
--- What bounds find in a set, said of its elements in order.
+-- The elements of a list on one side of a value.
 use Rattle.std.specs.Prelude.{List, Option, filter, find, not}
 use Rattle.std.specs.declared.cmp.Ordering.{Ordering}
 use Rattle.std.specs.Ordering.{is_gt, is_lt}

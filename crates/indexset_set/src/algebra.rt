@@ -1,4 +1,4 @@
-//! Two sets as sets: what both have, either has, or one has alone, as iterators, and subset tests.
+//! Set operations: the union, the intersection and the differences as iterators, and subset tests.
 ghost use Rattle.std.specs.Prelude.{◌≡◌, ◌+◌, ◌≤◌, length, not};
 ghost use Rattle.std.specs.List.{list_all};
 ghost use Rattle.std.specs.Map.Iter.{ShowsInOrder, deref};
@@ -23,8 +23,9 @@ pub use symmetric_walk::SymmetricDifference;
 pub use union_walk::Union;
 
 impl<T: Ord> BTreeSet<T> {
-    /// Returns an iterator over the union, ascending: the elements of either set, of two equal ones
-    /// this set's.
+    /// Returns an iterator over the union, in ascending order.
+    ///
+    /// It yields the elements of either set, and of two equal ones this set's.
     ///
     /// ```
     /// let one = BTreeSet::from_iter(alloc, [1, 2])?;
@@ -41,8 +42,9 @@ impl<T: Ord> BTreeSet<T> {
         }
     }
 
-    /// Returns an iterator over the intersection, ascending: the elements of this set that have an
-    /// equal one in the other.
+    /// Returns an iterator over the intersection, in ascending order.
+    ///
+    /// It yields the elements of this set that have an equal one in the other.
     ///
     /// ```
     /// let one = BTreeSet::from_iter(alloc, [1, 2])?;
@@ -59,8 +61,9 @@ impl<T: Ord> BTreeSet<T> {
         }
     }
 
-    /// Returns an iterator over the difference, ascending: the elements of this set that have no
-    /// equal one in the other.
+    /// Returns an iterator over the difference, in ascending order.
+    ///
+    /// It yields the elements of this set that have no equal one in the other.
     ///
     /// ```
     /// let one = BTreeSet::from_iter(alloc, [1, 2])?;
@@ -77,8 +80,9 @@ impl<T: Ord> BTreeSet<T> {
         }
     }
 
-    /// Returns an iterator over the symmetric difference, ascending: the elements of either set
-    /// that have no equal one in the other.
+    /// Returns an iterator over the symmetric difference, in ascending order.
+    ///
+    /// It yields the elements of either set that have no equal one in the other.
     ///
     /// ```
     /// let one = BTreeSet::from_iter(alloc, [1, 2])?;
@@ -95,7 +99,7 @@ impl<T: Ord> BTreeSet<T> {
         }
     }
 
-    /// Returns whether the set is a subset of the other: each element has an equal one there.
+    /// Returns whether the set is a subset of `other`: each element has an equal one there.
     ///
     /// ```
     /// let one = BTreeSet::from_iter(alloc, [1, 2])?;
@@ -108,8 +112,7 @@ impl<T: Ord> BTreeSet<T> {
         self.difference(other).next().is_none()
     }
 
-    /// Returns whether the set is a superset of the other: each element there has an equal one
-    /// here.
+    /// Returns whether the set is a superset of `other`: each element there has an equal one here.
     ///
     /// ```
     /// let one = BTreeSet::from_iter(alloc, [1, 2])?;

@@ -17,8 +17,9 @@ use indexset_core::lookup_key::LookupKey;
 use indexset_core::refusal::Refusal;
 
 impl<T: Ord + Drop> BTreeSet<T> {
-    /// Retains the elements for which the closure returns true. It is called once for each element,
-    /// in order. It allocates nothing.
+    /// Retains the elements for which the closure returns true.
+    ///
+    /// The closure is called once for each element, in order. The set allocates nothing.
     ///
     /// ```
     /// let mut set = BTreeSet::from_iter(alloc, 1..=6)?;
@@ -40,14 +41,21 @@ impl<T: Ord + Drop> BTreeSet<T> {
         );
     }
 
-    /// Removes the elements not below the value, and returns them as a set of the same node size.
-    /// Fails with `Memory`: a failed call changes nothing.
+    /// Splits the set at a value, and returns the elements that are not below it.
+    ///
+    /// The returned set has the same node size.
+    ///
+    /// # Examples
     ///
     /// ```
     /// let mut low = BTreeSet::from_iter(alloc, [1, 2, 3, 4])?;
     /// let high = low.split_off(&3)?;
     /// assert!(rt; low.last() == Some(&2) && high.first() == Some(&3));
     /// ```
+    ///
+    /// # Errors
+    ///
+    /// Fails with `Memory` only. A failed call changes nothing.
     pub fn split_off<Q: LookupKey<T> + Drop>(&mut self, value: Q) -> Result<Self, Refusal>
         ensures below { OnOk result (items self.new ≡ below Q.order (items self.old) value) }
         ensures rest { IfOk result (λ s. items s ≡ not_below Q.order (items self.old) value) }
@@ -66,14 +74,21 @@ impl<T: Ord + Drop> BTreeSet<T> {
         Ok(BTreeSet { spine })
     }
 
-    /// Removes the elements from a position on, and returns them as a set of the same node size.
-    /// Fails with `Memory`: a failed call changes nothing.
+    /// Splits the set at a position, and returns the elements from there on.
+    ///
+    /// The returned set has the same node size.
+    ///
+    /// # Examples
     ///
     /// ```
     /// let mut front = BTreeSet::from_iter(alloc, [1, 2, 3, 4])?;
     /// let back = front.split_off_index(1)?;
     /// assert!(rt; front.len() == 1 && back.len() == 3);
     /// ```
+    ///
+    /// # Errors
+    ///
+    /// Fails with `Memory` only. A failed call changes nothing.
     pub fn split_off_index(&mut self, i: usize) -> Result<Self, Refusal>
         requires { i ≤ length (items self.old) }
         ensures first { OnOk result (items self.new ≡ take i (items self.old)) }
@@ -88,9 +103,9 @@ impl<T: Ord + Drop> BTreeSet<T> {
         Ok(BTreeSet { spine })
     }
 
-    /// Moves all elements of the other set into this one, first to last, replacing equal ones.
-    /// Elements above all here move by blocks without a comparison. Fails with `Memory`: a failed
-    /// call has moved a prefix, and the other set keeps the rest.
+    /// Moves all elements of `other` into this set, first to last, replacing equal ones.
+    ///
+    /// # Examples
     ///
     /// ```
     /// let mut set = BTreeSet::from_iter(alloc, [1, 2])?;
@@ -98,6 +113,15 @@ impl<T: Ord + Drop> BTreeSet<T> {
     /// set.append(&mut other)?;
     /// assert!(rt; set.iter().copied().eq([1, 2, 3]) && other.is_empty());
     /// ```
+    ///
+    /// # Errors
+    ///
+    /// Fails with `Memory` only. A failed call has moved a prefix, and leaves the other elements in
+    /// `other`.
+    ///
+    /// # Complexity
+    ///
+    /// Elements above all elements of this set move by blocks, without a comparison.
     pub fn append(&mut self, other: &mut Self) -> Result<(), Refusal>
         ensures ok { OnOk result (items self.new
             ≡ put_all T.cmp (items self.old) (items other.old)) }
@@ -131,8 +155,8 @@ impl<T: Ord + Drop> BTreeSet<T> {
         self.spine.item(&last).cmp(other.spine.item(&first)).is_lt()
     }
 
-    // Moves the elements of another set, which are above those here, behind them. A failed call has
-    // moved a prefix.
+    // Appends the elements of another set, which are above those here. A failed call has moved a
+    // prefix.
     fn append_above(&mut self, other: &mut Self) -> Result<(), Refusal>
         requires order { IsAscending T.cmp (items self.old ++ items other.old) }
         ensures moved { FoldsPrefix (put T.cmp) (items self.old) (items other.old) (items self.new)
@@ -149,9 +173,9 @@ impl<T: Ord + Drop> BTreeSet<T> {
         self.spine.append(&mut other.spine)
     }
 
-    // Moves first elements of another set into their places here, as many as one node takes at
-    // once, or one, and returns the node into which they went. The node `near` is tried first. A
-    // failed call changes neither.
+    // Moves first elements of another set into this one, as many as one node takes at once, or one,
+    // and returns the node into which they are inserted. The node `near` is tried first. A failed
+    // call changes neither.
     fn put_some_of(&mut self, other: &mut Self, near: usize) -> Result<usize, Refusal>
         requires some { 0 < length (items other.old) }
         ensures moved { OnOk result (FoldsPrefix (put T.cmp) (items self.old) (items other.old)

@@ -1,4 +1,4 @@
-//! Equality, order and hash of sets: those of their elements in order, whatever the nodes.
+//! Equality, order and hash of sets: those of their elements in order, independent of the nodes.
 ghost use Rattle.std.specs.Hash as fed;
 ghost use Rattle.std.specs.Hash.{on_Alike, items_Alike};
 ghost use Rattle.std.specs.Cmp.{on_equiv, on_total, on_per, on_po};

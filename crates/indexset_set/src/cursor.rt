@@ -14,7 +14,10 @@ use indexset_spine::spot::Spot;
 use std::marker::Model;
 use std::ops::Bound;
 
-/// A position of a set: that of an element, or the length, which is past the end.
+/// A cursor, which points at the position of an element of a set or past the end.
+///
+/// A cursor wraps around: after the last element comes the past-the-end position, and then the
+/// first element. It reads the index once for each node.
 ///
 /// ```
 /// // The neighbours of the element at position 1.
@@ -22,9 +25,6 @@ use std::ops::Bound;
 /// let cursor = set.cursor_at(1);
 /// assert!(rt; cursor.peek_prev() == Some(&10) && cursor.peek_next() == Some(&30));
 /// ```
-///
-/// A cursor wraps around: after the last element comes the position past the end, and then the
-/// first element. It reads the index once a node.
 #[derive(Drop)]
 pub struct Cursor<'a, T: Ord> {
     set: &'a BTreeSet<T>,
@@ -69,8 +69,12 @@ impl<T: Ord> BTreeSet<T> {
         cursor
     }
 
-    /// Returns a cursor at the first element that is not before the start, a bound given by a
-    /// comparator, or past the end if there is none, by two binary searches.
+    /// Returns a cursor at the first element that is not before the start.
+    ///
+    /// The start is a bound given by a comparator. If there is no such element, the cursor is past
+    /// the end.
+    ///
+    /// # Examples
     ///
     /// ```
     /// # use indexset::base::probe::ByItem;
@@ -78,6 +82,10 @@ impl<T: Ord> BTreeSet<T> {
     /// let cursor = set.cursor_from(Bound::Included(ByItem::new(&15)));
     /// assert_eq!(rt; cursor.item(), Some(&20));
     /// ```
+    ///
+    /// # Complexity
+    ///
+    /// Two binary searches.
     pub fn cursor_from<P: Probe<T> + Drop>(&self, start: Bound<P>) -> Cursor<'_, T>
         requires { IfBounded (λ p. FindsInOrder (P.answer p) (items self.now)) start }
         ensures { result ≡ cursor_state_at (items self.now)
@@ -86,8 +94,12 @@ impl<T: Ord> BTreeSet<T> {
         self.cursor_in(self.spine.start_of(start))
     }
 
-    /// Returns a cursor at the first element that is past the end, a bound given by a comparator,
-    /// or past the end if there is none, by two binary searches.
+    /// Returns a cursor at the first element after the end of a range.
+    ///
+    /// The end is a bound given by a comparator. If there is no such element, the cursor is past
+    /// the end of the set.
+    ///
+    /// # Examples
     ///
     /// ```
     /// # use indexset::base::probe::ByItem;
@@ -95,6 +107,10 @@ impl<T: Ord> BTreeSet<T> {
     /// let cursor = set.cursor_past(Bound::Included(ByItem::new(&20)));
     /// assert_eq!(rt; cursor.item(), Some(&30));
     /// ```
+    ///
+    /// # Complexity
+    ///
+    /// Two binary searches.
     pub fn cursor_past<P: Probe<T> + Drop>(&self, end: Bound<P>) -> Cursor<'_, T>
         requires { IfBounded (λ p. FindsInOrder (P.answer p) (items self.now)) end }
         ensures { result ≡ cursor_state_at (items self.now)
@@ -181,8 +197,9 @@ impl<'a, T: Ord> Cursor<'a, T> {
         self.element_at(self.position)
     }
 
-    /// Returns the element that `move_next` would move to, past the end the first, or `None` if
-    /// there is none.
+    /// Returns the element to which `move_next` would move, if any.
+    ///
+    /// Past the end, it is the first element.
     ///
     /// ```
     /// let set = BTreeSet::from_iter(alloc, [10, 20, 30])?;
@@ -210,7 +227,9 @@ impl<'a, T: Ord> Cursor<'a, T> {
         self.element_at(before)
     }
 
-    /// Returns the element at another position, if any. The cursor stays.
+    /// Returns the element at another position, if any.
+    ///
+    /// The cursor does not move.
     ///
     /// ```
     /// let set = BTreeSet::from_iter(alloc, [10, 20, 30])?;
@@ -246,7 +265,7 @@ impl<'a, T: Ord> Cursor<'a, T> {
         Some(element(self.set, &spot))
     }
 
-    // The next position; past the end, the first.
+    // Returns the next position; past the end, the first.
     fn next_position(&self) -> usize
         ensures value { result ≡ (next_state self.now).position }
         ensures inside { result ≤ length self.now.list }

@@ -10,10 +10,12 @@ use indexset_core::lookup_key::UniqueKey;
 use indexset_core::refusal::{Refusal, Refused};
 
 impl<T: Ord + Drop> BTreeSet<T> {
-    /// Inserts `value` and returns true. If an equal element is present, keeps it, drops `value`,
-    /// allocates nothing and returns false. It makes two binary searches at most, one comparison
-    /// where the value is above all elements, and moves items of one node. Fails with `Memory`: a
-    /// failed call returns the value in the error and changes nothing.
+    /// Inserts `value`, and returns whether it was inserted.
+    ///
+    /// If an equal element is present, the set keeps that element, drops `value`, allocates nothing
+    /// and returns false.
+    ///
+    /// # Examples
     ///
     /// ```
     /// let mut set = BTreeSet::new(alloc)?;
@@ -21,6 +23,15 @@ impl<T: Ord + Drop> BTreeSet<T> {
     /// let again = set.insert(7)?;
     /// assert!(rt; first && !again && set.len() == 1);
     /// ```
+    ///
+    /// # Errors
+    ///
+    /// Fails with `Memory` only. A failed call returns `value` in the error and changes nothing.
+    ///
+    /// # Complexity
+    ///
+    /// One comparison if `value` is above all elements, else one more than two binary searches.
+    /// Items of one node move.
     pub fn insert(&mut self, value: T) -> Result<bool, Refused<T>>
         ensures added { IfOk result (λ b. b ≡ not (has_equal T.cmp (items self.old) value)) }
         ensures ok { OnOk result (items self.new ≡ keep T.cmp (items self.old) value) }
@@ -40,15 +51,25 @@ impl<T: Ord + Drop> BTreeSet<T> {
         Ok(true)
     }
 
-    /// Replaces the element equal to `value` and returns the old one, and allocates nothing then.
-    /// If there is none, inserts `value` and returns `None`. Costs as `insert`. Fails with
-    /// `Memory`: a failed call returns the value in the error and changes nothing.
+    /// Inserts `value`, replacing the equal element, if any, and returns the replaced one.
+    ///
+    /// A replacement allocates nothing.
+    ///
+    /// # Examples
     ///
     /// ```
     /// let mut set = BTreeSet::from_iter(alloc, [7])?;
     /// let old = set.replace(7)?;
     /// assert_eq!(rt; old, Some(7));
     /// ```
+    ///
+    /// # Errors
+    ///
+    /// Fails with `Memory` only. A failed call returns `value` in the error and changes nothing.
+    ///
+    /// # Complexity
+    ///
+    /// Two binary searches. Items of one node move.
     pub fn replace(&mut self, value: T) -> Result<Option<T>, Refused<T>>
         ensures old { IfOk result (λ o. o ≡ equal_element T.cmp (items self.old) value) }
         ensures ok { OnOk result (items self.new ≡ put T.cmp (items self.old) value) }
@@ -67,13 +88,20 @@ impl<T: Ord + Drop> BTreeSet<T> {
         Ok(None)
     }
 
-    /// Removes the element equal to the value and returns it, if any, by two binary searches. It
-    /// allocates nothing.
+    /// Removes the element equal to the value and returns it, if any.
+    ///
+    /// It allocates nothing.
+    ///
+    /// # Examples
     ///
     /// ```
     /// let mut set = BTreeSet::from_iter(alloc, [7, 8])?;
     /// assert!(rt; set.take(&7) == Some(7) && set.take(&7).is_none());
     /// ```
+    ///
+    /// # Complexity
+    ///
+    /// Two binary searches.
     pub fn take<Q: UniqueKey<T> + Drop>(&mut self, value: Q) -> Option<T>
         ensures value { result ≡ equal_element Q.order (items self.old) value }
         ensures rest { items self.new ≡ without Q.order (items self.old) value }
@@ -89,8 +117,9 @@ impl<T: Ord + Drop> BTreeSet<T> {
         }
     }
 
-    /// Removes the element equal to the value, and returns whether there was one. It allocates
-    /// nothing.
+    /// Removes the element equal to the value, and returns whether there was one.
+    ///
+    /// It allocates nothing.
     ///
     /// ```
     /// let mut set = BTreeSet::from_iter(alloc, [7, 8])?;
@@ -106,7 +135,9 @@ impl<T: Ord + Drop> BTreeSet<T> {
         self.take(value).is_some()
     }
 
-    /// Removes all elements, and keeps one empty node. It allocates nothing.
+    /// Removes all elements, and keeps one empty node.
+    ///
+    /// It allocates nothing.
     ///
     /// ```
     /// let mut set = BTreeSet::from_iter(alloc, [10, 20])?;

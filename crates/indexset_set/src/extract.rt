@@ -1,4 +1,4 @@
-//! Elements that leave a set one by one, as a closure picks them.
+//! The removal of single elements, as a closure selects them.
 ghost use Rattle.std.specs.Prelude.{◌≡◌, IsTrue, MatchOption, length};
 ghost use Rattle.std.specs.Fn.{CalledAt, always_mut};
 ghost use Rattle.std.specs.Iterator.{at_most};
@@ -18,8 +18,10 @@ use indexset_spine::extract_range::ExtractRange;
 use std::iter::FusedIterator;
 use std::ops::Bound;
 
-/// The elements of a range of a set that a closure picks, in order. Each leaves the set as the
-/// iterator returns it. Once the iterator is dropped, those that it has not returned stay.
+/// An iterator that removes the elements of a range that a closure selects, in order.
+///
+/// Each element is removed when the iterator returns it. If the iterator is dropped, the elements
+/// that it has not returned stay in the set.
 #[derive(Drop)]
 #[must_use]
 pub struct ExtractIf<'a, T: Ord, F> {
@@ -32,16 +34,23 @@ pub struct ExtractIf<'a, T: Ord, F> {
 impl<T: Ord + Drop> BTreeSet<T> {
     ghost use Rattle.indexset_set.specs.SetExtract.{CalledOn, extract_items, extract_pred, extract_set};
 
-    /// Returns an iterator that calls the closure for each element within the range, in order, and
-    /// removes and returns those for which it returns true. An element costs as in a walk, and one
-    /// that goes moves those after it in its node. It allocates nothing. The start must not be past
-    /// the end, nor at it where both are excluded.
+    /// Returns an iterator that removes the elements of a range for which the closure returns true.
+    ///
+    /// The closure is called for each element within the range, in order. The start must not be
+    /// past the end, nor equal to it if both are excluded (see `base::key_range::bounds_are_ordered`).
+    /// It allocates nothing.
+    ///
+    /// # Examples
     ///
     /// ```
     /// let mut set = BTreeSet::from_iter(alloc, 1..=6)?;
     /// assert!(rt; set.extract_if(..5, |element| element % 2 == 0).eq([2, 4]));
     /// assert!(rt; set.iter().copied().eq([1, 3, 5, 6]));
     /// ```
+    ///
+    /// # Complexity
+    ///
+    /// Each element costs as in an iteration; the removal of one moves those after it in its node.
     pub fn extract_if<F: FnMut(&T) -> bool, R: KeyRange<T> + Drop>(
         &mut self,
         range: R,
@@ -83,8 +92,7 @@ impl<T: Ord + Drop> BTreeSet<T> {
         }
     }
 
-    // Calls the closure for each element of a stretch in turn, up to the first for which it returns
-    // true, and removes that one and returns it.
+    // Removes the next element of a stretch for which the closure returns true, and returns it.
     fn extract<F: FnMut(&T) -> bool>(&mut self, at: &mut ExtractRange, pred: &mut F) -> Option<T>
         requires callable { F.IsAlwaysCallable pred.old }
         requires at { IsExtractRange (node_lengths self.old.nodes) (length (items self.old)) at.old }

@@ -1,8 +1,8 @@
-//! What the crates above need of a set: `indexset` does not re-export it.
+//! Calls for the crates above, which `indexset` does not re-export.
 //!
-//! A map keeps its pairs in a set. Here it reads and edits where a search has ended (`spots`,
-//! `values`), and gathers ascending pairs in a run that is appended by blocks (`runs`). A caller
-//! has the calls of [`BTreeSet`](super::BTreeSet).
+//! A map stores its pairs in a set. These calls read and edit where a search has ended (`spots`,
+//! `values`), and gather ascending pairs in a run that is appended by blocks (`runs`). Other
+//! callers use the calls of [`BTreeSet`](super::BTreeSet).
 
 mod runs;
 mod spots;

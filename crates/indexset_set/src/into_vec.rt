@@ -1,9 +1,9 @@
-//! What `from` makes a collection of.
+//! The sources of `from`.
 ghost use Rattle.std.specs.Prelude.{◌≡◌, List, IfOk};
 
 use std::alloc::{AllocError, Global};
 
-/// Values in a row: a `Vec` or an array.
+/// A source of values for `from`: a `Vec` or an array.
 ///
 /// ```
 /// let from_array = BTreeSet::from(alloc, [20, 10])?;
@@ -16,7 +16,13 @@ pub trait IntoVec {
     /// The values, in order.
     ghost values: { Self → List Self.Item };
 
-    /// Returns the values as a `Vec`. It allocates for an array alone.
+    /// Returns the values as a `Vec`.
+    ///
+    /// Only an array needs an allocation.
+    ///
+    /// # Errors
+    ///
+    /// Fails with `AllocError` if the allocation fails.
     fn into_vec(self, alloc: Global) -> Result<Vec<Self::Item>, AllocError>
         ensures { IfOk result (λ all. all.items ≡ values self) };
 }

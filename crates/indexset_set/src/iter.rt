@@ -14,7 +14,7 @@ use indexset_spine::iter;
 use std::iter::FusedIterator;
 use std::marker::Model;
 
-/// The remaining elements of a set, from both ends.
+/// A double-ended iterator over the elements of a set, in ascending order.
 #[derive(Drop)]
 pub struct Iter<'a, T> {
     rest: iter::Iter<'a, T>,
@@ -29,7 +29,7 @@ impl<'a, T> Model for Iter<'a, T> {
 }
 
 impl<'a, T> Iter<'a, T> {
-    // The remaining elements of a spine's iterator.
+    // Wraps an iterator over a spine.
     pub(super) fn of(rest: iter::Iter<'a, T>) -> Self
         ensures { result ≡ rest.entry }
     {

@@ -18,7 +18,8 @@ use std::ops::Bound;
 
 impl<K: Ord, V> BTreeSet<Pair<K, V>> {
     /// Returns a double-ended iterator over the pairs whose keys are within the range, in order.
-    /// The start must not be past the end, nor at it where both are excluded (see
+    ///
+    /// The start must not be past the end, nor equal to it if both are excluded (see
     /// `base::key_range::bounds_are_ordered`).
     ///
     /// ```

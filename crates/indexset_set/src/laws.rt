@@ -1,5 +1,5 @@
-//! Laws that tie ranks to positions, for every ascending list and every lawful order, and so for
-//! what a set's calls return. Each function does nothing; its contract is the law.
+//! Laws that relate ranks to positions, for every ascending list and every lawful order, and so for
+//! the results of a set's calls. Each function does nothing; its contract is the law.
 ghost use Rattle.std.specs.Prelude.{◌≡◌, ℕ, List, Some, true, slice_get};
 ghost use Rattle.std.specs.declared.cmp.Ordering.{Ordering};
 ghost use Rattle.std.specs.Cmp.{IsTotalOrder};

@@ -1,4 +1,4 @@
-//! Look-ups by value: whether an equal element is present, where, and what comes next.
+//! Look-ups by value: the equal element, its position, and the next element.
 ghost use Rattle.std.specs.Prelude.{◌≡◌, ◌+◌, ◌<◌, ◌≤◌, true, IsTrue, IfOk, IfErr, IfSome, None, Some, find, length, position, slice_get};
 ghost use Rattle.std.specs.Bool.{OnTrue, OnFalse};
 ghost use Rattle.std.specs.declared.cmp.Ordering.TheVariants.{Less};
@@ -20,7 +20,7 @@ use indexset_spine::spine::Spine;
 use indexset_spine::spot::Spot;
 use std::ops::Bound;
 
-// Returns where the element equal to the value is, or where the value would go.
+// Returns the spot of the element equal to the value, or the insertion point of the value.
 #[inline(always)]
 pub(super) fn locate<T: Ord, Q: LookupKey<T> + Drop>(spine: &Spine<T>, value: Q) -> Spot
     requires { IsAscending T.cmp (items spine.now) }
@@ -36,7 +36,7 @@ pub(super) fn locate<T: Ord, Q: LookupKey<T> + Drop>(spine: &Spine<T>, value: Q)
     spine.locate_by(&mut ByItem::new(&value))
 }
 
-// Returns the same with the last element compared first. For values that come in order.
+// Returns the same with the last element compared first, for values that come in order.
 pub(super) fn locate_from_end<T: Ord>(spine: &Spine<T>, value: &T) -> Spot
     requires { IsAscending T.cmp (items spine.now) }
     ensures spot { IsSpot spine.now.nodes result }
@@ -51,7 +51,7 @@ pub(super) fn locate_from_end<T: Ord>(spine: &Spine<T>, value: &T) -> Spot
     spine.locate_from_end_by(&mut ByItem::new(value))
 }
 
-// Returns the same with a node tried first. For values whose places are near each other.
+// Returns the same with a node tried first, for values whose places are near each other.
 pub(super) fn locate_near<T: Ord>(spine: &Spine<T>, near: usize, value: &T) -> Spot
     requires { IsAscending T.cmp (items spine.now) }
     ensures spot { IsSpot spine.now.nodes result }
@@ -67,12 +67,18 @@ pub(super) fn locate_near<T: Ord>(spine: &Spine<T>, near: usize, value: &T) -> S
 }
 
 impl<T: Ord> BTreeSet<T> {
-    /// Returns the element equal to the value, if any, by two binary searches.
+    /// Returns the element equal to the value, if any.
+    ///
+    /// # Examples
     ///
     /// ```
     /// let set = BTreeSet::from_iter(alloc, [10, 20])?;
     /// assert!(rt; set.get(&20) == Some(&20) && set.get(&15).is_none());
     /// ```
+    ///
+    /// # Complexity
+    ///
+    /// Two binary searches.
     pub fn get<Q: LookupKey<T> + Drop>(&self, value: Q) -> Option<&T>
         ensures { option_copied result ≡ equal_element Q.order (items self.now) value }
     {
@@ -83,25 +89,36 @@ impl<T: Ord> BTreeSet<T> {
         Some(self.spine.item(&spot))
     }
 
-    /// Returns whether an element equal to the value is present, by two binary searches.
+    /// Returns whether an element equal to the value is present.
+    ///
+    /// # Examples
     ///
     /// ```
     /// let set = BTreeSet::from_iter(alloc, [10, 20])?;
     /// assert!(rt; set.contains(&20) && !set.contains(&15));
     /// ```
+    ///
+    /// # Complexity
+    ///
+    /// Two binary searches.
     pub fn contains<Q: LookupKey<T> + Drop>(&self, value: Q) -> bool
         ensures { result ≡ has_equal Q.order (items self.now) value }
     {
         locate(&self.spine, value).found
     }
 
-    /// Returns how many elements are below the value, by two binary searches and a sum over the
-    /// index.
+    /// Returns how many elements are below the value.
+    ///
+    /// # Examples
     ///
     /// ```
     /// let board = BTreeSet::from_iter(alloc, [10, 20, 30])?;
     /// assert!(rt; board.rank(&30) == 2 && board.rank(&25) == 2);
     /// ```
+    ///
+    /// # Complexity
+    ///
+    /// Two binary searches and a sum over the index.
     pub fn rank<Q: LookupKey<T> + Drop>(&self, value: Q) -> usize
         ensures value { result ≡ rank Q.order (items self.now) value }
         ensures at_rank { has_equal Q.order (items self.now) value ≡ true
@@ -113,13 +130,18 @@ impl<T: Ord> BTreeSet<T> {
         self.spine.position(&locate(&self.spine, value))
     }
 
-    /// Returns the position of the element equal to the value, or `None`, by two binary searches
-    /// and a sum over the index.
+    /// Returns the position of the element equal to the value, or `None`.
+    ///
+    /// # Examples
     ///
     /// ```
     /// let set = BTreeSet::from_iter(alloc, [10, 20, 30])?;
     /// assert!(rt; set.index_of(&20) == Some(1) && set.index_of(&25).is_none());
     /// ```
+    ///
+    /// # Complexity
+    ///
+    /// Two binary searches and a sum over the index.
     pub fn index_of<Q: LookupKey<T> + Drop>(&self, value: Q) -> Option<usize>
         ensures value { result ≡ index_of Q.order (items self.now) value }
         ensures at_index { IfSome result (λ i. slice_get (items self.now) i
@@ -134,13 +156,18 @@ impl<T: Ord> BTreeSet<T> {
         }
     }
 
-    /// Returns the position of the element equal to the value and the element, or `None`, as
-    /// `index_of` finds it.
+    /// Returns the position of the element equal to the value and the element, or `None`.
+    ///
+    /// # Examples
     ///
     /// ```
     /// let set = BTreeSet::from_iter(alloc, [10, 20, 30])?;
     /// assert!(rt; set.get_full(&20) == Some((1, &20)) && set.get_full(&25).is_none());
     /// ```
+    ///
+    /// # Complexity
+    ///
+    /// Two binary searches and a sum over the index.
     pub fn get_full<Q: LookupKey<T> + Drop>(&self, value: Q) -> Option<(usize, &T)>
         ensures index { option_map (λ r. r.0) result ≡ index_of Q.order (items self.now) value }
         ensures element { option_map (λ r. r.1.now) result
@@ -166,12 +193,18 @@ impl<T: Ord> BTreeSet<T> {
         self.spine.item_from(&locate(&self.spine, value))
     }
 
-    /// Returns the first element that is above the value, if any, by two binary searches.
+    /// Returns the first element that is above the value, if any.
+    ///
+    /// # Examples
     ///
     /// ```
     /// let set = BTreeSet::from_iter(alloc, [10, 20, 30])?;
     /// assert!(rt; set.upper_bound(&20) == Some(&30) && set.upper_bound(&30).is_none());
     /// ```
+    ///
+    /// # Complexity
+    ///
+    /// Two binary searches.
     pub fn upper_bound<Q: LookupKey<T> + Drop>(&self, value: Q) -> Option<&T>
         ensures { option_copied result ≡ upper_element Q.order (items self.now) value }
     {
@@ -179,8 +212,9 @@ impl<T: Ord> BTreeSet<T> {
         self.spine.item_from(&spot)
     }
 
-    /// Returns the first element that the probe finds Equal, if any. It compares as `locate_by`
-    /// does.
+    /// Returns the first element that compares Equal, if any.
+    ///
+    /// # Examples
     ///
     /// ```
     /// // An element of text, found by a &str without an allocation.
@@ -188,6 +222,10 @@ impl<T: Ord> BTreeSet<T> {
     /// names.insert(String::from_str(alloc, "pear")?)?;
     /// assert!(rt; names.get_by(&mut ByStr::new("pear")).is_some());
     /// ```
+    ///
+    /// # Complexity
+    ///
+    /// One comparison for each step of two binary searches.
     pub fn get_by<P: Probe<T>>(&self, probe: &mut P) -> Option<&T>
         requires { FindsInOrder (P.answer probe.old) (items self.now) }
         ensures value { option_copied result
@@ -204,8 +242,9 @@ impl<T: Ord> BTreeSet<T> {
         }
     }
 
-    /// Returns the position of the first element that the probe finds Equal, or where it finds
-    /// none, how many it finds Less. It makes one comparison a step of two binary searches.
+    /// Returns the position of the first element that compares Equal, or how many compare Less.
+    ///
+    /// # Examples
     ///
     /// ```
     /// # use indexset::base::probe::ByItem;
@@ -213,6 +252,10 @@ impl<T: Ord> BTreeSet<T> {
     /// assert_eq!(rt; set.locate_by(&mut ByItem::new(&20)), Ok(1));
     /// assert_eq!(rt; set.locate_by(&mut ByItem::new(&25)), Err(2));
     /// ```
+    ///
+    /// # Complexity
+    ///
+    /// One comparison for each step of two binary searches.
     pub fn locate_by<P: Probe<T>>(&self, probe: &mut P) -> Result<usize, usize>
         requires { FindsInOrder (P.answer probe.old) (items self.now) }
         ensures found { IfOk result (λ i. position (λ x. is_eq (P.answer probe.old x))

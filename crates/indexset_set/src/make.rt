@@ -1,4 +1,4 @@
-//! Calls that make a set.
+//! The creation of sets.
 ghost use Rattle.std.specs.Prelude.{◌≡◌, ◌≤◌, false, IsTrue, List, [], ◌∷◌, IfOk, IfErr, OnOk, fold};
 ghost use Rattle.std.specs.declared.cmp.Ordering.TheVariants.{Equal};
 ghost use Rattle.std.specs.List.{AllZip};
@@ -18,12 +18,20 @@ use indexset_spine::spine::Spine;
 use std::alloc::Global;
 
 impl<T: Ord + Drop> BTreeSet<T> {
-    /// Returns the empty set: one empty node, of the default size.
+    /// Creates an empty set of the default node size.
+    ///
+    /// It has one empty node.
+    ///
+    /// # Examples
     ///
     /// ```
     /// let mut set = BTreeSet::new(alloc)?;
     /// assert!(rt; set.insert(7)? && set.contains(&7));
     /// ```
+    ///
+    /// # Errors
+    ///
+    /// Fails with `Memory` only.
     pub fn new(alloc: Global) -> Result<Self, Refusal>
         ensures empty { IfOk result (λ s. s.nodes ≡ [] ∷ []) }
         ensures size { IfOk result (λ s. s.size ≡ DEFAULT_INNER_SIZE) }
@@ -32,12 +40,18 @@ impl<T: Ord + Drop> BTreeSet<T> {
         Self::with_maximum_node_size(alloc, DEFAULT_INNER_SIZE)
     }
 
-    /// Returns the empty set, as `new` makes it.
+    /// Creates an empty set, as `new` does.
+    ///
+    /// # Examples
     ///
     /// ```
     /// let set: BTreeSet<u64> = BTreeSet::default(alloc)?;
     /// assert!(rt; set.is_empty());
     /// ```
+    ///
+    /// # Errors
+    ///
+    /// Fails with `Memory` only.
     pub fn default(alloc: Global) -> Result<Self, Refusal>
         ensures empty { IfOk result (λ s. s.nodes ≡ [] ∷ []) }
         ensures size { IfOk result (λ s. s.size ≡ DEFAULT_INNER_SIZE) }
@@ -46,12 +60,18 @@ impl<T: Ord + Drop> BTreeSet<T> {
         Self::new(alloc)
     }
 
-    /// Returns the empty set, whose nodes are to hold at most `size` elements each.
+    /// Creates an empty set whose nodes hold at most `size` elements each.
+    ///
+    /// # Examples
     ///
     /// ```
     /// let set: BTreeSet<u64> = BTreeSet::with_maximum_node_size(alloc, 64)?;
     /// assert!(rt; set.is_empty() && set.maximum_node_size() == 64);
     /// ```
+    ///
+    /// # Errors
+    ///
+    /// Fails with `Memory` only.
     pub fn with_maximum_node_size(alloc: Global, size: usize) -> Result<Self, Refusal>
         requires { 2 ≤ size }
         ensures empty { IfOk result (λ s. s.nodes ≡ [] ∷ []) }
@@ -63,13 +83,20 @@ impl<T: Ord + Drop> BTreeSet<T> {
         Ok(BTreeSet { spine })
     }
 
-    /// Returns the set of the values of an iterator, of the default node size. Of equal ones the
-    /// first is kept. Fails with `Memory`: a failed call drops all values.
+    /// Creates a set of the values of an iterator, of the default node size.
+    ///
+    /// Of equal values it keeps the first.
+    ///
+    /// # Examples
     ///
     /// ```
     /// let set = BTreeSet::from_iter(alloc, [30, 10, 20, 10])?;
     /// assert!(rt; set.iter().copied().eq([10, 20, 30]));
     /// ```
+    ///
+    /// # Errors
+    ///
+    /// Fails with `Memory` only. A failed call drops all values.
     pub fn from_iter<I: IntoIterator<Item = T>>(alloc: Global, iter: I) -> Result<Self, Refusal>
         requires { IsFiniteIterable I.into_iter_gives I.IntoIter.can_next I.IntoIter.remaining
             iter }
@@ -84,7 +111,7 @@ impl<T: Ord + Drop> BTreeSet<T> {
         Self::kept_in(alloc, DEFAULT_INNER_SIZE, iter)
     }
 
-    // Does the same, of a node size.
+    // Does the same as `from_iter`, with this node size.
     fn kept_in<I: IntoIterator<Item = T>>(
         alloc: Global,
         size: usize,
@@ -111,14 +138,23 @@ impl<T: Ord + Drop> BTreeSet<T> {
         Ok(set)
     }
 
-    /// Returns the set of the values, as `from_iter` makes it. Values that ascend strictly are moved
-    /// into nodes by blocks, after one comparison each.
+    /// Creates a set of the values, as `from_iter` does.
+    ///
+    /// # Examples
     ///
     /// ```
     /// let set = BTreeSet::from(alloc, [30, 10, 20])?;
     /// let same = BTreeSet::from(alloc, vec![in alloc; 10, 20, 30]?)?;
     /// assert!(rt; set.first() == Some(&10) && set == same);
     /// ```
+    ///
+    /// # Errors
+    ///
+    /// Fails with `Memory` only.
+    ///
+    /// # Complexity
+    ///
+    /// Values that ascend strictly move into nodes by blocks, after one comparison each.
     pub fn from<L: IntoVec<Item = T>>(alloc: Global, values: L) -> Result<Self, Refusal>
         ensures kept { IfOk result (λ s. items s ≡ fold (keep T.cmp) [] (L.values values)) }
         ensures nodes { IfOk result (λ s. s.nodes
@@ -133,7 +169,7 @@ impl<T: Ord + Drop> BTreeSet<T> {
         Self::from_iter(alloc, values)
     }
 
-    // Returns the set of values that ascend strictly, by blocks and with no comparison.
+    // Returns the set of strictly ascending values, by blocks and without a comparison.
     fn of_ascending(alloc: Global, values: Vec<T>) -> Result<Self, Refusal>
         requires order { IsAscending T.cmp values.items }
         ensures elements { IfOk result (λ s. items s ≡ values.items) }
@@ -157,15 +193,24 @@ impl<T: Ord + Drop> BTreeSet<T> {
         Self::kept_in(*self.spine.allocator(), self.maximum_node_size(), values)
     }
 
-    /// Returns the set of values that ascend strictly, in the nodes that `from` makes of them, by
-    /// one comparison a value and no search. Where they do not ascend, fails with `Unsorted` and
-    /// returns them in the error. Fails with `Memory`, and then drops the values.
+    /// Creates a set of strictly ascending values, in the nodes that `from` makes of them.
+    ///
+    /// # Examples
     ///
     /// ```
     /// let set = BTreeSet::from_sorted(alloc, vec![in alloc; 10, 20, 30]?)?;
     /// let unsorted = BTreeSet::from_sorted(alloc, vec![in alloc; 10, 10]?);
     /// assert!(rt; set.len() == 3 && unsorted.is_err());
     /// ```
+    ///
+    /// # Errors
+    ///
+    /// - `Unsorted` if the values do not ascend strictly: the call returns them in the error.
+    /// - `Memory` otherwise: the call drops the values, and the error holds an empty `Vec`.
+    ///
+    /// # Complexity
+    ///
+    /// Each value is compared with the next; there is no search.
     pub fn from_sorted(alloc: Global, values: Vec<T>) -> Result<Self, Refused<Vec<T>>>
         ensures elements { IfOk result (λ s. items s ≡ values.items) }
         ensures nodes { IfOk result (λ s. s.nodes
@@ -192,14 +237,24 @@ impl<T: Ord + Drop> BTreeSet<T> {
         }
     }
 
-    /// Returns the set of values in any order, of equal ones the first. It sorts them by a stable sort
-    /// and makes the nodes that `from` makes of the ascending ones, so it takes less time than `from`
-    /// where the values do not ascend. Fails with `Memory`, and then drops the values.
+    /// Creates a set of values in any order, of equal ones the first.
+    ///
+    /// The nodes are those that `from` makes of the ascending elements.
+    ///
+    /// # Examples
     ///
     /// ```
     /// let set = BTreeSet::from_unsorted(alloc, vec![in alloc; 30, 10, 20, 10]?)?;
     /// assert!(rt; set.iter().copied().eq([10, 20, 30]));
     /// ```
+    ///
+    /// # Errors
+    ///
+    /// Fails with `Memory` only. A failed call drops the values.
+    ///
+    /// # Complexity
+    ///
+    /// A stable sort: faster than `from` if the values do not ascend.
     pub fn from_unsorted(alloc: Global, mut values: Vec<T>) -> Result<Self, Refusal>
         ensures kept { IfOk result (λ s. items s ≡ fold (keep T.cmp) [] values.items) }
         ensures nodes { IfOk result (λ s. s.nodes
@@ -212,15 +267,26 @@ impl<T: Ord + Drop> BTreeSet<T> {
         Self::of_ascending(alloc, values)
     }
 
-    /// Returns clones of the elements in nodes as long as these, by one comparison an element,
-    /// where the clones ascend, as those equal to their sources do. Else it inserts the clones one
-    /// by one, as `from_iter` does. Fails with `Memory`, and then drops the clones.
+    /// Returns a set of clones of the elements.
+    ///
+    /// If the clones ascend, as clones that are equal to their sources do, they are in nodes of the
+    /// same lengths. Else they are inserted one by one, as `from_iter` does.
+    ///
+    /// # Examples
     ///
     /// ```
     /// let set = BTreeSet::from_iter(alloc, [10, 20, 30])?;
     /// let copy = set.clone()?;
     /// assert!(rt; copy == set);
     /// ```
+    ///
+    /// # Errors
+    ///
+    /// Fails with `Memory` only. A failed call drops the clones.
+    ///
+    /// # Complexity
+    ///
+    /// One comparison an element if the clones ascend.
     pub fn clone(&self) -> Result<Self, Refusal>
     where
         T: Clone,
@@ -247,7 +313,8 @@ fn is_sorted<T: Ord>(values: &[T]) -> bool
     values.is_sorted_by(|value, next| value.cmp(next).is_lt())
 }
 
-// Returns whether each item is below the next. No item ends the loop, since clones seldom descend.
+// Returns whether each item is below the next. The loop has no early exit, since clones seldom
+// descend.
 fn is_ascending<T: Ord>(spine: &Spine<T>) -> bool
     ensures ascending { IsTrue result → IsAscending T.cmp (items spine.now) }
     ensures other { result ≡ false → IsAscending T.cmp (items spine.now) → ⊥ }

@@ -44,8 +44,9 @@ impl<K: Ord, V> BTreeSet<Pair<K, V>> {
         }
     }
 
-    /// Returns a mutable reference to the value of the first pair that the probe finds Equal, if
-    /// any. It compares as `locate_by` does.
+    /// Returns a mutable reference to the value of the first pair that compares Equal, if any.
+    ///
+    /// # Examples
     ///
     /// ```
     /// # use indexset::base::probe::ByKey;
@@ -55,6 +56,10 @@ impl<K: Ord, V> BTreeSet<Pair<K, V>> {
     /// }
     /// assert!(rt; pairs.first().map(|pair| pair.value) == Some(11));
     /// ```
+    ///
+    /// # Complexity
+    ///
+    /// One comparison for each step of two binary searches.
     pub fn value_mut_by<P: Probe<Pair<K, V>>>(&mut self, probe: &mut P) -> Option<&mut V>
         requires { FindsInOrder (P.answer probe.old) (items self.old) }
         ensures* writes_back { sem 𝓛 (lends_value_if K.row V.row K.Ord self.entry
@@ -125,8 +130,9 @@ impl<K: Ord, V> BTreeSet<Pair<K, V>> {
 }
 
 impl<K: Ord + Drop, V: Drop> BTreeSet<Pair<K, V>> {
-    /// Retains the pairs for which the closure returns true, with the values that it left. It is
-    /// called once for each pair, in order. It allocates nothing.
+    /// Retains the pairs for which the closure returns true, with the values that it left.
+    ///
+    /// The closure is called once for each pair, in order. The set allocates nothing.
     ///
     /// ```
     /// let mut pairs = BTreeSet::from_iter(alloc, [Pair { key: 1, value: 10 }])?;
@@ -147,9 +153,11 @@ impl<K: Ord + Drop, V: Drop> BTreeSet<Pair<K, V>> {
         );
     }
 
-    /// Calls the closure for each pair of a stretch in turn, up to the first for which it returns
-    /// true, and removes that one and returns it, with the value that the closure left. Those before
-    /// it stay, with the values that it left, and are no longer of the stretch. It allocates nothing.
+    /// Removes the next pair of a stretch for which the closure returns true, and returns it.
+    ///
+    /// The closure is called for each pair of the stretch in order, up to that one. The pairs
+    /// before it stay, with the values that the closure left, and are no longer in the stretch. It
+    /// allocates nothing.
     pub fn extract_pair<F: FnMut(&K, &mut V) -> bool>(
         &mut self,
         at: &mut ExtractRange,

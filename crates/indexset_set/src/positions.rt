@@ -11,13 +11,18 @@ use super::BTreeSet;
 use std::ops::Index;
 
 impl<T: Ord> BTreeSet<T> {
-    /// Returns the element at a position, counted from 0, or `None` past the end, in logarithmic
-    /// time.
+    /// Returns the element at a position, counted from 0, or `None` past the end.
+    ///
+    /// # Examples
     ///
     /// ```
     /// let board = BTreeSet::from_iter(alloc, [30, 10, 20])?;
     /// assert!(rt; board.get_index(1) == Some(&20) && board.get_index(3).is_none());
     /// ```
+    ///
+    /// # Complexity
+    ///
+    /// Logarithmic time.
     pub fn get_index(&self, i: usize) -> Option<&T>
         ensures { option_copied result ≡ slice_get (items self.now) i }
     {
@@ -65,7 +70,9 @@ impl<T: Ord> BTreeSet<T> {
 }
 
 impl<T: Ord + Drop> BTreeSet<T> {
-    /// Removes the first element, the least, and returns it, if any. It allocates nothing.
+    /// Removes the first element, the least, and returns it, if any.
+    ///
+    /// It allocates nothing.
     ///
     /// ```
     /// let mut queue = BTreeSet::from_iter(alloc, [30, 10, 20])?;
@@ -83,7 +90,9 @@ impl<T: Ord + Drop> BTreeSet<T> {
         Some(self.spine.remove(spot))
     }
 
-    /// Removes the last element, the greatest, and returns it, if any. It allocates nothing.
+    /// Removes the last element, the greatest, and returns it, if any.
+    ///
+    /// It allocates nothing.
     ///
     /// ```
     /// let mut board = BTreeSet::from_iter(alloc, [30, 10, 20])?;
@@ -101,7 +110,9 @@ impl<T: Ord + Drop> BTreeSet<T> {
         Some(self.spine.remove(spot))
     }
 
-    /// Removes the element at a position and returns it. It allocates nothing.
+    /// Removes the element at a position and returns it.
+    ///
+    /// It allocates nothing.
     ///
     /// ```
     /// let mut set = BTreeSet::from_iter(alloc, [10, 20, 30])?;

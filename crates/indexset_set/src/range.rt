@@ -16,12 +16,13 @@ use indexset_core::position_range::{PositionRange, end_position, first_position}
 use indexset_core::probe::{ByItem, Probe};
 use std::ops::Bound;
 
-/// The remaining elements of a part of a set, from both ends.
+/// A double-ended iterator over a range of a set, in ascending order.
 pub type Range<'a, T> = Iter<'a, T>;
 
 impl<T: Ord> BTreeSet<T> {
-    /// Returns a double-ended iterator over the elements within the range, in order. The start must
-    /// not be past the end, nor at it where both are excluded (see
+    /// Returns a double-ended iterator over the elements within the range, in order.
+    ///
+    /// The start must not be past the end, nor equal to it if both are excluded (see
     /// `base::key_range::bounds_are_ordered`).
     ///
     /// ```
@@ -56,8 +57,9 @@ impl<T: Ord> BTreeSet<T> {
         Iter::of(self.spine.iter_from_to(&from, &to))
     }
 
-    /// Returns a double-ended iterator over the elements at the positions within the bounds, in
-    /// order. It is empty where the start is past the end; the bounds are clipped to the length.
+    /// Returns a double-ended iterator over the elements at a range of positions, in order.
+    ///
+    /// It is empty if the start is past the end. The bounds are clipped to the length.
     ///
     /// ```
     /// // The second page of two elements each.

@@ -9,9 +9,9 @@ use super::inner::join_run;
 use indexset_core::refusal::Refusal;
 
 impl<T: Ord + Drop> BTreeSet<T> {
-    // Keeps a value as `insert` does, where the values of a run are yet to go behind the elements:
-    // one above all joins the run, and any other goes in after the run. A failed call drops the
-    // value.
+    // Inserts a value as `insert` does, while the values of a run follow the elements and are not
+    // in the set yet: a value above all joins the run, and any other is inserted after the run is.
+    // A failed call drops the value.
     pub(super) fn keep_behind(&mut self, run: &mut Vec<T>, value: T) -> Result<(), Refusal>
         requires order { IsAscending T.cmp (items self.old ++ run.old.items) }
         ensures order { OnOk result (IsAscending T.cmp (items self.new ++ run.new.items)) }

@@ -1,5 +1,4 @@
-//! Traits of the standard library that a set has beside its functions: so `derive`, `collect` and
-//! `extend` know it.
+//! The traits of the standard library that `derive`, `collect` and `extend` need.
 ghost use Rattle.std.specs.Prelude.{◌≡◌, List, [], ◌∷◌, fold, map};
 ghost use Rattle.indexset_core.specs.Order.{keep};
 ghost use Rattle.indexset_core.specs.declared.constants.TheConstants.{DEFAULT_INNER_SIZE};
@@ -20,7 +19,11 @@ impl<T: Ord + fmt::Debug> fmt::Debug for BTreeSet<T> {
 impl<T: Ord + Clone> Clone for BTreeSet<T> {
     ghost is_clone = { λ s copy. IsSetClone T.cmp T.is_clone s copy };
 
-    /// Returns what the inherent `clone` returns; fails with `AllocError`.
+    /// Returns the same as the inherent `clone`.
+    ///
+    /// # Errors
+    ///
+    /// Fails with `AllocError` if that one fails.
     fn clone(&self) -> Result<BTreeSet<T>, AllocError> {
         match BTreeSet::clone(self) {
             Ok(copy) => Ok(copy),

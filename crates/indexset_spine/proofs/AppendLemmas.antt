@@ -1,4 +1,4 @@
--- Items put behind the last one, one by one or as a block.
+-- Items that are appended one by one or as a block.
 use Rattle.std.proofs.Common.{◌≡◌, ℕ, ◌+◌, ◌-◌, ◌/◌, ◌<◌, ◌≤◌, ◌==◌, Bool, true, false, not, filter, if◌then◌else◌, vec_len, List, [], ◌∷◌, ◌++◌, length, take, drop, get_or, slice_set, refl, sym, ap, ◌∙◌, arith, append_assoc, length-append, length-drop}
 use Rattle.std.proofs.lemmas.List.{append-nil, length-set, get_or-set_same, length-take-le, map-set, set-set, take_more_set}
 use Rattle.std.proofs.lemmas.List.Edits.{insert_end}
@@ -17,7 +17,7 @@ use Rattle.indexset_spine.proofs.FoldPrefixLemmas.{takes_within}
 use Rattle.indexset_spine.proofs.VecNodes.{length-vec_items, vec_items-set}
 
 module _ {X : Type 0} where
-  -- the spot behind the last item, once its node was halved
+  -- the spot after the last item, after its node was halved
   pub halved_end : (ns : List (List X)) (s t : Spot) → IsShortEnd (s.offset + 1) ns s → 2 ≤ length (node_at ns s.node) → t.node ≡ s.node + 1 → t.offset ≡ s.offset - length (node_at ns s.node) / 2 → IsShortEnd s.offset (with_halved ns s.node) t
   unfolding with_halved
   halved_end ns s t h two node offset =
@@ -67,7 +67,7 @@ module _ {X : Type 0} where
         ap (λ z. fold (with_last size) z xs) (one_more m x (omega arith))
         ∙ (block_more (m ++ x ∷ []) xs (omega (arith, length-append m (x ∷ []))) ∙ ap (slice_set ns (length ns - 1)) (append_assoc m (x ∷ []) xs))
 
-  -- a block that is put into a node that room was made in
+  -- a block that is inserted into a node with room for it
   pub block_taken : (size : ℕ) (ns ms : List (List X)) (s : Spot) (xs : List X) → IsShortEnd size ms s → ((v : X) → with_item_in ms s v ≡ with_inserted size ns (end_spot ns) v)
       → 0 < length xs → length (node_at ms s.node) + length xs ≤ size → slice_set ms s.node (node_at ms s.node ++ xs) ≡ fold (with_last size) ns xs
   unfolding with_item_in
@@ -82,13 +82,13 @@ module _ {X : Type 0} where
       ∙ (block_more size ms (omega (arith, h.last)) (n ++ x ∷ []) xs (omega (arith, length-append n (x ∷ [])))
       ∙ (ap (λ i. slice_set ms i ((n ++ x ∷ []) ++ xs)) at ∙ ap (slice_set ms s.node) (append_assoc n (x ∷ []) xs)))))
 
-  -- the lengths, once xs is put behind a node
+  -- the lengths after xs is appended to a node
   pub lengths-block : (ns : List (List X)) (k : ℕ) (xs : List X) → k < length ns → node_lengths (slice_set ns k (node_at ns k ++ xs)) ≡ slice_set (node_lengths ns) k (get_or (node_lengths ns) k 0 + length xs)
   lengths-block ns k xs h =
       map-set (λ (n : List X). length n) ns k (node_at ns k ++ xs)
       ∙ ap (slice_set (node_lengths ns) k) (omega (arith, length-append (node_at ns k) xs, length-at ns k h))
 
-  -- the spot behind the last item is one
+  -- the spot after the last item is one
   pub end_in : (ns : List (List X)) → 1 ≤ length ns → IsSpot ns (end_spot ns)
   end_in ns some = record { node_in = omega arith; offset_in = omega arith }
 
@@ -117,7 +117,7 @@ module _ {X : Type 0} where
   takes_items size ns ms xs rest is h =
       ap (λ l. concat l ++ rest) h.2 ∙ (ap (λ l. l ++ rest) (joined_all_last size ns h.0 is) ∙ (append_assoc (concat ns) h.0 rest ∙ ap (λ l. concat ns ++ l) (sym h.1)))
 
-  -- the end of a cut list, where a full node may be
+  -- the end of a cut list that may have a full node
   pub short_end : (size : ℕ) (ns : List (List X)) (s : Spot) → AreNodeLengths (node_lengths ns) size → s ≡ end_spot ns → IsShortEnd (size + 1) ns s
   short_end size ns s is e =
       let some : 1 ≤ length ns = omega (arith, is.some, count-lengths ns) in
@@ -129,11 +129,11 @@ module _ {X : Type 0} where
       spine_of (fold (with_last size) ns xs) size sum (cut_all_last size ns xs is.is_cut)
       (omega (arith, e, is.total_is, length-concat ns, ap (λ (l : List X). length l) (joined_all_last size ns xs is.is_cut), length-append (concat ns) xs))
 
-  -- the nodes as the code holds them
+  -- the nodes as the code stores them
   pub block_writes : {Z : Type 0} (vs : List (Vec X Z)) (k : ℕ) (u w : Vec X Z) (xs : List X) → k < length (vec_items vs) → u ≡ get_or vs k u → w.items ≡ u.items ++ xs → vec_items (slice_set vs k w) ≡ slice_set (vec_items vs) k (node_at (vec_items vs) k ++ xs)
   block_writes vs k u w xs h at is = vec_items-set vs k w ∙ ap (slice_set (vec_items vs) k) (is ∙ ap (λ n. n ++ xs) (sym (node_is vs k u h at)))
 
--- a node whose first items are taken, where those before it are empty
+-- a node without its first items, if those before it are empty
 module _ {X Z : Type 0} (vs : List (Vec X Z)) (k : ℕ) (u w : Vec X Z) (h : k < length vs) (at : u ≡ get_or vs k u) where
   ns : List (List X)
   ns = vec_items vs
@@ -199,7 +199,7 @@ module _ {X Z : Type 0} where
   some_kept vs [] is some = absurd (omega arith)
   some_kept vs (w ∷ ws) is some = ap or_one_empty (ap vec_items is ∙ filter_lists vs)
 
--- where nothing is left, one empty node is
+-- if nothing is left, one empty node is
 no_some : {X : Type 0} (ns : List (List X)) → concat ns ≡ [] → filter (λ n. not (length n == 0)) ns ≡ []
 no_some [] e = refl
 no_some ([] ∷ ns) e = no_some ns e

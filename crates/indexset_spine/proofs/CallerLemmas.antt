@@ -1,4 +1,4 @@
--- What crates above this one may cite of its proofs.
+-- Lemmas for the crates above.
 pub use Rattle.indexset_spine.proofs.AppendLemmas.{cut_all_last, cut_last, joined_all_last, joined_last}
 pub use Rattle.indexset_spine.proofs.BlockLemmas.{empty_cut}
 pub use Rattle.indexset_spine.proofs.CopyLemmas.{copies_joined, copies_lengths}

@@ -8,7 +8,7 @@ use Rattle.indexset_core.specs.Nodes.{concat, node_lengths, vec_items}
 use Rattle.indexset_spine.proofs.VecNodes.{length-vec_items, node_read}
 
 module _ {T : Type 0} (C : T → T → Type 0) where
-  -- where clones are identical to their sources, so are the nodes
+  -- if clones are identical to their sources, so are the nodes
   pub copies_same : ((x y : T) → C x y → y ≡ x) → (ns ms : List (List T)) → AllZip (AllZip C) ns ms → ms ≡ ns
   copies_same same ns ms copied = same_from_all_zip (AllZip C) ns ms copied (λ n m cloned. same_from_all_zip C n m cloned same)
 

@@ -1,4 +1,4 @@
--- The steps of an edit, on the nodes as the code holds them.
+-- The steps of an edit, on the nodes as the code stores them.
 use Rattle.std.proofs.Common.{◌≡◌, ℕ, suc, ◌+◌, ◌-◌, ◌/◌, ◌<◌, ◌≤◌, List, [], ◌∷◌, ◌++◌, length, take, drop, get_or, slice_set, nat_lt, true, false, Option, Some, None, refl, sym, ap, ◌∙◌, subst, arith, add-one, append_assoc, length-take, length-drop}
 use Rattle.std.proofs.lemmas.Bool.Decides.{nat_tests}
 use Rattle.std.proofs.lemmas.List.{length-set, length-append, set-get_or, set_split, set_at, get_or_at, get_or-set_same, drop_at, take_at, length-take-le}
@@ -13,7 +13,7 @@ use Rattle.indexset_spine.specs.NodeList.{NodeList, node_list, IsSpot, IsItemSpo
 use Rattle.indexset_spine.specs.Edits.{with_item_in, with_halved}
 use Rattle.indexset_spine.proofs.VecNodes.{length-vec_items, vec_items-set, vec_items-splice, node_read}
 
--- a node that is cut in two is two nodes
+-- a node that is split in two is two nodes
 module _ {A : Type 0} (ns : List A) (k : ℕ) (l r : A) (h : k < length ns) where
   before : length (take k ns) ≡ k
   before = length-take-le k ns (omega arith)
@@ -74,7 +74,7 @@ module _ {X : Type 0} where
       (ap (λ m. slice_set (splice ns s.node (s.node + 1) (take half n ∷ drop half n ∷ [])) s.node (insert m s.offset v)) (get_left ns s.node (take half n) (drop half n) h [])
       ∙ set_left ns s.node (take half n) (drop half n) h (insert (take half n) s.offset v))
 
-  -- a node that is longer than the size is cut as a full one is
+  -- a node that is longer than the size is split as a full one is
   pub inserted_full : (size : ℕ) (ns : List (List X)) (s : Spot) (v : X) → size ≤ length (node_at ns s.node) → with_inserted (length (node_at ns s.node)) ns s v ≡ with_inserted size ns s v
   unfolding with_inserted parts_with
   inserted_full size ns s v full =
@@ -107,7 +107,7 @@ module _ {X Z : Type 0} where
   room_puts vs s u w size v h at is short =
       ap (λ ns. with_item_in ns s v) (lists_kept vs s.node u w h at is) ∙ put_short size (vec_items vs) s v h short
 
-  -- the nodes are vs, u among them, which is cut into its halves w and r
+  -- the nodes are vs, u among them, which is split into its halves w and r
   pub record IsHalved (ns : List (List X)) (vs : List (Vec X Z)) (s : Spot) (u w r : Vec X Z) : Type 0 where
     pub same : vec_items vs ≡ ns
     pub node_in : s.node < length (vec_items vs)
@@ -168,7 +168,7 @@ module _ {X Z : Type 0} where
         let n : vec_len w ≡ length (take (length u.items / 2) u.items) = w.ok.0 ∙ ap (λ (l : List X). length l) node_list.left in
         subst (λ (v : Vec X Z). vec_len v < vec_capacity v) (sym e) (omega (arith, n, room, two_in two, u.ok, length-take (length u.items / 2) u.items))
 
--- a spot, in the nodes as the code holds them
+-- a spot, in the nodes as the code stores them
 module _ {X : Type 0} where
   pub spot_in : (ns : List (List X)) (n : ℕ) (t : NodeList X) (s : Spot) → node_list ns n ≡ t → IsSpot t.nodes s → IsSpot ns s
   spot_in ns n t s e h = subst (λ (t : NodeList X). IsSpot t.nodes s) (sym e) h

@@ -1,4 +1,4 @@
--- A closure that is asked about one item after another, up to the first that it picks.
+-- A closure that is called for one item after another, up to the first that it selects.
 use Rattle.std.proofs.Common.{◌≡◌, ℕ, suc, ◌+◌, ◌-◌, ◌<◌, ◌≤◌, Bool, true, false, cond, List, [], ◌∷◌, ◌++◌, length, take, drop, get_or, slice_set, slice_get, remove, sum, Option, Some, None, IfSome, is_some, true≢false, refl, sym, ap, ◌∙◌, subst, arith, append_assoc, append-nil}
 use Rattle.std.proofs.lemmas.List.{drop-drop, drop-set-lt, drop_at, drop_more, length-take-le, length-set, take-set, take_at, take_more_set}
 use Rattle.std.proofs.lemmas.Option.{get_or_from_slice_get, slice_get_within}
@@ -27,7 +27,7 @@ module _ {X : Type 0} where
     inside : p < length l
     inside = slice_get_within l p x is
 
-    -- the item at p is the first that was not asked about
+    -- the item at p is the first for which the closure was not called
     pub unasked_first : between p j l ≡ x ∷ between (p + 1) j l
     unasked_first =
         let one : j - p ≡ suc (j - (p + 1)) = omega arith in
@@ -41,7 +41,7 @@ module _ {X : Type 0} where
         ∙ (ap (λ d. three (take p l ++ y ∷ []) (take (j - (p + 1)) d) (drop j (slice_set l p y))) (drop-set-lt (p + 1) l p y (omega arith))
         ∙ ap (λ d. three (take p l ++ y ∷ []) (between (p + 1) j l) d) (drop-set-lt j l p y below))
 
-    -- it goes as y
+    -- it is removed as y
     pub goes_here : (y : X) → extract_state (remove (slice_set l p y) p) p (j - 1) ≡ three (take p l) (between (p + 1) j l) (drop j l)
     goes_here y =
         let left : remove (slice_set l p y) p ≡ take p l ++ drop (p + 1) l =
@@ -60,14 +60,14 @@ module _ {X : Type 0} where
         ∙ ap (λ d. three (take p l) (between (p + 1) j l) d) past)))
 
   module _ {S : Type 0} (R : S → X → Bool → S → X → Type 0) where
-    -- what comes out from here came out from the start
+    -- an item that is removed from here is removed from the start
     pub record ExtractedTo (s : S) (a : ExtractState X) (t : S) (b : ExtractState X) : Type 0 where
       pub run : (r : Option X) (u : S) (c : ExtractState X) → Extracts R t b r u c → Extracts R s a r u c
 
     pub none_asked : (s : S) (a : ExtractState X) → ExtractedTo s a s a
     none_asked s a = record { run = λ r u c h. h }
 
-    -- the closure turned an item down
+    -- the closure returned false
     pub turned_down : (t : S) (l : List X) (p j : ℕ) (x y : X) (u : S) (first : S) (a : ExtractState X) → p < j → slice_get l p ≡ Some x → R t x false u y
         → ExtractedTo first a t (extract_state l p j) → ExtractedTo first a u (extract_state (slice_set l p y) (p + 1) j)
     turned_down t l p j x y u first a below is called h = record {
@@ -81,7 +81,7 @@ module _ {X : Type 0} where
           });
     }
 
-    -- the closure picked an item
+    -- the closure returned true
     pub picked : (t : S) (l : List X) (p j : ℕ) (x y : X) (u : S) → p < j → slice_get l p ≡ Some x → R t x true u y → Extracts R t (extract_state l p j) (Some y) u (extract_state (remove (slice_set l p y) p) p (j - 1))
     picked t l p j x y u below is called =
         rw (goes_here l p j x below is y) (record {
@@ -91,7 +91,7 @@ module _ {X : Type 0} where
           after = refl;
         })
 
-    -- none was left
+    -- no item remained
     pub none_left : (t : S) (l : List X) (p j : ℕ) → j ≤ p → Extracts R t (extract_state l p j) None t (extract_state l p j)
     none_left t l p j past =
         let none : between p j l ≡ [] = ap (λ n. take n (drop p l)) {x = j - p} {y = 0} (omega arith) in
@@ -102,7 +102,7 @@ module _ {X : Type 0} where
           after = refl;
         }
 
--- the nodes, once the item at a spot was asked about
+-- the nodes after the call for the item at a spot
 module _ {X : Type 0} where
   -- the nodes before the one of a removed item keep their lengths
   pub starts_without : (ns : List (List X)) (s : Spot) → IsItemSpot ns s → take s.node (node_lengths (without_item ns s)) ≡ take s.node (node_lengths ns)
@@ -149,7 +149,7 @@ module _ {X : Type 0} where
 match_both : {A B C D : Type 0} → (A → C) → (B → D) → (b : Bool) → MatchBool b A B → MatchBool b C D
 match_both f g = elim [ true ↦ f | false ↦ g ]
 
--- a closure that was asked through another
+-- a closure that was called through another
 module _ {S F X : Type 0} (now : S → F) (R : S → X → Bool → S → X → Type 0) (Q : F → X → Bool → F → X → Type 0) (says : (s : S) (x : X) (b : Bool) (t : S) (y : X) → R s x b t y → Q (now s) x b (now t) y) where
   next_through : (s : S) (xs : List X) (r : Option X) (t : S) (kept rest : List X) → ExtractsNext R s xs r t kept rest → ExtractsNext Q (now s) xs r (now t) kept rest
   next_through s [] r t kept rest h = (h.0, ap now h.1, h.2, h.3)
@@ -159,7 +159,7 @@ module _ {S F X : Type 0} (now : S → F) (R : S → X → Bool → S → X → 
   pub extracts_through : (s : S) (a : ExtractState X) (r : Option X) (t : S) (b : ExtractState X) → Extracts R s a r t b → Extracts Q (now s) a r (now t) b
   extracts_through s a r t b h = record { kept = h.kept; step = next_through s a.unasked r t h.kept b.unasked h.step; stays = h.stays; after = h.after }
 
--- what comes out is asked about no more
+-- the closure is not called again for a removed item
 module _ {S X : Type 0} (R : S → X → Bool → S → X → Type 0) where
   next_fewer : (s : S) (xs : List X) (y : X) (t : S) (kept rest : List X) → ExtractsNext R s xs (Some y) t kept rest → length rest < length xs
   next_fewer s [] y t kept rest h = absurd (true≢false (ap is_some h.0))
@@ -173,12 +173,12 @@ module _ {S X : Type 0} (R : S → X → Bool → S → X → Type 0) where
   extracts_fewer s a None t b h = tt
   extracts_fewer s a (Some y) t b h = next_fewer s a.unasked y t h.kept b.unasked h.step
 
--- so an iterator goes on
+-- so an iterator makes progress
 pub extract_goes : {W X : Type 0} {can : W → Type 0} (left : W → ℕ) (v w : W) (r : Option X) → can w → IfSome r (λ _. left w < left v) → MakesProgress can (λ z. at_most (left z)) v r w
 extract_goes left v w None h fewer = record { on = λ _. tt; keeps = tt; rests = λ _. tt }
 extract_goes left v w (Some x) h fewer = record { on = λ _. (h, tt, fewer); keeps = h; rests = λ _. tt }
 
--- what each call of a closure keeps
+-- what each call of a closure preserves
 module _ {S X : Type 0} (R : S → X → Bool → S → X → Type 0) (P : S → Type 0) (keeps : (s : S) (x : X) (b : Bool) (t : S) (y : X) → R s x b t y → P s → P t) where
   next_keeps : (s : S) (xs : List X) (r : Option X) (t : S) (kept rest : List X) → ExtractsNext R s xs r t kept rest → P s → P t
   next_keeps s [] r t kept rest h held = subst P (sym h.1) held
@@ -192,7 +192,7 @@ module _ {S X : Type 0} (R : S → X → Bool → S → X → Type 0) (P : S →
   pub extracts_keep : (s : S) (a : ExtractState X) (r : Option X) (t : S) (b : ExtractState X) → Extracts R s a r t b → P s → P t
   extracts_keep s a r t b h = next_keeps s a.unasked r t h.kept b.unasked h.step
 
--- a closure that leaves each item much as it was
+-- a closure that leaves each item related to what it was
 module _ {S X : Type 0} (R : S → X → Bool → S → X → Type 0) (Same : X → X → Type 0) (keeps : (s : S) (x : X) (b : Bool) (t : S) (y : X) → R s x b t y → Same x y) (self : (x : X) → Same x x) where
   abbrev Stays : Unit {0} → X → Bool → Unit {0} → X → Type 0
   Stays _ x _ _ y = Same x y

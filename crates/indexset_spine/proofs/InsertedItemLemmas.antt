@@ -1,4 +1,4 @@
--- Where an item stands, once it was inserted at a spot.
+-- The spot of an item after it was inserted at a spot.
 use Rattle.std.proofs.Common.{◌≡◌, ◌+◌, ◌-◌, ◌/◌, ◌<◌, ◌≤◌, ℕ, suc, List, [], ◌∷◌, ◌++◌, length, take, drop, slice_set, ap, subst, sym, ◌∙◌, arith, length-append, length-drop, length-set}
 use Rattle.std.proofs.lemmas.List.{get_or-set_same, length-take-le, set_split, take_at}
 use Rattle.std.proofs.lemmas.List.Edits.{length-insert}
@@ -11,7 +11,7 @@ use Rattle.indexset_spine.specs.Edits.{with_halved, with_item_in}
 use Rattle.indexset_spine.proofs.EditSteps.{get_left, get_right}
 
 module _ {X : Type 0} where
-  -- an item put into the node of its spot stands at that spot
+  -- an item that is inserted into the node of its spot is at that spot
   stands_put : (ns : List (List X)) (s : Spot) (v : X) → IsSpot ns s → IsItemSpot (with_item_in ns s v) s × (position_of (with_item_in ns s v) s ≡ position_of ns s)
   unfolding with_item_in
   stands_put ns s v h =
@@ -29,7 +29,7 @@ module _ {X : Type 0} where
   pub stands_at : (ns ms : List (List X)) (s : Spot) (v : X) → IsSpot ns s → ms ≡ with_item_in ns s v → IsItemSpot ms s × (position_of ms s ≡ position_of ns s)
   stands_at ns ms s v h e = subst (λ (l : List (List X)). IsItemSpot l s × (position_of l s ≡ position_of ns s)) (sym e) (stands_put ns s v h)
 
-  -- the nodes before a halved one stay
+  -- the nodes before a halved one stay the same
   pub halved_before : (ns : List (List X)) (k : ℕ) → k < length ns → take k (with_halved ns k) ≡ take k ns
   unfolding with_halved
   halved_before ns k h =
@@ -48,7 +48,7 @@ module _ {X : Type 0} where
       let ps = take half n ∷ drop half n ∷ [] in
       omega (arith, length-append (take k ns) (ps ++ drop (k + 1) ns), length-take-le k ns (omega arith), length-drop (k + 1) ns)
 
-  -- a spot above the cut of a halved node is in the next one
+  -- a spot above half of a halved node is in the next one
   pub halved_position : (ns : List (List X)) (k o half : ℕ) → k < length ns → half ≡ length (node_at ns k) / 2 → half ≤ o → length (concat (take (k + 1) (with_halved ns k))) + (o - half) ≡ length (concat (take k ns)) + o
   halved_position ns k o half h is above =
       omega (arith, length-concat-more (with_halved ns k) k (omega (arith, halved_more ns k h)), ap (λ (ms : List (List X)). length (concat ms)) (halved_before ns k h), ap (λ (l : List X). length l) (halved_left ns k h), length-take-le (length (node_at ns k) / 2) (node_at ns k) (omega arith))
@@ -57,7 +57,7 @@ module _ {X : Type 0} where
   unfolding with_halved
   halved_right ns k h = let half : ℕ = length (node_at ns k) / 2 in get_right ns k (take half (node_at ns k)) (drop half (node_at ns k)) h []
 
-  -- where a spot of a halved node is then
+  -- the spot after the node is halved
   pub spot_right : (ns : List (List X)) (s : Spot) (half : ℕ) → IsSpot ns s → half ≡ length (node_at ns s.node) / 2 → half < s.offset → IsSpot (with_halved ns s.node) record { node = s.node + 1; offset = s.offset - half; found = s.found }
   spot_right ns s half is e above = record {
     node_in = omega (arith, halved_more ns s.node is.node_in, is.node_in);

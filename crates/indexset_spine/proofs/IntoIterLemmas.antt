@@ -1,4 +1,4 @@
--- What an owning iterator has left when it gives an item.
+-- The remaining items of an owning iterator after it yields one.
 use Rattle.std.proofs.Common.{◌≡◌, ℕ, ◌+◌, ◌-◌, ◌<◌, ◌≤◌, List, [], ◌∷◌, ◌++◌, length, refl, sym, ap, ◌∙◌, arith, append_assoc, length-append}
 use Rattle.std.proofs.lemmas.List.{append-nil, nil_from_length}
 use Rattle.std.specs.declared.vec.Vec.{Vec}
@@ -28,7 +28,7 @@ module _ {X : Type 0} where
   pub fewer_last : (all left : List X) (x : X) → all ≡ left ++ x ∷ [] → length left < length all
   fewer_last all left x e = omega (arith, ap (λ (l : List X). length l) e, length-append left (x ∷ []))
 
-  -- the nodes between are gone, before and after a step that takes none
+  -- there are no nodes between, before and after a step that takes none
   module _ {Z : Type 0} where
     no_nodes : (mid : List (Vec X Z)) → length mid ≡ 0 → concat (vec_items mid) ≡ []
     no_nodes [] e = refl
@@ -37,14 +37,14 @@ module _ {X : Type 0} where
     none_behind : (mid : List (Vec X Z)) (back : List X) → length mid ≡ 0 → length back ≡ 0 → concat (vec_items mid) ++ back ≡ []
     none_behind mid back m b = ap (λ l. l ++ back) (no_nodes mid m) ∙ nil_from_length back b
 
-    -- the front node gives its last item, where it alone has some
+    -- the front node yields its last item, if only it has items
     pub alone_gives_last : (mid mid' : List (Vec X Z)) (front left back back' all : List X) (x : X) → length mid ≡ 0 → length mid' ≡ 0 → length back ≡ 0 → length back' ≡ 0
         → front ++ (concat (vec_items mid) ++ back) ≡ all → front ≡ left ++ x ∷ [] → all ≡ (left ++ (concat (vec_items mid') ++ back')) ++ x ∷ []
     alone_gives_last mid mid' front left back back' all x m m' b b' e f =
         sym e
         ∙ (ap (λ l. front ++ l) (none_behind mid back m b) ∙ (append-nil front ∙ (f ∙ ap (λ l. l ++ x ∷ []) (sym (ap (λ l. left ++ l) (none_behind mid' back' m' b') ∙ append-nil left)))))
 
-    -- the back node gives its first item, where it alone has some
+    -- the back node yields its first item, if only it has items
     pub alone_gives_first : (mid mid' : List (Vec X Z)) (front front' back left all : List X) (x : X) → length mid ≡ 0 → length mid' ≡ 0 → length front ≡ 0 → length front' ≡ 0
         → front ++ (concat (vec_items mid) ++ back) ≡ all → back ≡ x ∷ left → all ≡ x ∷ (front' ++ (concat (vec_items mid') ++ left))
     alone_gives_first mid mid' front front' back left all x m m' b b' e f =

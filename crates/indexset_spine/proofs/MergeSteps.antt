@@ -1,4 +1,4 @@
--- A node whose items are others, and one that gave its first items away.
+-- A node with other items, and one without its first items.
 use Rattle.std.proofs.Common.{◌≡◌, ℕ, ◌+◌, ◌-◌, ◌<◌, ◌≤◌, List, [], ◌∷◌, ◌++◌, length, take, drop, get_or, slice_set, vec_len, false, Ordering, refl, sym, ap, ◌∙◌, subst, arith, length-append, length-drop, length-take}
 use Rattle.std.specs.Cmp.{IsTotalOrder}
 use Rattle.std.specs.List.{All, HoldsAt, fold}
@@ -19,7 +19,7 @@ use Rattle.indexset_index.proofs.CallerLemmas.{length-at}
 use Rattle.indexset_spine.proofs.PutLemmas.{IsGrown, fold_grown, node_up, put_filled}
 use Rattle.indexset_spine.proofs.VecNodes.{vec_items-set}
 
--- the spot behind the first items of the first node
+-- the spot after the first items of the first node
 abbrev pub behind : ℕ → Spot
 behind count = record { node = 0; offset = count; found = false }
 
@@ -59,12 +59,13 @@ module _ {X : Type 0} where
   front_gone [] count some = absurd (omega arith)
   front_gone (n ∷ ns) count some = refl
 
-  -- what the first node gives is what all begin with
+  -- the first items of the first node are those of the whole list
   pub front_taken : (ns : List (List X)) (count : ℕ) → 0 < length ns → count ≤ length (node_at ns 0) → take count (node_at ns 0) ≡ take count (concat ns)
   front_taken [] count some within = absurd (omega arith)
   front_taken (n ∷ ns) count some within = sym (take-append-le count n (concat ns) within)
 
--- the k-th node u, which takes the first items of v, the first node of another spine, and is w then, while z is left there
+-- the k-th node u, which takes the first items of v, the first node of another spine, and becomes
+-- w, while z remains of v
 module _ {X Z : Type 0} (cmp : X → X → Ordering) (o : IsTotalOrder cmp) (vs ws : List (Vec X Z)) (k count : ℕ) (u w v z : Vec X Z) where
   abbrev ns : List (List X)
   ns = vec_items vs

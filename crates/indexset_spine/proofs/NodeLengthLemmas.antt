@@ -1,4 +1,4 @@
--- The lengths of the nodes are what the words of Lengths say.
+-- The lengths of the nodes are those that the definitions of `Lengths` give.
 use Rattle.std.proofs.Common.{◌≡◌, ℕ, zero, suc, ◌+◌, ◌-◌, ◌/◌, ◌<◌, ◌≤◌, ◌==◌, ◌&&◌, true, false, List, [], ◌∷◌, ◌++◌, length, take, drop, if◌then◌else◌, nat_lt, refl, sym, ap, ◌∙◌, arith, add-one, length-append, length-take, length-drop, length-set, inl, inr}
 use Rattle.std.specs.List.{splice, insert, remove, slice_set}
 use Rattle.std.proofs.lemmas.List.{append-nil, length-map, map-append}
@@ -96,7 +96,7 @@ module _ {X : Type 0} where
   only_one (n ∷ []) (suc k) o i m lt short inside one none at = absurd (omega arith)
   only_one (n ∷ p ∷ ns) k o i m lt short inside one none at = absurd (omega arith)
 
-  -- where the item at a position goes
+  -- the insertion point at a position
   pub node_lengths-without : (ns : List (List X)) (s : Spot) (i : ℕ) → IsItemSpot ns s → position_of ns s ≡ i → node_lengths (without_item ns s) ≡ lengths_without (node_lengths ns) i
   unfolding without_item lengths_without
   node_lengths-without ns s i h at =

@@ -1,4 +1,4 @@
--- What an edit at a spot does to the joined list, and that the nodes stay a cut.
+-- The joined list after an edit at a spot, and that the nodes remain a cut.
 use Rattle.std.proofs.Common.{◌≡◌, ℕ, Bool, suc, ◌+◌, ◌-◌, ◌/◌, ◌<◌, ◌≤◌, ◌==◌, true, false, List, [], ◌∷◌, ◌++◌, length, take, drop, slice_set, slice_get, if◌then◌else◌, nat_lt, ◌&&◌, refl, sym, ap, ◌∙◌, subst, arith, length-append, add-one, length-take, length-drop}
 use Rattle.std.proofs.lemmas.Bool.Decides.{nat_tests}
 use Rattle.std.proofs.lemmas.List.{append-nil, length-map, get_or-map, length-set, set-append_left, set-append_right, take-append-drop, length-take-le, set_split, nil_from_length}
@@ -70,7 +70,7 @@ module _ {X : Type 0} where
   node_filled ns k size h more is =
       subst (λ m. 1 ≤ m) (get_or-map len ns k [] 0 h) (is.filled (omega (arith, length-node_lengths ns)) k 0 (omega (arith, length-node_lengths ns)))
 
-  -- what stands for a node that v goes into, by its three cases
+  -- the nodes that a node becomes if v is inserted, by its three cases
   parts_cases : (P : List (List X) → Type 0) (size : ℕ) (n : List X) (o : ℕ) (v : X)
       → (length n < size → P (insert n o v ∷ []))
       → (size ≤ length n → length n / 2 < o → P (take (length n / 2) n ∷ insert (drop (length n / 2) n) (o - length n / 2) v ∷ []))
@@ -223,7 +223,7 @@ module _ {X : Type 0} where
   pub spine_replaced : (size total : ℕ) (ns : List (List X)) (s : Spot) (v : X) → IsSpine (node_lengths ns) size total → IsSpine (node_lengths (with_replaced ns s v)) size total
   spine_replaced size total ns s v is = rw (node_lengths-replaced ns s v) is
 
-  -- the first item stands at the first spot
+  -- the first item is at the first spot
   pub first_in : (size : ℕ) (ns : List (List X)) → AreNodeLengths (node_lengths ns) size → 0 < length (concat ns) → IsItemSpot ns first_spot
   first_in size [] is some = absurd (omega arith)
   first_in size (n ∷ []) is some = record { node_in = omega arith; offset_in = omega (arith, some, length-append n []) }

@@ -3,11 +3,11 @@ use Rattle.std.proofs.Common.{◌≡◌, ℕ, true, ◌-◌, List, [], ◌∷◌
 use Rattle.indexset_core.specs.Nodes.{node_at}
 use Rattle.indexset_spine.specs.NodeList.{first_spot, parts_with, with_inserted}
 
--- v goes behind the last item
+-- v is inserted after the last item
 abbrev put_last : List (List ℕ) → ℕ → List (List ℕ)
 put_last ns v = with_inserted 2 ns record { node = length ns - 1; offset = length (node_at ns (length ns - 1)); found = true } v
 
--- v goes before the first item
+-- v is inserted before the first item
 abbrev put_first : List (List ℕ) → ℕ → List (List ℕ)
 put_first ns v = with_inserted 2 ns first_spot v
 

@@ -1,4 +1,4 @@
--- Places in a list that is cut into nodes.
+-- Places in a list that is partitioned into nodes.
 use Rattle.std.proofs.Common.{◌≡◌, ℕ, zero, suc, ◌+◌, ◌-◌, ◌<◌, ◌≤◌, List, [], ◌∷◌, ◌++◌, length, sum, take, get_or, slice_set, slice_get, Some, nat_lt, max, Bool, true, false, if◌then◌else◌, refl, sym, ap, ◌∙◌, arith, length-append, subst}
 use Rattle.std.proofs.lemmas.List.{length-set, set-append_left, set-append_right}
 use Rattle.std.proofs.lemmas.List.Sums.{sum_by-cons}
@@ -19,7 +19,7 @@ sum-filled (n ∷ ls) h =
     let rest = sum-filled ls (λ k d lt. h (suc k) d (omega arith)) in let here : 1 ≤ n = h 0 n (omega arith) in
     omega (arith, sum_by-cons (λ (x : ℕ). x) n ls)
 
--- as many nodes as items at most, where there are two
+-- at most as many nodes as items, if there are two nodes
 pub few_nodes : (ls : List ℕ) (size : ℕ) → AreNodeLengths ls size → length ls ≤ max 1 (sum ls)
 few_nodes [] size h = omega arith
 few_nodes (n ∷ []) size h = omega arith
@@ -53,7 +53,7 @@ module _ {X : Type 0} where
             ap (λ l. n ++ l) (concat-set ns (i - length n) w) ∙ sym (set-append_right n (concat ns) (length n) i w refl h)
       ] in on (nat_lt i (length n)) refl
 
-  -- the nodes as the code holds them
+  -- the nodes as the code stores them
   module _ {Z : Type 0} where
     -- the same, at a spot of the spine s
     pub spot_reads : (vs : List (Vec X Z)) (n : ℕ) (s : NodeList X) (p : Spot) (v : Vec X Z) (x : X) → node_list (vec_items vs) n ≡ s → IsItemSpot s.nodes p → v ≡ get_or vs p.node v → x ≡ get_or v.items p.offset x → slice_get (items s) (position_of s.nodes p) ≡ Some x

@@ -48,7 +48,7 @@ module _ {X : Type 0} where
   abbrev Low : ℕ → List X → Type 0
   Low size n = length n ≤ size
 
-  -- where only the k-th may be empty, the nodes are a cut without it
+  -- if only the k-th may be empty, the nodes are a cut without it
   cut_emptied : (ns : List (List X)) (k size : ℕ) → k < length ns → 2 ≤ size → All (Low size) ns → All Filled (take k ns) → All Filled (drop (k + 1) ns) → AreNodeLengths (node_lengths (without_emptied ns k)) size
   unfolding without_emptied
   cut_emptied ns k size h two low before after =

@@ -1,4 +1,4 @@
--- Spots, said of nodes and of the nodes' lengths.
+-- Spots, in terms of nodes and in terms of the nodes' lengths.
 use Rattle.std.proofs.Common.{◌≡◌, ℕ, zero, suc, ◌+◌, ◌-◌, ◌<◌, ◌≤◌, true, false, nat_lt, List, [], ◌∷◌, length, slice_index, sum, take, refl, ap, sym, arith}
 use Rattle.std.proofs.lemmas.Bool.Decides.{nat_tests}
 use Rattle.std.proofs.lemmas.List.Sums.{sum_by-cons}
@@ -51,7 +51,7 @@ module _ {X : Type 0} (ns : List (List X)) (s : Spot) where
       let place = item_place h in let is = place_position in let inside = place.offset_in in
       sym (node_of_is (node_lengths ns) s.node i place.node_in (omega (arith, at, is)) (omega (arith, at, is, inside)))
 
-  -- the lengths, once an item was inserted there, or removed
+  -- the lengths after an insertion there, or a removal
   pub lengths_placed : (size : _) (v : X) → IsPlace (node_lengths ns) s → node_lengths (with_inserted size ns s v) ≡ lengths_with size (node_lengths ns) (place_of (node_lengths ns) s)
   lengths_placed size v h =
       let spot = place_spot h in

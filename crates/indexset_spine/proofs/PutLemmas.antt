@@ -1,4 +1,4 @@
--- Items put into a list, each where it belongs, replacing any equal one.
+-- Items that are inserted into a list in order, replacing equal ones.
 use Rattle.std.proofs.Common.{◌≡◌, ℕ, suc, ◌+◌, ◌-◌, ◌<◌, ◌≤◌, List, [], ◌∷◌, ◌++◌, length, get_or, take, drop, reverse, true, false, slice_get, Some, MatchOption, Ordering, refl, sym, ap, ◌∙◌, subst, arith, length-append, length-take, append_assoc}
 use Rattle.std.specs.declared.cmp.Ordering.TheVariants.{Less, Equal, Greater}
 use Rattle.std.specs.Cmp.{IsTotalOrder}
@@ -17,7 +17,7 @@ use Rattle.indexset_core.specs.Order.{IsAscending, above, below, put, rank}
 use Rattle.indexset_core.specs.Parted.{less_count}
 use Rattle.indexset_core.proofs.CallerLemmas.{Parts, count_parts, found_ascending, found_put, front-is_lt, gap_ascending, gap_put, joined_around, less_from, located_found, located_gap, offset-le, parted_by_item, slice_get-right}
 
--- the item behind all others of an ascending list
+-- an item after all others of an ascending list
 module _ {T : Type 0} (cmp : T → T → Ordering) (m : List T) (x : T) (up : IsAscending cmp (m ++ x ∷ [])) where
   pub front_up : IsAscending cmp m
   front_up i j d lt inside =
@@ -29,7 +29,7 @@ module _ {T : Type 0} (cmp : T → T → Ordering) (m : List T) (x : T) (up : Is
       ∙ (sym (ap (cmp (get_or (m ++ x ∷ []) k d)) (get_or-append_seam m x [] d)) ∙ up k (length m) d lt (omega (arith, length-append m (x ∷ []))))
 
 module _ {T : Type 0} (cmp : T → T → Ordering) where
-  -- v goes before the last item
+  -- v is inserted before the last item
   pub put_before : (m : List T) (l v : T) → cmp l v ≡ Greater → put cmp (m ++ l ∷ []) v ≡ put cmp m v ++ l ∷ []
   unfolding put
   put_before m l v e =
@@ -45,7 +45,7 @@ module _ {T : Type 0} (cmp : T → T → Ordering) where
       let high : above cmp (m ++ l ∷ []) v ≡ above cmp m v = filter-append (λ y. is_gt (cmp y v)) m (l ∷ []) ∙ rw e (append-nil (above cmp m v)) in
       rw (low, high) refl
 
-  -- or goes behind all
+  -- or is inserted after all
   put_behind : (m : List T) (v : T) → All (λ y. cmp y v ≡ Less) m → put cmp m v ≡ m ++ v ∷ []
   put_behind m v less =
       gap_put cmp m v (length m) (record { inside = omega arith; below_before = λ k d low high. less k d high; above_after = λ k d low high. absurd (omega (arith, low, high)) })
@@ -89,7 +89,8 @@ module _ {T : Type 0} where
   last_parts [] some = absurd (omega arith)
   last_parts (x ∷ xs) some = parts_at_last x xs
 
--- a merge from the back: of u and r some last items are in out, the last one first, and all that were there make `whole`
+-- a merge from the back: some last items of u and r are in out, in reverse, and all items make
+-- `whole`
 pub record IsMerging {T : Type 0} (cmp : T → T → Ordering) (u r out whole : List T) : Type 0 where
   pub order : IsAscending cmp u
   pub run_order : IsAscending cmp r
@@ -106,11 +107,11 @@ module _ {T : Type 0} (cmp : T → T → Ordering) (o : IsTotalOrder cmp) where
   next_out l out x = append_assoc l (x ∷ []) (reverse out) ∙ ap (λ z. l ++ z) (sym (reverse-append out (x ∷ [])))
 
   module _ (u r out whole : List T) (is : IsMerging cmp u r out whole) (answer : Ordering) (told : ForSome (slice_get r (length r - 1)) (λ b. MatchOption (slice_get u (length u - 1)) (answer ≡ Less) (λ a. answer ≡ cmp a b))) where
-    -- the answer is that of the last items
+    -- the comparison is that of the last items
     answer_is : (m r' : List T) (a b : T) → u ≡ m ++ a ∷ [] → r ≡ r' ++ b ∷ [] → answer ≡ cmp a b
     answer_is m r' a b e f = (rw (last_is u m a e) at (told b (last_is r r' b f)))
 
-    -- where the answer isn't Less, there is a last item
+    -- if the comparison is not Less, there is a last item
     pub some_there : 0 < length r → is_lt answer ≡ false → 0 < length u
     some_there some other =
         let parts = last_parts r some in
@@ -130,7 +131,7 @@ module _ {T : Type 0} (cmp : T → T → Ordering) (o : IsTotalOrder cmp) where
         subst (All (λ y. cmp y b ≡ Less)) (sym parts.2)
         (All-append (λ y. cmp y b ≡ Less) parts.0 (parts.1 ∷ []) (All-weaker (λ y. cmp y parts.1 ≡ Less) (λ y. cmp y b ≡ Less) (λ y h. o.trans y parts.1 b h less) parts.0 before) (All-cons (λ y. cmp y b ≡ Less) parts.1 [] less (All-nil (λ y. cmp y b ≡ Less))))
 
-    -- the last of the run goes
+    -- the last item of the run moves
     pub merged_less : answer ≡ Less → (r' : List T) (b : T) → r ≡ r' ++ b ∷ [] → IsMerging cmp u r' (out ++ b ∷ []) whole
     merged_less e r' b f =
         let run_up = rw f at is.run_order in
@@ -140,7 +141,7 @@ module _ {T : Type 0} (cmp : T → T → Ordering) (o : IsTotalOrder cmp) where
           same = sym (next_out (fold (put cmp) u r') out b) ∙ (ap (λ z. z ++ reverse out) (sym (fold_behind cmp u r' b (all_less r' b f e u refl) (front_less cmp r' b run_up)) ∙ ap (fold (put cmp) u) (sym f)) ∙ is.same);
         }
 
-    -- the last of the list goes
+    -- the last item of the list moves
     pub merged_greater : answer ≡ Greater → 0 < length r → (m : List T) (a : T) → u ≡ m ++ a ∷ [] → IsMerging cmp m r (out ++ a ∷ []) whole
     merged_greater e some m a f =
         let parts = last_parts r some in
@@ -154,7 +155,7 @@ module _ {T : Type 0} (cmp : T → T → Ordering) (o : IsTotalOrder cmp) where
           same = sym (next_out (fold (put cmp) m r) out a) ∙ (ap (λ z. z ++ reverse out) (sym (fold_before cmp m r a all) ∙ ap (λ z. fold (put cmp) z r) (sym f)) ∙ is.same);
         }
 
-    -- both go, and that of the run is kept
+    -- both are removed, and that of the run is kept
     pub merged_equal : answer ≡ Equal → (m r' : List T) (a b : T) → u ≡ m ++ a ∷ [] → r ≡ r' ++ b ∷ [] → IsMerging cmp m r' (out ++ b ∷ []) whole
     merged_equal e m r' a b f g =
         let tied : cmp a b ≡ Equal = sym (answer_is m r' a b f g) ∙ e in
@@ -212,7 +213,7 @@ module _ {T : Type 0} (cmp : T → T → Ordering) (o : IsTotalOrder cmp) where
       let more = fold_grown (put cmp l x) xs one.up in
       record { up = more.up; least = omega (arith, one.least, more.least); most = omega (arith, one.most, more.most) }
 
-  -- an item that was inserted is there
+  -- an inserted item is present
   fold_some : (l xs : List T) → 0 < length l → 0 < length (fold (put cmp) l xs)
   fold_some l [] some = some
   fold_some l (x ∷ xs) some = fold_some (put cmp l x) xs (put_some cmp l x)

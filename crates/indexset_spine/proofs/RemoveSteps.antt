@@ -1,4 +1,4 @@
--- What is removed from the nodes, as the code holds them.
+-- Removals from the nodes, as the code stores them.
 use Rattle.std.proofs.Common.{◌≡◌, ℕ, suc, ◌+◌, ◌<◌, ◌≤◌, ◌==◌, ◌&&◌, true, false, List, [], ◌++◌, length, take, drop, get_or, slice_set, slice_get, Some, nat_lt, if◌then◌else◌, refl, sym, ap, ◌∙◌, subst, arith}
 use Rattle.std.proofs.lemmas.Bool.Decides.{nat_tests}
 use Rattle.std.proofs.lemmas.List.{length-set, get_or-set_same, take-set, drop-set-lt, take-map, drop-map, map-append}
@@ -40,7 +40,7 @@ module _ {X : Type 0} where
   remove-set : (ns : List (List X)) (k : ℕ) (m : List X) → remove (slice_set ns k m) k ≡ remove ns k
   remove-set ns k m = ap (λ l. l ++ drop (suc k) (slice_set ns k m)) (take-set ns k m) ∙ ap (λ l. take k ns ++ l) (drop-set-lt (suc k) ns k m (omega arith))
 
-  -- an item goes, and then the node if it is empty
+  -- an item is removed, and then the node if it is empty
   pub item_goes : (ns : List (List X)) (s : Spot) → IsItemSpot ns s → without_emptied (slice_set ns s.node (remove (node_at ns s.node) s.offset)) s.node ≡ without_item ns s
   unfolding without_emptied without_item
   item_goes ns s h =
@@ -56,7 +56,7 @@ module _ {X Z : Type 0} where
       map-append held (take k vs) (drop (suc k) vs)
       ∙ (ap (λ l. l ++ vec_items (drop (suc k) vs)) (sym (take-map held k vs)) ∙ ap (λ l. take k (vec_items vs) ++ l) (sym (drop-map held (suc k) vs)))
 
-  -- the nodes once the item at the spot is out
+  -- the nodes after the removal of the item at the spot
   pub item_out : (vs : List (Vec X Z)) (s : Spot) (u w : Vec X Z) → IsItemSpot (vec_items vs) s → u ≡ get_or vs s.node u → w.items ≡ remove u.items s.offset
       → vec_items (slice_set vs s.node w) ≡ slice_set (vec_items vs) s.node (remove (node_at (vec_items vs) s.node) s.offset)
   item_out vs s u w h at is =
@@ -67,7 +67,7 @@ module _ {X Z : Type 0} where
   item_taken vs s u w h at is =
       ap (λ ms. without_emptied ms s.node) (item_out vs s u w h at is) ∙ item_goes (vec_items vs) s h
 
-  -- w is written over the item of the spot
+  -- w replaces the item at the spot
   pub respot_writes : (vs : List (Vec X Z)) (size : ℕ) (t : NodeList X) (s : Spot) (u : Vec X Z) (w : X) → node_list (vec_items vs) size ≡ t → IsItemSpot t.nodes s → u ≡ get_or vs s.node u
       → vec_items (slice_set vs s.node (with_item u s.offset w)) ≡ with_replaced t.nodes s w
   unfolding with_replaced

@@ -1,4 +1,4 @@
--- A closure that is asked at each item in turn, in one node after another.
+-- A closure that is called for each item in order, in one node after another.
 use Rattle.std.proofs.Common.{◌≡◌, ℕ, suc, ◌+◌, ◌<◌, ◌≤◌, Bool, true, false, not, cond, filter, ◌==◌, List, [], ◌∷◌, ◌++◌, length, take, drop, get_or, set, swap, refl, sym, ap, ◌∙◌, subst, arith, append_assoc, append-nil, length-append}
 use Rattle.std.proofs.lemmas.List.{length-set, get_or-set_same, take-set-le, take_more_set, drop-set-lt, drop_more, drop_all}
 use Rattle.std.proofs.lemmas.List.Elements.{All-cons}
@@ -13,7 +13,7 @@ use Rattle.indexset_spine.specs.Edits.{RetainsTo, RetainsEach, RetainsNodes, or_
 use Rattle.indexset_spine.proofs.NodeListEdits.{spine_of}
 use Rattle.indexset_spine.proofs.NodeListSplits.{joined_all_emptied, cut_all_emptied}
 
--- y is swapped with the first item that went, the k-th
+-- y is swapped with the first removed item, the k-th
 module _ {X : Type 0} (ys : List X) (k i : ℕ) (y : X) (below : k < i) (lt : i < length ys) where
   abbrev zs : List X
   zs = set ys i y
@@ -35,7 +35,8 @@ module _ {X : Type 0} (ys : List X) (k i : ℕ) (y : X) (below : k < i) (lt : i 
       ∙ (drop-set-lt (i + 1) zs k (get_or zs i y) (omega arith) ∙ drop-set-lt (i + 1) ys i y (omega arith)))
 
 module _ {S X : Type 0} (R : S → X → Bool → S → X → Type 0) where
-  -- the first i items of xs were asked, from `first` on to s, and the first k of ys are those that stay
+  -- the closure was called for the first i items of xs, from `first` to s, and the first k of ys
+  -- are those that stay
   pub record SiftedTo (first : S) (xs : List X) (s : S) (ys : List X) (k i : ℕ) : Type 0 where
     pub rest : drop i ys ≡ drop i xs
     pub run : (left : List X) (t : S) → RetainsTo R s (drop i xs) left t → RetainsTo R first xs (take k ys ++ left) t
@@ -83,7 +84,7 @@ module _ {S X : Type 0} (R : S → X → Bool → S → X → Type 0) where
       let split : (b : Bool) → cond b (y ∷ us) us ++ left ≡ cond b (y ∷ (us ++ left)) (us ++ left) = elim [ true ↦ refl | false ↦ refl ] in
       (b, u, y, called, us ++ left, joins u t xs us more left tail next, ap (λ l. l ++ left) is ∙ split b)
 
-  -- what each node keeps, joined, is what the joined list keeps
+  -- the items that each node keeps, joined, are those that the joined list keeps
   each_joined : (s : S) (ns ms : List (List X)) → RetainsEach R s ns ms → RetainsInTurn R s (concat ns) (concat ms)
   each_joined s [] ms h = ap concat h
   each_joined s (n ∷ ns) ms (m, t, here, ls, more, is) =
@@ -100,12 +101,12 @@ module _ {S X : Type 0} (R : S → X → Bool → S → X → Type 0) where
       let first : length n ≤ size = low 0 0 (omega arith) in
       rw is (All-cons (λ n. n ≤ size) (length m) (node_lengths ls) (omega (arith, first, shorter s t n m here)) (each_low size t ns ls more (λ i d lt. low (suc i) d (omega arith))))
 
--- the nodes as the code holds them
+-- the nodes as the code stores them
 module _ {S X Z C : Type 0} (R : S → X → Bool → S → X → Type 0) (G : C → Vec X Z → Bool → C → Vec X Z → Type 0) (state : C → S) where
   abbrev some_in : List X → Bool
   some_in n = not (length n == 0)
 
-  -- a call at a node asks at each of its items, and answers whether one is left
+  -- a call for a node calls the closure for each of its items, and returns whether one is left
   abbrev AsksNode : Type 0
   AsksNode = (c : C) (v : Vec X Z) (b : Bool) (d : C) (w : Vec X Z) → G c v b d w → RetainsTo R (state c) v.items w.items (state d) × (b ≡ some_in w.items)
 
@@ -141,7 +142,7 @@ module _ {S X Z C : Type 0} (R : S → X → Bool → S → X → Type 0) (G : C
       let ask = keeps_some asks c vs (w ∷ ws) h in
       record { each = ask.each; run = ask.run; left = ap or_one_empty ask.left }
 
--- the nodes of a spine, once each kept its own
+-- the nodes of a spine after each kept its own items
 module _ {S X : Type 0} (R : S → X → Bool → S → X → Type 0) (s : S) (ns ms : List (List X)) (h : RetainsNodes R s ns ms) where
   pub nodes_joined : RetainsInTurn R s (concat ns) (concat ms)
   nodes_joined = rw (h.left, joined_all_emptied h.each) (each_joined R s ns h.each h.run)

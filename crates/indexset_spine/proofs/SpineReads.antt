@@ -1,4 +1,4 @@
--- What the code reads of a spine, and where its searches end.
+-- What the code reads of a spine, and the ends of its searches.
 use Rattle.std.proofs.Common.{◌≡◌, ℕ, ◌+◌, ◌-◌, ◌<◌, ◌≤◌, false, true, List, [], ◌∷◌, length, get_or, take, Option, Ordering, inl, inr, sym, ap, ◌∙◌, arith, subst}
 use Rattle.std.specs.List.{All, HoldsAt}
 use Rattle.std.specs.Option.{option_map_or}
@@ -13,7 +13,7 @@ use Rattle.indexset_core.proofs.CallerLemmas.{count_parted, ends_for, equal_none
 use Rattle.indexset_spine.specs.NodeList.{NodeList, node_list, AreNodeLengths, items}
 use Rattle.indexset_spine.proofs.VecNodes.{length-vec_items, node_read}
 
--- n is the node of the spine s that the answers name, the k-th
+-- n is the k-th node of the spine s, in which the search ends
 pub record NodeFound {X : Type 0} (answer : X → Ordering) (s : NodeList X) (k : ℕ) (n : List X) : Type 0 where
   pub node_list : AreNodeLengths (node_lengths s.nodes) s.size
   pub named : k ≡ node_for answer s.nodes
@@ -37,7 +37,7 @@ module _ {X : Type 0} (answer : X → Ordering) (s : NodeList X) (k : ℕ) (n : 
     pub node_parted : IsParted answer n
     node_parted = rw (← h.node) (parted_node answer s.nodes k h.inside parted)
 
-    -- the offset that a search of the node answers
+    -- the offset that a search of the node returns
     module _ (o : ℕ) (at : o ≡ less_count answer n) where
       filled : 2 ≤ length s.nodes → All (λ n. 1 ≤ n) (node_lengths s.nodes)
       filled two = h.cut.filled (omega (arith, two, length-map s.nodes (λ n. length n)))
@@ -61,7 +61,7 @@ module _ {X : Type 0} (answer : X → Ordering) (s : NodeList X) (k : ℕ) (n : 
         | inr ge ↦ slice_get_past n o ge ∙ sym (slice_get_past (items s) _ (past ge))
       ])
 
--- where the last item of a list is found Less, all are
+-- if the last item of a list compares Less, all items do
 pub all_less : {X : Type 0} (answer : X → Ordering) (xs : List X) → IsParted answer xs → ends_less answer xs ≡ true → length xs ≡ less_count answer xs
 all_less answer [] parted ends = absurd (false≢true ends)
 all_less answer (x ∷ xs) parted ends =
@@ -70,7 +70,7 @@ all_less answer (x ∷ xs) parted ends =
     sym (count_parted (λ y. is_lt (answer y)) (x ∷ xs) n (omega arith)
     (λ k d low high. front-is_lt _ _ (parted k (n - 1) d (omega (arith, high)) (omega arith)) (last d)) (λ k d low high. absurd (omega (arith, low, high))))
 
--- where the last node's last item is found Less, the answers name that node
+-- if the last node's last item compares Less, the search ends in that node
 last_named : {X : Type 0} (answer : X → Ordering) (ns : List (List X)) → 1 ≤ length ns → (2 ≤ length ns → All (λ n. 1 ≤ n) (node_lengths ns)) → IsParted answer (concat ns) → ends_less answer (node_at ns (length ns - 1)) ≡ true → length ns - 1 ≡ node_for answer ns
 last_named answer ns some filled parted ends =
     let none : length ns - 1 < length ns - 1 → HoldsAt (λ n. ends_less answer n ≡ false) ns (length ns - 1) = λ lt. absurd (omega (arith, lt)) in
@@ -79,12 +79,13 @@ last_named answer ns some filled parted ends =
       | inr one ↦ node_found answer ns (length ns - 1) some (omega arith) (λ k d low high. absurd (omega (arith, high, one))) none
     ]
 
--- the answers name the node that the code reads
+-- the search ends in the node that the code reads
 pub read_named : {X Z : Type 0} (vs : List (Vec X Z)) (size : ℕ) (s : NodeList X) → node_list (vec_items vs) size ≡ s → AreNodeLengths (node_lengths (vec_items vs)) size
     → (answer : X → Ordering) (k : ℕ) (v : Vec X Z) → k ≡ node_for answer s.nodes → v ≡ get_or vs k v → NodeFound answer s k v.items
 read_named {X} vs size s view is answer k v found = read_node vs size s view is answer k v (found ∙ ap (λ (t : NodeList X). node_for answer t.nodes) (sym view))
 
--- and the node k, where the last item of the node before it is found Less, and its own is not or it is the last node
+-- and in node k, if the last item of the node before it compares Less, and its own does not or it
+-- is the last node
 pub sought : {X Z : Type 0} (answer : X → Ordering) (vs : List (Vec X Z)) → (2 ≤ length vs → All (λ n. 1 ≤ n) (node_lengths (vec_items vs))) → IsParted answer (concat (vec_items vs))
     → (k : ℕ) → k < length vs → 1 ≤ k → (v : Vec X Z) → v ≡ get_or vs (k - 1) v → ends_less answer v.items ≡ true → (k + 1 < length vs → HoldsAt (λ n. ends_less answer n ≡ false) (vec_items vs) k) → k ≡ node_for answer (vec_items vs)
 sought answer vs filled parted k inside some v at ends here =

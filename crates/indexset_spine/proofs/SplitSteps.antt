@@ -1,4 +1,4 @@
--- The nodes cut in two at a spot, as the code holds them.
+-- The nodes split in two at a spot, as the code stores them.
 use Rattle.std.proofs.Common.{◌≡◌, ℕ, ◌+◌, ◌<◌, List, [], ◌∷◌, ◌++◌, length, take, drop, get_or, slice_set, sym, ap, ◌∙◌, arith}
 use Rattle.std.proofs.lemmas.List.{drop-set-lt, take_more_set, take-map, drop-map, map_push}
 use Rattle.std.specs.declared.vec.Vec.{Vec}
@@ -6,7 +6,7 @@ use Rattle.indexset_core.specs.Nodes.{node_at, vec_items}
 use Rattle.indexset_spine.proofs.VecNodes.{length-vec_items}
 use Rattle.indexset_spine.proofs.EditSteps.{node_is}
 
--- the k-th node u is cut at o into w and b
+-- the k-th node u is split at o into w and b
 module _ {X Z : Type 0} (vs : List (Vec X Z)) (k o : ℕ) (u w b : Vec X Z) (h : k < length (vec_items vs)) (at : u ≡ get_or vs k u) where
   abbrev held : Vec X Z → List X
   held v = v.items

@@ -1,4 +1,4 @@
--- What stands at a spot of a list that is cut into nodes, and next after the end of a node.
+-- The item at a spot of a list that is partitioned into nodes, and the one after the end of a node.
 use Rattle.std.proofs.Common.{◌≡◌, ℕ, zero, suc, ◌+◌, ◌<◌, ◌≤◌, List, [], ◌∷◌, ◌++◌, length, take, slice_get, Some, None, refl, sym, ap, ◌∙◌, arith, length-append}
 use Rattle.std.specs.List.{All}
 use Rattle.std.proofs.lemmas.List.{length-map}

@@ -1,4 +1,4 @@
--- The nodes of a spine as the code holds them.
+-- The nodes of a spine as the code stores them.
 use Rattle.std.proofs.Common.{◌≡◌, ℕ, ◌+◌, ◌<◌, List, length, take, get_or, slice_set, slice_get, Some}
 use Rattle.std.specs.List.{splice}
 use Rattle.std.specs.declared.vec.Vec.{Vec}

@@ -1,4 +1,4 @@
--- How a write through a lent item comes back to its spine.
+-- Writes through a mutable reference to an item of a spine.
 use Rattle.std.specs.Prelude.{ℕ, Option}
 use Rattle.std.specs.Borrow.{Fml, RattleType, MutBor, Lends, LendsIf}
 use Rattle.indexset_spine.specs.NodeList.{NodeList, with_item_at}
@@ -8,6 +8,6 @@ use Rattle.indexset_spine.specs.contracts.spine.Spine.{the_row}
 abbrev pub lends_at : (T : RattleType) → MutBor (NodeList T.Denot) → ℕ → MutBor T.Denot → Fml
 lends_at T s i r = Lends (the_row T) T s r (with_item_at s.now i)
 
--- the same where r is a reference, and at `None` the spine stays
+-- the same if r is a reference; if it is `None`, the spine stays the same
 abbrev pub lends_item : (T : RattleType) → MutBor (NodeList T.Denot) → ℕ → Option (MutBor T.Denot) → Fml
 lends_item T s i r = LendsIf (the_row T) T s r (with_item_at s.now i) s.now

@@ -1,12 +1,11 @@
-//! A stretch of the positions of a spine.
+//! A range of positions of a spine, for an iterator that edits it.
 
-/// The positions from `front` up to `back`, at which a walk has yet to be, and the node in which it
-/// was last.
+/// The positions that an iterator has not visited yet, and the node that it visited last.
 #[derive(Clone, Copy, Debug, PartialEq, Eq)]
 pub struct ExtractRange {
     /// The first position.
     pub front: usize,
-    /// The position past the last.
+    /// The position past the last one.
     pub back: usize,
     /// The index of the node.
     pub node: usize,

@@ -1,4 +1,4 @@
-//! An owning iterator over a spine from both ends.
+//! A double-ended iterator that owns the items of a spine.
 ghost use Rattle.std.specs.Prelude.{◌≡◌, length, List, Some, IfSome};
 ghost use Rattle.std.specs.Iterator.{at_most, UpTo};
 ghost use Rattle.std.specs.Iterator.SizeHint.{IsWithinCount};
@@ -11,7 +11,10 @@ use std::iter::FusedIterator;
 use std::marker::Model;
 use std::vec;
 
-/// The remaining items: those of the front node, of the nodes between, and of the back node.
+/// A double-ended iterator that owns the items of a spine.
+///
+/// It holds the remaining items of the front node, the nodes between, and the remaining items of
+/// the back node.
 #[derive(Drop)]
 pub struct IntoIter<T> {
     front: vec::IntoIter<T>,
@@ -37,7 +40,7 @@ impl<T> Model for IntoIter<T> {
 }
 
 impl<T> IntoIter<T> {
-    /// Returns the items of all nodes.
+    /// Creates an iterator over the items of all nodes.
     pub(crate) fn over(nodes: Vec<Vec<T>>, left: usize) -> Self
         requires { left ≡ length (concat (vec_items nodes.items)) }
         ensures { result ≡ concat (vec_items nodes.items) }

@@ -1,4 +1,4 @@
-//! A shared iterator over a spine from both ends.
+//! A double-ended iterator that borrows the items of a spine.
 ghost use Rattle.std.specs.Prelude.{◌≡◌, ◌≤◌};
 ghost use Rattle.std.specs.List.{between};
 ghost use Rattle.indexset_core.specs.Nodes.{concat, vec_items};
@@ -10,10 +10,10 @@ use crate::spot::Spot;
 use indexset_core::item_iter::counted::ExactItemIter;
 use indexset_core::item_iter::{ItemIter, OfVec};
 
-/// The remaining items, and how many they are.
+/// A double-ended iterator over the items of a spine, which knows how many remain.
 pub type Iter<'a, T> = ExactItemIter<'a, T, Vec<T>, OfVec>;
 
-/// Returns the items from one spot up to another.
+/// Creates an iterator over the items from one spot up to another.
 pub(crate) fn walk_between<'a, T>(
     nodes: &'a [Vec<T>],
     start: &Spot,

@@ -2,7 +2,7 @@
 ghost use Rattle.std.specs.Prelude.{◌≡◌, ◌^◌, ◌-◌, ◌<◌, ◌≤◌, IsTrue, length};
 ghost use Rattle.indexset_core.specs.Nodes.{concat, node_at, vec_items};
 
-/// Returns whether the item at a position is in the node `k`, before which there are `start` items.
+/// Returns whether the item at a position is in node `k`, before which there are `start` items.
 pub(crate) fn is_in<T>(nodes: &[Vec<T>], k: usize, start: usize, i: usize) -> bool
     ensures { IsTrue result → (k < length nodes.now) × (start ≤ i)
         × (i - start < length (node_at (vec_items nodes.now) k)) }

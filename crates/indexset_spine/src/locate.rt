@@ -1,4 +1,4 @@
-//! Searches within a node, and whether a node is the one that a search ends in.
+//! The searches that test whether a search ends in a node.
 ghost use Rattle.std.specs.Prelude.{◌≡◌, ◌+◌, ◌<◌, ◌≤◌, IsTrue, length};
 ghost use Rattle.std.specs.List.{All};
 ghost use Rattle.indexset_core.specs.Digits.{digits};
@@ -7,8 +7,7 @@ ghost use Rattle.indexset_core.specs.Nodes.{ends_less, equal_at, concat, node_le
 
 use indexset_core::probe::Probe;
 
-/// Returns whether the node k is the one that `node_by` answers, by at most two comparisons: false
-/// of a node that is not there.
+/// Returns whether `node_by` returns node `k`, by two comparisons at most.
 pub(crate) fn is_sought<T, P: Probe<T>>(nodes: &[Vec<T>], k: usize, probe: &mut P) -> bool
     requires filled { 2 ≤ length nodes.now → All (λ n. 1 ≤ n) (node_lengths (vec_items nodes.now)) }
     requires parted { IsParted (P.answer probe.old) (concat (vec_items nodes.now)) }
@@ -25,7 +24,7 @@ pub(crate) fn is_sought<T, P: Probe<T>>(nodes: &[Vec<T>], k: usize, probe: &mut 
     k == 0 || ends_less(&nodes[k - 1], probe)
 }
 
-/// Returns whether the last item of a node is found Less, by one comparison.
+/// Returns whether the last item of a node compares Less, by one comparison.
 pub(crate) fn ends_less<T, P: Probe<T>>(node: &[T], probe: &mut P) -> bool
     ensures value { result ≡ ends_less (P.answer probe.old) node.now }
     ensures fixed { P.answer probe.new ≡ P.answer probe.old }

@@ -1,4 +1,4 @@
-//! Two ascending lists merged, of which the second one's items replace equal ones of the first.
+//! The merge of two ascending lists: the items of the second replace equal ones of the first.
 ghost use Rattle.std.specs.Prelude.{◌≡◌, ◌+◌, ◌-◌, ◌<◌, ◌≤◌, [], ◌++◌, IfOk, OnOk, IfErr, OnErr, MatchOption, length, take, drop, slice_get, vec_len, vec_capacity};
 ghost use Rattle.std.specs.List.{All, HoldsAt, fold};
 ghost use Rattle.std.specs.Option.{ForSome};
@@ -11,8 +11,7 @@ use indexset_core::refusal::Refusal;
 use indexset_core::search;
 use std::cmp::Ordering;
 
-/// Returns how many first items of an ascending list are below the last item of another: at most as
-/// many as asked for, and none where there is no last item.
+/// Returns how many of the first `most` items of an ascending list are below the last of another.
 pub(crate) fn count_below_last<T: Ord>(items: &[T], from: &[T], most: usize) -> usize
     requires { IsAscending T.cmp from.now }
     ensures below { All (λ x. HoldsAt (λ l. T.cmp x l ≡ Less) items.now (length items.now - 1))
@@ -29,8 +28,7 @@ pub(crate) fn count_below_last<T: Ord>(items: &[T], from: &[T], most: usize) -> 
     }
 }
 
-/// Moves the first items of an ascending list into another, each where it belongs, replacing any
-/// equal one. A failed call changes neither.
+/// Merges the first items of an ascending list into another. A failed call changes neither.
 pub(crate) fn merge_first<T: Ord + Drop>(
     items: &mut Vec<T>,
     from: &mut Vec<T>,
@@ -52,13 +50,13 @@ pub(crate) fn merge_first<T: Ord + Drop>(
     let mut merged = Vec::with_capacity(alloc, items.len() + count)?;
     move_front(from, count, &mut run);
     merge_back(items, &mut run, &mut merged);
-    // There is room, and all move at once.
+    // The capacity suffices, and all items move at once.
     let _ = items.append(&mut merged);
     Ok(())
 }
 
-// Moves the items of a run, and those that are above its first one, into a third list, merged. Of
-// equal ones those of the run go there.
+// Merges a run, and the items that are above its first item, into a third list. Of equal items it
+// keeps those of the run.
 fn merge_back<T: Ord + Drop>(items: &mut Vec<T>, run: &mut Vec<T>, merged: &mut Vec<T>)
     requires order { IsAscending T.cmp items.old.items }
     requires run_order { IsAscending T.cmp run.old.items }
@@ -82,7 +80,7 @@ fn merge_back<T: Ord + Drop>(items: &mut Vec<T>, run: &mut Vec<T>, merged: &mut 
     merged.as_mut_slice().reverse();
 }
 
-// Returns how the last item compares with that of a run. None is below any.
+// Returns how the last item compares with the last of a run: Less if there is no item.
 fn order_of_last<T: Ord>(items: &[T], run: &[T]) -> Ordering
     ensures { ForSome (slice_get run.now (length run.now - 1))
         (λ b. MatchOption (slice_get items.now (length items.now - 1)) (result ≡ Less)

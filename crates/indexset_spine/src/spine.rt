@@ -39,7 +39,7 @@ use std::marker::Model;
 pub struct Spine<T> {
     nodes: Vec<Vec<T>>,
     size: usize,
-    // How many items there are, as the lengths of the nodes add up.
+    // The number of items, which is the sum of the lengths of the nodes.
     len: usize,
     // The lengths of the nodes.
     index: Fenwick,
@@ -61,7 +61,7 @@ impl<T> Model for Spine<T> {
 impl<T> Spine<T> {
     ghost use Rattle.indexset_spine.specs.SpineLends.{lends_item, lends_at};
 
-    /// Returns how many items a node holds at most.
+    /// Returns the maximum number of items in a node.
     pub fn maximum_node_size(&self) -> usize
         ensures value { result ≡ self.now.size }
         ensures two { 2 ≤ result }
@@ -98,8 +98,11 @@ impl<T> Spine<T> {
         self.len
     }
 
-    /// Returns the spot of the first item that the probe finds Equal, or its insertion point, by
-    /// two binary searches.
+    /// Returns the spot of the first item that compares Equal, or its insertion point.
+    ///
+    /// # Complexity
+    ///
+    /// Two binary searches.
     #[inline(always)]
     pub fn locate_by<P: Probe<T>>(&self, probe: &mut P) -> Spot
         requires { IsParted (P.answer probe.old) (items self.now) }
@@ -119,8 +122,13 @@ impl<T> Spine<T> {
         self.locate_among(probe, self.nodes.len())
     }
 
-    /// Returns the same with the last item compared first: if it is Less, no other comparison
-    /// follows; if not, there is one comparison more. For items that come in order.
+    /// Returns the same as `locate_by`, with the last item compared first.
+    ///
+    /// It serves items that come in order.
+    ///
+    /// # Complexity
+    ///
+    /// One comparison if the last item compares Less, else one more than `locate_by`.
     pub fn locate_from_end_by<P: Probe<T>>(&self, probe: &mut P) -> Spot
         requires { IsParted (P.answer probe.old) (items self.now) }
         ensures node { result.node ≡ node_for (P.answer probe.old) self.now.nodes }
@@ -145,12 +153,17 @@ impl<T> Spine<T> {
                 found: false,
             };
         }
-        // An insertion moves other items, which a search with branches has fetched by then.
+        // An insertion moves other items, which a search with branches has prefetched by then.
         self.locate_among(probe, self.nodes.len().saturating_mul(4))
     }
 
-    /// Returns the same with the node `near` tried first, by two comparisons at most. For items
-    /// whose insertion points are near each other.
+    /// Returns the same as `locate_by`, with node `near` tried first.
+    ///
+    /// It serves items whose insertion points are near each other.
+    ///
+    /// # Complexity
+    ///
+    /// Two comparisons more than `locate_by` at most.
     pub fn locate_near_by<P: Probe<T>>(&self, near: usize, probe: &mut P) -> Spot
         requires { IsParted (P.answer probe.old) (items self.now) }
         ensures node { result.node ≡ node_for (P.answer probe.old) self.now.nodes }
@@ -172,8 +185,7 @@ impl<T> Spine<T> {
         self.locate_by(probe)
     }
 
-    // Returns the spot of the first item that the probe finds Equal, or its insertion point,
-    // searched for as among so many nodes.
+    // Does the same as `locate_by`, by the kind of search for `node_count` nodes.
     #[inline(always)]
     fn locate_among<P: Probe<T>>(&self, probe: &mut P, node_count: usize) -> Spot
         requires { IsParted (P.answer probe.old) (items self.now) }
@@ -194,7 +206,7 @@ impl<T> Spine<T> {
         self.locate_in(node, probe, node_count)
     }
 
-    // Does the same, in the node that a search names.
+    // Does the same in node `node`, in which the search ends.
     fn locate_in<P: Probe<T>>(&self, node: usize, probe: &mut P, node_count: usize) -> Spot
         requires parted { IsParted (P.answer probe.old) (items self.now) }
         requires node { node ≡ node_for (P.answer probe.old) self.now.nodes }
@@ -219,12 +231,12 @@ impl<T> Spine<T> {
         }
     }
 
-    /// Returns how many items are before a spot: its position.
+    /// Returns the position of a spot: how many items are before it.
     pub fn position(&self, spot: &Spot) -> usize
         requires { IsSpot self.now.nodes spot.now }
         ensures { result ≡ position_of self.now.nodes spot.now }
     {
-        // The sum of all lengths fits, so each sum of some does.
+        // The sum of all lengths fits, and so does each sum of some of them.
         let _len = self.len;
         self.index.prefix(spot.node) + spot.offset
     }
@@ -243,8 +255,10 @@ impl<T> Spine<T> {
         })
     }
 
-    /// Returns the spot of the item at a position. It reads the index only where the item is not in
-    /// the node `near`, before which there are `start` items.
+    /// Returns the spot of the item at a position.
+    ///
+    /// Before node `near` there are `start` items. The index is read only if the item is in another
+    /// node.
     pub fn spot_near(&self, near: usize, start: usize, i: usize) -> Spot
         requires near { start ≡ sum (take near (node_lengths self.now.nodes)) }
         requires inside { i < length (items self.now) }
@@ -295,8 +309,9 @@ impl<T> Spine<T> {
         &self.nodes[spot.node][spot.offset]
     }
 
-    /// Returns the item at a spot, or where the spot is the end of its node, the first item of the
-    /// next, if any.
+    /// Returns the item at a spot, or `None` past the last item.
+    ///
+    /// At the end of a node, it returns the first item of the next.
     pub fn item_from(&self, spot: &Spot) -> Option<&T>
         requires { IsSpot self.now.nodes spot.now }
         ensures { option_copied result ≡ slice_get (items self.now)
@@ -327,7 +342,7 @@ impl<T> Spine<T> {
         }
     }
 
-    /// Returns the items, in order.
+    /// Returns a double-ended iterator over the items, in order.
     pub fn iter(&self) -> Iter<'_, T>
         ensures rest { result ≡ items self.now }
         ensures runs { ShowsInOrder (deref {X = T}) }
@@ -336,7 +351,7 @@ impl<T> Spine<T> {
         Iter::new(ItemIter::over(self.nodes.as_slice()), self.len)
     }
 
-    /// Returns the items from position `i` up to position `j`, in order.
+    /// Returns a double-ended iterator over the items from position `i` up to position `j`.
     pub fn iter_between(&self, i: usize, j: usize) -> Iter<'_, T>
         requires order { i ≤ j }
         requires within { j ≤ length (items self.now) }
@@ -361,7 +376,7 @@ impl<T> Spine<T> {
     }
 }
 
-// Returns the item at an offset of the node k, or `None` where there is none.
+// Returns the item at an offset of node `k`, or `None` past its end.
 fn item_in<T>(nodes: &[Vec<T>], k: usize, offset: usize) -> Option<&T>
     ensures { option_copied result ≡ slice_get (node_at (vec_items nodes.now) k) offset }
 {

@@ -7,6 +7,6 @@ pub struct Spot {
     pub node: usize,
     /// How many items of that node are before the spot.
     pub offset: usize,
-    /// Whether the item at the spot was found Equal.
+    /// Whether the item at the spot compared Equal.
     pub found: bool,
 }

@@ -10,7 +10,7 @@ use std::fmt;
 use std::iter::FusedIterator;
 use std::marker::Model;
 
-/// The remaining items, and how many they are.
+/// A double-ended iterator over the items of nodes, which knows how many remain.
 #[derive(Drop)]
 pub struct ExactItemIter<'a, T, Node, R: NodeItems<T, Node>> {
     walk: ItemIter<'a, T, Node, R>,
@@ -28,7 +28,7 @@ impl<'a, T, Node, R: NodeItems<T, Node>> Model for ExactItemIter<'a, T, Node, R>
 }
 
 impl<'a, T, Node, R: NodeItems<T, Node>> ExactItemIter<'a, T, Node, R> {
-    /// Returns an iterator with so many items remaining.
+    /// Creates an iterator from one of which `left` items remain.
     pub fn new(walk: ItemIter<'a, T, Node, R>, left: usize) -> Self
         requires { left ≡ length walk }
         ensures { result ≡ walk.entry }
@@ -36,8 +36,9 @@ impl<'a, T, Node, R: NodeItems<T, Node>> ExactItemIter<'a, T, Node, R> {
         ExactItemIter { walk, left }
     }
 
-    /// Returns the remaining items of the front node, or of the next that has items; none only at
-    /// the end.
+    /// Returns the remaining items of the front node, or of the next node that has items.
+    ///
+    /// They are empty only at the end.
     pub fn next_chunk(&mut self) -> &'a [T]
         ensures taken { self.old ≡ result.now ++ self.new }
         ensures some { 0 < length self.old → 0 < length result.now }
@@ -104,7 +105,7 @@ impl<'a, T, Node, R: NodeItems<T, Node>> Clone for ExactItemIter<'a, T, Node, R>
     }
 }
 
-/// The remaining items.
+/// Writes the remaining items.
 impl<'a, T: fmt::Debug, Node, R: NodeItems<T, Node>> fmt::Debug for ExactItemIter<'a, T, Node, R> {
     fn fmt<W: fmt::Write>(&self, f: &mut fmt::Formatter<W>) -> fmt::Result {
         let mut rest = self.clone().unwrap();

@@ -1,4 +1,4 @@
-//! Pairs are sought by their keys, or by what is sought among these.
+//! Look-up keys of pairs: their keys, or look-up keys of these.
 ghost use Rattle.std.specs.Cmp.Lexicographic.{nat_list_cmp_total, slice_cmp};
 ghost use Rattle.std.specs.Ordering.{nat_cmp};
 ghost use Rattle.indexset_core.specs.ByteOrder.{acts_by_view, one_by_view};

@@ -1,5 +1,5 @@
-//! A tuple is sought by its parts: by references to all of them, or, of two, by a `&str` for a part
-//! in the order of its bytes.
+//! Look-up keys of tuples: references to all parts, or, for tuples of two, a `&str` for a part in
+//! the order of its bytes.
 ghost use Rattle.std.specs.Cmp.{on_total, then_total};
 ghost use Rattle.std.specs.Prelude.{refl};
 ghost use Rattle.std.specs.Cmp.Lexicographic.{nat_list_cmp_total, slice_cmp};

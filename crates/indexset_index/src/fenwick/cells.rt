@@ -1,4 +1,4 @@
-//! The cells of an index, which are read one at a time and count their reads.
+//! The cells of an index, which are read one at a time, with a count of the reads.
 ghost use Rattle.std.specs.Prelude.{◌≡◌, ℕ, ◌+◌, ◌≤◌, length};
 ghost use Rattle.indexset_index.specs.Fenwick.{cell_of, IsFenwickOf};
 
@@ -8,13 +8,13 @@ use std::marker::Model;
 
 /// Cells of an index, read one at a time.
 pub trait Cells {
-    /// How many cells there are.
+    /// The number of cells.
     ghost number: { Self → ℕ };
 
-    /// What each cell holds, counted from 1: a fixed function of its place.
+    /// The content of each cell, counted from 1: a fixed function of its index.
     ghost cell: { Self → ℕ → ℕ };
 
-    /// How many cells were read.
+    /// The number of cells read so far.
     ghost asked: { Self → ℕ };
 
     /// Returns the number of cells.
@@ -32,7 +32,7 @@ pub trait Cells {
 }
 
 impl Fenwick {
-    /// Returns the cells, none of them read yet.
+    /// Returns the cells, of which none is read yet.
     pub fn cells(&self) -> IndexCells<'_>
         ensures value { result ≡ (self.now.lengths, 0) }
         ensures lawful { IsFenwickOf (cell_of result.0) (length result.0) result.0 }
@@ -46,7 +46,7 @@ impl Fenwick {
     }
 }
 
-/// The cells of an index: its lengths, and how many cells were read.
+/// The cells of an index, and the number of cells read so far.
 #[derive(Drop)]
 pub struct IndexCells<'a> {
     index: &'a Fenwick,

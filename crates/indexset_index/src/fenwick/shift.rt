@@ -1,4 +1,4 @@
-//! The sums of blocks of 32 nodes, where a node is inserted or removed and those after it move.
+//! Updates of the sums of blocks of 32 nodes, after a node was inserted or removed.
 ghost use Rattle.std.specs.Prelude.{◌≡◌, ◌+◌, ◌-◌, ◌*◌, ◌^◌, ◌<◌, ◌≤◌, ℕ, insert, length, map, remove, sum, slice_index};
 ghost use Rattle.indexset_core.specs.Nodes.{node_lengths};
 ghost use Rattle.indexset_index.specs.Blocks.{block_count, block_sums};
@@ -8,7 +8,7 @@ use super::{Fenwick, length_at};
 use indexset_core::item_iter::NodeItems;
 
 impl Fenwick {
-    /// Makes the sums of blocks those of these nodes, where node `k` was inserted.
+    /// Updates the sums of blocks after the insertion of node `k` of these.
     pub(crate) fn shift_up<T, Node, R: NodeItems<T, Node>>(&mut self, k: usize, nodes: &[Node])
         requires inside { k < length nodes.now }
         requires count { length self.old.lengths ≡ block_count (length nodes.now) }
@@ -21,7 +21,7 @@ impl Fenwick {
         raise_from::<T, Node, R>(self.cells.as_mut_slice(), k, nodes);
     }
 
-    /// Makes the sums of blocks those of these nodes, where node `k` of `n` items was removed.
+    /// Updates the sums of blocks after the removal of node `k`, which had `n` items.
     pub(crate) fn shift_down<T, Node, R: NodeItems<T, Node>>(
         &mut self,
         k: usize,
@@ -88,7 +88,7 @@ fn lower_from<T, Node, R: NodeItems<T, Node>>(
 }
 
 // Returns the length of the node that moves into the blocks from `start` on: the inserted one, `k`,
-// where it is not before them.
+// if it is not before them.
 fn moved_in<T, Node, R: NodeItems<T, Node>>(nodes: &[Node], k: usize, start: usize) -> usize
     requires { k < length nodes.now }
     ensures here { 32 * start ≤ k → result ≡ slice_index (node_lengths (map R.list nodes.now)) k }
@@ -103,7 +103,7 @@ fn moved_in<T, Node, R: NodeItems<T, Node>>(nodes: &[Node], k: usize, start: usi
 }
 
 // Returns the length of the node that moves out of the blocks from `start` on: the removed one, of
-// `n` items, where it was not before them.
+// `n` items, if it was not before them.
 fn moved_out<T, Node, R: NodeItems<T, Node>>(
     nodes: &[Node],
     k: usize,

@@ -5,7 +5,11 @@ ghost use Rattle.indexset_index.specs.Fenwick.{IsFenwickOf, prefix_sum};
 
 use super::cells::Cells;
 
-/// Returns the sum of the first `k` lengths. It reads as many cells as `k` has one bits.
+/// Returns the sum of the first `k` lengths.
+///
+/// # Complexity
+///
+/// Reads as many cells as `k` has one bits.
 pub fn prefix_in<C: Cells>(cells: &mut C, k: usize) -> usize
     ghost lengths: { List ℕ }
     requires cells { IsFenwickOf (C.cell cells.old) (C.number cells.old) lengths }
@@ -24,8 +28,11 @@ pub fn prefix_in<C: Cells>(cells: &mut C, k: usize) -> usize
     total
 }
 
-/// Returns the node of a position, and the offset in it, or `None` past the end. It reads at most
-/// as many cells as their number has binary digits.
+/// Returns the node of a position, and the offset in it, or `None` past the end.
+///
+/// # Complexity
+///
+/// Reads at most as many cells as their number has binary digits.
 pub fn find_in<C: Cells>(cells: &mut C, position: usize) -> Option<(usize, usize)>
     ghost lengths: { List ℕ }
     requires cells { IsFenwickOf (C.cell cells.old) (C.number cells.old) lengths }
@@ -59,7 +66,7 @@ pub fn find_in<C: Cells>(cells: &mut C, position: usize) -> Option<(usize, usize
     }
 }
 
-// Returns the greatest power of two that is not above a number, or 0 of 0.
+// Returns the greatest power of two that is at most a number, or 0 for 0.
 fn highest_one(n: usize) -> usize
     ensures { result ≡ 2 ^ digits n / 2 }
 {

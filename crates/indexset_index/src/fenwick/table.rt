@@ -1,9 +1,8 @@
-//! The cells of an index, as its calls change them.
+//! Updates of the cells of an index.
 ghost use Rattle.std.specs.Prelude.{◌≡◌, ◌+◌, ◌-◌, ◌<◌, ◌≤◌, ◌^◌, length, sum, slice_index, slice_set};
 ghost use Rattle.indexset_index.specs.Fenwick.{lowbit, prefix_sum, lengths_of, IsFenwick};
 
-/// Returns cell `end`, which begins among the lengths of these cells and ends with further ones, of
-/// which `more` is the sum.
+/// Returns cell `end`: the sum of the last of the lengths, and of further ones, `more`.
 pub(super) fn last_cell(cells: &[usize], end: usize, more: usize) -> usize
     requires cells { IsFenwick cells.now }
     requires past { length cells.now < end }
@@ -22,7 +21,7 @@ pub(super) fn last_cell(cells: &[usize], end: usize, more: usize) -> usize
     total
 }
 
-/// Adds to a length.
+/// Adds `n` to length `i`.
 pub(super) fn raise(cells: &mut [usize], i: usize, n: usize)
     requires cells { IsFenwick cells.old }
     requires inside { i < length cells.old }
@@ -38,7 +37,7 @@ pub(super) fn raise(cells: &mut [usize], i: usize, n: usize)
     }
 }
 
-/// Subtracts from a length.
+/// Subtracts `n` from length `i`.
 pub(super) fn lower(cells: &mut [usize], i: usize, n: usize)
     requires cells { IsFenwick cells.old }
     requires inside { i < length cells.old }

@@ -1,4 +1,4 @@
-//! The iterator over what both of two sets have.
+//! The iterator over the intersection of two sets.
 ghost use Rattle.std.specs.Prelude.{◌≡◌, length};
 ghost use Rattle.std.specs.Iterator.{at_most};
 ghost use Rattle.std.specs.Map.Iter.{TakesFirst, deref};
@@ -8,7 +8,7 @@ use super::merge::{Merge, MergeItem};
 use std::iter::FusedIterator;
 use std::marker::Model;
 
-/// The remaining elements of one set of those that have an equal one in another.
+/// An iterator over the intersection of two sets, in ascending order.
 #[derive(Drop)]
 pub struct Intersection<'a, T: Ord> {
     pub(super) merge: Merge<'a, T>,

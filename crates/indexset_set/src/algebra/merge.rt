@@ -1,4 +1,4 @@
-//! Two iterators merged into one, whose items say which of the two lists has them.
+//! The merge of two iterators, whose items name the lists that they come from.
 ghost use Rattle.std.specs.Prelude.{◌≡◌, ◌<◌, ◌↔◌, IsTrue, length};
 ghost use Rattle.std.specs.Iterator.{at_most};
 ghost use Rattle.std.specs.Map.Iter.{TakesFirst, deref};
@@ -8,7 +8,7 @@ use indexset_spine::iter::Iter;
 use std::cmp::Ordering;
 use std::marker::Model;
 
-/// An item of two merged lists: of one list alone, or of both, from each its own.
+/// An item of two merged lists: of one list, or of both, from each its own.
 #[derive(Clone, Copy)]
 pub(crate) enum MergeItem<X> {
     Left(X),
@@ -16,7 +16,7 @@ pub(crate) enum MergeItem<X> {
     Both(X, X),
 }
 
-/// The remaining items of two lists, merged.
+/// An iterator over the merged items of two lists.
 #[derive(Drop)]
 pub(crate) struct Merge<'a, T: Ord> {
     // The next item of each list, and what follows it there.
@@ -44,7 +44,7 @@ impl<'a, T: Ord> Model for Merge<'a, T> {
 }
 
 impl<'a, T: Ord> Merge<'a, T> {
-    /// Returns the items of both lists.
+    /// Creates an iterator over the items of both lists.
     pub(crate) fn new(mut left: Iter<'a, T>, mut right: Iter<'a, T>) -> Self
         ensures { result ≡ merged T.cmp left.entry right.entry }
     {

@@ -1,4 +1,4 @@
-//! `&a | &b` and its kin, which clone the elements into a new set.
+//! The operators `|`, `&`, `-` and `^`, which clone the elements into a new set.
 ghost use Rattle.std.specs.Prelude.{◌≡◌, List, map, IfOk, MatchResult};
 ghost use Rattle.std.specs.Borrow.{Bor};
 ghost use Rattle.std.specs.Iterator.{Drains, IsFinite};
@@ -13,7 +13,11 @@ use indexset_core::refusal::Refusal;
 use std::alloc::{AllocError, Global};
 use std::ops::{BitAnd, BitOr, BitXor, Sub};
 
-/// The set of clones of the union, of the first set's node size.
+/// Returns the set of clones of the union, of the first set's node size.
+///
+/// # Errors
+///
+/// Fails with `Memory` only.
 impl<'a, 'b, T: Ord + Clone + Drop> BitOr<&'b BTreeSet<T>> for &'a BTreeSet<T> {
     type Output = Result<BTreeSet<T>, Refusal>;
 
@@ -26,7 +30,11 @@ impl<'a, 'b, T: Ord + Clone + Drop> BitOr<&'b BTreeSet<T>> for &'a BTreeSet<T> {
     }
 }
 
-/// The set of clones of the intersection, of the first set's node size.
+/// Returns the set of clones of the intersection, of the first set's node size.
+///
+/// # Errors
+///
+/// Fails with `Memory` only.
 impl<'a, 'b, T: Ord + Clone + Drop> BitAnd<&'b BTreeSet<T>> for &'a BTreeSet<T> {
     type Output = Result<BTreeSet<T>, Refusal>;
 
@@ -39,7 +47,11 @@ impl<'a, 'b, T: Ord + Clone + Drop> BitAnd<&'b BTreeSet<T>> for &'a BTreeSet<T> 
     }
 }
 
-/// The set of clones of the difference, of the first set's node size.
+/// Returns the set of clones of the difference, of the first set's node size.
+///
+/// # Errors
+///
+/// Fails with `Memory` only.
 impl<'a, 'b, T: Ord + Clone + Drop> Sub<&'b BTreeSet<T>> for &'a BTreeSet<T> {
     type Output = Result<BTreeSet<T>, Refusal>;
 
@@ -52,7 +64,11 @@ impl<'a, 'b, T: Ord + Clone + Drop> Sub<&'b BTreeSet<T>> for &'a BTreeSet<T> {
     }
 }
 
-/// The set of clones of the symmetric difference, of the first set's node size.
+/// Returns the set of clones of the symmetric difference, of the first set's node size.
+///
+/// # Errors
+///
+/// Fails with `Memory` only.
 impl<'a, 'b, T: Ord + Clone + Drop> BitXor<&'b BTreeSet<T>> for &'a BTreeSet<T> {
     type Output = Result<BTreeSet<T>, Refusal>;
 
@@ -65,7 +81,7 @@ impl<'a, 'b, T: Ord + Clone + Drop> BitXor<&'b BTreeSet<T>> for &'a BTreeSet<T> 
     }
 }
 
-// Returns clones of the elements that an iterator gives, in order.
+// Returns clones of the elements that an iterator yields, in order.
 fn clones_of<'a, T: Clone + Drop + 'a, I: Iterator<Item = &'a T>>(
     alloc: Global,
     elements: I,

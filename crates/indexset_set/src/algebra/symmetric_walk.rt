@@ -1,4 +1,4 @@
-//! The iterator over what one of two sets has alone.
+//! The iterator over the symmetric difference of two sets.
 ghost use Rattle.std.specs.Prelude.{◌≡◌, length};
 ghost use Rattle.std.specs.Iterator.{at_most};
 ghost use Rattle.std.specs.Map.Iter.{TakesFirst, deref};
@@ -8,7 +8,7 @@ use super::merge::{Merge, MergeItem};
 use std::iter::FusedIterator;
 use std::marker::Model;
 
-/// The remaining elements of those that one of two sets has alone.
+/// An iterator over the symmetric difference of two sets, in ascending order.
 #[derive(Drop)]
 pub struct SymmetricDifference<'a, T: Ord> {
     pub(super) merge: Merge<'a, T>,

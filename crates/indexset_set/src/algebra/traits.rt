@@ -1,4 +1,4 @@
-//! Clones of the iterators over two sets, and their texts: the elements that remain.
+//! `Clone` and `Debug` of the iterators over two sets.
 ghost use Rattle.std.specs.Prelude.{◌≡◌, ⊤};
 
 use super::merge::Merge;
@@ -34,7 +34,7 @@ impl<'a, T: Ord> Clone for Union<'a, T> {
     }
 }
 
-/// The remaining elements.
+/// Writes the remaining elements.
 impl<'a, T: Ord + fmt::Debug> fmt::Debug for Union<'a, T> {
     fn fmt<W: fmt::Write>(&self, f: &mut fmt::Formatter<W>) -> fmt::Result {
         f.debug_list().entries(self.clone().unwrap()).finish()
@@ -52,7 +52,7 @@ impl<'a, T: Ord> Clone for Intersection<'a, T> {
     }
 }
 
-/// The remaining elements.
+/// Writes the remaining elements.
 impl<'a, T: Ord + fmt::Debug> fmt::Debug for Intersection<'a, T> {
     fn fmt<W: fmt::Write>(&self, f: &mut fmt::Formatter<W>) -> fmt::Result {
         f.debug_list().entries(self.clone().unwrap()).finish()
@@ -70,7 +70,7 @@ impl<'a, T: Ord> Clone for Difference<'a, T> {
     }
 }
 
-/// The remaining elements.
+/// Writes the remaining elements.
 impl<'a, T: Ord + fmt::Debug> fmt::Debug for Difference<'a, T> {
     fn fmt<W: fmt::Write>(&self, f: &mut fmt::Formatter<W>) -> fmt::Result {
         f.debug_list().entries(self.clone().unwrap()).finish()
@@ -88,7 +88,7 @@ impl<'a, T: Ord> Clone for SymmetricDifference<'a, T> {
     }
 }
 
-/// The remaining elements.
+/// Writes the remaining elements.
 impl<'a, T: Ord + fmt::Debug> fmt::Debug for SymmetricDifference<'a, T> {
     fn fmt<W: fmt::Write>(&self, f: &mut fmt::Formatter<W>) -> fmt::Result {
         f.debug_list().entries(self.clone().unwrap()).finish()

@@ -6,9 +6,19 @@ ghost use Rattle.indexset_spine.specs.NodeList.{items, with_all_last};
 use crate::BTreeSet;
 use indexset_core::refusal::{Refusal, Refused};
 
-/// Appends a value that is above all to a run, whose values are not yet in the set, and returns
-/// `None`; else appends the run to the set, and returns the value. It makes one comparison. Fails
-/// with `Memory`: a failed call returns the value in the error, and has moved a prefix of the run.
+/// Appends a value to a run if it is above all elements, else appends the run to the set.
+///
+/// The values of the run are not yet in the set. Returns `None` if the value is in the run, else
+/// the value.
+///
+/// # Errors
+///
+/// Fails with `Memory` only. A failed call returns the value in the error, and has moved a prefix
+/// of the run.
+///
+/// # Complexity
+///
+/// One comparison.
 pub fn join_run<T: Ord + Drop>(
     set: &mut BTreeSet<T>,
     run: &mut Vec<T>,
@@ -46,8 +56,8 @@ pub fn join_run<T: Ord + Drop>(
     }
 }
 
-// Has a run ready for a value: with room for it if it joins, else moved. A failed call has moved
-// a prefix.
+// Prepares a run for a value: makes room for it if it joins the run, else moves the run into the
+// set. A failed call has moved a prefix.
 fn ready_run<T: Ord + Drop>(
     set: &mut BTreeSet<T>,
     run: &mut Vec<T>,
@@ -70,8 +80,11 @@ fn ready_run<T: Ord + Drop>(
     Ok(())
 }
 
-/// Appends the values of a run to the set, by blocks and with no comparison. Fails with `Memory`: a
-/// failed call has moved a prefix.
+/// Appends the values of a run to the set, by blocks and without a comparison.
+///
+/// # Errors
+///
+/// Fails with `Memory` only. A failed call has moved a prefix.
 pub fn take_run<T: Ord + Drop>(set: &mut BTreeSet<T>, run: &mut Vec<T>) -> Result<(), Refusal>
     requires order { IsAscending T.cmp (items set.old ++ run.old.items) }
     ensures items { items set.new ++ run.new.items ≡ items set.old ++ run.old.items }
@@ -85,8 +98,7 @@ pub fn take_run<T: Ord + Drop>(set: &mut BTreeSet<T>, run: &mut Vec<T>) -> Resul
     set.spine.append_items(run)
 }
 
-// Does the same where the run fills the half of a node, so that it goes whole into one that was
-// just halved.
+// Does the same if the run fills half a node, so that it fits whole into one that was just halved.
 fn take_full_run<T: Ord + Drop>(set: &mut BTreeSet<T>, run: &mut Vec<T>) -> Result<(), Refusal>
     requires order { IsAscending T.cmp (items set.old ++ run.old.items) }
     ensures items { items set.new ++ run.new.items ≡ items set.old ++ run.old.items }
@@ -101,7 +113,7 @@ fn take_full_run<T: Ord + Drop>(set: &mut BTreeSet<T>, run: &mut Vec<T>) -> Resu
     take_run(set, run)
 }
 
-// Returns whether a value is above the elements and a run behind them, by one comparison.
+// Returns whether a value is above the elements and a run after them, by one comparison.
 fn is_above<T: Ord>(set: &BTreeSet<T>, run: &[T], value: &T) -> bool
     requires order { IsAscending T.cmp (items set.now ++ run.now) }
     ensures { IsTrue result → IsAscending T.cmp (items set.now ++ (run.now ++ value.now ∷ [])) }

@@ -16,8 +16,11 @@ use indexset_spine::spot::Spot;
 use std::alloc::Global;
 use std::ops::Bound;
 
-/// Returns the spot of the first element that the probe finds Equal, or where one would go. It
-/// makes one comparison a step of two binary searches.
+/// Returns the spot of the first element that compares Equal, or its insertion point.
+///
+/// # Complexity
+///
+/// One comparison for each step of two binary searches.
 pub fn spot_by<T: Ord, P: Probe<T>>(set: &BTreeSet<T>, probe: &mut P) -> Spot
     requires { FindsInOrder (P.answer probe.old) (items set.now) }
     ensures sought { IsSearchResult (P.answer probe.old) set.now.nodes result }
@@ -27,13 +30,18 @@ pub fn spot_by<T: Ord, P: Probe<T>>(set: &BTreeSet<T>, probe: &mut P) -> Spot
     ensures comparisons { P.asked probe.new ≤ P.asked probe.old
         + (digits (length set.now.nodes) + digits set.now.size + 1) }
 {
-    // A spine says here how long its nodes are.
+    // The spine ensures here that its nodes are within the size.
     let _count = set.spine.node_count();
     set.spine.locate_by(probe)
 }
 
-/// Returns the same with the last element compared first: if it is Less, no other comparison
-/// follows. For elements that come in order.
+/// Returns the same as `spot_by`, with the last element compared first.
+///
+/// It serves elements that come in order.
+///
+/// # Complexity
+///
+/// One comparison if the last element compares Less.
 pub fn spot_from_end_by<T: Ord, P: Probe<T>>(set: &BTreeSet<T>, probe: &mut P) -> Spot
     requires { FindsInOrder (P.answer probe.old) (items set.now) }
     ensures sought { IsSearchResult (P.answer probe.old) set.now.nodes result }
@@ -70,8 +78,11 @@ pub fn last_spot<T: Ord>(set: &BTreeSet<T>) -> Option<Spot>
     set.spine.last_spot()
 }
 
-/// Returns the spot after the elements before the start, a bound given by a comparator, by two
-/// binary searches.
+/// Returns the spot after the elements before the start, a bound given by a comparator.
+///
+/// # Complexity
+///
+/// Two binary searches.
 pub fn start_of<T: Ord, P: Probe<T> + Drop>(set: &BTreeSet<T>, start: Bound<P>) -> Spot
     requires { IfBounded (λ p. FindsInOrder (P.answer p) (items set.now)) start }
     ensures spot { IsSpot set.now.nodes result }
@@ -89,8 +100,10 @@ pub fn position<T: Ord>(set: &BTreeSet<T>, spot: &Spot) -> usize
     set.spine.position(spot)
 }
 
-/// Returns the spot of the element at a position. It reads the index only where the element is not
-/// in the node `near`, before which there are `start` elements.
+/// Returns the spot of the element at a position.
+///
+/// Before node `near` there are `start` elements. The index is read only if the element is in
+/// another node.
 pub fn spot_near<T: Ord>(set: &BTreeSet<T>, near: usize, start: usize, i: usize) -> Spot
     requires near { start ≡ sum (take near (node_lengths set.now.nodes)) }
     requires inside { i < length (items set.now) }
@@ -109,9 +122,13 @@ pub fn element<'a, T: Ord>(set: &'a BTreeSet<T>, spot: &Spot) -> &'a T
     set.spine.item(spot)
 }
 
-/// Inserts a value at the spot where a search for it ended, and returns its spot. It makes no
-/// comparison. Fails with `Memory`: a failed call returns the value in the error and changes
-/// nothing.
+/// Inserts a value at the spot at which a search for it ended, and returns its spot.
+///
+/// It makes no comparison.
+///
+/// # Errors
+///
+/// Fails with `Memory` only. A failed call returns the value in the error and changes nothing.
 pub fn insert_at<T: Ord + Drop>(
     set: &mut BTreeSet<T>,
     spot: Spot,
@@ -133,7 +150,9 @@ pub fn insert_at<T: Ord + Drop>(
     Ok(to)
 }
 
-/// Removes the element at a spot and returns it. It allocates nothing.
+/// Removes the element at a spot and returns it.
+///
+/// It allocates nothing.
 pub fn remove_at<T: Ord + Drop>(set: &mut BTreeSet<T>, spot: Spot) -> T
     requires { IsItemSpot set.old.nodes spot }
     ensures value { slice_get (items set.old) (position_of set.old.nodes spot) ≡ Some result }

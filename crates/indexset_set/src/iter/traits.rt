@@ -1,4 +1,4 @@
-//! Copies of an iterator, and its text.
+//! `Clone` and `Debug` of an iterator.
 
 use super::Iter;
 use std::alloc::AllocError;
@@ -17,7 +17,7 @@ impl<'a, T> Clone for Iter<'a, T> {
     }
 }
 
-/// The remaining elements.
+/// Writes the remaining elements.
 impl<'a, T: fmt::Debug> fmt::Debug for Iter<'a, T> {
     fn fmt<W: fmt::Write>(&self, f: &mut fmt::Formatter<W>) -> fmt::Result {
         self.rest.fmt(f)

@@ -1,6 +1,6 @@
-//! Laws of iterators, ranges, cuts and the algebra of sets, for every ascending list and every
-//! lawful order, and so for what a set's calls return. Each function does nothing; its contract is
-//! the law.
+//! Laws of iterators, ranges, splits and set operations, for every ascending list and every lawful
+//! order, and so for the results of a set's calls. Each function does nothing; its contract is the
+//! law.
 ghost use Rattle.std.specs.Prelude.{◌≡◌, ℕ, ◌+◌, ◌-◌, ◌⊎◌, ◌&&◌, ◌||◌, Bool, not, List, [], ◌++◌, Option, None, length, map, filter, true, false};
 ghost use Rattle.std.specs.declared.cmp.Ordering.{Ordering};
 ghost use Rattle.std.specs.declared.ops.Bound.{Bound};
@@ -16,9 +16,11 @@ ghost use Rattle.indexset_core.specs.DoubleEnded.{IsDoubleEnded, Calls, back_ite
 
 use crate::iter::{IntoIter, Iter};
 
-/// Whatever calls of `next` and `next_back`, what an iterator yielded in front, what remains and
-/// what it yielded at the back are its list: it yields each item once. `shows` is what an item
-/// stands for: what a reference points to, the pair of two references, or itself.
+/// For any calls of `next` and `next_back`, an iterator yields each item once.
+///
+/// The items that it yields at the front, those that remain and those that it yields at the back
+/// are its list. `shows` gives the value of an item: the target of a reference, the pair of the
+/// targets of two, or the item itself.
 pub fn a_walk_gives_each_item_once<A, X>()
     ensures { (shows : A → X) (ends : List Bool) (s t : List X) (rs : List (Option A))
         → Calls shows ends s rs t
@@ -39,27 +41,32 @@ pub fn a_walk_stays_at_its_end<A, X>()
         → (r ≡ None) × (t ≡ []) }
 {}
 
-/// An iterator over a set or a range of one yields each element once, whatever calls of `next` and
-/// `next_back`, and then `None`.
+/// An iterator over a set or a range of one yields each element once, and then `None`.
+///
+/// This holds for any calls of `next` and `next_back`.
 pub fn shared_iterators_yield_each_element_once<'a, T: 'a>()
     ensures { IsDoubleEnded deref ⟦<Iter<'a, T> as Iterator>⟧.next_gives
         ⟦<Iter<'a, T> as DoubleEndedIterator>⟧.next_back_gives }
 {}
 
-/// So does an iterator that owns the elements.
+/// An iterator that owns the elements yields each element once, and then `None`.
+///
+/// This holds for any calls of `next` and `next_back`.
 pub fn owning_iterators_yield_each_element_once<T: Drop>()
     ensures { IsDoubleEnded (λ x. x) ⟦<IntoIter<T> as Iterator>⟧.next_gives
         ⟦<IntoIter<T> as DoubleEndedIterator>⟧.next_back_gives }
 {}
 
-/// The part between two positions is the elements at the positions that satisfy both bounds.
+/// The part between two positions has the elements at the positions that satisfy both bounds.
 pub fn positions_satisfy_both_bounds<T>()
     ensures { (l : List T) (start end : Bound ℕ)
         → in_positions l start end ≡ map (λ p. p.1)
         (filter (λ p. is_at_position start end p.0) (enumerate_from 0 l)) }
 {}
 
-/// `split_off` at a value leaves what is below it, and returns the others: nothing is lost.
+/// A split at a value loses no element.
+///
+/// The elements below the value are on one side, and the others on the other.
 pub fn a_cut_parts_the_list<T>()
     ensures parts { (cmp : T → T → Ordering) (l : List T) → IsTotalOrder cmp → IsAscending cmp l
         → (v : T) → below cmp l v ++ not_below cmp l v ≡ l }
@@ -69,8 +76,9 @@ pub fn a_cut_parts_the_list<T>()
         → All (λ x. is_lt (cmp x v) ≡ false) (not_below cmp l v) }
 {}
 
-/// A union ascends, contains an equal one of each element of either list and of nothing else, and
-/// of equal ones the first list's.
+/// A union ascends, and has exactly the elements of either list, up to equality.
+///
+/// Of equal elements it has the first list's.
 pub fn a_union_has_the_elements_of_either<T>()
     ensures ascending { (cmp : T → T → Ordering) (l r : List T) → IsTotalOrder cmp
         → IsAscending cmp l → IsAscending cmp (union cmp l r) }
@@ -81,7 +89,7 @@ pub fn a_union_has_the_elements_of_either<T>()
         → Contains l x ⊎ (Contains r x × (has_equal cmp l x ≡ false)) }
 {}
 
-/// An intersection ascends, and has an equal one of what both lists have.
+/// An intersection ascends, and has exactly the elements of both lists, up to equality.
 pub fn an_intersection_has_what_both_have<T>()
     ensures ascending { (cmp : T → T → Ordering) (l r : List T) → IsAscending cmp l
         → IsAscending cmp (intersection cmp l r) }
@@ -89,7 +97,7 @@ pub fn an_intersection_has_what_both_have<T>()
         → has_equal cmp (intersection cmp l r) x ≡ (has_equal cmp l x && has_equal cmp r x) }
 {}
 
-/// A difference ascends, and has an equal one of what the first list has alone.
+/// A difference ascends, and has exactly the elements of only the first list, up to equality.
 pub fn a_difference_has_what_the_first_has_alone<T>()
     ensures ascending { (cmp : T → T → Ordering) (l r : List T) → IsAscending cmp l
         → IsAscending cmp (difference cmp l r) }
@@ -97,7 +105,7 @@ pub fn a_difference_has_what_the_first_has_alone<T>()
         → has_equal cmp (difference cmp l r) x ≡ (has_equal cmp l x && not (has_equal cmp r x)) }
 {}
 
-/// A symmetric difference ascends, and has an equal one of what either list has alone.
+/// A symmetric difference ascends, and has exactly the elements of only one list, up to equality.
 pub fn a_symmetric_difference_has_what_either_has_alone<T>()
     ensures ascending { (cmp : T → T → Ordering) (l r : List T) → IsTotalOrder cmp
         → IsAscending cmp l → IsAscending cmp (symmetric_difference cmp l r) }

@@ -1,9 +1,9 @@
-//! The text of an owned iterator.
+//! The `Debug` of an owning iterator.
 
 use super::IntoIter;
 use std::fmt;
 
-/// How many items remain: `vec::IntoIter` has no `as_slice`.
+/// Writes how many items remain: `vec::IntoIter` has no `as_slice`.
 impl<T> fmt::Debug for IntoIter<T> {
     fn fmt<W: fmt::Write>(&self, f: &mut fmt::Formatter<W>) -> fmt::Result {
         f.debug_struct("IntoIter")

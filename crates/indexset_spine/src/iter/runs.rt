@@ -1,14 +1,15 @@
-//! Two iterators compared by runs, the items of one node.
+//! The comparison of two iterators by runs, which are the items of one node.
 ghost use Rattle.std.specs.Prelude.{◌≡◌, ◌<◌, ◌++◌, length};
 ghost use Rattle.std.specs.Cmp.Lexicographic.{pointwise};
 
 use super::Iter;
 
-// So many items are compared before the first that differs ends the comparison.
+// The number of items that are compared before a difference ends the comparison.
 const BLOCK: usize = 64;
 
-/// Returns whether two iterators have as many items left, each equal to its counterpart: block by
-/// block, as far as both nodes reach.
+/// Returns whether two iterators yield equally many items, each equal to its counterpart.
+///
+/// Items are compared by blocks that are in one node of each.
 pub fn have_equal_items<'a, T: PartialEq>(mut left: Iter<'a, T>, mut right: Iter<'a, T>) -> bool
     ensures { result ≡ pointwise T.eq left.entry right.entry }
 {
@@ -30,7 +31,7 @@ pub fn have_equal_items<'a, T: PartialEq>(mut left: Iter<'a, T>, mut right: Iter
     }
 }
 
-// Returns the run, or where it is empty, the next one of the iterator.
+// Returns the run, or the next run of the iterator if it is empty.
 fn or_next_run<'a, T>(run: &'a [T], walk: &mut Iter<'a, T>) -> &'a [T]
     ensures taken { result.now ++ walk.new ≡ run.now ++ walk.old }
     ensures some { 0 < length (run.now ++ walk.old) → 0 < length result.now }
@@ -42,8 +43,8 @@ fn or_next_run<'a, T>(run: &'a [T], walk: &mut Iter<'a, T>) -> &'a [T]
     }
 }
 
-// Returns whether each item of a block equals its counterpart. No item ends the loop, so that it
-// compiles to vector code where the items are numbers.
+// Returns whether each item of a block equals its counterpart. The loop has no early exit, so that
+// it compiles to vector code if the items are numbers.
 fn are_equal<T: PartialEq>(left: &[T], right: &[T]) -> bool
     requires { length left.now ≡ length right.now }
     ensures { result ≡ pointwise T.eq left.now right.now }

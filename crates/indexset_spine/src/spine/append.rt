@@ -1,4 +1,4 @@
-//! Items moved behind those of a spine, as many at once as a node has room for.
+//! Appends items to a spine, as many at once as a node has room for.
 ghost use Rattle.std.specs.Prelude.{◌≡◌, ℕ, ◌<◌, ◌≤◌, [], ◌∷◌, ◌++◌, OnOk, IfErr, OnErr, length};
 ghost use Rattle.std.specs.List.{All};
 ghost use Rattle.indexset_core.specs.Nodes.{concat, node_lengths, vec_items};
@@ -13,8 +13,12 @@ use indexset_core::moves::move_front;
 use indexset_core::refusal::Refusal;
 
 impl<T: Drop> Spine<T> {
-    /// Appends the items of another spine, as `append_items` does, and leaves the other one empty
-    /// node.
+    /// Appends the items of another spine, as `append_items` does, and leaves it one empty node.
+    ///
+    /// # Errors
+    ///
+    /// Fails with `Memory` only. A failed call has moved a prefix, and leaves the other items in
+    /// their spine.
     pub fn append(&mut self, other: &mut Spine<T>) -> Result<(), Refusal>
         ensures nodes { OnOk result (self.new.nodes
             ≡ with_all_last self.old.size self.old.nodes (items other.old)) }
@@ -31,7 +35,7 @@ impl<T: Drop> Spine<T> {
         let moved = move_nodes(self, &mut other.nodes);
         drop_emptied(&mut other.nodes);
         other.len = lengths::count_items(other.nodes.as_slice());
-        // There is room for as many lengths as there were.
+        // The index has room for as many lengths as before.
         let _count = other.index.len();
         other
             .index
@@ -39,8 +43,12 @@ impl<T: Drop> Spine<T> {
         moved
     }
 
-    /// Appends the items of a list, by blocks, to the nodes that `insert` of each would leave. A
-    /// failed call has moved a prefix, and leaves the others.
+    /// Appends the items of a list by blocks, to the nodes that `insert` of each would leave.
+    ///
+    /// # Errors
+    ///
+    /// Fails with `Memory` only. A failed call has moved a prefix, and leaves the others in the
+    /// list.
     pub fn append_items(&mut self, from: &mut Vec<T>) -> Result<(), Refusal>
         ensures nodes { OnOk result (self.new.nodes
             ≡ with_all_last self.old.size self.old.nodes from.old.items) }
@@ -59,7 +67,7 @@ impl<T: Drop> Spine<T> {
         Ok(())
     }
 
-    // Moves as many first items of a list as the last node has room for, once it was halved if it
+    // Moves as many first items of a list as the last node has room for, after it was halved if it
     // was full. A failed call changes neither.
     fn append_block(&mut self, from: &mut Vec<T>) -> Result<(), Refusal>
         requires { 0 < length from.old.items }
@@ -87,8 +95,8 @@ impl<T: Drop> Spine<T> {
     }
 }
 
-// Moves the items of nodes behind those of a spine, first to last, and leaves each node that it
-// moved empty. A failed call has moved some first items so.
+// Appends the items of nodes to a spine, first to last, and leaves each node that it moved empty. A
+// failed call has moved a prefix.
 fn move_nodes<T: Drop>(spine: &mut Spine<T>, from: &mut Vec<Vec<T>>) -> Result<(), Refusal>
     ensures moved { FoldsPrefix (with_last spine.old.size) spine.old.nodes
         (concat (vec_items from.old.items)) spine.new.nodes (concat (vec_items from.new.items)) }
@@ -108,7 +116,7 @@ fn move_nodes<T: Drop>(spine: &mut Spine<T>, from: &mut Vec<Vec<T>>) -> Result<(
     Ok(())
 }
 
-// Removes the empty nodes, and inserts one where all are.
+// Removes the empty nodes, and inserts one if all are empty.
 fn drop_emptied<T: Drop>(nodes: &mut Vec<Vec<T>>)
     requires { 0 < length nodes.old.items }
     ensures { vec_items nodes.new.items ≡ without_all_emptied (vec_items nodes.old.items) }

@@ -6,7 +6,7 @@ use super::Spine;
 use crate::spot::Spot;
 
 impl<T> Spine<T> {
-    /// Returns the spot of the first item, or `None` where there is none.
+    /// Returns the spot of the first item, or `None` if the spine is empty.
     pub fn first_spot(&self) -> Option<Spot>
         ensures { MatchOption result (length (items self.now) ≡ 0)
             (λ s. IsItemSpot self.now.nodes s × (position_of self.now.nodes s ≡ 0)
@@ -22,7 +22,7 @@ impl<T> Spine<T> {
         })
     }
 
-    /// Returns the spot of the last item, or `None` where there is none.
+    /// Returns the spot of the last item, or `None` if the spine is empty.
     pub fn last_spot(&self) -> Option<Spot>
         ensures { MatchOption result (length (items self.now) ≡ 0)
             (λ s. IsItemSpot self.now.nodes s

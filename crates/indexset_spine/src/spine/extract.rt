@@ -1,4 +1,4 @@
-//! Items taken out one by one, as a closure picks them.
+//! The removal of single items, as a closure selects them.
 ghost use Rattle.std.specs.Prelude.{◌≡◌, MatchOption, length};
 ghost use Rattle.std.specs.Fn.{CalledAtMut};
 ghost use Rattle.indexset_core.specs.Nodes.{node_lengths};
@@ -10,10 +10,11 @@ use super::Spine;
 use crate::extract_range::ExtractRange;
 
 impl<T: Drop> Spine<T> {
-    /// Calls the closure for each item of a stretch in turn, up to the first for which it returns
-    /// true, and removes that one and returns it. The items before it stay, as the closure left
-    /// them, and are no longer of the stretch. An emptied node is removed, unless it is the only
-    /// one. It allocates nothing.
+    /// Removes the next item of a stretch for which the closure returns true, and returns it.
+    ///
+    /// The closure is called for each item of the stretch in order, up to that one. The items
+    /// before it stay, as the closure left them, and are no longer in the stretch. An emptied node
+    /// is removed, unless it is the only one. It allocates nothing.
     pub fn extract<F: FnMut(&mut T) -> bool>(
         &mut self,
         at: &mut ExtractRange,

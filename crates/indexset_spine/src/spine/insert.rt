@@ -14,9 +14,14 @@ use indexset_core::refusal::{Refusal, Refused};
 use indexset_index::fenwick::Fenwick;
 
 impl<T: Drop> Spine<T> {
-    /// Inserts an item at a spot, and returns its spot. A full node is first halved, and the item
-    /// goes right where the offset is above half its length, else left. A failed call returns the
-    /// item in the error and changes nothing.
+    /// Inserts an item at a spot, and returns its spot.
+    ///
+    /// A full node is first halved. The item is then inserted into the right half if the offset is
+    /// above half the length, else into the left half.
+    ///
+    /// # Errors
+    ///
+    /// Fails with `Memory` only. A failed call returns the item in the error and changes nothing.
     pub fn insert(&mut self, spot: Spot, value: T) -> Result<Spot, Refused<T>>
         requires { IsSpot self.old.nodes spot }
         ensures nodes { OnOk result (self.new.nodes
@@ -49,8 +54,13 @@ impl<T: Drop> Spine<T> {
         }
     }
 
-    /// Inserts the first item of another spine at a spot, as `insert` does, and removes it from the
-    /// other, as `remove` does. A failed call changes neither.
+    /// Moves the first item of another spine to a spot.
+    ///
+    /// It inserts as `insert` does, and removes as `remove` does.
+    ///
+    /// # Errors
+    ///
+    /// Fails with `Memory` only. A failed call changes neither spine.
     pub fn insert_from(&mut self, spot: Spot, other: &mut Spine<T>) -> Result<(), Refusal>
         requires spot { IsSpot self.old.nodes spot }
         requires other { 0 < length (items other.old) }
@@ -76,7 +86,7 @@ impl<T: Drop> Spine<T> {
             offset: 0,
             found: true,
         };
-        // Where there is an item, the first node has one.
+        // A spine with an item has one in its first node.
         let _count = other.node_count();
         let value = other.remove(first);
         insert_in_room(&mut self.nodes, &mut self.index, to, value);
@@ -85,9 +95,9 @@ impl<T: Drop> Spine<T> {
     }
 }
 
-// Makes room for more items at a spot, and returns the spot where the first then goes: a full node
-// is halved first, into nodes that have room for as many as it held. The index stays that of the
-// nodes. A failed call changes nothing.
+// Makes room for more items at a spot, and returns the spot at which the first is then inserted. A
+// full node is halved first, into nodes that have room for as many as it held. The index is
+// updated. A failed call changes nothing.
 pub(super) fn make_room<T>(
     nodes: &mut Vec<Vec<T>>,
     index: &mut Fenwick,
@@ -125,7 +135,7 @@ pub(super) fn make_room<T>(
     Ok(to)
 }
 
-// Halves the node of a spot, and returns where that spot then is. A failed call changes nothing.
+// Halves the node of a spot, and returns the spot after that. A failed call changes nothing.
 fn halve_at<T>(nodes: &mut Vec<Vec<T>>, spot: Spot) -> Result<Spot, Refusal>
     requires spot { IsSpot (vec_items nodes.old.items) spot }
     requires two { 2 ≤ length (node_at (vec_items nodes.old.items) spot.node) }
@@ -160,7 +170,7 @@ fn halve_at<T>(nodes: &mut Vec<Vec<T>>, spot: Spot) -> Result<Spot, Refusal>
     Ok(spot)
 }
 
-// Inserts an item into a node that has room. The index stays that of the nodes.
+// Inserts an item into a node that has room, and updates the index.
 fn insert_in_room<T>(nodes: &mut Vec<Vec<T>>, index: &mut Fenwick, to: Spot, value: T)
     requires spot { IsSpot (vec_items nodes.old.items) to }
     requires room { HoldsAt (λ node. vec_len node < vec_capacity node) nodes.old.items to.node }

@@ -1,4 +1,4 @@
-//! Calls that make a spine, and `clear`.
+//! The creation of a spine, and `clear`.
 ghost use Rattle.std.specs.Prelude.{◌≡◌, ◌+◌, ◌*◌, ◌/◌, ◌<◌, ◌≤◌, [], ◌∷◌, IfOk, IfErr};
 ghost use Rattle.std.specs.List.{AllZip};
 ghost use Rattle.indexset_core.specs.Nodes.{node_lengths, vec_items};
@@ -11,7 +11,11 @@ use indexset_index::fenwick::Fenwick;
 use std::alloc::Global;
 
 impl<T: Drop> Spine<T> {
-    /// Returns a spine of one empty node, of at most `size` items.
+    /// Creates a spine of one empty node, with nodes of at most `size` items.
+    ///
+    /// # Errors
+    ///
+    /// Fails with `Memory` only.
     pub fn new(alloc: Global, size: usize) -> Result<Self, Refusal>
         requires { 2 ≤ size }
         ensures nodes { IfOk result (λ s. s.nodes ≡ [] ∷ []) }
@@ -31,8 +35,11 @@ impl<T: Drop> Spine<T> {
         }
     }
 
-    /// Returns a spine of items, in the nodes that `insert` of each behind the last leaves, made by
-    /// blocks. It fails with `Memory` alone, and then drops the items.
+    /// Creates a spine of items by blocks, in the nodes that `insert` of each at the end leaves.
+    ///
+    /// # Errors
+    ///
+    /// Fails with `Memory` only. A failed call drops the items.
     pub fn of_items(alloc: Global, size: usize, items: Vec<T>) -> Result<Self, Refusal>
         requires { 2 ≤ size }
         ensures nodes { IfOk result (λ s. s.nodes ≡ with_all_last size ([] ∷ []) items.items) }
@@ -51,9 +58,13 @@ impl<T: Drop> Spine<T> {
         })
     }
 
-    /// Returns nodes of the same lengths, of clones of the items: the same nodes where clones are
-    /// identical to their sources. It fails with `Memory` alone, and then drops the clones made so
-    /// far.
+    /// Returns a spine of clones of the items, in nodes of the same lengths.
+    ///
+    /// It is the same spine if clones are identical to their sources.
+    ///
+    /// # Errors
+    ///
+    /// Fails with `Memory` only. A failed call drops the clones.
     pub fn clone(&self) -> Result<Self, Refusal>
     where
         T: Clone,
@@ -83,14 +94,14 @@ impl<T: Drop> Spine<T> {
         self.nodes.truncate(1);
         self.nodes[0].clear();
         self.len = 0;
-        // There is room for as many lengths as there were.
+        // The index has room for as many lengths as before.
         let _count = self.index.len();
         self.index
             .rebuild::<T, Vec<T>, OfVec>(self.nodes.as_slice());
     }
 }
 
-// Nodes of clones of the items of these.
+// Returns nodes of clones of the items of these.
 fn clone_nodes<T: Clone + Drop>(alloc: Global, nodes: &[Vec<T>]) -> Result<Vec<Vec<T>>, Refusal>
     ensures cloned { IfOk result (λ copies. AllZip (AllZip T.is_clone) (vec_items nodes.now)
         (vec_items copies.items)) }
@@ -107,8 +118,8 @@ fn clone_nodes<T: Clone + Drop>(alloc: Global, nodes: &[Vec<T>]) -> Result<Vec<V
     Ok(copies)
 }
 
-// Nodes of these items: halves of the size, and the rest in the last. The list is cut from the back,
-// so that each item moves once.
+// Returns nodes of these items: halves of the size, and the rest in the last. The list is split
+// from the back, so that each item moves once.
 fn nodes_of<T: Drop>(alloc: Global, size: usize, mut items: Vec<T>) -> Result<Vec<Vec<T>>, Refusal>
     requires { 2 ≤ size }
     ensures nodes { IfOk result (λ nodes. vec_items nodes.items
@@ -127,7 +138,8 @@ fn nodes_of<T: Drop>(alloc: Global, size: usize, mut items: Vec<T>) -> Result<Ve
     Ok(nodes)
 }
 
-// How many halves are cut off so many items before the rest is within the size.
+// Returns how many halves of the size are split off before the rest of so many items is within the
+// size.
 fn count_halves(len: usize, size: usize) -> usize
     requires { 2 ≤ size }
     ensures within { len ≤ result * (size / 2) + size }

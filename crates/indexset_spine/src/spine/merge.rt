@@ -1,4 +1,4 @@
-//! Items of another spine merged into a node.
+//! The merge of items of another spine into a node.
 ghost use Rattle.std.specs.Prelude.{◌≡◌, ◌+◌, ◌-◌, ◌<◌, ◌≤◌, OnOk, IfErr, OnErr, length, take, drop, slice_set};
 ghost use Rattle.std.specs.List.{All, HoldsAt, fold};
 ghost use Rattle.std.specs.declared.cmp.Ordering.TheVariants.{Less};
@@ -12,14 +12,15 @@ use crate::merge::{count_below_last, merge_first};
 use crate::spot::Spot;
 use indexset_core::refusal::Refusal;
 
-// A merge goes through the items from the spot on: where there are more of them for each item that
-// is merged in, single insertions are as fast.
+// A merge moves the items from the spot on: with more of them than this for each merged item,
+// single insertions are as fast.
 const FEW: usize = 16;
 
 impl<T: Ord + Drop> Spine<T> {
-    /// Returns how many first items of another spine may be merged into the node of a spot: all are
-    /// below its last item, and it has room for them. It returns 0 where they are few beside the
-    /// items from the spot on.
+    /// Returns how many first items of another spine may be merged into the node of a spot.
+    ///
+    /// All are below the node's last item, and the node has room for them. The number is 0 if they
+    /// are few in comparison with the items from the spot on.
     pub fn count_inside(&self, spot: &Spot, other: &Spine<T>) -> usize
         requires spot { IsSpot self.now.nodes spot.now }
         requires order { IsAscending T.cmp (items other.now) }
@@ -39,8 +40,11 @@ impl<T: Ord + Drop> Spine<T> {
         count
     }
 
-    /// Moves first items of another spine into a node, each where it belongs, replacing any equal
-    /// one. A failed call changes neither.
+    /// Merges the first items of another spine into a node, replacing equal ones.
+    ///
+    /// # Errors
+    ///
+    /// Fails with `Memory` only. A failed call changes neither spine.
     pub fn merge_from(
         &mut self,
         node: usize,

@@ -36,7 +36,7 @@ impl<T> Spine<T> {
         }
     }
 
-    /// Returns the items from one spot up to another, in order.
+    /// Returns a double-ended iterator over the items from one spot up to another.
     pub fn iter_from_to(&self, start: &Spot, end: &Spot) -> Iter<'_, T>
         requires start { IsSpot self.now.nodes start.now }
         requires end { IsSpot self.now.nodes end.now }
@@ -46,7 +46,7 @@ impl<T> Spine<T> {
         ensures runs { ShowsInOrder (deref {X = T}) }
         ensures runs_back { ShowsInReverse (deref {X = T}) }
     {
-        // The sum of all lengths fits, so each sum of some does.
+        // The sum of all lengths fits, and so does each sum of some of them.
         let _len = self.len;
         let walk = walk_between(self.nodes.as_slice(), start, end);
         let left = walk.item_count();

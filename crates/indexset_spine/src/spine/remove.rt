@@ -1,4 +1,4 @@
-//! Calls that remove an item, or write another over it.
+//! The removal and the replacement of an item.
 ghost use Rattle.std.specs.Prelude.{◌≡◌, ◌<◌, false, Some, length, remove, slice_get, slice_set};
 ghost use Rattle.indexset_core.specs.Nodes.{node_at, node_lengths, vec_items};
 ghost use Rattle.indexset_spine.specs.NodeList.{items, IsItemSpot, position_of, without_item, with_replaced};
@@ -12,7 +12,9 @@ use indexset_index::fenwick::Fenwick;
 use std::mem;
 
 impl<T: Drop> Spine<T> {
-    /// Removes the item at a spot. An emptied node is removed too, unless it is the only one.
+    /// Removes the item at a spot and returns it.
+    ///
+    /// An emptied node is removed too, unless it is the only one.
     pub fn remove(&mut self, spot: Spot) -> T
         requires { IsItemSpot self.old.nodes spot }
         ensures value { slice_get (items self.old) (position_of self.old.nodes spot) ≡ Some result }
@@ -24,7 +26,7 @@ impl<T: Drop> Spine<T> {
         take_out(&mut self.nodes, &mut self.index, spot)
     }
 
-    /// Writes an item over the one at a spot, and returns that one.
+    /// Replaces the item at a spot, and returns the old one.
     pub fn replace(&mut self, spot: Spot, value: T) -> T
         requires { IsItemSpot self.old.nodes spot }
         ensures value { slice_get (items self.old) (position_of self.old.nodes spot) ≡ Some result }
@@ -38,8 +40,7 @@ impl<T: Drop> Spine<T> {
     }
 }
 
-// Removes the item at a spot, and an emptied node with it, unless it is the only one. The index
-// stays that of the nodes.
+// Removes the item at a spot, and an emptied node unless it is the only one, and updates the index.
 fn take_out<T: Drop>(nodes: &mut Vec<Vec<T>>, index: &mut Fenwick, spot: Spot) -> T
     requires spot { IsItemSpot (vec_items nodes.old.items) spot }
     requires index { index.old.lengths ≡ node_lengths (vec_items nodes.old.items) }
@@ -54,7 +55,7 @@ fn take_out<T: Drop>(nodes: &mut Vec<Vec<T>>, index: &mut Fenwick, spot: Spot) -
     value
 }
 
-// Removes a node if it is empty and not the only one. The index stays that of the nodes.
+// Removes a node if it is empty and not the only one, and updates the index.
 pub(super) fn drop_indexed_if_empty<T: Drop>(nodes: &mut Vec<Vec<T>>, index: &mut Fenwick, k: usize)
     requires node { k < length (vec_items nodes.old.items) }
     requires index { index.old.lengths ≡ node_lengths (vec_items nodes.old.items) }
@@ -62,7 +63,7 @@ pub(super) fn drop_indexed_if_empty<T: Drop>(nodes: &mut Vec<Vec<T>>, index: &mu
     ensures index { index.new.lengths ≡ node_lengths (vec_items nodes.new.items) }
 {
     if drop_if_empty(nodes, k) {
-        // There is room for as many lengths as there were, and their sum fits.
+        // The index has room for as many lengths as before, and their sum fits.
         let _count = index.len();
         index.rebuild_from::<T, Vec<T>, OfVec>(k, nodes.as_slice());
     }

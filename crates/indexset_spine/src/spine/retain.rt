@@ -1,4 +1,4 @@
-//! Items kept by a closure.
+//! The retention of the items that a closure selects.
 ghost use Rattle.std.specs.Prelude.{◌≡◌, ◌==◌, ◌<◌, ◌≤◌, not, length, take};
 ghost use Rattle.std.specs.Fn.{CalledAtMut};
 ghost use Rattle.std.specs.List.Retain.{RetainsInTurn};
@@ -11,9 +11,10 @@ use crate::lengths;
 use indexset_core::item_iter::OfVec;
 
 impl<T: Drop> Spine<T> {
-    /// Calls the closure once for each item, first to last, and keeps the items for which it
-    /// returned true, as it left them, each in its node. An emptied node is removed, unless all
-    /// are. It allocates nothing.
+    /// Retains the items for which the closure returns true, as it left them.
+    ///
+    /// The closure is called once for each item, in order. Each item stays in its node. An emptied
+    /// node is removed, unless all are. It allocates nothing.
     pub fn retain_mut<F: FnMut(&mut T) -> bool>(&mut self, f: F)
         requires { F.IsAlwaysCallable f }
         ensures nodes { RetainsNodes (CalledAtMut F.FnMut) f self.old.nodes self.new.nodes }
@@ -22,15 +23,15 @@ impl<T: Drop> Spine<T> {
     {
         retain_nodes(&mut self.nodes, f);
         self.len = lengths::count_items(self.nodes.as_slice());
-        // There is room for as many lengths as there were.
+        // The index has room for as many lengths as before.
         let _count = self.index.len();
         self.index
             .rebuild::<T, Vec<T>, OfVec>(self.nodes.as_slice());
     }
 }
 
-// Keeps in each node the items for which the closure returns true, and of the nodes those that have
-// one left, or one that is empty.
+// Retains in each node the items for which the closure returns true, and the nodes that have one
+// left, or one empty node.
 fn retain_nodes<T: Drop, F: FnMut(&mut T) -> bool>(nodes: &mut Vec<Vec<T>>, mut f: F)
     requires callable { F.IsAlwaysCallable f }
     requires some { 0 < length nodes.old.items }
@@ -55,8 +56,8 @@ fn retain_nodes<T: Drop, F: FnMut(&mut T) -> bool>(nodes: &mut Vec<Vec<T>>, mut 
     }
 }
 
-// Keeps the items for which the closure returns true: once one is removed, each of them is swapped
-// with the first that was.
+// Retains the items for which the closure returns true: after a removal, each is swapped with the
+// first removed item.
 fn retain_node<T: Drop, F: FnMut(&mut T) -> bool>(node: &mut Vec<T>, f: &mut F)
     requires { F.IsAlwaysCallable f.old }
     ensures kept { RetainsTo (CalledAtMut F.FnMut) f.old node.old.items node.new.items f.new }

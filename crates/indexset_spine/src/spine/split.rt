@@ -1,4 +1,4 @@
-//! A spine split in two.
+//! The split of a spine in two.
 ghost use Rattle.std.specs.Prelude.{◌≡◌, ◌≤◌, IfOk, OnOk, IfErr, OnErr, length, take, drop};
 ghost use Rattle.indexset_spine.specs.NodeList.{items, IsSpot, position_of};
 ghost use Rattle.indexset_core.specs.Nodes.{vec_items};
@@ -14,8 +14,13 @@ use indexset_index::fenwick::Fenwick;
 use std::mem;
 
 impl<T: Drop> Spine<T> {
-    /// Removes the items from a spot on, as a spine of the same size. It allocates before an item
-    /// moves; a failed call changes nothing.
+    /// Splits the spine at a spot, and returns the items from there on, with the same node size.
+    ///
+    /// It allocates before an item moves.
+    ///
+    /// # Errors
+    ///
+    /// Fails with `Memory` only. A failed call changes nothing.
     pub fn split_off(&mut self, spot: Spot) -> Result<Spine<T>, Refusal>
         requires { IsSpot self.old.nodes spot }
         ensures nodes { OnOk result (self.new.nodes ≡ left_nodes self.old.nodes spot) }
@@ -48,7 +53,7 @@ impl<T: Drop> Spine<T> {
     }
 }
 
-// Removes the nodes from a spot on. A failed call changes nothing.
+// Splits the nodes at a spot, and returns those from there on. A failed call changes nothing.
 fn split_nodes<T: Drop>(nodes: &mut Vec<Vec<T>>, spot: Spot) -> Result<Vec<Vec<T>>, Refusal>
     requires { IsSpot (vec_items nodes.old.items) spot }
     ensures left { OnOk result (vec_items nodes.new.items
@@ -68,7 +73,7 @@ fn split_nodes<T: Drop>(nodes: &mut Vec<Vec<T>>, spot: Spot) -> Result<Vec<Vec<T
     Ok(right)
 }
 
-// Removes the items from an offset on. A failed call leaves the node as it is.
+// Splits a node at an offset, and returns the items from there on. A failed call changes nothing.
 fn take_back<T>(node: &mut Vec<T>, offset: usize) -> Result<Vec<T>, Refusal>
     requires { offset ≤ length node.old.items }
     ensures front { OnOk result (node.new.items ≡ take offset node.old.items) }

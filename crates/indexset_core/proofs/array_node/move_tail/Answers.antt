@@ -6,11 +6,11 @@ use Rattle.indexset_core.proofs.array_node.move_tail.Given.{Over}
 use Rattle.indexset_core.proofs.array_node.move_tail.Goals as goal
 use Rattle.indexset_core.proofs.array_node.move_tail.Goals.{After-drop-item-iterator, After-into_iter-item-iterator}
 
--- what the iterator begins with
+-- the iterator's items at the start
 begins : (g : Over) (c : After-into_iter-item-iterator g) → drain_items c.into_iter-item-iterator.result ≡ drop c.args.index c.args.items.now.items
 begins g c = ap drain_items c.into_iter-item-iterator.ensures.into_iter_gives ∙ (c.drain-item-items.ensures.rest ∙ tail_range c.args.items.now.items c.args.index (length c.args.items.now.items) refl)
 
--- what it leaves
+-- what the iterator leaves of the list
 kept : (g : Over) (c : After-drop-item-iterator g) → drain_kept c.next.new.self ≡ take c.args.index c.args.items.now.items
 kept g c = ap drain_kept c.in-None.ensures.steps.1 ∙ (c.loop-item.invariant.keeps.1 ∙ (ap drain_kept c.into_iter-item-iterator.ensures.into_iter_gives ∙ (c.drain-item-items.ensures.kept ∙ tail_left c.args.items.now.items c.args.index (length c.args.items.now.items) refl)))
 

@@ -4,7 +4,7 @@ use Rattle.std.specs.Ordering.{nat_cmp}
 use Rattle.indexset_core.proofs.WordLemmas.{AreBytes}
 use Rattle.indexset_core.proofs.by_bytes.compare_words.Given as goal
 
--- what is left decides
+-- the remaining bytes decide
 abbrev pub invariant-loop-left : goal.invariant-loop-left
 invariant-loop-left l = record {
   small : AreBytes l.left;

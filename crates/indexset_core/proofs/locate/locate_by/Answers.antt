@@ -11,7 +11,7 @@ use Rattle.indexset_core.proofs.locate.locate_by.Given.{Over}
 use Rattle.indexset_core.proofs.locate.locate_by.Goals.{After-items_of-items, After-place_in-offset}
 use Rattle.indexset_core.proofs.locate.locate_by.Goals as goal
 
--- where the search ends
+-- the end of the search
 told : {X : Type 0} (answer : X → Ordering) (ns : List (List X)) (k i : ℕ) → k ≡ node_for answer ns → i ≡ less_count answer (node_at ns k) → equal_at answer (node_at ns k) i ≡ true → Ok (k, i) ≡ located answer ns
 told answer ns k i at offset here = rw (← at, ← offset, here) refl
 
@@ -30,7 +30,7 @@ place_in-offset-requires g c =
     let r = read g (goal.at.place_in-offset-requires g c).After-items_of-items in
     rw (c.node_by-node.ensures.fixed, r.1) (parted_node (g.P.Probe.answer c.args.probe.now) (map g.R.NodeItems.list c.args.nodes.now) c.node_by-node.result r.0 c.requires.parted)
 
--- what it asks of the items there, and how often it asks
+-- the comparisons with the items there, and their number
 module _ (g : Over) (c : After-place_in-offset g) where
   r : (c.node_by-node.result < length (map g.R.NodeItems.list c.args.nodes.now)) × (c.items_of-items.result.now ≡ node_at (map g.R.NodeItems.list c.args.nodes.now) c.node_by-node.result)
   r = read g c.before.before

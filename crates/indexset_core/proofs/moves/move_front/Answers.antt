@@ -16,11 +16,11 @@ returns-then-count-len-clause-moved g c =
     let ok = c.append.ensures.succeeds (omega (arith, c.requires.room, c.len.ensures, c.if-count-len.true)) in
     rw ok at c.append.ensures.items ∙ ap (λ l. c.args.other.now.items ++ l) (sym (take_all c.args.count c.args.items.now.items (omega (arith, c.len.ensures, c.if-count-len.true, c.args.items.now.ok))))
 
--- what the iterator begins with
+-- the iterator's items at the start
 begins : (g : Over) (c : After-into_iter-item-iterator g) → drain_items c.into_iter-item-iterator.result ≡ take c.args.count c.args.items.now.items
 begins g c = ap drain_items c.into_iter-item-iterator.ensures.into_iter_gives ∙ (c.drain-item-items.ensures.rest ∙ front_range c.args.items.now.items c.args.count)
 
--- what it leaves
+-- what the iterator leaves of the list
 module _ (g : Over) (c : After-drop-item-iterator g) where
   kept : drain_kept c.next.new.self ≡ drop c.args.count c.args.items.now.items
   kept = ap drain_kept c.in-None.ensures.steps.1 ∙ (c.loop-item.invariant.keeps.1 ∙ (ap drain_kept c.into_iter-item-iterator.ensures.into_iter_gives ∙ c.drain-item-items.ensures.kept))

@@ -6,7 +6,7 @@ use Rattle.indexset_core.proofs.moves.move_tail.Given.{Over}
 use Rattle.indexset_core.proofs.moves.move_tail.Goals as goal
 use Rattle.indexset_core.proofs.moves.move_tail.Goals.{After-drop-item-iterator, After-into_iter-item-iterator}
 
--- what the iterator begins with
+-- the iterator's items at the start
 module _ (g : Over) (c : After-into_iter-item-iterator g) where
   begins : drain_items c.into_iter-item-iterator.result ≡ drop c.args.index c.args.items.now.items
   begins = ap drain_items c.into_iter-item-iterator.ensures.into_iter_gives ∙ (c.drain-item-items.ensures.rest ∙ tail_range c.args.items.now.items c.args.index _ (omega (arith, c.args.items.now.ok)))
@@ -37,7 +37,7 @@ loop-item-preserved g c =
       room = omega (arith, room_on c.loop-item.other.items c.push_reserved.new.self.items (drain_items c.loop-item.item-iterator) (drain_items c.next.new.self) c.in-Some.item c.push_reserved.ensures.items step.0, at.room, c.push_reserved.ensures.capacity, c.loop-item.other.ok, c.push_reserved.new.self.ok);
     }
 
--- what the iterator leaves
+-- what the iterator leaves of the list
 module _ (g : Over) (c : After-drop-item-iterator g) where
   ends : c.next.new.self ≡ c.loop-item.item-iterator
   ends = c.in-None.ensures.steps.1

@@ -1,4 +1,4 @@
--- A prefix was inserted, and the others remain.
+-- A prefix is inserted, and the others remain.
 use Rattle.std.proofs.Common.{◌≡◌, length}
 use Rattle.indexset_core.specs.Order.{put}
 use Rattle.indexset_spine.specs.NodeList.{node_list, items}

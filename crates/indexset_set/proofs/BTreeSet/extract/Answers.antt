@@ -13,7 +13,7 @@ use Rattle.indexset_set.proofs.BTreeSet.extract.Goals as goal
 pub extract-requires-clause-callable : goal.extract-requires-clause-callable
 extract-requires-clause-callable g c = mut_by _ (λ s. always_mut g.F.FnMut s.0.now) (λ s a i. i) (λ s a r t i e. e.met.1.1.0) _ c.requires.callable
 
--- the calls were of the closure that was lent, which now is as the last of them left it
+-- the calls were of the lent closure, whose value is now as the last of them left it
 module _ (g : Over) (c : After-pred-1 g) where
   left : c.pred-1.given.0 ≡ c.extract.new.f.0.now
   left = c.pred-1.given.1 (sym (extracts_keep _ (λ s. s.0.ghost_name ≡ c.ask-1.given) (λ s x b t y e same. e.called.met.1.1.1.1 ∙ same) _ _ _ _ _ c.extract.ensures.extracted refl))

@@ -1,4 +1,4 @@
--- The set and the run behind it hold what came so far.
+-- The set and the run after it hold the values so far.
 use Rattle.std.proofs.Common.{◌≡◌, [], ◌∷◌, ◌++◌}
 use Rattle.std.specs.List.{fold}
 use Rattle.indexset_core.specs.Order.{IsAscending, keep}

@@ -16,7 +16,7 @@ use Rattle.indexset_set.proofs.BTreeSet.put_some_of.Given.{Over}
 use Rattle.indexset_set.proofs.BTreeSet.put_some_of.Goals as goal
 use Rattle.indexset_set.proofs.BTreeSet.put_some_of.Goals.{After-count_inside-run}
 
--- where the first element goes
+-- the insertion point of the first element
 module _ (g : Over) (c : After-count_inside-run g) where
   found : c.locate_near-spot.result.node ≡ node_for (λ y. g.T.Ord.cmp y c.item.result.now) c.self.inside.spine.nodes
   found = ap (λ (p : Spot). p.node) c.locate_near-spot.ensures.place
@@ -24,7 +24,7 @@ module _ (g : Over) (c : After-count_inside-run g) where
   begins : slice_get (items c.other.inside.spine) 0 ≡ Some c.item.result.now
   begins = rw c.in-Some.ensures.1 at c.item.ensures
 
-  -- and a run that goes there
+  -- and a run that is inserted there
   abbrev nodes : List (List g.row.T.Denot)
   nodes =
       let ns = c.self.inside.spine.nodes in let k = c.locate_near-spot.result.node in

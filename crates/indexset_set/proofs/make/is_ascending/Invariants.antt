@@ -1,4 +1,4 @@
--- The answer is that of the items up to the last of those seen, and the others are left.
+-- The result is that of the items up to the last of those seen, and the others are left.
 use Rattle.indexset_spine.specs.NodeList.{items}
 use Rattle.indexset_set.proofs.SetCopyLemmas.{TellsTo}
 use Rattle.indexset_set.proofs.make.is_ascending.Given as goal

@@ -1,4 +1,4 @@
--- Some last items are in the third list, the last one first.
+-- Some last items are in the third list, in reverse.
 use Rattle.std.proofs.Common.{◌≡◌, ◌+◌, ◌≤◌, vec_len, vec_capacity}
 use Rattle.std.specs.List.{fold}
 use Rattle.indexset_core.specs.Order.{put}

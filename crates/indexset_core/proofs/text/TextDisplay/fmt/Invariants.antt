@@ -4,7 +4,7 @@ use Rattle.std.specs.Str.Chunks.{utf8_chunks_rest}
 use Rattle.std.specs.Str.Lossy.{utf8_lossy}
 use Rattle.indexset_core.proofs.text.TextDisplay.fmt.Given as goal
 
--- What was written, with the text of the bytes that are left, is the text of all the bytes.
+-- What was written, with the text of the remaining bytes, is the text of all the bytes.
 abbrev pub invariant-loop-chunk : goal.invariant-loop-chunk
 invariant-loop-chunk g l =
     IsPlainFormatter l.fn.f

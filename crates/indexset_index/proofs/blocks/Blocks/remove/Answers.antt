@@ -9,7 +9,7 @@ use Rattle.indexset_index.proofs.LengthLemmas.{length-lengths}
 use Rattle.indexset_index.proofs.blocks.Blocks.remove.Given.{Over}
 use Rattle.indexset_index.proofs.blocks.Blocks.remove.Goals as goal
 
--- the sums of the blocks that stay are those before
+-- the sums of the remaining blocks are those from before
 kept : (g : Over) (c : goal.After-shift_down-arg-1 g) → c.truncate.new.self.lengths ≡ take (block_count (length c.args.nodes.now)) (block_sums (insert (node_lengths (map g.R.NodeItems.list c.args.nodes.now)) c.args.k c.args.n))
 kept g c =
     let seen = ap (λ v. v.sums) c.self.view_is ∙ c.requires.before in

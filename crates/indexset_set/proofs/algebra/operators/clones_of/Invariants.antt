@@ -1,4 +1,4 @@
--- The elements that came so far have their clones.
+-- The elements so far have their clones.
 use Rattle.std.proofs.Common.{map}
 use Rattle.std.specs.List.{AllZip}
 use Rattle.indexset_set.proofs.algebra.operators.clones_of.Given as goal

@@ -1,4 +1,4 @@
--- What was written is the elements that came.
+-- What is written is the elements so far.
 use Rattle.std.proofs.Common.{◌≡◌}
 use Rattle.std.specs.List.{flat_map, fold}
 use Rattle.indexset_set.proofs.compare.BTreeSetHash.hash.Given as goal

@@ -1,4 +1,4 @@
--- The set holds what it held and what came so far.
+-- The set holds its elements and the values so far.
 use Rattle.std.proofs.Common.{◌≡◌, fold, map}
 use Rattle.indexset_core.specs.Order.{keep}
 use Rattle.indexset_spine.specs.NodeList.{items}

@@ -20,7 +20,7 @@ loop-last-preserved g c =
       left = c.loop-last.invariant.left;
     }
 
--- the back node gives its last item
+-- the back node yields its last item
 module _ (g : Over) (c : In-Some g) where
   gives : c.args.self.now ≡ (into_iter_items c.loop-last.self-inside.front ++ (concat (vec_items (into_iter_items c.loop-last.self-inside.middle)) ++ into_iter_items c.next_back.new.self)) ++ c.in-Some.last ∷ []
   gives = back_gives (into_iter_items c.loop-last.self-inside.front) _ (into_iter_items c.loop-last.self-inside.back) (into_iter_items c.next_back.new.self) c.args.self.now c.in-Some.last c.loop-last.invariant.rest c.in-Some.ensures.steps
@@ -34,7 +34,7 @@ invariant_of-self g c = (last_gone c.loop-last.self-inside.left c.args.self.now 
 pub returns-in-Some-clause-steps : goal.returns-in-Some-clause-steps
 returns-in-Some-clause-steps g c = gives g (goal.at.returns-in-Some-clause-steps g c).In-Some
 
--- the front node alone is left, and gives its last item
+-- only the front node is left, and yields its last item
 module _ (g : Over) (c : In_ok-last g) where
   alone_gives : c.args.self.now ≡ (into_iter_items c.next_back-in_default-next_back.new.self ++ (concat (vec_items (into_iter_items c.next_back-in-loop-last.new.self)) ++ into_iter_items c.next_back.new.self)) ++ c.in_ok-last.last ∷ []
   alone_gives =

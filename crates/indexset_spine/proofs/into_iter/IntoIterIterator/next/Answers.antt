@@ -6,12 +6,12 @@ use Rattle.indexset_spine.proofs.into_iter.IntoIterIterator.next.Given.{Over}
 use Rattle.indexset_spine.proofs.into_iter.IntoIterIterator.next.Goals as goal
 use Rattle.indexset_spine.proofs.into_iter.IntoIterIterator.next.Goals.{In-Some, In_ok-first}
 
--- the front node gives its first item
+-- the front node yields its first item
 module _ (g : Over) (c : In-Some g) where
   gives : c.args.self.now ≡ c.in-Some.first ∷ (into_iter_items c.next.new.self ++ (concat (vec_items (into_iter_items c.loop-first.self-inside.middle)) ++ into_iter_items c.loop-first.self-inside.back))
   gives = front_gives (into_iter_items c.loop-first.self-inside.front) _ (into_iter_items c.next.new.self) c.args.self.now c.in-Some.first c.loop-first.invariant.rest c.in-Some.ensures.cases.0
 
--- the back node alone is left, and gives its first item
+-- only the back node is left, and yields its first item
 module _ (g : Over) (c : In_ok-first g) where
   alone_gives : c.args.self.now ≡ c.in_ok-first.first ∷ (into_iter_items c.next.new.self ++ (concat (vec_items (into_iter_items c.next-in-loop-first.new.self)) ++ into_iter_items c.next-in_default-next.new.self))
   alone_gives =

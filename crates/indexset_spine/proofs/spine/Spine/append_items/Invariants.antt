@@ -1,4 +1,4 @@
--- Some first items are behind those of the spine, and the others are left.
+-- A prefix of the items is appended to the spine, and the others are left.
 use Rattle.std.proofs.Common.{◌≡◌, length}
 use Rattle.indexset_spine.specs.NodeList.{with_last}
 use Rattle.indexset_spine.specs.Edits.{FoldsPrefix}

@@ -16,7 +16,7 @@ use Rattle.indexset_spine.proofs.spine.Spine.extract.Goals as goal
 pub remove-requires : goal.remove-requires
 remove-requires g c = asked_spot c.loop-at.self.nodes c.spot_near-spot.result _ c.f.new.arg2 c.spot_near-spot.ensures.spot refl
 
--- the closure picked the item
+-- the closure returned true
 module _ (g : Over) (c : After-remove g) where
   picked_is : c.remove.result ≡ c.f.new.arg2
   picked_is =

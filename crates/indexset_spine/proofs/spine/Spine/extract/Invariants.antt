@@ -1,4 +1,4 @@
--- The items that were asked about stay, and the next is the first that was not.
+-- The items for which the closure was called stay, and the next is the first for which it was not.
 use Rattle.std.proofs.Common.{◌≡◌, ◌-◌, length}
 use Rattle.std.specs.Fn.{CalledAtMut}
 use Rattle.indexset_core.specs.Nodes.{node_lengths}

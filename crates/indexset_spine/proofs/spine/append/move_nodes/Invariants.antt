@@ -1,4 +1,4 @@
--- The items of the first nodes, and maybe some of the next, are behind those of the spine.
+-- The items of the first nodes, and maybe some of the next, are appended to the spine.
 use Rattle.std.proofs.Common.{◌≡◌, ℕ, ◌-◌, ◌≤◌, [], length, take}
 use Rattle.std.specs.List.{All}
 use Rattle.indexset_core.specs.Nodes.{concat, node_lengths, vec_items}

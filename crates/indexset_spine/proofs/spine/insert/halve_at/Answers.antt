@@ -10,7 +10,7 @@ use Rattle.indexset_spine.proofs.spine.insert.halve_at.Given.{Over}
 use Rattle.indexset_spine.proofs.spine.insert.halve_at.Goals as goal
 use Rattle.indexset_spine.proofs.spine.insert.halve_at.Goals.{In_ok-right}
 
--- the node is cut in two
+-- the node is split in two
 halved : (g : Over) (c : In_ok-right g) → IsHalved (vec_items c.args.nodes.now.items) c.reserve.new.self.items c.args.spot c.index_mut-node.result.now c.halve_node.new.node c.in_ok-right.right
 halved g c =
     let e = c.reserve.ensures.items in

@@ -1,4 +1,4 @@
--- The nodes gathered so far, the last first, are those of the items behind the rest.
+-- The nodes so far, in reverse, are those of the items after the rest.
 use Rattle.std.proofs.Common.{◌≡◌, ◌+◌, ◌*◌, ◌/◌, ◌<◌, ◌≤◌, [], ◌∷◌, length, take, drop, reverse, vec_len, vec_capacity}
 use Rattle.indexset_core.specs.Nodes.{vec_items}
 use Rattle.indexset_spine.specs.NodeList.{with_all_last}

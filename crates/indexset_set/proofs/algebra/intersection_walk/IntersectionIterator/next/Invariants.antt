@@ -1,4 +1,4 @@
--- What will be read is as it was.
+-- The elements to be read are unchanged.
 use Rattle.std.proofs.Common.{◌≡◌, length}
 use Rattle.indexset_set.specs.Merge.{of_both, read}
 use Rattle.indexset_set.proofs.algebra.intersection_walk.IntersectionIterator.next.Given as goal
