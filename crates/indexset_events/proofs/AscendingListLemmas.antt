@@ -34,7 +34,7 @@ pub length_filled : {X : Type 0} (xs : List X) → 1 ≤ length xs → is_filled
 length_filled [] h = absurd (omega arith)
 length_filled (x ∷ xs) h = refl
 
--- what holds of the lengths of nodes holds of the nodes
+-- a property of the lengths of nodes, as one of the nodes
 pub nodes_each : {T : Type 0} (P : ℕ → Type 0) (ns : List (List T)) → All P (node_lengths ns) → Each (λ n. P (length n)) ns
 nodes_each P [] h = tt
 nodes_each P (n ∷ ns) h = (h 0 0 (omega arith), nodes_each P ns (λ k d lt. h (suc k) d (omega arith)))
@@ -66,7 +66,7 @@ pub each-map : {T : Type 0} (P Q : T → Type 0) → ((x : T) → P x → Q x) �
 each-map P Q f [] h = tt
 each-map P Q f (x ∷ xs) h = (f x h.0, each-map P Q f xs h.1)
 
--- a test and what it means
+-- a test and its meaning
 pub each_from_all : {T : Type 0} (p : T → Bool) (xs : List T) → list_all p xs ≡ true → Each (λ x. p x ≡ true) xs
 each_from_all p [] h = tt
 each_from_all p (x ∷ xs) h =
@@ -104,7 +104,7 @@ pub count_front : {T : Type 0} (p : T → Bool) (l r : List T) → Each (λ x. p
 count_front p [] r hl hr = count_no p r hr
 count_front p (x ∷ l) r hl hr = sum_by-cons (λ x. cond (p x) 1 0) x (l ++ r) ∙ rw hl.0 (omega (arith, count_front p l r hl.1 hr))
 
--- the last item of a list with items
+-- the last item of a list that is not empty
 pub last_any : {T : Type 0} (xs : List T) (d e : T) → is_filled xs ≡ true → last_of xs d ≡ last_of xs e
 last_any [] d e full = absurd (false≢true full)
 last_any (x ∷ xs) d e full = refl
@@ -125,7 +125,7 @@ pub last_answer : {T : Type 0} (n : List T) (v : T) → last_of n v ≡ get_or n
 last_answer [] v = refl
 last_answer (x ∷ xs) v = subst (λ k. last_of xs x ≡ get_or (x ∷ xs) k v) {x = length xs} {y = length (x ∷ xs) - 1} (omega arith) (last_get x xs v)
 
--- how a node ends is what its last item is answered
+-- whether a node ends below, by the answer for its last item
 pub ends_by : {T : Type 0} (answer : T → Ordering) (n : List T) (d : T) → is_filled n ≡ true → ends_less answer n ≡ is_lt (answer (last_of n d))
 ends_by answer [] d full = absurd (false≢true full)
 ends_by answer (x ∷ xs) d full = ends_last answer (x ∷ xs) d (omega arith) ∙ ap (λ y. is_lt (answer y)) (sym (last_answer (x ∷ xs) d))
@@ -170,7 +170,7 @@ module _ {T : Type 0} (cmp : T → T → Ordering) where
   up-between [] ys h = tt
   up-between (x ∷ xs) ys h = (each-right _ xs ys h.0, up-between xs ys h.1)
 
-  -- an item fewer
+  -- with one item less
   pub up_drop : (xs : List T) (y : T) (ys : List T) → Up (xs ++ y ∷ ys) → Up (xs ++ ys)
   up_drop [] y ys h = h.1
   up_drop (x ∷ xs) y ys h = (each-append _ xs ys (each-left _ xs (y ∷ ys) h.0) (each-right _ xs (y ∷ ys) h.0).1, up_drop xs y ys h.1)
@@ -179,7 +179,7 @@ module _ {T : Type 0} (cmp : T → T → Ordering) where
   up_cross xs [] ys h = h
   up_cross xs (y ∷ m) ys h = up_cross xs m ys (up_drop xs y (m ++ ys) h)
 
-  -- an item more
+  -- with one item more
   pub up_put : (xs : List T) (v : T) (ys : List T) → Each (λ x. cmp x v ≡ Less) xs → Each (λ x. cmp v x ≡ Less) ys → Up (xs ++ ys) → Up (xs ++ v ∷ ys)
   up_put [] v ys low high h = (high, h)
   up_put (x ∷ xs) v ys low high h = (each-append _ xs (v ∷ ys) (each-left _ xs ys h.0) (low.0, each-right _ xs ys h.0), up_put xs v ys low.1 high h.1)
@@ -237,11 +237,11 @@ module _ {T : Type 0} (cmp : T → T → Ordering) where
     pub lesser : (x v : T) → cmp x v ≡ Greater → cmp v x ≡ Less
     lesser x v h = o.antisymm v x ∙ ap ordering_reverse h
 
-    -- what equals v has the same items above it
+    -- an item equal to v is below the same items
     pub equal_below : (x v y : T) → cmp x v ≡ Equal → cmp x y ≡ Less → cmp v y ≡ Less
     equal_below x v y e h = sym (o.congr x v y e) ∙ h
 
-    -- all items are below what is above the last
+    -- all items are below an item above the last
     pub upto_last : (xs : List T) (d v : T) → Up xs → cmp (last_of xs d) v ≡ Less → Each (λ x. cmp x v ≡ Less) xs
     upto_last [] d v up h = tt
     upto_last (x ∷ []) d v up h = (h, tt)
@@ -251,7 +251,7 @@ module _ {T : Type 0} (cmp : T → T → Ordering) where
       within-filter : (t : T → Bool) → filter t (p ++ (n ++ q)) ≡ filter t p ++ (filter t n ++ filter t q)
       within-filter t = filter-append t p (n ++ q) ∙ ap (λ z. filter t p ++ z) (filter-append t n q)
 
-      -- a change between what is below v and what is above
+      -- a change between the items below v and the items above v
       pub put-within : put cmp (p ++ (n ++ q)) v ≡ p ++ (put cmp n v ++ q)
       unfolding put
       put-within =
@@ -290,7 +290,7 @@ module _ {T : Type 0} (cmp : T → T → Ordering) where
       pub parts-has_equal : has_equal cmp (l ++ (m ++ r)) v ≡ is_filled m
       parts-has_equal = any_parts (λ x. is_eq (cmp x v)) l m r (test-low is_eq false refl) (test-same is_eq true refl) (test-high is_eq false refl)
 
-    -- where v stands in an ascending list
+    -- a list split around v
     pub around : (v : T) (P : List T → Type 0)
         → ((l r : List T) → Each (λ x. cmp x v ≡ Less) l → Each (λ x. cmp v x ≡ Less) r → P (l ++ r))
         → ((l : List T) (x : T) (r : List T) → Each (λ x. cmp x v ≡ Less) l → cmp x v ≡ Equal → Each (λ x. cmp v x ≡ Less) r → P (l ++ x ∷ r))

@@ -1,4 +1,4 @@
--- What an attached node makes of lawful nodes.
+-- Lawful nodes after a node was attached.
 use Rattle.std.proofs.Common.{◌≡◌, ℕ, suc, min, ◌<◌, get_or, nat_lt, map, take, drop, not, if◌then◌else◌, inl, inr, ◌+◌, ◌-◌, ◌≤◌, Bool, true, false, ◌||◌, ◌&&◌, List, [], ◌∷◌, ◌++◌, length, insert, slice_get, Some, None, Option, Ordering, refl, ap, sym, ◌∙◌, subst, arith, append_assoc, length-append}
 use Rattle.std.specs.declared.cmp.Ordering.TheVariants.{Less, Equal, Greater}
 use Rattle.std.specs.List.{list_all, position_or_len, IsAllAdjacentAnswer}
@@ -70,7 +70,7 @@ module _ {T : Type 0} (cmp : T → T → Ordering) where
   joined_below n [] h = tt
   joined_below n (m ∷ b) h = each-append _ m (concat b) (below_each m n h.0) (joined_below n b h.1)
 
-  -- an item below nodes, joined
+  -- items that satisfy P, joined
   each_join : (P : T → Type 0) (a : List (List T)) → Each (λ m. Each P m) a → Each P (concat a)
   each_join P [] h = tt
   each_join P (m ∷ a) h = each-append P m (concat a) h.0 (each_join P a h.1)
@@ -79,7 +79,7 @@ module _ {T : Type 0} (cmp : T → T → Ordering) where
   each_split P [] h = tt
   each_split P (m ∷ a) h = (each-left P m (concat a) h, each_split P a (each-right P m (concat a) h))
 
-  -- an item of a list that lies below nodes is below all that they hold
+  -- each item of a list that lies below nodes is below all items of the nodes
   one_below : (n : List T) (a : List (List T)) → Each (λ m. lies_below cmp n m ≡ true) a → Each (λ y. Each (λ z. cmp y z ≡ Less) (concat a)) n
   one_below n a h = turn n a (each-map _ _ (λ m e. below_each n m e) a h)
     where
@@ -87,7 +87,7 @@ module _ {T : Type 0} (cmp : T → T → Ordering) where
       turn [] a h = tt
       turn (y ∷ n) a h = (each_join (λ z. cmp y z ≡ Less) a (each-map _ _ (λ m e. e.0) a h), turn n a (each-map _ _ (λ m e. e.1) a h))
 
-  -- all that a call asks which attaches the node n, from its first item to its last
+  -- the facts that a call needs to attach the node n, from its first item to its last
   pub record Attaches (ns : List (List T)) (n : List T) (first last : T) : Type 0 where
     pub index : attach_index cmp ns n ≡ position_or_len (reaches cmp first) ns
     pub apart : lies_apart cmp ns n ≡ option_map_or (λ x. is_lt (cmp last x)) (slice_get (node_at ns (position_or_len (reaches cmp first) ns)) 0) true
@@ -96,7 +96,7 @@ module _ {T : Type 0} (cmp : T → T → Ordering) where
     pub count : length (concat (attached cmp ns n)) ≡ length (concat ns) + length n
 
   module _ (o : IsTotalOrder cmp) where
-    -- what is above the last item is above all
+    -- an item above the last item is above all
     under_last : (n : List T) (d : T) → Up cmp n → Each (λ y. (z : T) → cmp (last_of n d) z ≡ Less → cmp y z ≡ Less) n
     under_last [] d up = tt
     under_last (x ∷ []) d up = ((λ z h. h), tt)
@@ -104,7 +104,7 @@ module _ {T : Type 0} (cmp : T → T → Ordering) where
 
     -- the node f ∷ t, whose last item is last_of t f
     module _ (f : T) (t : List T) (up : Up cmp (f ∷ t)) where
-      -- what is below the first item is below all
+      -- an item below the first item is below all
       over_first : (x : T) → cmp x f ≡ Less → Each (λ y. cmp x y ≡ Less) (f ∷ t)
       over_first x h = (h, each-map _ _ (λ y e. o.trans x f y h e) t up.0)
 
@@ -118,7 +118,7 @@ module _ {T : Type 0} (cmp : T → T → Ordering) where
       all_not_before [] full h = tt
       all_not_before (m ∷ a) full h = (not_before m full.0 h.0, all_not_before a full.1 h.1)
 
-      -- the nodes before the place of the node and those from there on
+      -- the nodes before the place of the node and those after it
       parts : (P : List (List T) → Type 0)
           → ((b a : List (List T)) → Ruled cmp (b ++ a) → Each (λ m. lies_below cmp m (f ∷ t) ≡ true) b → Each (λ m. reaches cmp f m ≡ false) b → Each (λ m. lies_below cmp m (f ∷ t) ≡ false) a → Each (λ m. reaches cmp f m ≡ true) a → P (b ++ a))
           → (ns : List (List T)) → Ruled cmp ns → P ns
@@ -199,7 +199,7 @@ module _ {T : Type 0} (cmp : T → T → Ordering) where
             count = rw (index, made, concat-append b ((f ∷ t) ∷ a), concat-append b a) (omega (arith, length-append (concat b) ((f ∷ t) ++ concat a), length-append (concat b) (concat a), length-append (f ∷ t) (concat a)));
           })
 
-    -- the same of a node as the code reads it
+    -- the same for a node as the code reads it
     pub attaches_node : (ns : List (List T)) → Ruled cmp ns → (n : List T) (first last : T) → slice_get n 0 ≡ Some first → last ≡ get_or n (length n - 1) last → is_ascending cmp n ≡ true → Attaches ns n first last
     attaches_node ns rule [] first last e l up = let none : (let n : Option T = None in n) ≡ Some first = e in cc
     attaches_node ns rule (f ∷ t) first last e l up =
@@ -211,7 +211,7 @@ pub filled_first : {X : Type 0} (n : List X) (x : X) → slice_get n 0 ≡ Some 
 filled_first {X} [] x h = let none : (let n : Option X = None in n) ≡ Some x = h in cc
 filled_first (y ∷ n) x h = refl
 
--- why a node is refused, test by test
+-- the error of a node, test by test
 module _ {T : Type 0} (cmp : T → T → Ordering) (size : ℕ) (ns : List (List T)) (n : List T) where
   pub refused_empty : slice_get n 0 ≡ None → attach_refusal cmp size ns n ≡ Some Empty
   unfolding attach_refusal
@@ -238,7 +238,7 @@ module _ {T : Type 0} (cmp : T → T → Ordering) (size : ℕ) (ns : List (List
       unfolding attach_refusal
       refused_overlap up h = rw (full, small, up, h) refl
 
-      -- by where the node goes and whether the next one, if there is one, starts above it
+      -- by the place of the node, and whether the next node, if any, begins above it
       pub attach_told : (o : IsTotalOrder cmp) → Ruled cmp ns → is_ascending cmp n ≡ true → (p : ℕ) (f l : T) (b : Bool) → slice_get n 0 ≡ Some f → l ≡ get_or n (length n - 1) l → p ≡ position_or_len (reaches cmp f) ns → b ≡ option_map_or (λ x. is_lt (cmp l x)) (slice_get (node_at ns p) 0) true → (p ≡ attach_index cmp ns n) × (attach_refusal cmp size ns n ≡ (if not b then Some Overlaps else None))
       unfolding attach_refusal
       attach_told o rule up p f l b first last place above =
@@ -250,7 +250,7 @@ module _ {T : Type 0} (cmp : T → T → Ordering) (size : ℕ) (ns : List (List
       unfolding attach_refusal
       not_refused up h = rw (full, small, up, h) refl
 
--- what a node makes of lawful nodes that is not refused
+-- lawful nodes after the insertion of a node without an error
 module _ {T : Type 0} (cmp : T → T → Ordering) (o : IsTotalOrder cmp) (size : ℕ) (ns : List (List T)) where
   pub record Good (n : List T) : Type 0 where
     pub full : is_filled n ≡ true
@@ -262,7 +262,7 @@ module _ {T : Type 0} (cmp : T → T → Ordering) (o : IsTotalOrder cmp) (size 
   unfolding attach_refusal
   good n h = record { full = grind arith; fits = grind arith; up = grind arith; apart = grind arith }
 
-  -- it is added, and they stay lawful
+  -- the node is inserted, and the nodes stay lawful
   pub record Added (n : List T) : Type 0 where
     pub lawful : IsLawful cmp size (attached cmp ns n)
     pub counted : length (concat (attached cmp ns n)) ≡ length (concat ns) + length n
@@ -292,7 +292,7 @@ module _ {T : Type 0} (cmp : T → T → Ordering) (o : IsTotalOrder cmp) where
   pub falls_at : (xs : List T) (k : ℕ) (d : T) → suc k < length xs → is_lt (cmp (get_or xs k d) (get_or xs (suc k) d)) ≡ false → is_ascending cmp xs ≡ false
   falls_at xs k d lt h = false_unless _ (λ e. false≢true (sym h ∙ ap is_lt (ascends cmp xs (true_up cmp xs e) k (suc k) d (omega arith) lt)))
 
-  -- what a test of all neighbours tells
+  -- the result of a test of all neighbours
   pub ascending_answer : (xs : List T) (r : Bool) → IsAllAdjacentAnswer (λ x y b. b ≡ is_lt (cmp x y)) xs r → r ≡ is_ascending cmp xs
   ascending_answer xs true h =
       sym (ascending_by_steps xs (λ k d lt. subst (λ j. cmp (get_or xs k d) (get_or xs j d) ≡ Less) {x = k + 1} {y = suc k} (omega arith) (less_from _ (sym (h k d (omega arith))))))
@@ -301,7 +301,7 @@ module _ {T : Type 0} (cmp : T → T → Ordering) (o : IsTotalOrder cmp) where
       let k = h.0 in
       sym (falls_at (x ∷ xs) k x (omega (arith, h.1)) (subst (λ j. is_lt (cmp (get_or (x ∷ xs) k x) (get_or (x ∷ xs) j x)) ≡ false) {x = k + 1} {y = suc k} (omega arith) (sym (h.2 x))))
 
--- how many nodes end below, from where the search for a node ends
+-- how many nodes end below a value, from where the search for a node ends
 module _ {X : Type 0} (q : X → Bool) where
   pub min_place_past : (xs : List X) (d : X) → 1 ≤ length xs → q (get_or xs (min (position_or_len q xs) (length xs - 1)) d) ≡ false → min (position_or_len q xs) (length xs - 1) + 1 ≡ position_or_len q xs
   min_place_past xs d some h =

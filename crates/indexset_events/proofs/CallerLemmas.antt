@@ -1,4 +1,4 @@
--- What crates above this one may cite of its proofs.
+-- The lemmas that other crates may cite.
 pub use Rattle.indexset_events.proofs.AttachLemmas.{Attaches, added, ascending_answer, attach_index_le, attach_told, attaches_node, filled_first, map_insert, min_place_here, min_place_past, not_refused, refused_empty, refused_large, refused_overlap, refused_unsorted}
 pub use Rattle.indexset_events.proofs.ChangeLemmas.{Leads, key_removal_leads, nothing_leads, put_leads, removal_leads, sought_leads}
 pub use Rattle.indexset_events.proofs.CloneLemmas.{both_cloned, clones_numbered, event_same, one_cloned, pair_same, zip_on}

@@ -1,4 +1,4 @@
--- The events of a put and of a removal lead from lawful nodes to lawful nodes.
+-- The replay of the events of a put or a removal, from lawful nodes, gives lawful nodes.
 use Rattle.std.proofs.Common.{◌≡◌, ℕ, ◌≤◌, Bool, true, false, cond, List, [], ◌∷◌, filter, Some, Result, Ok, Err, Ordering, refl, sym, subst}
 use Rattle.std.specs.Cmp.{IsTotalOrder}
 use Rattle.indexset_core.specs.Nodes.{concat, node_at, IsLawful}
@@ -28,7 +28,7 @@ each_filter P q (x ∷ xs) h = at (q x) (each_filter P q xs h.1)
     at true rest = (h.0, rest)
     at false rest = rest
 
--- the events, numbered from s, lead from the nodes to lawful ones, and P still holds of each item
+-- the replay of the events, numbered from s, gives lawful nodes, and P still holds for each item
 pub record Leads {T : Type 0} (cmp : T → T → Ordering) (P : T → Type 0) (size s : ℕ) (ns : List (List T)) (es : List (ChangeEventUnassigned T)) : Type 0 where
   pub after : List (List T)
   pub replayed : replay cmp ns (numbered_from s es) ≡ Some after

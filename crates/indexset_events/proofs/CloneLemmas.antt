@@ -1,4 +1,4 @@
--- What clones of numbered events keep.
+-- The properties that clones of numbered events keep.
 use Rattle.std.proofs.Common.{◌≡◌, ℕ, ◌+◌, List, [], ◌∷◌, ◌++◌, get_or, refl, ap, sym, ◌∙◌, arith, Some, None, zero, suc}
 use Rattle.std.specs.List.{AllZip}
 use Rattle.std.proofs.lemmas.List.Elements.{same_from_all_zip}
@@ -30,7 +30,7 @@ number_shape (numbered.MergeNodes id m w) = refl
 number_same : {T : Type 0} (e f : ChangeEvent T) → event_shape f ≡ event_shape e → event_number f ≡ event_number e
 number_same e f same = sym (number_shape f) ∙ (ap (λ s. event_number s) same ∙ number_shape e)
 
--- numbers are the table's
+-- the numbers are those of the table
 pub clones_numbered : {T : Type 0} (C : T → T → Type 0) (s : ℕ) (es : List (ChangeEventUnassigned T)) (fs : List (ChangeEvent T)) → AllZip (IsEventClone C) (numbered_from s es) fs → IsNumberedFrom s fs
 clones_numbered C s [] [] h i lt d = absurd (omega arith)
 clones_numbered C s [] (f ∷ fs) h i lt d = absurd h
@@ -38,7 +38,7 @@ clones_numbered C s (e ∷ es) [] h i lt d = absurd h
 clones_numbered C s (e ∷ es) (f ∷ fs) h zero lt d = number_same (assigned s e) f h.0.0 ∙ (number_on s e ∙ omega arith)
 clones_numbered C s (e ∷ es) (f ∷ fs) h (suc i) lt d = clones_numbered C (s + 1) es fs h.1 i (omega arith) d ∙ omega arith
 
--- an event made again from its shape and its items
+-- an event built from its shape and its items
 abbrev remade : {T : Type 0} → T → ChangeEvent (Unit {0}) → List T → ChangeEvent T
 remade d (numbered.InsertAt id m v i) l = numbered.InsertAt id (get_or l 0 d) (get_or l 1 d) i
 remade d (numbered.RemoveAt id m v i) l = numbered.RemoveAt id (get_or l 0 d) (get_or l 1 d) i
@@ -63,7 +63,7 @@ first_item (numbered.RemoveNode id m) = m
 first_item (numbered.SplitNode id m k) = m
 first_item (numbered.MergeNodes id m w) = m
 
--- where clones are identical to their sources, so are events with clones
+-- events with clones are identical to their sources if clones are
 pub event_same : {T : Type 0} (C : T → T → Type 0) → ((x y : T) → C x y → y ≡ x) → (e f : ChangeEvent T) → IsEventClone C e f → f ≡ e
 event_same C h e f clone =
     let d = first_item e in
@@ -79,6 +79,6 @@ module _ {T : Type 0} (C : T → T → Type 0) (s size : ℕ) (ns : List (List T
     pub both_cloned : {j : ℕ} (f : ChangeEventUnassigned T) → merge_after size ns k i ≡ Some j → IsEventClone C (assigned (s + 1) (merge_event (item_removed ns k i) x j)) (assigned (s + 1) f) → items ≡ assigned s e ∷ assigned (s + 1) f ∷ [] → AllZip (IsEventClone C) (numbered_from s (place_removal_events size ns k i x)) items
     both_cloned f some second made = rw (made, some) (first, (second, tt))
 
--- clones of pairs are identical where those of keys and of values are
+-- clones of pairs are identical to their sources if clones of keys and of values are
 pub pair_same : {K V : Type 0} {C : K → K → Type 0} {D : V → V → Type 0} → ((x y : K) → C x y → y ≡ x) → ((x y : V) → D x y → y ≡ x) → (p q : Pair K V) → C p.key q.key × D p.value q.value → q ≡ p
 pair_same hk hv p q e = λ i. record { key = hk p.key q.key e.0 i; value = hv p.value q.value e.1 i }

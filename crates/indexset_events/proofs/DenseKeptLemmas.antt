@@ -22,7 +22,7 @@ use Rattle.indexset_events.proofs.RemovalLemmas.{at_place}
 use Rattle.indexset_events.proofs.ReplayTheorem.{up_node}
 use Rattle.indexset_events.proofs.AscendingListLemmas.{Each, each-left, each-right, filled_length, Ruled, lawful_bounded, lawful_ruled}
 
--- a node in the place of one that holds no more items
+-- a node replaced by one of at least as many items
 longer_at : {T : Type 0} (ns : List (List T)) (k : ℕ) (m : List T) → length (node_at ns k) ≤ length m → (j : ℕ) → length (node_at ns j) ≤ length (node_at (set ns k m) j)
 longer_at [] k m le j = omega arith
 longer_at (n ∷ ns) zero m le zero = le
@@ -73,7 +73,7 @@ module _ {T : Type 0} (cmp : T → T → Ordering) (o : IsTotalOrder cmp) (size 
       ] refl
 
 module _ {T : Type 0} (h : ℕ) where
-  -- an item fewer, where nothing is merged
+  -- an item less, without a merge
   shorter_spaced : (ns : List (List T)) (k : ℕ) (m : List T) → merge_place h (set ns k m) k ≡ None → IsDense h ns → IsDense h (set ns k m)
   shorter_spaced ns k m none s j lt =
       elim (cases_eq j k) [
@@ -84,7 +84,7 @@ module _ {T : Type 0} (h : ℕ) where
         ]
       ]
 
-  -- an item fewer, and the node merged with the one after it
+  -- an item less, and the node merged with the next one
   joined_next : (b : List (List T)) (l r : List T) (a : List (List T)) (m : List T) → length l ≡ length m + 1 → 1 ≤ length r → IsDense h (b ++ l ∷ r ∷ a) → IsDense h (with_merged (set (b ++ l ∷ r ∷ a) (length b) m) (length b))
   joined_next b l r a m fewer some s =
       let all = spread h (b ++ l ∷ r ∷ a) s in
@@ -93,7 +93,7 @@ module _ {T : Type 0} (h : ℕ) where
       rw (set-append_seam b l (r ∷ a) m, joined_seam b m r a)
       (spaced h (b ++ (m ++ r) ∷ a) (joined_spread h b l r (m ++ r) a (omega arith) (omega arith) (spread-left h b l (r ∷ a) all) rest.1))
 
-  -- an item fewer, and the node merged with the one before it
+  -- an item less, and the node merged with the one before
   joined_before : (b : List (List T)) (l r : List T) (a : List (List T)) (m : List T) → length r ≡ length m + 1 → are_small h (set (b ++ l ∷ r ∷ a) (length b + 1) m) (length b + 1) ≡ false → IsDense h (b ++ l ∷ r ∷ a) → IsDense h (with_merged (set (b ++ l ∷ r ∷ a) (length b + 1) m) (length b))
   joined_before b l r a m fewer large s =
       let all = spread h (b ++ l ∷ r ∷ a) s in
@@ -116,7 +116,7 @@ module _ {T : Type 0} (h : ℕ) where
           let big = not_small h (b ++ l ∷ m ∷ c ∷ a) (length b + 1) large next in
           (rw (here, more) at big, t.1)
 
-  -- an item fewer, and two nodes joined
+  -- an item less, and two nodes merged
   joined_spaced : (ns : List (List T)) (k j : ℕ) (m : List T) → length (node_at ns k) ≡ length m + 1 → Each (λ c. is_filled c ≡ true) ns → JoinedPair h (set ns k m) k j → IsDense h ns → IsDense h (with_merged (set ns k m) j)
   joined_spaced ns k j m fewer filled p s =
       at_pair (λ q j. (k : ℕ) → length (node_at q k) ≡ length m + 1 → Each (λ c. is_filled c ≡ true) q → (k ≡ j) ⊎ ((k ≡ j + 1) × (are_small h (set q k m) k ≡ false)) → IsDense h q → IsDense h (with_merged (set q k m) j))
@@ -132,7 +132,7 @@ module _ {T : Type 0} (cmp : T → T → Ordering) (size : ℕ) (two : 2 ≤ siz
   filled : Each (λ c. is_filled c ≡ true) ns
   filled = let ruled = lawful_ruled cmp size ns law in ruled.filled
 
-  -- a node of one item out
+  -- the removal of a node of one item
   out_spaced : length (node_at ns k) ≡ 1 → IsDense (size / 2) (remove ns k)
   out_spaced one = at_place (λ q j n. length n ≡ 1 → IsDense (size / 2) q → IsDense (size / 2) (remove q j))
       (λ b n a one s. rw (remove_at b n a) (spaced (size / 2) (b ++ a) (out_spread (size / 2) b n a one (omega arith) (spread (size / 2) (b ++ n ∷ a) s))))

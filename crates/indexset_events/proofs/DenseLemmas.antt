@@ -1,4 +1,4 @@
--- Neighbours that hold more than h items together, and what keeps them so.
+-- Neighbours that hold more than h items together, and the edits that keep this.
 use Rattle.std.proofs.Common.{◌≡◌, ℕ, zero, suc, ◌+◌, ◌-◌, ◌*◌, ◌<◌, ◌≤◌, true, List, [], ◌∷◌, ◌++◌, length, refl, sym, subst, arith, length-append}
 use native.Mathlib.Numerals.{unary_clauses}
 use Rattle.indexset_core.specs.Nodes.{concat, node_at}
@@ -43,7 +43,7 @@ module _ {T : Type 0} (h : ℕ) where
   spread-append (c ∷ []) n a s t = (s.0, t)
   spread-append (c ∷ d ∷ b) n a s t = (s.0, spread-append (d ∷ b) n a s.1 t)
 
-  -- an end that holds no fewer items, or h and more beside nodes that are not empty
+  -- an end that holds no fewer items, or at least h items beside nodes that are not empty
   pub end_longer : (b : List (List T)) (n m : List T) → length n ≤ length m → Spread (b ++ n ∷ []) → Spread (b ++ m ∷ [])
   end_longer [] n m le s = tt
   end_longer (c ∷ []) n m le s = (omega (arith, s.0), tt)
@@ -62,11 +62,11 @@ module _ {T : Type 0} (h : ℕ) where
   start_large n m [] full le s = tt
   start_large n m (c ∷ a) full le s = (omega (arith, filled_length c full.0), s.1)
 
-  -- a node cut into two of h items or more, one of them of more
+  -- a node split into two of at least h items, one of them of more
   pub cut_spread : (b : List (List T)) (n l r : List T) (a : List (List T)) → Each (λ c. is_filled c ≡ true) b → Each (λ c. is_filled c ≡ true) a → h ≤ length l → h ≤ length r → h < length l + length r → Spread (b ++ n ∷ a) → Spread (b ++ l ∷ r ∷ a)
   cut_spread b n l r a before after left right more s = spread-append b l (r ∷ a) (end_large b n l before left (spread-left b n a s)) (more, start_large n r a after right (spread-right b n a s))
 
-  -- a node of one item out
+  -- the removal of a node of one item
   pub out_spread : (b : List (List T)) (n : List T) (a : List (List T)) → length n ≡ 1 → 1 ≤ h → Spread (b ++ n ∷ a) → Spread (b ++ a)
   out_spread [] n [] one some s = tt
   out_spread [] n (c ∷ a) one some s = s.1
@@ -77,11 +77,11 @@ module _ {T : Type 0} (h : ℕ) where
       rejoin : Spread ((d ∷ b) ++ a) → Spread ((c ∷ d ∷ b) ++ a)
       rejoin t = (s.0, t)
 
-  -- neighbours made one
+  -- two neighbours merged
   pub joined_spread : (b : List (List T)) (l r n : List T) (a : List (List T)) → length l ≤ length n → length r ≤ length n → Spread (b ++ l ∷ []) → Spread (r ∷ a) → Spread (b ++ n ∷ a)
   joined_spread b l r n a left right s t = spread-append b n a (end_longer b l n left s) (start_longer r n a right t)
 
-  -- how many nodes there are for so many items
+  -- a bound on the number of nodes by the number of items
   nodes_bound : (n : List T) (ns : List (List T)) → Spread (n ∷ ns) → length ns * (h + 1) + length n ≤ 2 * length (concat (n ∷ ns))
   nodes_bound n [] s = omega (arith, length-append n (concat []))
   nodes_bound n (m ∷ ns) s =

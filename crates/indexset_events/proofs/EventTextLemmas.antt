@@ -1,4 +1,4 @@
--- The text of an event is what `{}` writes, and is read as the event alone.
+-- The text of an event is what `{}` writes, and only the event is read from it.
 use Rattle.std.proofs.Common.{Option, None, Some, ◌≡◌, ℕ, ◌<◌, ◌^◌, Bool, true, false, cond, List, ◌∷◌, ◌++◌, refl, ap, subst, ◌∙◌}
 use lib.Chars.{codes}
 use Rattle.std.proofs.lemmas.Slice.Eq.{bytes_eq-Decides}

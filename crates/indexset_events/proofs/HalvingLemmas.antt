@@ -20,7 +20,7 @@ use Rattle.indexset_events.proofs.StepLemmas.{At, at_ruled, ruled_at, split_step
 use Rattle.indexset_events.proofs.ReplayLemmas.{Small, aim, target_at, past_last, past_not, ne_from, put_set}
 
 module _ {T : Type 0} (cmp : T → T → Ordering) (o : IsTotalOrder cmp) (v : T) (size : ℕ) where
-  -- the node n at place p of ns is the target, and ms are the nodes with room for v
+  -- the node n at index p of ns is the target, and ms are the nodes with room for v
   pub record Roomy (ns : List (List T)) (n : List T) (p : ℕ) (ms : List (List T)) : Type 0 where
     pub ruled : Ruled cmp ms
     pub small : Small cmp o v size ms
@@ -115,7 +115,7 @@ module _ {T : Type 0} (cmp : T → T → Ordering) (o : IsTotalOrder cmp) (v : T
       rw (target_at cmp o v b n a at low stop, get_or-append_seam b n a []) (roomy_at b a low high (each-left _ b (n ∷ a) small) rest.1 n two at stop rest.0))
       n ns ruled ruled small
 
-  -- the events lead from ns to after, which is lawful and holds the list
+  -- the replay of the events turns ns into the lawful nodes `after`, which hold the list
   pub record Makes (ns : List (List T)) (es : List (ChangeEventUnassigned T)) (after : List (List T)) (list : List T) : Type 0 where
     pub replayed : replay_plain cmp ns es ≡ Some after
     pub ruled : Ruled cmp after

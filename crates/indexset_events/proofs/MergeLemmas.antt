@@ -1,4 +1,4 @@
--- What merging two neighbours makes of lawful nodes.
+-- Lawful nodes after two neighbours were merged.
 use Rattle.std.proofs.Common.{◌≡◌, ℕ, zero, suc, ◌+◌, ◌-◌, ◌/◌, ◌<◌, ◌≤◌, ◌&&◌, ◌⊎◌, Bool, true, false, if◌then◌else◌, List, [], ◌∷◌, ◌++◌, length, map, get_or, set, remove, eqb, ltb, leb, Option, Some, None, Ordering, refl, ap, sym, inl, inr, ◌∙◌, subst, arith, append_assoc, length-append}
 use Rattle.std.specs.Cmp.{IsTotalOrder}
 use Rattle.std.proofs.lemmas.Bool.{false≢true, lt-ltb, ltb-true, leb-true, leb-false, eqb-false}
@@ -15,7 +15,7 @@ use Rattle.indexset_events.proofs.AscendingListLemmas.{Each, each-append, each-l
 use Rattle.indexset_events.proofs.StepLemmas.{at_ruled, remove_at, second_at, set_second, joined_seam, merge_step}
 use Rattle.indexset_events.proofs.NodeViewLemmas.{node_is}
 
--- a list seen around two neighbouring places
+-- a list, split around two neighbouring indices
 pub at_pair : {X : Type 0} (P : List X → ℕ → Type 0) → ((b : List X) (l r : X) (a : List X) → P (b ++ l ∷ r ∷ a) (length b)) → (xs : List X) (j : ℕ) → j + 1 < length xs → P xs j
 at_pair P f [] j lt = absurd (omega arith)
 at_pair P f (x ∷ []) j lt = absurd (omega arith)
@@ -39,7 +39,7 @@ module _ {T : Type 0} where
       let none : leb (length (node_at ns j) + length (node_at ns (j + 1))) h ≡ false = rw inside at e in
       leb-false _ _ none
 
-  -- where none are joined, the node and its neighbours hold more
+  -- if no nodes are merged, the node and its neighbours hold more
   pub none_small : (h : ℕ) (ms : List (List T)) (k : ℕ) → merge_place h ms k ≡ None → (j : ℕ) → (k ≡ j) ⊎ (k ≡ j + 1) → j + 1 < length ms → h < length (node_at ms j) + length (node_at ms (j + 1))
   none_small h ms k =
       elim (are_small h ms k) as (λ t. are_small h ms k ≡ t → (if t then Some k else if ltb 0 k && are_small h ms (k - 1) then Some (k - 1) else None) ≡ None → (j : ℕ) → (k ≡ j) ⊎ (k ≡ j + 1) → j + 1 < length ms → h < length (node_at ms j) + length (node_at ms (j + 1))) [
@@ -58,7 +58,7 @@ module _ {T : Type 0} where
             ] refl
       ] refl
 
-  -- which two nodes are joined, once an item is gone from the node at place k
+  -- the two nodes that are merged after the node at index k lost an item
   pub record JoinedPair (h : ℕ) (ms : List (List T)) (k j : ℕ) : Type 0 where
     pub next_in : j + 1 < length ms
     pub few : length (node_at ms j) + length (node_at ms (j + 1)) ≤ h
@@ -83,7 +83,7 @@ module _ {T : Type 0} where
             ] refl
       ] refl
 
-  -- the nodes where one of two or more items is gone and two are joined
+  -- the nodes after one of two or more items was removed and two nodes were merged
   pub record JoinedAfter (size : ℕ) (ns : List (List T)) (k i j : ℕ) : Type 0 where
     pub more : length (node_at ns k) ≡ 1 → ⊥
     pub without : item_removed ns k i ≡ set ns k (remove (node_at ns k) i)
@@ -101,7 +101,7 @@ module _ {T : Type 0} where
       ] refl
 
 module _ {T : Type 0} (cmp : T → T → Ordering) (o : IsTotalOrder cmp) (size : ℕ) where
-  -- the event leads to the nodes joined, which hold the same
+  -- the event gives the merged nodes, which hold the same items
   pub record Joined (ms : List (List T)) (j : ℕ) (d : T) : Type 0 where
     pub stepped : step_plain cmp ms (merge_event ms d j) ≡ Some (with_merged ms j)
     pub ruled : Ruled cmp (with_merged ms j)
@@ -131,9 +131,9 @@ module _ {T : Type 0} (b : List (List T)) (l r : List T) (a : List (List T)) (m 
   next_seam : with_merged (set (b ++ l ∷ r ∷ a) (j + 1) m) j ≡ b ++ (l ++ m) ∷ a
   next_seam = subst (λ i. with_merged (set (b ++ l ∷ r ∷ a) (i + 1) m) i ≡ b ++ (l ++ m) ∷ a) at (rw (set_second b l r a m) (joined_seam b l m a))
 
--- the nodes as the code joins them: f tells the list of each
+-- the nodes as the code merges them, where f gives the list of each
 module _ {T N : Type 0} (f : N → List T) (first : N) where
-  -- the first node has room, and the one after it goes into it
+  -- the first node has room, and takes the items of the next one
   pub record TwoSeen (items : List N) (j : ℕ) : Type 0 where
     pub next_is : (n : N) → n ≡ get_or (set items j first) (j + 1) n → f n ≡ node_at (map f items) (j + 1)
     pub first_is : (n : N) → n ≡ get_or (remove (set items j first) (j + 1)) j n → n ≡ first
@@ -166,7 +166,7 @@ module _ {T N : Type 0} (f : N → List T) (first : N) where
       get_second : (b : List N) (l r : N) (a : List N) (d : N) → get_or (b ++ l ∷ r ∷ a) (length b + 1) d ≡ r
       get_second b l r a d = subst (λ q. get_or q (length b + 1) d ≡ r) (append_assoc b (l ∷ []) (r ∷ a)) (rw (← length-append b (l ∷ [])) (get_or-append_seam (b ++ l ∷ []) r a d))
 
--- the two as the code reads them
+-- the two nodes as the code reads them
 module _ {T N : Type 0} (f : N → List T) (items : List N) (j : ℕ) (inside : j + 1 < length items) {was first : N} (read : was ≡ get_or items j was) (kept : f first ≡ f was) where
   pub first_list : {rest : List N} {n : N} → rest ≡ remove (set items j first) (j + 1) → n ≡ get_or rest j n → (n ≡ first) × (f n ≡ node_at (map f items) j)
   first_list {n = n} gone again =
@@ -177,7 +177,7 @@ module _ {T N : Type 0} (f : N → List T) (items : List N) (j : ℕ) (inside : 
   pub next_list : {next : N} → next ≡ get_or (set items j first) (j + 1) next → f next ≡ node_at (map f items) (j + 1)
   next_list {next = next} out = let two = two_seen f first items j inside in two.next_is next out
 
--- which of two neighbours lost an item
+-- the one of two neighbours that lost an item
 module _ {T : Type 0} (ns : List (List T)) (j : ℕ) (inside : j + 1 < length ns) where
   pub left_lost : (m : List T) → (node_at (set ns j m) j ≡ m) × (node_at (set ns j m) (j + 1) ≡ node_at ns (j + 1))
   left_lost m = (get_or-set_same ns j m [] (omega arith), get_or-set_other ns j (j + 1) m [] (λ e. omega arith))
@@ -189,7 +189,7 @@ module _ {T : Type 0} (ns : List (List T)) (j : ℕ) (inside : j + 1 < length ns
     abbrev lost : List (List T)
     lost = set ns k (remove (node_at ns k) i)
 
-    -- the two as they are joined
+    -- the two nodes as they are merged
     pub left_joined : {l r : List T} → k ≡ j → l ≡ remove (node_at ns j) i → r ≡ node_at ns (j + 1) → l ++ r ≡ node_at lost j ++ node_at lost (j + 1)
     left_joined at left right = let pair = left_lost (remove (node_at ns j) i) in rw (at, left, right, pair.0, pair.1) refl
 
@@ -197,7 +197,7 @@ module _ {T : Type 0} (ns : List (List T)) (j : ℕ) (inside : j + 1 < length ns
     right_joined at left right = let pair = right_lost (remove (node_at ns (j + 1)) i) in rw (at, left, right, pair.0, pair.1) refl
 
 module _ {T : Type 0} (size : ℕ) (ns : List (List T)) (k i j : ℕ) (inside : i < length (node_at ns k)) (joins : JoinedAfter size ns k i j) where
-  -- the two held few items before, too
+  -- the two nodes held at most the node size before, too
   pub few_before : 2 ≤ size → length (node_at ns j) + length (node_at ns (j + 1)) ≤ size
   few_before two =
       let pair : JoinedPair (size / 2) (set ns k (remove (node_at ns k) i)) k j = joins.pair in

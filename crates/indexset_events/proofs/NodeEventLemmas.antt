@@ -1,4 +1,4 @@
--- What the table's events for one node make of it.
+-- A node after the table's events for it.
 use Rattle.std.proofs.Common.{◌≡◌, suc, ◌+◌, ◌-◌, ◌≤◌, true, false, List, [], ◌∷◌, ◌++◌, length, get_or, eqb, Some, Ordering, refl, ap, sym, ◌∙◌, subst, arith, length-append}
 use Rattle.std.specs.declared.cmp.Ordering.TheVariants.{Less, Equal}
 use Rattle.std.specs.Cmp.{IsTotalOrder}
@@ -50,12 +50,12 @@ module _ {T : Type 0} (cmp : T → T → Ordering) (o : IsTotalOrder cmp) (v : T
       place_is : rank cmp (l ++ x ∷ r) v ≡ length l
       place_is = parts-rank cmp o l (x ∷ []) r v low (same, tt) high
 
-      -- replacing a last or an inner item
+      -- the replacement of a last or an inner item
       pub two_events : 1 ≤ length l + length r → node_events cmp (l ++ x ∷ r) v ≡ RemoveAt (last_of (l ++ x ∷ r) v) x (length l) ∷ InsertAt (last_of (l ++ r) v) v (length l) ∷ []
       unfolding node_events
       two_events some = rw present_is (replace_as l x r place_is some)
 
-      -- replacing an only item
+      -- the replacement of an only item
       pub only_events : (l ≡ []) → (r ≡ []) → node_events cmp (l ++ x ∷ r) v ≡ RemoveNode x ∷ CreateNode v ∷ []
       unfolding node_events replace_events
       only_events none past =
@@ -63,7 +63,7 @@ module _ {T : Type 0} (cmp : T → T → Ordering) (o : IsTotalOrder cmp) (v : T
           rw (present_is, place_is, get_or-append_seam l x r v, only) refl
 
   module _ (b a : List (List T)) (below : Each (λ x. cmp x v ≡ Less) (concat b)) (above : Each (λ x. cmp v x ≡ Less) (concat a)) where
-    -- the events of a put, at the node alone
+    -- the events of a put change only the node
     abbrev pub Puts : List T → Type 0
     Puts n = At cmp o b n a → At cmp o b (put cmp n v) a × (replay_plain cmp (b ++ n ∷ a) (node_events cmp n v) ≡ Some (b ++ put cmp n v ∷ a))
 

@@ -25,7 +25,7 @@ last_some : {T : Type 0} (x : T) (xs : List T) → slice_get (x ∷ xs) (length 
 last_some x xs = subst (λ k. slice_get (x ∷ xs) k ≡ Some (last_of xs x)) {x = length xs} {y = length (x ∷ xs) - 1} (omega arith) (last_there x xs)
 
 module _ {T : Type 0} (cmp : T → T → Ordering) (o : IsTotalOrder cmp) where
-  -- a list lies below another where its last item is below the first of the other
+  -- a list lies below another if its last item is below the first item of the other
   pub below_by_ends : (m n : List T) (f : T) → is_ascending cmp m ≡ true → is_ascending cmp n ≡ true → slice_get n 0 ≡ Some f → lies_below cmp m n ≡ option_map_or (λ x. is_lt (cmp x f)) (slice_get m (length m - 1)) true
   below_by_ends [] n f um un e = refl
   below_by_ends (x ∷ xs) [] f um un e = let none : (let n : Option T = None in n) ≡ Some f = e in cc
@@ -40,7 +40,7 @@ module _ {T : Type 0} (cmp : T → T → Ordering) (o : IsTotalOrder cmp) where
       decide true k = each_below cmp (x ∷ xs) (h ∷ t) (each-map _ _ (λ y (l : cmp y h ≡ Less). (l, each-map _ _ (λ z (r : cmp h z ≡ Less). o.trans y h z l r) t up.0)) (x ∷ xs) (upto_last cmp o (x ∷ xs) x h (true_up cmp (x ∷ xs) um) (less_from _ k)))
       decide false k = false_unless _ (λ b. false≢true (sym k ∙ ap is_lt (each_last (λ y. cmp y h ≡ Less) (x ∷ xs) x refl (each-map _ _ (λ y (u : Each (λ z. cmp y z ≡ Less) (h ∷ t)). u.0) (x ∷ xs) (below_each cmp (x ∷ xs) (h ∷ t) b)))))
 
-  -- what follows m
+  -- the nodes that follow m
   record Follow (size : ℕ) (m : List T) (ns : List (List T)) : Type 0 where
     pub filled : Each (λ n. is_filled n ≡ true) ns
     pub small : Each (λ n. length n ≤ size) ns
@@ -85,22 +85,22 @@ module _ {T : Type 0} (cmp : T → T → Ordering) (o : IsTotalOrder cmp) where
   pub follow_lawful : (size : ℕ) (ns : List (List T)) → nodes_refusal cmp size ns ≡ None → IsLawful cmp size ns
   follow_lawful size ns h = let r = follow size [] ns h in lawful_from cmp size ns (record { filled = r.filled; up = r.up }) r.small
 
-  -- a node by itself
+  -- a single node
   alone : (size : ℕ) (n : List T) → is_filled n ≡ true → length n ≤ size → is_ascending cmp n ≡ true → attach_refusal cmp size [] n ≡ None
   unfolding lies_apart
   alone size n full fits up = not_refused cmp size [] n full fits up refl
 
-  -- why a node that is good by itself does not follow another
+  -- the error of a node that follows another, if it has none by itself
   pub follow_told : (size : ℕ) (m n : List T) (f : T) (b : Bool) → is_filled n ≡ true → length n ≤ size → is_ascending cmp m ≡ true → is_ascending cmp n ≡ true → slice_get n 0 ≡ Some f → b ≡ option_map_or (λ x. is_lt (cmp x f)) (slice_get m (length m - 1)) true → follow_refusal cmp size m n ≡ (if b then None else Some Overlaps)
   follow_told size m n f b full fits um un first e =
       let apart : lies_below cmp m n ≡ b = below_by_ends m n f um un first ∙ sym e in
       rw (alone size n full fits un, apart) refl
 
--- there is a cause, or there is none
+-- an error is none or some, not both
 pub not_both : {P : Type 0} {o : Option Refusal} {e : Refusal} → o ≡ None → o ≡ Some e → P
 not_both {P} {o} {e} none some = let both : (let n : Option Refusal = None in n) ≡ Some e = sym none ∙ some in cc
 
--- nodes whose items ascend are refused for their sizes alone
+-- nodes whose items ascend fail only for their sizes
 module _ {T : Type 0} (cmp : T → T → Ordering) (size : ℕ) where
   abbrev fits : List T → Bool
   fits n = not (nat_lt size (length n))
@@ -136,7 +136,7 @@ module _ {T : Type 0} (cmp : T → T → Ordering) (size : ℕ) where
       large_alone (list_all fits ns) e (sym (sizes_alone [] ns rule.filled rule.up) ∙ h)
 
 module _ {T N : Type 0} (cmp : T → T → Ordering) (f : N → List T) (ns : List N) (i size : ℕ) (m : List T) where
-  -- the nodes from a place on
+  -- the nodes from an index on
   pub follow_step : (v : N) (l : List T) → i < length ns → v ≡ get_or ns i v → l ≡ f v → refusal_after cmp size m (map f (drop i ns)) ≡ option_or (follow_refusal cmp size m l) (refusal_after cmp size l (map f (drop (i + 1) ns)))
   follow_step v l lt is e = rw e (ap (λ q. refusal_after cmp size m (map f q)) (drop_more ns i v lt ∙ ap (λ w. w ∷ drop (i + 1) ns) (sym is)))
 

@@ -12,7 +12,7 @@ use Rattle.indexset_core.specs.Nodes.{concat, node_lengths, node_at, ends_less, 
 use Rattle.indexset_core.specs.Parted.{IsParted}
 use Rattle.indexset_core.proofs.CallerLemmas.{parted_by_item}
 
--- the nodes as the code holds them: f tells the list of each
+-- the nodes as the code holds them, where f gives the list of each
 module _ {T N : Type 0} (f : N → List T) (ns : List N) (k : ℕ) (n : N) (lt : k < length ns) (is : n ≡ get_or ns k n) where
   pub view_at : (d : List T) → get_or (map f ns) k d ≡ f n
   view_at d = get_or-map f ns k n d lt ∙ ap f (sym is)
@@ -30,7 +30,7 @@ module _ {T N : Type 0} (f : N → List T) (ns : List N) (k : ℕ) (n : N) (lt :
   pub never_none : All (λ n. 1 ≤ n) (node_lengths (map f ns)) → slice_get (f n) (length (f n) - 1) ≡ None → ⊥
   never_none filled none = no_last (f n) (length_filled (f n) (filled_here filled)) none
 
--- the node at a place that the code reads
+-- the node at an index that the code reads
 pub node_is : {T N : Type 0} (f : N → List T) (items : List N) (nodes : List (List T)) (k : ℕ) (n : N) → map f items ≡ nodes → k < length items → n ≡ get_or items k n → f n ≡ node_at nodes k
 node_is f items nodes k n same lt is = sym (view_at f items k n lt is []) ∙ ap (λ q. node_at q k) same
 

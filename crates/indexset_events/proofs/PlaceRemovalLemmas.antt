@@ -1,4 +1,4 @@
--- What a removal by place removes from lawful nodes.
+-- The item that a removal by place removes from lawful nodes.
 use Rattle.std.proofs.Common.{◌≡◌, ℕ, ◌+◌, ◌<◌, List, length, Ok, Err, Ordering, Some, slice_get, refl, ap, sym, ◌∙◌, subst, arith}
 use Rattle.std.specs.Cmp.{IsTotalOrder}
 use Rattle.std.proofs.lemmas.Bool.{false≢true}
@@ -19,7 +19,7 @@ use Rattle.indexset_events.specs.Located.{IsFoundIn}
 use Rattle.indexset_core.specs.Places.{items_before, located}
 use Rattle.indexset_events.proofs.SearchLemmas.{found_at}
 
--- two items before which as many stand are one
+-- two items with equally many items before them are the same
 module _ {T : Type 0} (ns : List (List T)) (p q : ℕ × ℕ) (p_node : p.0 < length ns) (p_in : p.1 < length (node_at ns p.0)) (q_node : q.0 < length ns) (q_in : q.1 < length (node_at ns q.0)) (same : items_before ns p ≡ items_before ns q) where
   same_node : q.0 ≡ p.0
   same_node = omega (arith, places_order ns p.0 p.1 q.0 (q.1 + 1) q_node (omega arith) (omega arith), places_order ns q.0 q.1 p.0 (p.1 + 1) p_node (omega arith) (omega arith))

@@ -1,4 +1,4 @@
--- What a put makes of lawful nodes.
+-- Lawful nodes after a put.
 use Rattle.std.proofs.Common.{◌≡◌, ℕ, zero, suc, ◌+◌, ◌-◌, ◌/◌, ◌<◌, ◌≤◌, Bool, true, false, cond, if◌then◌else◌, ◌&&◌, List, [], ◌∷◌, ◌++◌, length, map, get_or, set, insert, take, drop, slice_get, Option, Some, None, Ordering, refl, ap, sym, ◌∙◌, subst, arith, append_assoc, length-append}
 use Rattle.std.specs.Cmp.{IsTotalOrder}
 use Rattle.std.specs.List.{find, splice}
@@ -43,7 +43,7 @@ half_and true past n = refl
 half_and false past n = refl
 
 module _ {T : Type 0} (cmp : T → T → Ordering) (o : IsTotalOrder cmp) (v : T) where
-  -- the events of a put into a part, by the place that a search answers
+  -- the events of a put into a part, by the index that a search returns
   pub gap_written : (n : List T) (i : ℕ) → IsGapFor cmp n v i → node_events cmp n v ≡ InsertAt (last_of n v) v i ∷ []
   unfolding node_events
   gap_written n i gap = rw (gap_has_equal cmp n v i gap, gap_rank cmp n v i gap) refl
@@ -79,7 +79,7 @@ module _ {T : Type 0} (cmp : T → T → Ordering) (o : IsTotalOrder cmp) (v : T
         | false ↦ refl
       ]
 
-  -- how long a put makes a list
+  -- the length of a list after a put
   pub put_length_is : (l : List T) → Up cmp l → length (put cmp l v) ≡ length l + cond (has_equal cmp l v) 0 1
   put_length_is = around cmp o v (λ n. length (put cmp n v) ≡ length n + cond (has_equal cmp n v) 0 1)
       (λ l r low high. rw (parts-put cmp o l [] r v low tt high, parts-has_equal cmp o l [] r v low tt high) (omega (arith, length-append l (v ∷ r), length-append l r)))
@@ -93,7 +93,7 @@ module _ {T : Type 0} (cmp : T → T → Ordering) (o : IsTotalOrder cmp) (v : T
   or_none None = refl
   or_none (Some x) = refl
 
-  -- an equal item stands in the target
+  -- the equal item is in the target
   pub equal_in_target : (ns : List (List T)) → Ruled cmp ns → is_filled ns ≡ true → equal_element cmp (concat ns) v ≡ equal_element cmp (node_at ns (target cmp ns v)) v
   equal_in_target [] ruled some = absurd (false≢true some)
   equal_in_target (n ∷ ns) ruled some =
@@ -132,7 +132,7 @@ half_up cmp false right n up = up
 half_up cmp true true n up = up-right cmp (take (length n / 2) n) (drop (length n / 2) n) (subst (Up cmp) (sym (take-append-drop (length n / 2) n)) up)
 half_up cmp true false n up = up-left cmp (take (length n / 2) n) (drop (length n / 2) n) (subst (Up cmp) (sym (take-append-drop (length n / 2) n)) up)
 
--- the last item of a beginning
+-- the last item of a prefix
 pub last_of_take : {T : Type 0} (n : List T) (i : ℕ) (x v : T) → i < length n → x ≡ get_or n i x → last_of (take (suc i) n) v ≡ x
 last_of_take [] i x v lt e = absurd (omega arith)
 last_of_take (y ∷ []) zero x v lt e = sym e

@@ -1,4 +1,4 @@
--- What a removal makes of lawful nodes.
+-- Lawful nodes after a removal.
 use Rattle.std.proofs.Common.{◌≡◌, ℕ, zero, suc, ◌+◌, ◌-◌, ◌/◌, ◌<◌, ◌≤◌, ◌||◌, Bool, true, false, not, if◌then◌else◌, List, [], ◌∷◌, ◌++◌, length, get_or, set, remove, filter, slice_get, eqb, Option, Some, None, is_some, Ordering, refl, ap, sym, ◌∙◌, subst, arith, append_assoc, length-append, map}
 use Rattle.std.specs.Cmp.{IsTotalOrder}
 use Rattle.std.specs.List.{list_any}
@@ -29,13 +29,13 @@ use Rattle.indexset_events.proofs.AscendingListLemmas.{last_any, last_answer, la
 use Rattle.indexset_events.proofs.StepLemmas.{At, at_ruled, ruled_at, remove_step, remove_node_step, remove_at}
 use Rattle.indexset_events.proofs.ReplayTheorem.{numbered_replay, up_node}
 
--- a list seen around the item at a place
+-- a list, split around the item at an index
 pub at_place : {X : Type 0} (P : List X → ℕ → X → Type 0) → ((b : List X) (x : X) (a : List X) → P (b ++ x ∷ a) (length b) x) → (xs : List X) (k : ℕ) (x : X) → slice_get xs k ≡ Some x → P xs k x
 at_place {X = X} P f [] k x e = let none : (let n : Option X = None in n) ≡ Some x = e in cc
 at_place P f (y ∷ ys) zero x e = let same : y ≡ x = cc in subst (λ z. P (y ∷ ys) 0 z) same (f [] y ys)
 at_place P f (y ∷ ys) (suc k) x e = at_place (λ q j. P (y ∷ q) (suc j)) (λ b z a. f (y ∷ b) z a) ys k x e
 
--- one event, and a second where nodes are joined
+-- one event, and a second one if nodes are merged
 pub taking_length : {T : Type 0} (size : ℕ) (ns : List (List T)) (k i : ℕ) (x : T) → length (place_removal_events size ns k i x) ≡ place_removal_count size ns k i
 taking_length size ns k i x =
     elim (merge_after size ns k i) as (λ j. length (removal_event (node_at ns k) i x ∷ option_map_or (λ p. merge_event (item_removed ns k i) x p ∷ []) j []) ≡ count_with j) [
@@ -80,7 +80,7 @@ pub key_removal_few : {K V Q : Type 0} (cmp : K → Q → Ordering) (size : ℕ)
 key_removal_few cmp size ns k = removal_few (λ p q. cmp p.key q) size ns k
 
 module _ {T : Type 0} (cmp : T → T → Ordering) (o : IsTotalOrder cmp) (size : ℕ) where
-  -- the event leads to the nodes without the item, which are lawful, and it alone is gone
+  -- the event gives the nodes without the item, which are lawful and hold all other items
   pub record Taken (ns : List (List T)) (k : ℕ) (n : List T) (i : ℕ) (x : T) : Type 0 where
     pub stepped : step_plain cmp ns (removal_event n i x) ≡ Some (if eqb (length n) 1 then remove ns k else set ns k (remove n i))
     pub ruled : Ruled cmp (if eqb (length n) 1 then remove ns k else set ns k (remove n i))
@@ -144,7 +144,7 @@ module _ {T : Type 0} {cmp : T → T → Ordering} {size : ℕ} {ns : List (List
     did : Taken cmp o size ns k (node_at ns k) i x
     did = taken cmp o size ns k (node_at ns k) (slice_get-get_or ns k [] inside) i x here (lawful_ruled cmp size ns law) (lawful_bounded cmp size ns law)
 
-    -- the events lead to the nodes after, which are lawful, by where two of them are joined
+    -- the replay of the events gives lawful nodes, by the two nodes that are merged, if any
     pub record Out (join : Option ℕ) : Type 0 where
       pub replayed : replay_plain cmp ns (removal_event (node_at ns k) i x ∷ option_map_or (λ j. merge_event (item_removed ns k i) x j ∷ []) join []) ≡ Some (option_map_or (with_merged (item_removed ns k i)) join (item_removed ns k i))
       pub ruled : Ruled cmp (option_map_or (with_merged (item_removed ns k i)) join (item_removed ns k i))
@@ -183,7 +183,7 @@ module _ {T : Type 0} {cmp : T → T → Ordering} {size : ℕ} {ns : List (List
     pub taken_replay : (s : ℕ) → replay cmp ns (numbered_from s (place_removal_events size ns k i x)) ≡ Some (with_removed size ns k i)
     taken_replay s = let r = out in numbered_replay cmp ns s (place_removal_events size ns k i x) ∙ r.replayed
 
-    -- what goes is all that equals the item
+    -- the removed items are those that equal the item
     pub taken_contents : (answer : T → Ordering) → (λ y. cmp y x) ≡ answer → concat (with_removed size ns k i) ≡ filter (λ y. not (is_eq (answer y))) (concat ns)
     unfolding unequal
     taken_contents answer same =
@@ -195,7 +195,7 @@ module _ {T : Type 0} {cmp : T → T → Ordering} {size : ℕ} {ns : List (List
         let low = each-map _ _ (λ y (h : Each (λ z. cmp y z ≡ Less) (x ∷ d.back)). h.0) d.front (up-between cmp d.front (x ∷ d.back) up) in
         r.same ∙ (d.left ∙ (sym (parts-without cmp o d.front (x ∷ []) d.back x low (tied_itself o x, tt) rest.0) ∙ rw (← d.was) (ap (λ a. filter (λ y. not (is_eq (a y))) (concat ns)) same)))
 
-  -- the removal of the item that is found by what is sought, at its place
+  -- the removal of the item that a look-up key finds, at its place
   module _ {Q : Type 0} {order : T → Q → Ordering} {v : Q} {k i : ℕ} (f : IsFoundIn order ns v k i) where
     pub sought_events : {among : Q → Q → Ordering} → OrdersAsItem cmp order among → {x : T} → slice_get (node_at ns k) i ≡ Some x → removal_events order size ns v ≡ place_removal_events size ns k i x
     unfolding removal_by
@@ -210,7 +210,7 @@ module _ {T : Type 0} {cmp : T → T → Ordering} {size : ℕ} {ns : List (List
         let e : order x v ≡ Equal = subst (λ y. order y v ≡ Equal) (get_or_from_slice_get (node_at ns k) i x x here) (f.here.equal x) in
         taken_contents k i f.node_in here (λ y. order y v) (λ j y. sym (one v x y e) j)
 
-  -- the same of an item
+  -- the same for an item
   module _ {v : T} {k i : ℕ} (f : IsFoundIn cmp ns v k i) where
     pub found_events : {x : T} → slice_get (node_at ns k) i ≡ Some x → removal_events cmp size ns v ≡ place_removal_events size ns k i x
     found_events = sought_events f (acts_as_itself o)
@@ -218,7 +218,7 @@ module _ {T : Type 0} {cmp : T → T → Ordering} {size : ℕ} {ns : List (List
     pub found_contents : {x : T} → slice_get (node_at ns k) i ≡ Some x → concat (with_removed size ns k i) ≡ without cmp (concat ns) v
     found_contents = sought_contents f (one_as_itself o)
 
--- the removal of an item that equals none
+-- a removal if no item is equal
 module _ {T Q : Type 0} (cmp : T → Q → Ordering) (ns : List (List T)) (v : Q) (none : equal_element cmp (concat ns) v ≡ None) where
   pub absent_here : has_equal cmp (node_at ns (target cmp ns v)) v ≡ false
   absent_here = any_in (λ x. is_eq (cmp x v)) ns (target cmp ns v) (sym (is_some-find (λ x. is_eq (cmp x v)) (concat ns)) ∙ ap is_some none)
@@ -256,7 +256,7 @@ some_read [] i lt = absurd (omega arith)
 some_read (x ∷ xs) zero lt = (x, refl)
 some_read (x ∷ xs) (suc i) lt = some_read xs i (omega arith)
 
--- the last of the items but one
+-- the last item but the one at an index
 module _ {T : Type 0} (n : List T) (i : ℕ) (x d : T) (inside : i < length n) where
   pub last_end : 2 ≤ length n → i ≡ length n - 1 → x ≡ get_or n (i - 1) x → last_of (remove n i) d ≡ x
   last_end two end is =
@@ -289,6 +289,6 @@ map_remove f [] (suc k) = refl
 map_remove f (x ∷ xs) zero = refl
 map_remove f (x ∷ xs) (suc k) = ap (λ q. f x ∷ q) (map_remove f xs k)
 
--- a node with an item makes a list with one
+-- the list is not empty if a node is not empty
 pub some_joined : {T : Type 0} (ns : List (List T)) (k i : ℕ) → k < length ns → i < length (node_at ns k) → 1 ≤ length (concat ns)
 some_joined ns k i inside lt = omega (arith, offset-le ns k 1 inside (omega arith))

@@ -1,4 +1,4 @@
--- The table's events, replayed, make the change.
+-- The replay of the table's events makes the change.
 use Rattle.std.proofs.Common.{◌≡◌, ℕ, ◌+◌, ◌<◌, ◌≤◌, ◌⊎◌, Bool, true, false, List, [], ◌∷◌, ◌++◌, length, get_or, set, Some, Ordering, refl, ap, sym, inl, inr, ◌∙◌, subst, arith, length-append}
 use Rattle.std.specs.declared.cmp.Ordering.TheVariants.{Less, Equal, Greater}
 use Rattle.std.specs.List.{position_or_len}
@@ -24,7 +24,7 @@ place_bound p [] t h = omega arith
 place_bound p (x ∷ b) t h = rw h.0 (omega (arith, place_bound p b t h.1))
 
 module _ {T : Type 0} (cmp : T → T → Ordering) (o : IsTotalOrder cmp) (v : T) where
-  -- what is above something not below v is above v
+  -- an item above one that is not below v is above v
   over : (x y : T) → is_lt (cmp x v) ≡ false → cmp x y ≡ Less → cmp v y ≡ Less
   over x y h k =
       elim (cmp x v) as (λ a. cmp x v ≡ a → is_lt a ≡ false → cmp v y ≡ Less) [
@@ -88,7 +88,7 @@ module _ {T : Type 0} (cmp : T → T → Ordering) (o : IsTotalOrder cmp) (v : T
             omega (arith, size, least, none)
       ]
 
-  -- how long a node gets
+  -- the length of a node after a put
   put_length : (n : List T) → Up cmp n → length (put cmp n v) ≤ length n + 1
   put_length = around cmp o v (λ n. length (put cmp n v) ≤ length n + 1)
       (λ l r low high. rw (parts-put cmp o l [] r v low tt high) (omega (arith, length-append l (v ∷ r), length-append l r)))
@@ -98,7 +98,7 @@ module _ {T : Type 0} (cmp : T → T → Ordering) (o : IsTotalOrder cmp) (v : T
     abbrev pub Small : List (List T) → Type 0
     Small ns = Each (λ n. length n ≤ size) ns
 
-    -- a put that halves nothing, at a place of the list
+    -- a put without a halving, at an index of the list
     pub record Placed (ns : List (List T)) (p : ℕ) (n : List T) : Type 0 where
       pub replayed : replay_plain cmp ns (node_events cmp n v) ≡ Some (set ns p (put cmp n v))
       pub ruled : Ruled cmp (set ns p (put cmp n v))

@@ -1,4 +1,4 @@
--- Replay of the numbered events of the table, from any lawful nodes.
+-- The replay of the table's numbered events, from any lawful nodes.
 use Rattle.std.proofs.Common.{◌≡◌, ℕ, zero, suc, ◌+◌, ◌≤◌, true, false, if◌then◌else◌, List, [], ◌∷◌, ◌++◌, length, get_or, Option, Some, None, Ordering, option_and_then, ◌||◌, refl, ap, sym, ◌∙◌, subst, inl, inr, arith, length-append, ◌-◌, set, map, Result, Ok, Err, OnOk}
 use Rattle.std.proofs.lemmas.List.{get_or_append_left, map-set}
 use Rattle.std.proofs.lemmas.Bool.{cases_lt, false≢true}
@@ -73,7 +73,7 @@ module _ {T : Type 0} (cmp : T → T → Ordering) (size : ℕ) (v : T) where
 pub none_lawful : {T : Type 0} (cmp : T → T → Ordering) (size : ℕ) → IsLawful cmp size []
 none_lawful cmp size = lawful_from cmp size [] (record { filled = tt; up = tt }) tt
 
--- the table's cases, as the code meets them
+-- the cases of the table, as the code has them
 module _ {T : Type 0} (cmp : T → T → Ordering) (size : ℕ) (v : T) where
   pub put_events_none : (ns : List (List T)) → ns ≡ [] → put_events cmp size ns v ≡ CreateNode v ∷ []
   unfolding put_events
@@ -107,7 +107,7 @@ pub replay-append : {T : Type 0} (cmp : T → T → Ordering) (ns : List (List T
 replay-append cmp ns [] b = refl
 replay-append cmp ns (e ∷ a) b = replay_rest cmp a b (step cmp ns e) (λ r. replay-append cmp r a b)
 
--- a list with no event of a merge
+-- a list without merges
 earlier_rest : {T : Type 0} (cmp : T → T → Ordering) (es : List (ChangeEvent T)) (o : Option (List (List T))) → ((ns : List (List T)) → earlier_replay cmp ns es ≡ replay cmp ns es) → option_and_then (λ r. earlier_replay cmp r es) o ≡ option_and_then (λ r. replay cmp r es) o
 earlier_rest cmp es None h = refl
 earlier_rest cmp es (Some ns) h = h ns

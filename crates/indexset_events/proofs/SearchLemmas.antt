@@ -1,4 +1,4 @@
--- What a search for an item finds.
+-- The result of a search for an item.
 use Rattle.std.specs.Cmp.{IsTotalOrder}
 use Rattle.std.specs.Result.{result_ok}
 use Rattle.std.specs.Prelude.{MatchOption}
@@ -15,7 +15,7 @@ use Rattle.indexset_core.proofs.CallerLemmas.{end_at, end_found, end_node, end_r
 use Rattle.indexset_core.specs.Parted.{IsParted}
 use Rattle.indexset_core.specs.LookupKey.{OrdersAsItem, acts_as_itself}
 
--- as the code passes its answer on
+-- as the code returns it
 module _ {T Q : Type 0} {cmp : T → T → Ordering} {order : T → Q → Ordering} {among : Q → Q → Ordering} (acts : OrdersAsItem cmp order among) (v : Q) (size : ℕ) (ns : List (List T)) (law : IsLawful cmp size ns) where
   abbrev answer : T → Ordering
   answer x = order x v
@@ -39,7 +39,7 @@ module _ {T Q : Type 0} {cmp : T → T → Ordering} {order : T → Q → Orderi
   sought_told (Ok p) e = sought_at (Ok p) e p refl
   sought_told (Err p) e = gap_found answer ns (lawful_filled cmp size ns law) parted (Err p) e p refl
 
--- the same of an item
+-- the same for an item
 pub found_at : {T : Type 0} (cmp : T → T → Ordering) → IsTotalOrder cmp → (v : T) (size : ℕ) (ns : List (List T)) → IsLawful cmp size ns → (r : Result (ℕ × ℕ) (ℕ × ℕ)) → r ≡ located (λ x. cmp x v) ns → (p : ℕ × ℕ) → r ≡ Ok p → IsFoundIn cmp ns v p.0 p.1
 found_at cmp o v size ns law = sought_at (acts_as_itself o) v size ns law
 
@@ -47,7 +47,7 @@ pub found_is : {T Q : Type 0} (cmp : T → Q → Ordering) (v : Q) (ns : List (L
 found_is cmp v ns None h = ap is_some (sym h) ∙ is_some-find (λ x. is_eq (cmp x v)) (concat ns)
 found_is cmp v ns (Some p) h = ap is_some (sym (some_read (node_at ns p.0) p.1 h.here.inside).1 ∙ h.item) ∙ is_some-find (λ x. is_eq (cmp x v)) (concat ns)
 
--- as many nodes as items at most
+-- no more nodes than items
 pub nodes_at_most : {T : Type 0} (ns : List (List T)) → All (λ n. 1 ≤ n) (node_lengths ns) → length ns ≤ length (concat ns)
 nodes_at_most [] filled = omega arith
 nodes_at_most (n ∷ ns) filled =

@@ -1,4 +1,4 @@
--- One event acts at one node.
+-- The effect of one event on one node.
 use Rattle.std.proofs.Common.{◌≡◌, suc, ◌+◌, ◌≤◌, Bool, true, false, if◌then◌else◌, List, [], ◌∷◌, ◌++◌, ◌&&◌, length, get_or, take, drop, set, insert, remove, ltb, leb, Option, Some, None, Ordering, refl, ap, sym, ◌∙◌, subst, arith, append_assoc, length-append}
 use Rattle.std.specs.declared.cmp.Ordering.TheVariants.{Less}
 use Rattle.std.specs.List.{position, position_or_len, splice}
@@ -17,7 +17,7 @@ use Rattle.indexset_events.specs.Nodes.{last_of, is_filled}
 use Rattle.indexset_events.specs.Replay.{has_name, node_named, at_named, reaches, edit, step_plain}
 use Rattle.indexset_events.proofs.AscendingListLemmas.{Each, each-append, each-left, each-right, each-map, each_last, ends_by, last_any, filled-append, Up, up-between, up_drop, up_cross, up_put, Ruled, greater, filled_length, length_filled, ruled_tested}
 
--- the first place that passes, by the parts around it
+-- the first index that passes, by the parts around it
 pub place_at : {X : Type 0} (p : X → Bool) (b : List X) (n : X) (a : List X) → Each (λ x. p x ≡ false) b → p n ≡ true → position_or_len p (b ++ n ∷ a) ≡ length b
 place_at p [] n a hb hn = rw hn refl
 place_at p (x ∷ b) n a hb hn = rw hb.0 (omega (arith, place_at p b n a hb.1 hn))
@@ -38,7 +38,7 @@ position_at p b n a hb hn =
 pub splice_at : {T : Type 0} (b : List T) (n : T) (a parts : List T) → splice (b ++ n ∷ a) (length b) (length b + 1) parts ≡ b ++ (parts ++ a)
 splice_at b n a parts = rw (take-append_seam b (n ∷ a), drop-append-add b (n ∷ a) 1) refl
 
--- a node and the one after it, by the parts around them
+-- a node and the next one, by the parts around them
 pub second_at : {T : Type 0} (b : List (List T)) (l r : List T) (a : List (List T)) → node_at (b ++ l ∷ r ∷ a) (length b + 1) ≡ r
 second_at b l r a = subst (λ q. node_at q (length b + 1) ≡ r) (append_assoc b (l ∷ []) (r ∷ a)) (rw (← length-append b (l ∷ [])) (get_or-append_seam (b ++ l ∷ []) r a []))
 
@@ -60,7 +60,7 @@ pub remove_at : {T : Type 0} (l : List T) (x : T) (r : List T) → remove (l ++ 
 remove_at l x r = rw (take-append_seam l (x ∷ r)) (ap (λ q. l ++ q) (subst (λ k. drop k (l ++ x ∷ r) ≡ r) {x = length l + 1} {y = suc (length l)} (omega arith) (drop-append-add l (x ∷ r) 1)))
 
 module _ {T : Type 0} (cmp : T → T → Ordering) (o : IsTotalOrder cmp) where
-  -- the nodes before one and after it
+  -- the nodes before and after a node
   pub record At (b : List (List T)) (n : List T) (a : List (List T)) : Type 0 where
     pub before : Each (λ c. is_filled c ≡ true) b
     pub here : is_filled n ≡ true
@@ -102,7 +102,7 @@ module _ {T : Type 0} (cmp : T → T → Ordering) (o : IsTotalOrder cmp) where
       let last : cmp v (last_of c v) ≡ Less = each_last (λ x. cmp v x ≡ Less) c v full.0 (each-left _ c (concat a) high) in
       (rw (ends_by (λ x. cmp x v) c v full.0, greater cmp o _ v last) refl, reached v a full.1 (each-right _ c (concat a) high))
 
-  -- the name of a node finds it
+  -- a node is found by its name
   pub named_at : (b : List (List T)) (n : List T) (a : List (List T)) (d : T) → At b n a → node_named cmp (b ++ n ∷ a) (last_of n d) ≡ Some (length b)
   named_at b n a d h =
       let m = last_of n d in
@@ -113,13 +113,13 @@ module _ {T : Type 0} (cmp : T → T → Ordering) (o : IsTotalOrder cmp) where
   pub named_parts : (b : List (List T)) (n : List T) (a : List (List T)) (d : T) (f : List T → Option (List (List T))) (parts : List (List T)) → At b n a → f n ≡ Some parts → at_named cmp (b ++ n ∷ a) (last_of n d) f ≡ Some (b ++ (parts ++ a))
   named_parts b n a d f parts h e = rw (named_at b n a d h, get_or-append_seam b n a [], e, splice_at b n a parts) refl
 
-  -- an edit that leaves a list of nodes is a step
+  -- an edit that gives a node list is a step
   pub edit_step : (ns : List (List T)) (e : ChangeEventUnassigned T) (r : List (List T)) → edit cmp ns e ≡ Some r → Ruled cmp r → step_plain cmp ns e ≡ Some r
   unfolding step_plain
   edit_step ns e r h c = rw (h, ruled_tested cmp r c) refl
 
   module _ (b : List (List T)) (a : List (List T)) where
-    -- the merge around a place in the node
+    -- the concatenation, regrouped around a place in the node
     regroup : (l r : List T) → concat b ++ ((l ++ r) ++ concat a) ≡ (concat b ++ l) ++ (r ++ concat a)
     regroup l r = simp append_assoc
 
@@ -180,7 +180,7 @@ module _ {T : Type 0} (cmp : T → T → Ordering) (o : IsTotalOrder cmp) where
         let high : ltb (length l) (length (l ++ r)) ≡ true = lt-ltb _ _ (rw (length-append l r) (omega arith)) in
         (now, edit_step _ _ _ (named_parts b (l ++ r) a d (λ n. if ltb 0 (length l) && ltb (length l) (length n) then Some (take (length l) n ∷ drop (length l) n ∷ []) else None) (l ∷ r ∷ []) h (rw (low, high, take-append_seam l r, drop-append_seam l r) refl)) now)
 
-    -- a node and the one after it made one
+    -- the merge of a node with the next one
     pub merge_step : (l r : List T) (d e : T) → Ruled cmp (b ++ l ∷ r ∷ a) → At b (l ++ r) a × (step_plain cmp (b ++ l ∷ r ∷ a) (MergeNodes (last_of l d) (last_of r e)) ≡ Some (b ++ (l ++ r) ∷ a))
     merge_step l r d e h =
         let first = ruled_at b l (r ∷ a) h in

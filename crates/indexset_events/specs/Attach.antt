@@ -1,4 +1,4 @@
--- A node given whole.
+-- Insertion of whole nodes.
 use Rattle.std.specs.Prelude.{ℕ, Bool, not, ◌||◌, List, [], ◌∷◌, length, insert, if◌then◌else◌, nat_lt, Option, Some, None, count_by}
 use Rattle.std.specs.List.{list_all}
 use Rattle.std.specs.Option.{option_or}
@@ -13,7 +13,7 @@ module _ {T : Type 0} (cmp : T → T → Ordering) where
   abbrev pub lies_below : List T → List T → Bool
   lies_below l r = list_all (λ x. list_all (λ y. is_lt (cmp x y)) r) l
 
-  -- each of the nodes lies wholly below n or wholly above it
+  -- each of the nodes lies entirely below n or entirely above it
   unfoldable pub lies_apart : List (List T) → List T → Bool
   lies_apart ns n = list_all (λ m. lies_below m n || lies_below n m) ns
 
@@ -21,11 +21,11 @@ module _ {T : Type 0} (cmp : T → T → Ordering) where
   unfoldable pub attach_index : List (List T) → List T → ℕ
   attach_index ns n = count_by (λ m. lies_below m n) ns
 
-  -- the nodes with n in its place among them
+  -- the nodes with n inserted at its place
   abbrev pub attached : List (List T) → List T → List (List T)
   attached ns n = insert ns (attach_index ns n) n
 
-  -- why n is refused: the first cause that applies, where one does
+  -- the error of the insertion of n: the first that applies, if any
   unfoldable pub attach_refusal : ℕ → List (List T) → List T → Option Refusal
   attach_refusal size ns n =
       if not (is_filled n) then Some Empty
@@ -34,15 +34,15 @@ module _ {T : Type 0} (cmp : T → T → Ordering) where
       else if not (lies_apart ns n) then Some Overlaps
       else None
 
-  -- why n is refused as the node that follows m: the first cause that applies, where one does
+  -- the error of n as the node after m: the first that applies, if any
   abbrev pub follow_refusal : ℕ → List T → List T → Option Refusal
   follow_refusal size m n = option_or (attach_refusal size [] n) (if lies_below m n then None else Some Overlaps)
 
-  -- why the nodes that follow m are refused: the cause of the first that has one
+  -- the error of the nodes after m: that of the first node that has one, if any
   abbrev pub refusal_after : ℕ → List T → List (List T) → Option Refusal
   refusal_after size m [] = None
   refusal_after size m (n ∷ ns) = option_or (follow_refusal size m n) (refusal_after size n ns)
 
-  -- why the nodes are refused as those of a tree: none where they are lawful
+  -- the error of the nodes as those of a tree: none if they are lawful
   abbrev pub nodes_refusal : ℕ → List (List T) → Option Refusal
   nodes_refusal size ns = refusal_after size [] ns

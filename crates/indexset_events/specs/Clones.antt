@@ -6,7 +6,7 @@ use Rattle.indexset_events.specs.declared.change.ChangeEvent.TheVariants as numb
 use Rattle.indexset_events.specs.declared.change.ChangeEventUnassigned.{ChangeEventUnassigned}
 use Rattle.indexset_events.specs.Replay.{numbered_from}
 
--- the items that an event holds
+-- the items of an event
 abbrev pub event_items : {T : Type 0} → ChangeEvent T → List T
 event_items (numbered.InsertAt id m v i) = m ∷ v ∷ []
 event_items (numbered.RemoveAt id m v i) = m ∷ v ∷ []
@@ -15,7 +15,7 @@ event_items (numbered.RemoveNode id m) = m ∷ []
 event_items (numbered.SplitNode id m k) = m ∷ []
 event_items (numbered.MergeNodes id m w) = m ∷ w ∷ []
 
--- the rest of it: the kind, the number and the index
+-- an event without its items: the kind, the number and the index
 abbrev pub event_shape : {T : Type 0} → ChangeEvent T → ChangeEvent (Unit {0})
 event_shape (numbered.InsertAt id m v i) = numbered.InsertAt id tt tt i
 event_shape (numbered.RemoveAt id m v i) = numbered.RemoveAt id tt tt i
@@ -24,14 +24,14 @@ event_shape (numbered.RemoveNode id m) = numbered.RemoveNode id tt
 event_shape (numbered.SplitNode id m k) = numbered.SplitNode id tt k
 event_shape (numbered.MergeNodes id m w) = numbered.MergeNodes id tt tt
 
--- f is e, with clones in the place of its items
+-- f is e with clones in the place of its items
 abbrev pub IsEventClone : {T : Type 0} → (T → T → Type 0) → ChangeEvent T → ChangeEvent T → Type 0
 IsEventClone C e f = (event_shape f ≡ event_shape e) × AllZip C (event_items e) (event_items f)
 
--- what is told: the table's events, numbered from s on, with clones in the place of their items
+-- the events are those of the table, numbered from s, with clones in the place of their items
 abbrev pub AreTableEvents : {T : Type 0} → (T → T → Type 0) → ℕ → List (ChangeEventUnassigned T) → List (ChangeEvent T) → Type 0
 AreTableEvents C s table events = AllZip (IsEventClone C) (numbered_from s table) events
 
--- a clone is identical to what it was made of
+-- a clone is identical to its source
 abbrev pub AreIdentical : {T : Type 0} → (T → T → Type 0) → Type 0
 AreIdentical {T} C = (x y : T) → C x y → y ≡ x

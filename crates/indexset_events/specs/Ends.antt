@@ -1,4 +1,4 @@
--- The item at a position of all: where it stands, and the events of its removal.
+-- The item at a position: its place, and the events of its removal.
 use Rattle.std.specs.Prelude.{◌≡◌, ℕ, ◌<◌, length, List, [], slice_get}
 use Rattle.std.specs.Option.{option_map_or}
 use Rattle.std.specs.declared.cmp.Ordering.{Ordering}
@@ -8,7 +8,7 @@ use Rattle.indexset_core.specs.Places.{items_before}
 use Rattle.indexset_events.specs.Table.{removal_events}
 
 module _ {T : Type 0} where
-  -- the place of the item at position i
+  -- p is the place of the item at position i
   pub record IsItemAt (ns : List (List T)) (p : ℕ × ℕ) (i : ℕ) : Type 0 where
     pub node_in : p.0 < length ns
     pub offset_in : p.1 < length (node_at ns p.0)

@@ -11,7 +11,7 @@ abbrev pub last_of : {T : Type 0} → List T → T → T
 last_of [] d = d
 last_of (x ∷ xs) d = last_of xs x
 
--- there is an item
+-- the list is not empty
 abbrev pub is_filled : {T : Type 0} → List T → Bool
 is_filled [] = false
 is_filled (x ∷ xs) = true
@@ -21,10 +21,10 @@ abbrev pub is_ascending : {T : Type 0} → (T → T → Ordering) → List T →
 is_ascending cmp [] = true
 is_ascending cmp (x ∷ xs) = list_all (λ y. is_lt (cmp x y)) xs && is_ascending cmp xs
 
--- whether no node is empty, and the concatenation is ascending: the test of `IsNodeList`
+-- no node is empty, and the concatenation ascends: the test of `IsNodeList`
 unfoldable pub are_nodes : {T : Type 0} → (T → T → Ordering) → List (List T) → Bool
 are_nodes cmp ns = list_all is_filled ns && is_ascending cmp (concat ns)
 
--- the nodes, whose items these lists are, have room for so many in all, or for no fewer where that is MAX
+-- the total is the sum of the capacities of nodes with these items, at most MAX
 abbrev pub AddsUp : {N T : Type 0} → (N → List T) → (N → ℕ) → List (List T) → ℕ → Type 0
 AddsUp {N} list room lists total = (ns : List N) × (map list ns ≡ lists) × (total ≡ min MAX (sum_by room ns))

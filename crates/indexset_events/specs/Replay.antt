@@ -1,4 +1,4 @@
--- What an event does to a list of nodes.
+-- The effect of an event on a list of nodes.
 use Rattle.std.specs.Prelude.{◌≡◌, ℕ, ◌+◌, ◌<◌, length, Bool, true, false, not, List, [], ◌∷◌, ◌&&◌, if◌then◌else◌, ltb, leb, ◌==◌, get_or, take, drop, insert, remove, position, Option, Some, None, option_map, option_and_then}
 use Rattle.std.specs.declared.cmp.Ordering.{Ordering}
 use Rattle.std.specs.Ordering.{is_eq}
@@ -16,19 +16,19 @@ use Rattle.indexset_events.specs.Nodes.{is_filled, last_of, are_nodes}
 abbrev pub has_name : {T : Type 0} → (T → T → Ordering) → T → List T → Bool
 has_name cmp m n = is_filled n && is_eq (cmp (last_of n m) m)
 
--- the place of the node whose last item equals m
+-- the index of the node whose last item equals m, if any
 abbrev pub node_named : {T : Type 0} → (T → T → Ordering) → List (List T) → T → Option ℕ
 node_named cmp ns m = position (has_name cmp m) ns
 
--- the node named m made into the parts that f makes of it
+-- the nodes with the node named m replaced by the parts that f gives, if any
 abbrev pub at_named : {T : Type 0} → (T → T → Ordering) → List (List T) → T → (List T → Option (List (List T))) → Option (List (List T))
 at_named cmp ns m f = option_and_then (λ p. option_map (splice ns p (p + 1)) (f (node_at ns p))) (node_named cmp ns m)
 
--- the node reaches up to v, or above it
+-- the last item of the node is not below v
 abbrev pub reaches : {T : Type 0} → (T → T → Ordering) → T → List T → Bool
 reaches cmp v n = not (ends_less (λ x. cmp x v) n)
 
--- the edit that an event names, whatever comes of it
+-- the nodes after the edit of an event, which need not be a node list, if the edit is possible
 abbrev pub edit : {T : Type 0} → (T → T → Ordering) → List (List T) → ChangeEventUnassigned T → Option (List (List T))
 edit cmp ns (plain.InsertAt m v i) = at_named cmp ns m (λ n. if leb i (length n) then Some (insert n i v ∷ []) else None)
 edit cmp ns (plain.RemoveAt m v i) = at_named cmp ns m (λ n. if (leb 2 (length n) && ltb i (length n)) && is_eq (cmp (get_or n i v) v) then Some (remove n i ∷ []) else None)
@@ -37,7 +37,7 @@ edit cmp ns (plain.RemoveNode m) = at_named cmp ns m (λ n. Some [])
 edit cmp ns (plain.SplitNode m k) = at_named cmp ns m (λ n. if ltb 0 k && ltb k (length n) then Some (take k n ∷ drop k n ∷ []) else None)
 edit cmp ns (plain.MergeNodes m w) = option_and_then (λ p. option_and_then (λ q. if q == p + 1 then Some (with_merged ns p) else None) (node_named cmp ns w)) (node_named cmp ns m)
 
--- the nodes after an event without a number, if it applies: it must leave a node list
+-- the nodes after an event without a number, if it applies: the edit must give a node list
 unfoldable pub step_plain : {T : Type 0} → (T → T → Ordering) → List (List T) → ChangeEventUnassigned T → Option (List (List T))
 step_plain cmp ns e = option_and_then (λ r. if are_nodes cmp r then Some r else None) (edit cmp ns e)
 
@@ -89,7 +89,7 @@ abbrev pub replay : {T : Type 0} → (T → T → Ordering) → List (List T) �
 replay cmp ns [] = Some ns
 replay cmp ns (e ∷ es) = option_and_then (λ r. replay cmp r es) (step cmp ns e)
 
--- the event merges nodes
+-- the event is a merge
 abbrev pub is_joining : {T : Type 0} → ChangeEvent T → Bool
 is_joining (numbered.InsertAt id m v i) = false
 is_joining (numbered.RemoveAt id m v i) = false
@@ -98,16 +98,16 @@ is_joining (numbered.RemoveNode id m) = false
 is_joining (numbered.SplitNode id m k) = false
 is_joining (numbered.MergeNodes id m w) = true
 
--- replay by the events that there were before nodes were merged
+-- the replay that does not apply merges
 abbrev pub earlier_replay : {T : Type 0} → (T → T → Ordering) → List (List T) → List (ChangeEvent T) → Option (List (List T))
 earlier_replay cmp ns [] = Some ns
 earlier_replay cmp ns (e ∷ es) = option_and_then (λ r. earlier_replay cmp r es) (if is_joining e then None else step cmp ns e)
 
--- the events numbered from s on
+-- the events with the numbers from s on
 abbrev pub numbered_from : {T : Type 0} → ℕ → List (ChangeEventUnassigned T) → List (ChangeEvent T)
 numbered_from s [] = []
 numbered_from s (e ∷ es) = assigned s e ∷ numbered_from (s + 1) es
 
--- the event at place i has the number s + i
+-- the event at index i has the number s + i
 abbrev pub IsNumberedFrom : {T : Type 0} → ℕ → List (ChangeEvent T) → Type 0
 IsNumberedFrom s es = (i : ℕ) → i < length es → HoldsAt (λ e. event_number e ≡ s + i) es i

@@ -1,10 +1,10 @@
--- How events are written.
+-- The text that `{}` writes of an event.
 use Rattle.std.specs.Prelude.{ℕ, List, Option, Some, codes}
 use Rattle.std.specs.Fmt.{◌++?◌, decimal}
 use Rattle.indexset_events.specs.declared.change.ChangeEvent.{ChangeEvent}
 use Rattle.indexset_events.specs.declared.change.ChangeEvent.TheVariants.{InsertAt, RemoveAt, CreateNode, RemoveNode, SplitNode, MergeNodes}
 
--- on one line, where `shown` says how an item is written, if that is known
+-- one line, where `shown` gives the text of an item, if it is known
 abbrev pub event_shown : {T : Type 0} → (T → Option (List ℕ)) → ChangeEvent T → Option (List ℕ)
 event_shown shown (InsertAt id m v i) = Some (decimal id.0) ++? Some (codes " insert ") ++? shown v ++? Some (codes " at ") ++? Some (decimal i) ++? Some (codes " in the node of ") ++? shown m
 event_shown shown (RemoveAt id m v i) = Some (decimal id.0) ++? Some (codes " remove ") ++? shown v ++? Some (codes " at ") ++? Some (decimal i) ++? Some (codes " in the node of ") ++? shown m

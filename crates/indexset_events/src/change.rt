@@ -1,4 +1,4 @@
-//! Events: what changes of a tree do to its nodes.
+//! Events: the changes of a tree's nodes.
 ghost use Rattle.std.specs.Prelude.{◌≡◌, ◌+◌, ◌↔◌, IsTrue};
 
 mod text;
@@ -12,7 +12,7 @@ use std::marker::Model;
 pub struct Id(u64);
 
 impl Id {
-    /// Returns the number.
+    /// Returns the number as a `u64`.
     ///
     /// ```
     /// assert_eq!(rt; Id::from(7).inner(), 7);
@@ -23,7 +23,9 @@ impl Id {
         self.0
     }
 
-    /// Returns whether this is the number after the other. Nothing is after `u64::MAX`.
+    /// Returns true if this is the number after `other`.
+    ///
+    /// No number is after `u64::MAX`.
     ///
     /// ```
     /// assert!(rt; Id::from(8).is_next_for(Id::from(7)));
@@ -60,9 +62,11 @@ impl From<Id> for u64 {
     }
 }
 
-/// A change, numbered. A node is named by its last item before the change. Two events are equal
-/// where kind, number and index are the same and the items are equal by their own `==`: pairs by
-/// their keys, and numbered pairs by keys and numbers, whatever their values are.
+/// A numbered change of a node list.
+///
+/// An event names a node by its last item before the change. Two events are equal if their kinds,
+/// numbers and indices are the same and their items are equal by their own `==`: pairs by their
+/// keys, and numbered pairs by keys and numbers, for any values.
 ///
 /// ```
 /// // The first item makes a node, and the second is inserted at its start.
@@ -73,105 +77,107 @@ impl From<Id> for u64 {
 /// ```
 #[derive(Clone, Debug, PartialEq, Eq, Drop)]
 pub enum ChangeEvent<T> {
-    /// In the node named, the value is inserted at the index.
+    /// Inserts the value into the named node at the index.
     InsertAt {
         /// The number of the event.
         event_id: Id,
         /// The last item of the node before the change.
         max_value: T,
-        /// The item that is inserted.
+        /// The inserted item.
         value: T,
-        /// Its index in the node after the change; at most the node's length before it.
+        /// Its index in the node after the change, at most the length of the node before it.
         index: usize,
     },
-    /// In the node named, the value at the index is removed.
+    /// Removes the value at the index of the named node.
     RemoveAt {
         /// The number of the event.
         event_id: Id,
         /// The last item of the node before the change.
         max_value: T,
-        /// The item that is removed.
+        /// The removed item.
         value: T,
         /// Its index in the node before the change.
         index: usize,
     },
-    /// A node of this item alone is inserted in its place.
+    /// Inserts a node with one item.
     CreateNode {
         /// The number of the event.
         event_id: Id,
         /// The only item of the new node.
         max_value: T,
     },
-    /// The node named is removed.
+    /// Removes the named node.
     RemoveNode {
         /// The number of the event.
         event_id: Id,
         /// The last item of the node before the change.
         max_value: T,
     },
-    /// The node named becomes two: its first `split_index` items, and the rest.
+    /// Splits the named node into its first `split_index` items and the rest.
     SplitNode {
         /// The number of the event.
         event_id: Id,
         /// The last item of the node before the change.
         max_value: T,
-        /// How many items the first of the two has.
+        /// The number of items in the first of the two nodes.
         split_index: usize,
     },
-    /// The node named and the one after it, which `next_max_value` names, become one.
+    /// Merges the named node with the next one, which `next_max_value` names.
     MergeNodes {
         /// The number of the event.
         event_id: Id,
         /// The last item of the first node before the change.
         max_value: T,
-        /// The last item of the node after it, and of the one that they become.
+        /// The last item of the next node before the change, and of the merged node.
         next_max_value: T,
     },
 }
 
-/// A change that has no number yet. Two are equal as two events are.
+/// A change without a number.
+///
+/// Two changes are equal if they are equal as events with the same number.
 #[derive(Clone, Debug, PartialEq, Eq, Drop)]
 pub enum ChangeEventUnassigned<T> {
-    /// In the node named, the value is inserted at the index.
+    /// Inserts the value into the named node at the index.
     InsertAt {
         /// The last item of the node before the change.
         max_value: T,
-        /// The item that is inserted.
+        /// The inserted item.
         value: T,
-        /// Its index in the node after the change; at most the node's length before it.
+        /// Its index in the node after the change, at most the length of the node before it.
         index: usize,
     },
-    /// In the node named, the value at the index is removed.
+    /// Removes the value at the index of the named node.
     RemoveAt {
         /// The last item of the node before the change.
         max_value: T,
-        /// The item that is removed.
+        /// The removed item.
         value: T,
         /// Its index in the node before the change.
         index: usize,
     },
-    /// A node of this item alone is inserted in its place.
+    /// Inserts a node with one item.
     CreateNode {
         /// The only item of the new node.
         max_value: T,
     },
-    /// The node named is removed.
+    /// Removes the named node.
     RemoveNode {
         /// The last item of the node before the change.
         max_value: T,
     },
-    /// The node named becomes two: its first `split_index` items, and the rest.
+    /// Splits the named node into its first `split_index` items and the rest.
     SplitNode {
         /// The last item of the node before the change.
         max_value: T,
-        /// How many items the first of the two has.
+        /// The number of items in the first of the two nodes.
         split_index: usize,
     },
-    /// The node named and the one after it, which `next_max_value` names, become one.
+    /// Merges the named node with the next one, which `next_max_value` names.
     MergeNodes {
         /// The last item of the first node before the change.
         max_value: T,
-        /// The last item of the node after it, and of the one that they become.
+        /// The last item of the next node before the change, and of the merged node.
         next_max_value: T,
     },
 }
@@ -179,7 +185,7 @@ pub enum ChangeEventUnassigned<T> {
 impl<T> ChangeEvent<T> {
     ghost use Rattle.indexset_events.specs.Replay.{event_id};
 
-    /// Returns the number.
+    /// Returns the number of the event.
     ///
     /// ```
     /// let event = ChangeEvent::CreateNode { event_id: Id::from(7), max_value: 5 };
@@ -202,7 +208,7 @@ impl<T> ChangeEvent<T> {
 impl<T> ChangeEventUnassigned<T> {
     ghost use Rattle.indexset_events.specs.Replay.{with_id};
 
-    /// Returns the same change with a number.
+    /// Returns the change as an event with this number.
     ///
     /// ```
     /// # use indexset::cdc::change::ChangeEventUnassigned;

@@ -1,5 +1,6 @@
-//! Laws over the definitions that the contracts of this crate cite. Each function does nothing; its
-//! contract is the law, for all values, and so holds of the calls that cite the same definitions.
+//! Laws of the definitions that the contracts of this crate cite. Each function does nothing; its
+//! contract is the law, which holds for all values, and so for the calls that cite the same
+//! definitions.
 ghost use Rattle.std.specs.Prelude.{◌≡◌, ℕ, ◌+◌, ◌-◌, ◌*◌, ◌/◌, ◌<◌, ◌≤◌, true, false, List, [], ◌∷◌, ◌++◌, length, map, Some, None};
 ghost use Rattle.std.specs.List.{All, list_any};
 ghost use Rattle.std.specs.Option.{option_and_then};
@@ -22,28 +23,27 @@ ghost use Rattle.indexset_events.specs.declared.change.ChangeEventUnassigned.The
 
 use crate::spelling::Spelled;
 
-/// Replay of a concatenation is replay of its parts.
+/// The replay of a concatenation is the replay of its parts in order.
 pub fn replay_in_parts<T: Ord>()
     ensures { (ns : List (List T)) (first rest : List (ChangeEvent T))
         → replay T.cmp ns (first ++ rest) ≡ option_and_then (λ middle. replay T.cmp middle rest)
         (replay T.cmp ns first) }
 {}
 
-/// Events without `MergeNodes` replay as before there was that event.
+/// `earlier_replay`, which applies no merge, equals `replay` on events without `MergeNodes`.
 pub fn earlier_events_replayed<T: Ord>()
     ensures { (ns : List (List T)) (events : List (ChangeEvent T))
         → list_any is_joining events ≡ false → earlier_replay T.cmp ns events
         ≡ replay T.cmp ns events }
 {}
 
-/// Events numbered from s, and then others numbered from the number after theirs, are numbered from
-/// s.
+/// Events numbered from s, followed by events numbered from the next number, are numbered from s.
 pub fn numbered_in_parts<T>()
     ensures { (s : ℕ) (first rest : List (ChangeEvent T)) → IsNumberedFrom s first
         → IsNumberedFrom (s + length first) rest → IsNumberedFrom s (first ++ rest) }
 {}
 
-/// `numbered_from s` gives the event at place i the number s + i, and changes nothing else.
+/// `numbered_from s` gives the event at index i the number s + i, and changes nothing else.
 pub fn numbered_by_place<T>()
     ensures numbers { (s : ℕ) (events : List (ChangeEventUnassigned T))
         → IsNumberedFrom s (numbered_from s events) }
@@ -53,8 +53,9 @@ pub fn numbered_by_place<T>()
         → length (numbered_from s events) ≡ length events }
 {}
 
-/// The test of nodes holds just where no node is empty and the items of all ascend, and a step
-/// leads to nothing else.
+/// `are_nodes` tests whether nodes are a node list, and each step gives a node list.
+///
+/// In a node list no node is empty, and the items ascend, within and across nodes.
 pub fn steps_lead_to_nodes<T: Ord>()
     ensures passed { (ns : List (List T)) → are_nodes T.cmp ns ≡ true → IsNodeList T.cmp ns }
     ensures passes { (ns : List (List T)) → IsNodeList T.cmp ns → are_nodes T.cmp ns ≡ true }
@@ -62,7 +63,7 @@ pub fn steps_lead_to_nodes<T: Ord>()
         → step T.cmp ns event ≡ Some after → IsNodeList T.cmp after }
 {}
 
-/// The event table, at numbers.
+/// Examples of the event table, with numbers as items.
 #[tactic(auto, unfolding(crate::specs::Nodes::are_nodes, crate::specs::Replay::step_plain, crate::specs::Table::put_events, crate::specs::Table::target_events, crate::specs::Table::node_events, crate::specs::Table::replace_events, crate::specs::Table::removal_by))]
 pub fn events_at_numbers()
     ensures first { put_events nat_cmp 4 [] 7 ≡ CreateNode 7 ∷ [] }
@@ -86,7 +87,7 @@ pub fn events_at_numbers()
     ensures no_such_node { step_plain nat_cmp ((0 ∷ 1 ∷ []) ∷ []) (RemoveAt 5 1 1) ≡ None }
 {}
 
-/// What is merged after a removal, and what a merge makes of nodes, at numbers.
+/// Examples of removals with a merge, and of merges, with numbers as items.
 #[tactic(auto, unfolding(crate::specs::Nodes::are_nodes, crate::specs::Replay::step_plain, crate::specs::Table::removal_by))]
 pub fn merges_at_numbers()
     ensures both_too_large { removal_events nat_cmp 4 ((0 ∷ 1 ∷ []) ∷ (2 ∷ 3 ∷ []) ∷
@@ -115,7 +116,7 @@ pub fn merges_at_numbers()
         (MergeNodes 2 1) ≡ None }
 {}
 
-/// Where any two neighbours hold more than h items together, there are few nodes for the items.
+/// The number of items bounds the number of nodes, if neighbours hold more than h items together.
 pub fn node_bound_if_dense<T>()
     ensures { (h : ℕ) (ns : List (List T)) → IsDense h ns
         → (length ns - 1) * (h + 1) ≤ 2 * length (concat ns) }
@@ -130,14 +131,14 @@ pub fn dense_kept<T: Ord>()
         → IsDense (size / 2) (with_removed size ns k i) }
 {}
 
-/// Nodes of at most two or three items are never merged.
+/// Nodes are never merged if the node size is below 4.
 pub fn small_sizes_merge_nothing<T>()
     ensures { (size : ℕ) (ns : List (List T)) (k i : ℕ) → size < 4
         → All (λ n. 1 ≤ n) (node_lengths ns) → i < length (node_at ns k)
         → merge_after size ns k i ≡ None }
 {}
 
-/// No put and no removal gives more than three events.
+/// A put or a removal emits at most three events.
 pub fn three_events<T: Ord>()
     ensures put { (size : ℕ) (ns : List (List T)) (v : T)
         → length (put_events T.cmp size ns v) ≤ 3 }
@@ -150,14 +151,15 @@ pub fn three_events<T: Ord>()
     ensures taking { (size : ℕ) (ns : List (List T)) (k i : ℕ) → place_removal_count size ns k i ≤ 3 }
 {}
 
-/// No removal by key gives more than three events.
+/// A removal by key emits at most three events.
 pub fn three_events_by_key<K: Ord, V>()
     ensures { (size : ℕ) (ns : List (List (Pair K V))) (k : K) →
         length (key_removal_events K.cmp size ns k) ≤ 3 }
 {}
 
-/// The text of an event, where its items have texts: it is what `{}` writes, it is one line, and it
-/// is read as the identical event; nothing else is read as that.
+/// The text of an event is what `{}` writes, and is read as the identical event.
+///
+/// It is one line, if items have texts. No other text is read as that event.
 pub fn texts_are_read<T: Spelled>()
     ensures written { (e : ChangeEvent T) → event_shown T.output e
         ≡ Some (event_text T.spelling e) }

@@ -1,12 +1,13 @@
-//! The events of the logged family, apart from the trees that return them.
+//! The events of the logged family, without the trees that return them.
 //!
-//! [`change::ChangeEvent`] is an event: what a change did to one node, which it names by its last
-//! item. `specs/Table.antt` says which events a put and a removal give, `specs/Replay.antt` what an
-//! event does to a list of nodes, `specs/Merging.antt` when small neighbours are merged, and
-//! `specs/Attach.antt` which nodes may be added whole; [`nodes`] has that test. [`laws`] has what
-//! follows from these definitions: replay in parts, few nodes, examples at numbers. [`spelling`]
-//! has the texts of items and of events: what `{}` writes of an event is read as the identical
-//! event. [`parts`] reads numbers and cuts texts, for crates with texts of their own.
+//! [`change::ChangeEvent`] is an event: a change of a node, which it names by the node's last item.
+//! `specs/Table.antt` defines the events of a put and of a removal, `specs/Replay.antt` the effect
+//! of an event on a list of nodes, `specs/Merging.antt` when small neighbours are merged, and
+//! `specs/Attach.antt` which nodes can be inserted whole; [`nodes`] has that test. [`laws`] has
+//! consequences of these definitions: replay in parts, a bound on the number of nodes, examples.
+//! [`spelling`] has the texts of items and of events: the text that `{}` writes of an event is read
+//! as the identical event. [`parts`] reads numbers and splits texts, for crates with texts of their
+//! own.
 #![tactic(auto)]
 
 pub mod change;

@@ -1,4 +1,4 @@
-//! The tests of nodes that are given whole.
+//! Tests of whole nodes.
 ghost use Rattle.std.specs.Prelude.{◌≡◌, ◌<◌, true, length, map, slice_get, ◌-◌, None, Some, IsOk, OnOk, IfErr};
 ghost use Rattle.std.specs.Option.{option_map_or};
 ghost use Rattle.std.specs.Ordering.{is_lt};
@@ -9,10 +9,18 @@ ghost use Rattle.indexset_events.specs.Nodes.{is_ascending};
 use indexset_core::node::NodeLike;
 use indexset_core::refusal::Refusal;
 
-/// Tests whether the nodes may be those of a tree whose nodes hold at most `size` items each, and
-/// allocates nothing: it compares neighbouring items once, those of two neighbouring nodes too.
-/// Fails at the first node that is `Empty`, `TooLarge`, `Unsorted`, or `Overlaps` the one before,
-/// by the first of these that holds; `TooLarge` is impossible where `size` is `usize::MAX`.
+/// Tests whether the nodes can be those of a tree with nodes of at most `size` items.
+///
+/// # Errors
+///
+/// Fails at the first node that is invalid, with the first of these that applies to it: `Empty`;
+/// `TooLarge` if it has more than `size` items, which does not occur if `size` is `usize::MAX`;
+/// `Unsorted` if its items do not ascend strictly; `Overlaps` if it does not begin above the node
+/// before.
+///
+/// # Complexity
+///
+/// Compares neighbouring items once, within and across nodes, and allocates nothing.
 pub fn test_nodes<'a, T: Ord + Drop + 'a, Node: NodeLike<T>>(
     nodes: &'a [Node],
     size: usize,
@@ -33,7 +41,7 @@ pub fn test_nodes<'a, T: Ord + Drop + 'a, Node: NodeLike<T>>(
     Ok(())
 }
 
-// Returns whether a node may follow another.
+// Tests whether a node can follow another.
 fn test_node<T: Ord>(before: &[T], items: &[T], size: usize) -> Result<(), Refusal>
     requires { is_ascending T.cmp before.now ≡ true }
     ensures good { OnOk result (follow_refusal T.cmp size before.now items.now ≡ None) }
@@ -56,7 +64,7 @@ fn test_node<T: Ord>(before: &[T], items: &[T], size: usize) -> Result<(), Refus
     Ok(())
 }
 
-// Returns whether the last item, if there is one, is below a value.
+// Returns whether the last item, if any, is below a value.
 fn ends_below<T: Ord>(items: &[T], value: &T) -> bool
     ensures { result ≡ option_map_or (λ x. is_lt (T.cmp x value.now))
         (slice_get items.now (length items.now - 1)) true }
@@ -67,7 +75,7 @@ fn ends_below<T: Ord>(items: &[T], value: &T) -> bool
     }
 }
 
-/// Returns whether each item is below the next.
+/// Returns true if the items ascend strictly.
 pub fn is_ascending<T: Ord>(items: &[T]) -> bool
     ensures { result ≡ is_ascending T.cmp items.now }
 {

@@ -5,7 +5,7 @@ ghost use Rattle.std.specs.Option.{option_map};
 ghost use Rattle.std.specs.Str.Parse.{AllDigits, digits_value};
 ghost use Rattle.indexset_events.specs.Spelling.{behind, cut_at, cut_item, number_of, signed_below};
 
-/// Returns the number of which this is the plain decimal text.
+/// Returns the number with this plain decimal text, if any.
 pub fn number(text: &[u8]) -> Option<u64>
     ensures { MatchOption result
         ((n : ℕ) → n < 2 ^ 64 → text.now ≢ decimal n)
@@ -20,7 +20,7 @@ pub fn number(text: &[u8]) -> Option<u64>
     digits(text)
 }
 
-// Returns the number that digits write, if they are decimal and it is of 64 bits.
+// Returns the number that decimal digits write, if it fits a u64.
 fn digits(text: &[u8]) -> Option<u64>
     ensures { MatchOption result
         (AllDigits 10 text.now → 2 ^ 64 ≤ digits_value 10 text.now)
@@ -38,15 +38,14 @@ fn digits(text: &[u8]) -> Option<u64>
     Some(value)
 }
 
-/// Returns the number of which this is the plain decimal text.
+/// Returns the number with this plain decimal text, if any.
 pub fn read_number(text: &[u8]) -> Option<u64>
     ensures { result ≡ number_of text.now }
 {
     number(text)
 }
 
-/// Returns the text where it is the plain decimal of a signed number, at least -half and below
-/// half.
+/// Returns the text if it is the plain decimal of a signed number from -half to below half.
 pub(crate) fn signed_text(text: &[u8], half: u64) -> Option<&str>
     requires { half ≤ 2 ^ 63 }
     ensures { MatchOption result (signed_below half text.now ≡ None) (λ s. (s.now ≡ text.now)
@@ -78,7 +77,7 @@ fn is_signed(text: &[u8], half: u64) -> bool
     }
 }
 
-/// Returns what is before the first such byte, and what is after it.
+/// Splits the text at the first such byte, and returns the parts before and after it.
 pub fn cut(text: &[u8], byte: u8) -> Option<(&[u8], &[u8])>
     ensures { option_map (λ cut. (cut.0.now, cut.1.now)) result ≡ cut_at byte text.now }
 {
@@ -93,14 +92,14 @@ fn first_place(text: &[u8], byte: u8) -> Option<usize>
     text.iter().position(|b| *b == byte)
 }
 
-/// Returns the rest after a prefix, where the text begins with it.
+/// Returns the text without the prefix, if it begins with it.
 pub(crate) fn after<'a>(text: &'a [u8], front: &[u8]) -> Option<&'a [u8]>
     ensures { option_map (λ rest. rest.now) result ≡ behind front.now text.now }
 {
     text.strip_prefix(front)
 }
 
-/// Returns the text of an item, and the rest after it and a space.
+/// Returns the text of the first item, and the rest after the space behind it.
 pub(crate) fn cut_off(text: &[u8]) -> Option<(&[u8], &[u8])>
     ensures { option_map (λ cut. (cut.0.now, cut.1.now)) result ≡ cut_item text.now }
 {

@@ -1,4 +1,4 @@
-//! Texts of items and of events, which are read back as the identical value.
+//! Texts of items and of events, which are read as the identical values.
 ghost use Rattle.std.specs.Prelude.{◌≡◌, ℕ, true, List, Option, Some};
 ghost use Rattle.indexset_events.specs.Spelling.{is_item, is_word};
 
@@ -9,7 +9,9 @@ mod pairs;
 pub use event::{ParseEventError, read_event};
 use std::fmt;
 
-/// A type each value of which has one text, by which it is read: the bytes that `{}` writes.
+/// A type whose values have texts: what `{}` writes is read as the identical value.
+///
+/// No other text is read as that value.
 ///
 /// ```
 /// # use indexset::cdc::spelling::Spelled;
@@ -22,17 +24,17 @@ pub trait Spelled: fmt::Display {
     /// The text of a value.
     ghost spelling: { Self → List ℕ };
 
-    /// The value that a text spells, if it spells one.
+    /// The value that a text is read as, if any.
     ghost reading: { List ℕ → Option Self };
 
-    /// Whether a value is one that the type has: a `u8` is below 256.
+    /// Whether a value is in the range of the type: a `u8` is below 256.
     ghost in_range: { Self → Type 0 };
 
-    /// Returns the value of which this is the text, or `None` where it is that of no value.
+    /// Returns the value with this text, if any.
     fn read(text: &[u8]) -> Option<Self>
         ensures { result ≡ reading text.now };
 
-    /// Does nothing. From its contract a proof learns that the value is in range.
+    /// Does nothing; its contract states that the value is in range.
     fn attest(&self)
         ensures { in_range self.now };
 
@@ -42,17 +44,19 @@ pub trait Spelled: fmt::Display {
     /// The text is read as the identical value.
     ghost told: { (x : Self) → in_range x → reading (spelling x) ≡ Some x };
 
-    /// Nothing else is read as the value.
+    /// No other text is read as the value.
     ghost sound: { (text : List ℕ) (x : Self) → reading text ≡ Some x
         → (text ≡ spelling x) × in_range x };
 
-    /// The text has no end of line, and no space but before a `#`, so that it may stand in that of
-    /// an event.
+    /// The text has no end of line, and a space only before a `#`.
+    ///
+    /// An event's text can contain it.
     ghost apart: { (x : Self) → in_range x → is_item (spelling x) ≡ true };
 }
 
-/// A type whose texts are words: they have no space and no colon, so that they may stand in the
-/// text of a pair.
+/// A type whose texts are words: they have no space and no colon.
+///
+/// A pair's text can contain them.
 ///
 /// ```
 /// // The text of a pair of words is read as the pair.

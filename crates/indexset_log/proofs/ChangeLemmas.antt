@@ -1,4 +1,4 @@
--- What callers learn of a change that one equation says.
+-- The facts of `Changed`, from one equation between trees.
 use Rattle.std.proofs.Common.{◌≡◌, ℕ, ◌+◌, ◌/◌, ◌<◌, ◌≤◌, true, false, List, [], length, slice_get, Option, Some, None, IfSome, MatchOption, Result, Ok, Err, IfOk, OnOk, OnErr, Ordering, refl, ap, sym, ◌∙◌, subst, arith}
 use Rattle.std.below.core.specs.declared.int.u64.TheConstants.{MAX}
 use Rattle.std.specs.Cmp.{IsTotalOrder}
@@ -27,7 +27,7 @@ use Rattle.indexset_core.proofs.CallerLemmas.{found_has_equal, found_rank, has_p
 use Rattle.indexset_core.specs.Places.{located}
 use Rattle.indexset_core.specs.LookupKey.{OrdersAsItem, EqualsAtMostOne, acts_as_itself, one_as_itself}
 
--- what holds of a change also where there are no numbers for its events
+-- the facts of a change that hold even if its event numbers do not fit the counter
 pub record Altered {T : Type 0} (cmp : T → T → Ordering) (old new : Tree T) (l : List T) (es : List (ChangeEventUnassigned T)) : Type 0 where
   pub contents : concat new.nodes ≡ l
   pub size : new.size ≡ old.size
@@ -64,7 +64,7 @@ module _ {T : Type 0} {cmp : T → T → Ordering} {old new : Tree T} {made : Ch
   pub told : (C : T → T → Type 0) (fs : List (ChangeEvent T)) → Changed cmp old new made → AreTableEvents C old.next made.events fs → ItemEvents cmp C old new made fs
   told C = told_where C (λ h. h)
 
--- what a set tells of pairs is what a map tells
+-- the events that a set of pairs returns are those that a map returns
 pub pairs_told : {K V : Type 0} (cmp : K → K → Ordering) (C : K → K → Type 0) (D : V → V → Type 0) {old new : Tree (Pair K V)} {made : Change (Pair K V)} {fs : List (ChangeEvent (Pair K V))} → ItemEvents (by_key cmp) (IsPairClone C D) old new made fs → PairEvents cmp C D old new made fs
 pairs_told cmp C D s = record { clones = s.clones; events = λ h. s.events (pair_same h.0 h.1); numbered = s.numbered; replay = λ h. s.replay (pair_same h.0 h.1); at_most_three_events = s.at_most_three_events }
 
@@ -80,7 +80,7 @@ pub on_ok_both : {A E : Type 0} (r : Result A E) {P Q X : Type 0} → OnOk r P �
 on_ok_both (Ok x) p q f = f p q
 on_ok_both (Err e) p q f = tt
 
--- a call that makes the change, or is refused and changes nothing
+-- a call makes the change, or it fails and changes nothing
 pub either_way : {A E : Type 0} (r : Result A E) {P Q X : Type 0} → OnOk r P → (P → X) → OnErr r Q → (Q → X) → X
 either_way (Ok x) p f q g = f p
 either_way (Err e) p f q g = g q
@@ -110,7 +110,7 @@ pub keep_there : {T : Type 0} {cmp : T → T → Ordering} {m : List T} → IsTo
 unfolding keep
 keep_there o l v absent e = put_there o l v (rw (← absent) at e)
 
--- a checked put where no equal item is, and where one is
+-- a checked put if no equal item is present, and if one is
 module _ {T : Type 0} {cmp : T → T → Ordering} {most len : ℕ} {old new : Tree T} (o : IsTotalOrder cmp) (t : IsTree cmp most old.nodes old.size len) (v : T) where
   pub checked_changed : false ≡ has_equal cmp (concat old.nodes) v → new ≡ after_put cmp old v → Fits old (put_change cmp old v) → Changed cmp old new (checked_put_change cmp old v)
   checked_changed absent e fits = subst (Changed cmp old new) (sym (absent_change cmp old v absent)) (put_changed o t v e fits)
@@ -120,7 +120,7 @@ module _ {T : Type 0} {cmp : T → T → Ordering} {most len : ℕ} {old new : T
 
 -- the removal of the item at a place
 module _ {T : Type 0} (old : Tree T) (k i : ℕ) {nodes : List (List T)} {size next : ℕ} where
-  -- as the code does it, where two nodes are joined and where none are
+  -- as the code removes it, with a merge and without one
   pub joined_after : {j : ℕ} → merge_after old.size old.nodes k i ≡ Some j → nodes ≡ with_merged (item_removed old.nodes k i) j → size ≡ old.size → next ≡ old.next + 2 → (let made : Tree T = record { nodes = nodes; size = size; next = next } in made) ≡ after_place_removal old k i
   joined_after join n s c = rw join (λ i. record { nodes = n i; size = s i; next = c i })
 
@@ -144,7 +144,7 @@ module _ {T : Type 0} {cmp : T → T → Ordering} {most len : ℕ} {old new : T
   taken_changed k i inside {x} here e fits =
       changed {made = place_removal old k i x} e (omega (arith, fits, taking_length old.size old.nodes k i x)) (taken_altered k i inside here e)
 
--- a removal, by where its item stands
+-- a removal, by the place of its item
 module _ {T : Type 0} {cmp : T → T → Ordering} (old : Tree T) where
   pub sought_after : {Q : Type 0} {order : T → Q → Ordering} {among : Q → Q → Ordering} {v : Q} {k i : ℕ} → OrdersAsItem cmp order among → IsLawful cmp old.size old.nodes → IsFoundIn order old.nodes v k i → after_removal order old v ≡ after_place_removal old k i
   unfolding after_removal_by
@@ -160,7 +160,7 @@ pub absent_after : {T Q : Type 0} (cmp : T → Q → Ordering) (old : Tree T) (v
 unfolding after_removal_by
 absent_after cmp old v none = rw (absent_here cmp old.nodes v none) refl
 
--- what goes from a place, if any
+-- the removal from an optional place
 pub record Goes {T : Type 0} (old : Tree T) (place : Option (ℕ × ℕ)) (answer : Option T) (es : List (ChangeEventUnassigned T)) (new : Tree T) : Type 0 where
   pub inside : IfSome place (λ p. (p.0 < length old.nodes) × (p.1 < length (node_at old.nodes p.0)))
   pub item : item_from old.nodes place ≡ answer
@@ -173,13 +173,13 @@ value_goes {old = old} o acts law v (Some p) found =
     let x = some_read (node_at old.nodes p.0) p.1 found.here.inside in
     record { inside = (found.node_in, found.here.inside); item = found.item; events = rw x.1 (sym (sought_events o law found acts x.1)); after = sym (sought_after old acts law found) }
 
--- how many events that gives
+-- the number of its events
 pub events_counted : {T : Type 0} (old : Tree T) (k i : ℕ) → i < length (node_at old.nodes k) → length (events_from old (Some (k, i))) ≡ place_removal_count old.size old.nodes k i
 events_counted old k i here =
     let x = some_read (node_at old.nodes k) i here in
     rw x.1 (taking_length old.size old.nodes k i x.0)
 
--- nothing changes where no event is given
+-- a call without events changes nothing
 pub altered_nowhere : {T : Type 0} (cmp : T → T → Ordering) (old new : Tree T) → new ≡ old → Altered cmp old new (concat old.nodes) []
 altered_nowhere cmp old new same = subst (λ t. Altered cmp old t (concat old.nodes) []) (sym same) (record { contents = refl; size = refl; next = omega arith; table = refl; at_most_three_events = omega arith; dense = λ s. s })
 
@@ -207,7 +207,7 @@ module _ {T Q : Type 0} {cmp : T → T → Ordering} {order : T → Q → Orderi
   pub sought_changed : new ≡ after_removal order old v → Fits old (removal_change order old v) → Changed cmp old new (removal_change order old v)
   sought_changed e fits = changed {made = removal_change order old v} e fits (sought_altered e)
 
--- the same of an item
+-- the same for an item
 module _ {T : Type 0} {cmp : T → T → Ordering} {most len : ℕ} {old new : Tree T} (o : IsTotalOrder cmp) (t : IsTree cmp most old.nodes old.size len) (v : T) where
   pub removal_altered : new ≡ after_removal cmp old v → Altered cmp old new (without cmp (concat old.nodes) v) (removal_events cmp old.size old.nodes v)
   removal_altered = sought_altered o (acts_as_itself o) (one_as_itself o) t v

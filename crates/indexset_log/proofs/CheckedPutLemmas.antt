@@ -1,4 +1,4 @@
--- A checked put: nothing where an equal item is there, else a put.
+-- A checked put: a put if no equal item is present, and no change otherwise.
 use Rattle.std.proofs.Common.{◌≡◌, ◌+◌, true, false, [], length, Ordering, refl, sym, arith}
 use Rattle.indexset_core.specs.Nodes.{concat}
 use Rattle.indexset_core.specs.Order.{has_equal, keep}

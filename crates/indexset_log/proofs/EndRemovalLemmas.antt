@@ -1,4 +1,5 @@
--- The item at a position of lawful nodes: what its removal tells, and what is below it or above it at either end.
+-- The item at a position of lawful nodes: the events of its removal, and that no item is below the
+-- first or above the last.
 use Rattle.std.proofs.Common.{◌≡◌, ℕ, zero, suc, ◌+◌, ◌-◌, ◌<◌, ◌≤◌, Bool, true, false, List, [], ◌∷◌, length, length-append, filter, take, drop, remove, slice_get, Option, Some, None, IfSome, MatchOption, Ordering, refl, ap, sym, subst, ◌∙◌, arith}
 use Rattle.std.below.core.specs.declared.int.u64.TheConstants.{MAX}
 use Rattle.std.specs.Borrow.{Bor}
@@ -76,7 +77,7 @@ remove_beyond [] (suc i) none = refl
 remove_beyond (x ∷ l) zero none = cc
 remove_beyond (x ∷ l) (suc i) none = ap (λ q. x ∷ q) (remove_beyond l i none)
 
--- what is left of a list without its first or its last item
+-- a list without its first or its last item
 pub remove_first : {X : Type 0} (l : List X) → remove l 0 ≡ drop 1 l
 remove_first [] = refl
 remove_first (x ∷ l) = refl
@@ -88,7 +89,7 @@ remove_last (x ∷ []) zero last = refl
 remove_last (x ∷ y ∷ l) zero last = absurd (omega (arith, last))
 remove_last (x ∷ l) (suc i) last = ap (λ q. x ∷ q) (remove_last l i (omega (arith, last)))
 
--- the item at position i was removed, and l is left
+-- the item at position i was removed, and l are the other items
 abbrev Popped : {T : Type 0} → (T → T → Ordering) → Tree T → Tree T → ℕ → List T → Type 0
 Popped cmp old new i l = Changed cmp old new (record { tree = after_removal_at cmp old i; items = l; events = removal_events_at cmp old.size old.nodes i })
 
@@ -109,14 +110,14 @@ module _ {T : Type 0} {cmp : T → T → Ordering} {most len : ℕ} {old new : T
       let last = length (concat old.nodes) - 1 in
       subst (Popped cmp old new last) (remove_last (concat old.nodes) last refl) (popped last e fits)
 
--- the last item stands at the end of the last node
+-- the last item is at the end of the last node
 pub last_there : {T : Type 0} (ns : List (List T)) (k o : ℕ) → k + 1 ≡ length ns → o + 1 ≡ length (node_at ns k) → IsItemAt ns (k, o) (length (concat ns) - 1)
 last_there ns k o last end =
     let inside : k < length ns = omega (arith, last) in
     let whole : take (k + 1) ns ≡ ns = take_all (k + 1) ns (omega (arith, last)) in
     record { node_in = inside; offset_in = omega (arith, end); before = omega (arith, end, length-concat-more ns k inside, ap (λ l. length (concat l)) whole) }
 
--- where no pair's key passes a test, no key does
+-- no key passes a test if no pair's key does
 pub no_key_passes : {K V : Type 0} (p : K → Bool) (l : List (Pair K V)) → filter (λ q. p q.key) l ≡ [] → filter p (pair_keys l) ≡ []
 no_key_passes p [] none = refl
 no_key_passes p (q ∷ l) none =

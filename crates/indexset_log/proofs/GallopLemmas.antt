@@ -1,4 +1,5 @@
--- Where the items that are not answered Greater end, in a list and in nodes, and what a search by steps that double asks.
+-- The end of the items that are not found Greater, in a list and in nodes, and the comparisons of
+-- an exponential search for it.
 use Rattle.std.proofs.Common.{◌≡◌, ℕ, zero, suc, ◌+◌, ◌-◌, ◌*◌, ◌/◌, ◌<◌, ◌≤◌, ◌==◌, true, false, if◌then◌else◌, List, [], ◌∷◌, length, take, min, Ordering, Some, None, slice_get, refl, ap, sym, ◌∙◌, inl, inr, arith}
 use Rattle.std.specs.Ordering.{is_eq, is_gt, is_le, is_lt}
 use Rattle.std.specs.declared.cmp.Ordering.TheVariants.{Less, Equal, Greater}
@@ -11,7 +12,8 @@ use Rattle.indexset_core.specs.Nodes.{equal_at, concat, node_at}
 use Rattle.indexset_core.specs.Parted.{IsParted, less_count, not_greater_count}
 use Rattle.indexset_core.proofs.CallerLemmas.{Parts, count_parts, digits-half, digits-left, digits-mono, digits-right, digits-zero, equal_read, front-is_le, front-is_lt, get_in_node, length-concat-more, parted_node}
 
--- what a search that goes on from `from` has asked, `low` and `high` so far, in a list of `len` items
+-- the comparisons of an exponential search from `from`, with the bounds `low` and `high` so far, in
+-- a list of `len` items
 pub record Stepped (from low high len asked old : ℕ) : Type 0 where
   pub ahead : high ≡ len → low < high → asked + 1 ≤ old + digits (low - from + 1)
   pub bounded : high < len → asked + digits (high - low) ≤ old + (2 * digits (low - from) + 1)
@@ -59,7 +61,7 @@ module _ (from low high len asked old : ℕ) (order : from ≤ low) (some : low 
     | inr ge ↦ let e : high ≡ len = omega (arith, within, ge) in (omega (arith, ahead_at e), omega (arith, ahead_at e))
   ]
 
-  -- the item there comes before the end
+  -- the item there is before the end
   pub stepped_on : (at : ℕ) → at ≡ next_at → Stepped from (at + 1) high len (asked + 1) old
   stepped_on at is = elim (cases_lt high len) [
     | inl lt ↦
@@ -87,7 +89,7 @@ module _ (from low high len asked old : ℕ) (order : from ≤ low) (some : low 
         }
   ]
 
-  -- or it is past the end
+  -- the item there is past the end
   pub stepped_back : (at : ℕ) → at ≡ next_at → Stepped from low at len (asked + 1) old
   stepped_back at is = elim (cases_lt high len) [
     | inl lt ↦
@@ -126,7 +128,7 @@ past_not Greater h = refl
 pub at_most_all : {T : Type 0} (answer : T → Ordering) (l : List T) → not_greater_count answer l ≤ length l
 at_most_all answer l = count_by-le-length (λ x. is_le (answer x)) l
 
--- one item tells on which side of it they end
+-- the comparison with one item determines on which side of it the end is
 module _ {T : Type 0} (answer : T → Ordering) (l : List T) (parted : IsParted answer l) where
   parts : Parts (λ x. is_le (answer x)) l (not_greater_count answer l)
   parts = count_parts is_le front-is_le answer l parted
@@ -161,12 +163,12 @@ some_read [] i lt = absurd (omega arith)
 some_read (x ∷ xs) zero lt = (x, refl)
 some_read (x ∷ xs) (suc i) lt = some_read xs i (omega arith)
 
--- a node that is filled has a first item
+-- a node that is not empty has a first item
 pub no_first : {T : Type 0} (l : List T) → 1 ≤ length l → slice_get l 0 ≡ None → ⊥
 no_first [] some none = absurd (omega arith)
 no_first (x ∷ l) some none = none-some x (sym none)
 
--- the item after those answered Less
+-- the item after those found Less
 module _ {T : Type 0} (answer : T → Ordering) (l : List T) (parted : IsParted answer l) where
   abbrev first : ℕ
   first = less_count answer l
@@ -220,7 +222,7 @@ module _ {T : Type 0} (answer : T → Ordering) (l : List T) (parted : IsParted 
     other Equal h e = absurd (false≢true (sym e))
     other Greater h e = refl
 
--- how many items stand before a node, and before their end
+-- how many items precede a node, and how many precede the end
 abbrev pub before : {T : Type 0} → List (List T) → ℕ → ℕ
 before ns k = length (concat (take k ns))
 
@@ -236,7 +238,7 @@ module _ {T : Type 0} (answer : T → Ordering) (ns : List (List T)) (parted : I
     node_parted : IsParted answer (node_at ns k)
     node_parted = parted_node answer ns k lt parted
 
-    -- an item before the end is so in its node
+    -- an item before the end is also before the end in its node
     pub reaches : (o : ℕ) → o < length (node_at ns k) → before ns k + o < whole answer ns → o + 1 ≤ here
     reaches o inside before_end =
         let x = some_read (node_at ns k) o inside in
@@ -260,17 +262,17 @@ module _ {T : Type 0} (answer : T → Ordering) (ns : List (List T)) (parted : I
       | inr ge ↦ omega (arith, ended, ge, length-concat-more ns k lt)
     ]
 
-    -- the end stands in the node where the last of them does
+    -- the end is in the node of the last item before it
     pub ends_here : 1 ≤ here → whole answer ns ≤ before ns (k + 1) → before ns k + here ≡ whole answer ns
     ends_here some ended = omega (arith, at_least some, at_most ended)
 
-    -- and in the node, before its end
+    -- the end is in the node, before the node's end
     pub ends_inside : 1 ≤ here → here < length (node_at ns k) → before ns k + here ≡ whole answer ns
     ends_inside some inside =
         let x = some_read (node_at ns k) here inside in
         omega (arith, at_least some, run_stops answer (concat ns) parted (before ns k + here) x.0 (get_in_node ns k here lt inside ∙ x.1) (run_fails answer (node_at ns k) node_parted here x.0 x.1 (omega arith)))
 
-    -- the first item of a node tells on which side of the node they end
+    -- the comparison with the first item of a node determines on which side of it the end is
     module _ (x : T) (is : slice_get (node_at ns k) 0 ≡ Some x) where
       at_first : slice_get (concat ns) (before ns k + 0) ≡ Some x
       at_first = get_in_node ns k 0 lt (slice_get_within (node_at ns k) 0 x is) ∙ is
@@ -294,7 +296,8 @@ more_nodes ns some j (suc n) le =
     let next : j + suc n ≡ j + n + 1 = omega arith in
     rw next (omega (arith, more_nodes ns some j n (omega arith), length-concat-more ns (j + n) (omega arith), some (j + n) (omega arith)))
 
--- what a search for the end has asked, from `old` over `one` to `two` and `three`: the end is in the node of the place
+-- the comparisons of a search for the end, from `old` over `one` to `two` and `three`, if the end
+-- is in the node of the place
 pub few_near : (start offset end one two old : ℕ) → offset < end → one ≤ old + (2 * digits (end - (offset + 1)) + 1) → (offset + 1 ≡ end → one ≡ old) → two ≤ one + (2 * digits 0 + 1) → two ≤ old + (1 + 8 * digits (start + end - (start + offset) - 1))
 few_near start offset end one two old lt few none next =
     let same : start + end - (start + offset) - 1 ≡ end - (offset + 1) = omega arith in
@@ -303,7 +306,7 @@ few_near start offset end one two old lt few none next =
       | inr ge ↦ omega (arith, none (omega (arith, lt, ge)), next, digits-zero)
     ])
 
--- or in a later one
+-- if the end is in a later node
 pub few_far : {T : Type 0} (ns : List (List T)) → ((k : ℕ) → k < length ns → 1 ≤ length (node_at ns k)) → (j k offset end one two three old : ℕ) → offset < length (node_at ns j) → j < k → k < length ns → 1 ≤ end → one ≤ old + (2 * digits (length (node_at ns j) - (offset + 1)) + 1) → two ≤ one + (2 * digits (k - j) + 1) → three ≤ two + (2 * digits (end - 1) + 1) → three ≤ old + (1 + 8 * digits (before ns k + end - (before ns j + offset) - 1))
 few_far ns some j k offset end one two three old inside lt within begun first second third =
     let n = before ns k + end - (before ns j + offset) - 1 in
@@ -315,7 +318,7 @@ few_far ns some j k offset end one two three old inside lt within begun first se
     let last : end - 1 ≤ n = omega (arith, apart, more, inside, begun) in
     omega (arith, first, second, third, digits-mono _ n left, digits-mono _ n nodes, digits-mono _ n last, digits-some n (omega (arith, nodes, lt)))
 
--- a place some items ahead that is not in the node of this one
+-- a place some items ahead that is in a later node
 pub next_place : {T : Type 0} (ns : List (List T)) (k o left total size : ℕ) → k < length ns → size ≡ length (node_at ns k) → o ≤ size → before ns k + o + left ≡ total → total < length (concat ns) → size - o ≤ left → (k + 1 < length ns) × (before ns (k + 1) + 0 + (left - (size - o)) ≡ total)
 next_place ns k o left total size lt is inside sum within long =
     let more = length-concat-more ns k lt in (

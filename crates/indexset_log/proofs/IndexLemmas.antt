@@ -1,4 +1,4 @@
--- The index of a tree as halving a node and merging two change it.
+-- The index of a tree after a node is halved, and after two are merged.
 use Rattle.std.proofs.Common.{◌≡◌, ℕ, ◌+◌, ◌-◌, ◌/◌, ◌<◌, ◌≤◌, ◌⊎◌, List, [], ◌∷◌, ◌++◌, length, set, sum, take, drop, get_or, remove, inl, inr, ap, sym, refl, ◌∙◌, arith, length-append, length-drop}
 use Rattle.std.proofs.lemmas.List.{drop-set-lt, get_or-set_other, get_or-set_same, length-take-le, set-set, take-set-le}
 use Rattle.indexset_core.specs.Nodes.{concat, node_at, node_lengths}
@@ -25,7 +25,7 @@ module _ {X : Type 0} where
       let parts = take half n ∷ drop half n ∷ ends in
       omega (arith, length-concat ns, length-concat (take k ns ++ parts), ap (λ (l : List X). length l) (concat-append (take k ns) parts), ap (λ (l : List X). length l) (joined_around ns k inside), length-append (concat (take k ns)) (concat parts), length-append (concat (take k ns)) (n ++ concat ends), length-append n (concat ends), length-append (take half n) (drop half n ++ concat ends), length-append (drop half n) (concat ends), length-take-le half n (omega arith), length-drop half n)
 
-  -- two neighbours made one, once one of them has an item less
+  -- two neighbours merged after one of them lost an item
   module _ (ns : List (List X)) (j : ℕ) (inside : j + 1 < length ns) (k : ℕ) (m : List X) (which : (k ≡ j) ⊎ (k ≡ j + 1)) (less : length m + 1 ≡ length (node_at ns k)) where
     abbrev pub ls : List (List X)
     ls = set ns k m
@@ -55,7 +55,7 @@ module _ {X : Type 0} where
     pub some_items : 1 ≤ length (node_at (both ns j inside) j)
     some_items = omega (arith, shorter, two_long ns j inside)
 
-    -- made one, once one of them has an item less
+    -- merged after one of them lost an item
     pub merged : {index : List ℕ} {ms : List (List X)} → ms ≡ with_merged ls j → index ≡ block_sums (node_lengths (both ns j inside)) → set index (j / 32) (get_or index (j / 32) 0 - 1) ≡ block_sums (node_lengths ms)
     merged made is =
         let m2 = node_at ls j ++ node_at ls (j + 1) in

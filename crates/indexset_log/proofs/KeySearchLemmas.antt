@@ -1,4 +1,4 @@
--- What a search for a key tells of lawful nodes of pairs.
+-- The removal of a key's pair from lawful nodes, by the result of a search.
 use Rattle.std.proofs.Common.{◌≡◌, ℕ, ◌<◌, ◌≤◌, List, [], ◌∷◌, length, get_or, Some, None, Result, Ok, Err, Ordering, slice_get, refl, ap, sym, ◌∙◌, subst, arith}
 use Rattle.std.below.core.specs.declared.int.u64.TheConstants.{MAX}
 use Rattle.std.specs.Cmp.{IsTotalOrder}
@@ -37,14 +37,14 @@ module _ {K V Q : Type 0} {cmp : K → K → Ordering} {order : K → Q → Orde
   filled : All (λ n. 1 ≤ n) (node_lengths ns)
   filled = lawful_filled (by_key cmp) size ns law
 
-  -- the pair x of the key goes from the place
+  -- the removal of the key's pair x at the place p
   pub record KeyTaken (p : ℕ × ℕ) (x : Pair K V) : Type 0 where
     pub pair_is : pair_of order (concat ns) k ≡ Some x
     pub found : IsFoundIn by_sought ns k p.0 p.1
     pub events : key_removal_events order size ns k ≡ place_removal_events size ns p.0 p.1 x
     pub contents : concat (with_removed size ns p.0 p.1) ≡ without_key order (concat ns) k
 
-  -- there is no pair of the key
+  -- no pair has the key
   pub record NoKey : Type 0 where
     pub pair_is : pair_of order (concat ns) k ≡ None
     pub events : key_removal_events order size ns k ≡ []
@@ -66,7 +66,7 @@ module _ {K V Q : Type 0} {cmp : K → K → Ordering} {order : K → Q → Orde
             contents = sought_contents (pairs_total cmp o) law found (one_on (λ (q : Pair K V). q.key) one) here;
           }
 
-      -- how many events the removal gives
+      -- the number of events of the removal
       pub key_count : length (key_removal_events order size ns k) ≡ place_removal_count size ns p.0 p.1
       key_count =
           let n = node_at ns p.0 in

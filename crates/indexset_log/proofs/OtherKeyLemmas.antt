@@ -1,4 +1,4 @@
--- What is under the other keys, once a pair was put in or removed.
+-- The values of other keys after an insertion or a removal of a pair.
 use Rattle.std.proofs.Common.{◌≡◌, Bool, true, false, cond, not, List, [], ◌∷◌, filter, find, Option, Ordering, Some, None, IfSome, is_none, refl, ap, sym, ◌∙◌}
 use Rattle.std.specs.Cmp.{IsTotalOrder}
 use Rattle.std.specs.Option.{option_map, option_or}
@@ -14,7 +14,7 @@ use Rattle.indexset_core.specs.LookupKey.{OrdersAsItem}
 use Rattle.indexset_core.proofs.CallerLemmas.{equal_from, value_put}
 use Rattle.indexset_log.specs.Keys.{KeepsOthers}
 
--- a test that answers the same at all that another finds keeps it, or loses it
+-- p answers b at all items that the test own finds
 abbrev AnswersAt : {X : Type 0} → (X → Bool) → (X → Bool) → Bool → Type 0
 AnswersAt {X} own p b = (x : X) → own x ≡ true → p x ≡ b
 
@@ -57,7 +57,7 @@ module _ {K V : Type 0} (cmp : K → K → Ordering) (o : IsTotalOrder cmp) (k o
   own : Pair K V → Bool
   own p = is_eq (cmp p.key other)
 
-  -- what has the other key compares with k as that key does
+  -- a pair of the other key compares with k as the other key does
   like_other : (p : Pair K V) → own p ≡ true → cmp p.key k ≡ cmp other k
   unfolding own
   like_other p e = o.congr p.key other k (equal_from _ e)
@@ -80,7 +80,7 @@ module _ {K V Q : Type 0} {cmp : K → K → Ordering} {order : K → Q → Orde
   unfolding unequal
   beside_removed l = ap (option_map (λ p. p.value)) (find_kept (λ p. is_eq (cmp p.key other)) (λ p. not (is_eq (order p.key k))) (λ p e. ap not (ap is_eq (acts.alike k p.key other (equal_from _ e)) ∙ apart)) l)
 
--- the other keys keep their values, whether a pair is put in or removed
+-- an insertion or a removal of a pair keeps the values of the other keys
 module _ {K V : Type 0} {cmp : K → K → Ordering} (before after : List (List (Pair K V))) where
   pub others_put : IsTotalOrder cmp → (k : K) (w : V) → concat after ≡ put (by_key cmp) (concat before) (pair k w) → KeepsOthers cmp cmp before after k
   others_put o k w made other apart = ap (λ l. value_of cmp l other) made ∙ beside_put cmp o k other apart (concat before) w
@@ -88,7 +88,7 @@ module _ {K V : Type 0} {cmp : K → K → Ordering} (before after : List (List 
   pub others_removed : {Q : Type 0} {order : K → Q → Ordering} {among : Q → Q → Ordering} → OrdersAsItem cmp order among → (k : Q) → concat after ≡ without_key order (concat before) k → KeepsOthers cmp order before after k
   others_removed acts k made other apart = ap (λ l. value_of cmp l other) made ∙ beside_removed acts k other apart (concat before)
 
--- a pair that was put in only where its key was absent
+-- a pair inserted only if its key was absent
 module _ {K V : Type 0} {cmp : K → K → Ordering} (o : IsTotalOrder cmp) (l m : List (Pair K V)) (k : K) (w : V) where
   added_new : false ≡ has_key cmp l k → m ≡ keep (by_key cmp) l (pair k w) → value_of cmp m k ≡ Some w
   unfolding keep

@@ -1,4 +1,4 @@
--- A put into a tree, by what its call aims at.
+-- A put into a tree, by its aim.
 use Rattle.std.proofs.Common.{◌≡◌, ℕ, suc, ◌+◌, ◌/◌, ◌<◌, ◌≤◌, Bool, true, false, cond, if◌then◌else◌, List, [], ◌∷◌, ◌++◌, length, set, take, eqb, Option, Some, None, is_some, is_err, is_ok, Ordering, Result, Ok, Err, refl, ap, sym, ◌∙◌, subst, arith, length-append}
 use Rattle.std.specs.Cmp.{IsTotalOrder}
 use Rattle.std.specs.Ordering.{is_eq}
@@ -23,12 +23,12 @@ numbered-append s (x ∷ xs) ys =
     let next : s + 1 + length xs ≡ s + suc (length xs) = omega arith in
     ap (λ q. assigned s x ∷ q) (numbered-append (s + 1) xs ys ∙ ap (λ k. numbered_from (s + 1) xs ++ numbered_from k ys) next)
 
--- an item that is put where none equals it is one more
+-- a put adds one item if no equal one is present
 pub grown : (at : Result ℕ ℕ) → is_err at ≡ true → 1 ≤ cond (is_ok at) 0 1
 grown (Ok i) none = absurd (false≢true none)
 grown (Err i) none = omega arith
 
--- a put into a tree, as the code meets it
+-- a put into a tree, as the code makes it
 module _ {T : Type 0} {cmp : T → T → Ordering} {most size len : ℕ} {ns : List (List T)} (o : IsTotalOrder cmp) (t : IsTree cmp most ns size len) where
   ruled : Ruled cmp ns
   ruled = lawful_ruled cmp size ns t.lawful
@@ -90,7 +90,7 @@ module _ {T : Type 0} {cmp : T → T → Ordering} {most size len : ℕ} {ns : L
     pub whole_room : a.full ≡ false → length (node_at ns a.node) < size
     whole_room e = omega (arith, ne_from (length (node_at ns a.node)) size (eqb-false (length (node_at ns a.node)) size (sym h.full_is ∙ e)) (lawful_small cmp size ns t.lawful a.node h.node_in))
 
-    -- the nodes after the code made room, and the place of the one that the item goes into
+    -- the nodes after the code made room, and the place of the node that the item is inserted into
     module _ (seen : List (List T)) (p : ℕ) where
       pub record Spot : Type 0 where
         pub inside : p < length seen
@@ -112,7 +112,7 @@ module _ {T : Type 0} {cmp : T → T → Ordering} {most size len : ℕ} {ns : L
             made = rw some (ap (λ k. set ms k (put cmp (node_at ms k) v)) aims);
           })
 
-  -- by what its call aims at
+  -- by its aim
   pub count_aimed : (v : T) (aim : Option InsertPlan) → IsPlanned cmp size ns v aim → length (put_events cmp size ns v) ≡ count_for aim
   count_aimed v None none = ap (λ q. length q) (put_events_none cmp size v ns none)
   count_aimed v (Some a) h = events_count h

@@ -24,7 +24,7 @@ module _ {T : Type 0} (p : T → Bool) where
     | false ↦ λ e. rw e (up_filter cmp l h.1)
   ] refl
 
-  -- a filter of each node is one of the whole list
+  -- a filter of each node is a filter of the whole list
   pub concat-filter : (ns : List (List T)) → concat (map (filter p) ns) ≡ filter p (concat ns)
   concat-filter [] = refl
   concat-filter (n ∷ ns) = ap (λ q. filter p n ++ q) (concat-filter ns) ∙ sym (filter-append p n (concat ns))
@@ -43,7 +43,7 @@ module _ {T : Type 0} (p : T → Bool) where
   filtered_length (n ∷ ns) zero d lt = omega (arith, length-append (filter p n) [])
   filtered_length (n ∷ ns) (suc i) d lt = omega (arith, filtered_length ns i d (omega arith), length-append (filter p n) (concat (take (suc i) (map (filter p) ns))), length-append (filter p n) (concat (take i (map (filter p) ns))))
 
--- nodes that are left when the empty ones go
+-- the nodes without the empty ones
 pub joined_filled : {T : Type 0} (ns : List (List T)) → concat (filter is_filled ns) ≡ concat ns
 joined_filled [] = refl
 joined_filled ([] ∷ ns) = joined_filled ns
@@ -63,7 +63,7 @@ ranged_lawful cmp p size ns law =
     let rule = lawful_ruled cmp size ns law in
     lawful_from cmp size _ (record { filled = all_filled (map (filter p) ns); up = rw (joined_filled (map (filter p) ns), concat-filter p ns) (up_filter p cmp (concat ns) rule.up) }) (each_filter is_filled (λ n. length n ≤ size) (map (filter p) ns) (each_fewer p size ns (lawful_bounded cmp size ns law)))
 
--- the nodes as the code holds them, when the empty ones go
+-- the nodes without the empty ones, as the code holds them
 pub filled-map : {T N : Type 0} (f : N → List T) (q : N → Bool) → ((v : N) → q v ≡ is_filled (f v)) → (vs : List N) → map f (filter q vs) ≡ filter is_filled (map f vs)
 filled-map f q same [] = refl
 filled-map f q same (v ∷ vs) =
@@ -72,7 +72,8 @@ filled-map f q same (v ∷ vs) =
       | false ↦ λ e. rw (same v ∙ e, e) (filled-map f q same vs)
     ] refl
 
--- a turn of the loop that filters one node after another, the nodes as the code holds them: it leaves w in the place
+-- an iteration of the loop that filters one node after another, in the nodes as the code holds
+-- them: it leaves w at the place
 pub record Turned {T N : Type 0} (f : N → List T) (p : T → Bool) (old nodes : List N) (i : ℕ) (w : N) : Type 0 where
   pub nodes_are : map f (set nodes i w) ≡ take (i + 1) (map (filter p) (map f old)) ++ drop (i + 1) (map f old)
   pub count : length (concat (take i (map (filter p) (map f old)))) + length (f w) ≡ length (concat (take (i + 1) (map (filter p) (map f old))))
@@ -90,7 +91,7 @@ turned f p old nodes i v w inside long so_far read made =
       fits = omega (arith, count, length-concat-take (map (filter p) (map f old)) (i + 1), joined_fewer p (map f old));
     }
 
--- all turns done
+-- all iterations done
 module _ {T N : Type 0} (f : N → List T) (h : List T → List T) (old : List N) (i : ℕ) (past : length old ≤ i) where
   pub turned_take : take i (map h (map f old)) ≡ map h (map f old)
   turned_take = take_all i (map h (map f old)) (omega (arith, length-map (map f old) h, length-map old f))

@@ -1,4 +1,4 @@
--- A tree as its contract sees it, and as the code holds it.
+-- A tree in its contract, and as the code holds it.
 use Rattle.std.proofs.Common.{◌≡◌, ℕ, ◌+◌, ◌-◌, ◌<◌, ◌≤◌, Option, Some, None, List, cond, map, length, get_or, slice_get, take, Ordering, ap, refl, subst, sym, ◌∙◌, arith}
 use Rattle.std.specs.Cmp.{IsTotalOrder}
 use Rattle.std.specs.Iterator.Runs.{ItemsAre, Run}
@@ -15,22 +15,22 @@ use Rattle.indexset_index.specs.Blocks.{block_sums}
 use Rattle.indexset_log.specs.Tree.{Tree, IsIndexed, IsTree, refusal_for}
 use Rattle.indexset_events.proofs.CallerLemmas.{added, length_view, node_is, put_counted, put_lawful, taken_counted, taken_lawful}
 
--- where a call is refused for want of numbers, its events do not fit
+-- a call fails with `Numbers` only if its events do not fit the counter
 pub ran_out : (next count : ℕ) → Numbers ≡ refusal_for next count → MAX < next + count
 ran_out next count refused = grind (arith, nat_tests)
 
--- a run that reads a list gives a front of it
+-- a run that reads a list yields a prefix of it
 pub front_of_run : {S A : Type 0} {steps : S → Option A → S → Type 0} (p : Run steps) (xs : List A) → ItemsAre p xs → p.items ≡ take p.len xs
 front_of_run p xs are =
     same_lists p.items (take p.len xs) (sym p.long ∙ sym (length-take-le p.len xs are.0)) (λ k d inside.
     let here : k < p.len = omega (arith, p.long, inside) in
     same_Some _ _ (sym (p.reads k d here) ∙ are.2 k d here) ∙ sym (get_or-take p.len xs k d here))
 
--- what the lemmas ask of a tree, from what a caller learns
+-- the premises of the lemmas, from the facts that a caller has
 pub tree_of : {T : Type 0} {cmp : T → T → Ordering} {size : ℕ} {ns : List (List T)} → IsLawful cmp size ns → 2 ≤ size → IsTree cmp size ns size (length (concat ns))
 tree_of law two = record { lawful = law; two = two; within = omega arith; counted = refl }
 
--- f tells the list of each node that the code holds
+-- the tree as the code holds it, where f gives the list of a node
 pub record Held {T N : Type 0} (cmp : T → T → Ordering) (most : ℕ) (f : N → List T) (items : List N) (size len next : ℕ) (index : List ℕ) (t : Tree T) : Type 0 where
   pub same : map f items ≡ t.nodes
   pub many : length t.nodes ≡ length items
@@ -54,7 +54,7 @@ module _ {T N : Type 0} {cmp : T → T → Ordering} {most size len next : ℕ} 
   pub node_held : {f : N → List T} {items : List N} {n : N} → Held cmp most f items size len next index t → (k : ℕ) → k < length t.nodes → n ≡ get_or items k n → f n ≡ node_at t.nodes k
   node_held {f = f} {items = items} {n = n} h k lt is = node_is f items t.nodes k n h.same (omega (arith, lt, h.many)) is
 
--- the rule of a tree after a put, after a removal, and with a node added
+-- the invariant of a tree after a put, after a removal, and after the insertion of a node
 pub put_tree : {T : Type 0} {cmp : T → T → Ordering} {most size len : ℕ} {ns : List (List T)} (o : IsTotalOrder cmp) → IsTree cmp most ns size len → (v : T) → IsTree cmp most (with_put cmp size ns v) size (len + cond (has_equal cmp (concat ns) v) 0 1)
 put_tree o t v = record { lawful = put_lawful o t.two t.lawful v; two = t.two; within = t.within; counted = omega (arith, t.counted, put_counted o t.two t.lawful v) }
 

@@ -1,4 +1,4 @@
--- What calls make of the tree.
+-- The tree after each call.
 use Rattle.std.specs.Prelude.{ℕ, ◌+◌, length, if◌then◌else◌}
 use Rattle.std.specs.declared.cmp.Ordering.{Ordering}
 use Rattle.std.specs.List.{list_any}
@@ -18,17 +18,17 @@ module _ {T : Type 0} where
   abbrev pub after_checked_put : (T → T → Ordering) → Tree T → T → Tree T
   after_checked_put cmp t v = record { nodes = with_checked_put cmp t.size t.nodes v; size = t.size; next = t.next + length (checked_put_events cmp t.size t.nodes v) }
 
-  -- the tree after the item at place i of the node at place k is removed
+  -- the tree after the removal of the item at offset i of the node at index k
   abbrev pub after_place_removal : Tree T → ℕ → ℕ → Tree T
   after_place_removal t k i = record { nodes = with_removed t.size t.nodes k i; size = t.size; next = t.next + place_removal_count t.size t.nodes k i }
 
-  -- the tree after the removal of the item that is found Equal: it stays where none is
+  -- the tree after the removal of the item that is found Equal, if any
   unfoldable pub after_removal_by : (T → Ordering) → Tree T → Tree T
   after_removal_by answer t =
       let k = node_for answer t.nodes in
       let n = node_at t.nodes k in
       if list_any (λ x. is_eq (answer x)) n then after_place_removal t k (less_count answer n) else t
 
-  -- the tree after a removal: it stays where no item equals v
+  -- the tree after the removal of the item that equals v, if any
   abbrev pub after_removal : {Q : Type 0} → (T → Q → Ordering) → Tree T → Q → Tree T
   after_removal cmp t v = after_removal_by (λ x. cmp x v) t

@@ -1,4 +1,4 @@
--- Removal of ranges.
+-- The removal of ranges.
 use Rattle.std.specs.Prelude.{not, List, filter, map}
 use Rattle.std.specs.declared.cmp.Ordering.{Ordering}
 use Rattle.std.specs.declared.ops.Bound.{Bound}
@@ -10,6 +10,6 @@ module _ {T Q : Type 0} (cmp : T → Q → Ordering) where
   abbrev pub outside : Bound Q → Bound Q → List T → List T
   outside start end l = filter (λ x. not (is_within cmp start end x)) l
 
-  -- the nodes without their items within the bounds: those that are left empty go
+  -- the nodes without their items within the bounds, and without the nodes that are then empty
   abbrev pub without_range : List (List T) → Bound Q → Bound Q → List (List T)
   without_range ns start end = filter is_filled (map (outside start end) ns)

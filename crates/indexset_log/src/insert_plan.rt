@@ -1,10 +1,10 @@
-//! Where an item goes.
+//! Where an item is inserted.
 ghost use Rattle.std.specs.Prelude.{◌≡◌, ◌+◌, cond, is_ok};
 ghost use Rattle.indexset_log.specs.InsertPlan.{count_for, is_present};
 
-/// Where an item goes: the target, whether that is full and is halved first, whether the item then
-/// goes into the right half, and its place in the node or the half: `Ok` that of an equal item,
-/// `Err` a gap.
+/// Where an item is inserted: the target node, whether it is full and is halved first, whether the
+/// item then belongs in the right half, and the offset in the node or the half: `Ok` for that of an
+/// equal item, `Err` for a gap.
 #[derive(Drop)]
 pub(crate) struct InsertPlan {
     pub(crate) node: usize,
@@ -14,7 +14,7 @@ pub(crate) struct InsertPlan {
 }
 
 impl InsertPlan {
-    /// Returns how many events a put there gives.
+    /// Returns the number of events of a put there.
     pub(crate) fn count(&self) -> u64
         ensures { result ≡ cond self.now.full 1 0 + cond (is_ok self.now.at) 2 1 }
     {
@@ -23,7 +23,7 @@ impl InsertPlan {
         halvings + puts
     }
 
-    /// Returns how many items more there are after a put there.
+    /// Returns the number of items that a put there adds.
     pub(crate) fn growth(&self) -> usize
         ensures { result ≡ cond (is_ok self.now.at) 0 1 }
     {
@@ -31,8 +31,7 @@ impl InsertPlan {
     }
 }
 
-/// Returns how many events a put gives. In an empty tree there is no aim, and the first put makes a
-/// node.
+/// Returns the number of events of a put. An empty tree has no aim; its first put creates a node.
 pub(crate) fn event_count(aim: &Option<InsertPlan>) -> u64
     ensures { result ≡ count_for aim.now }
 {

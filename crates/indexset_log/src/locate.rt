@@ -8,8 +8,8 @@ ghost use Rattle.indexset_core.specs.Nodes.{concat, node_lengths};
 use indexset_core::node::NodeLike;
 use indexset_core::probe::Probe;
 
-/// Returns how many items are not found Greater, where the first `from` are not: by steps from
-/// there that double, and a binary search once one was too long.
+/// Returns how many items are not found Greater, if the first `from` are not, by exponential search
+/// from there.
 pub(crate) fn run_end<T, P: Probe<T>>(items: &[T], from: usize, probe: &mut P) -> usize
     requires parted { IsParted (P.answer probe.old) items.now }
     requires from { from ≤ not_greater_count (P.answer probe.old) items.now }
@@ -31,8 +31,8 @@ pub(crate) fn run_end<T, P: Probe<T>>(items: &[T], from: usize, probe: &mut P) -
     low
 }
 
-/// Returns the last node whose first item is not found Greater, where that of the node given is
-/// not: by steps from there that double, and a binary search once one was too long.
+/// Returns the last node whose first item is not found Greater, if that of `node` is not, by
+/// exponential search from there.
 pub(crate) fn last_started<T: Ord + Drop, Node: NodeLike<T>, P: Probe<T>>(
     nodes: &[Node],
     node: usize,
@@ -69,8 +69,7 @@ pub(crate) fn last_started<T: Ord + Drop, Node: NodeLike<T>, P: Probe<T>>(
     low - 1
 }
 
-// Returns where a search between two indices compares next: as far ahead as it has
-// come, or in the middle.
+// Returns the index that a search compares next: twice as far from the start, or in the middle.
 fn next_step(from: usize, low: usize, high: usize, ahead: bool) -> usize
     requires order { from ≤ low }
     requires some { low < high }

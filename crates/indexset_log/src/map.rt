@@ -33,8 +33,9 @@ use indexset_core::refusal::Refused;
 use std::alloc::Global;
 use std::marker::Model;
 
-/// A list of pairs, ascending by key and partitioned into nodes, which returns its changes as
-/// events.
+/// A logged map: pairs ascending by key, partitioned into nodes.
+///
+/// It returns its changes as events.
 ///
 /// ```
 /// let mut tree: map::BTreeMap<u64, u64, Vec<Pair<u64, u64>>> = map::BTreeMap::new(alloc);
@@ -65,8 +66,9 @@ impl<K: Ord + Clone + Drop, V: Clone + Drop, Node: NodeLike<Pair<K, V>>> Model
 }
 
 impl<K: Ord + Clone + Drop, V: Clone + Drop, Node: NodeLike<Pair<K, V>>> BTreeMap<K, V, Node> {
-    /// Returns an empty map, whose nodes are to hold at most `size` pairs each, and whose events
-    /// are numbered from `next`.
+    /// Returns an empty map with nodes of at most `size` pairs and events numbered from `next`.
+    ///
+    /// The size must be at least 2 and at most the limit of the node type.
     ///
     /// ```
     /// let tree: map::BTreeMap<u64, u64, Vec<Pair<u64, u64>>> = map::BTreeMap::starting_at(alloc, 256, 100);
@@ -82,9 +84,11 @@ impl<K: Ord + Clone + Drop, V: Clone + Drop, Node: NodeLike<Pair<K, V>>> BTreeMa
         }
     }
 
-    /// Returns the map of these nodes, whose events are numbered from `next`, as the set makes it:
-    /// the nodes are taken as they are, one number for each is allocated, and no event number is
-    /// consumed. A failed call returns the nodes in the error.
+    /// Returns the map of these nodes, with events numbered from `next`.
+    ///
+    /// The nodes become those of the map; no pair is copied and no event number is consumed.
+    ///
+    /// # Examples
     ///
     /// ```
     /// // A replica goes on as the map.
@@ -94,6 +98,15 @@ impl<K: Ord + Clone + Drop, V: Clone + Drop, Node: NodeLike<Pair<K, V>>> BTreeMa
     /// let tree: map::BTreeMap<u64, u64, Vec<Pair<u64, u64>>> = map::BTreeMap::from_nodes(replica.into_nodes(), 64, next)?;
     /// assert!(rt; tree.contains_key(&5) && tree.events_issued() == 1);
     /// ```
+    ///
+    /// # Errors
+    ///
+    /// Fails as the set's `from_nodes`: with `Empty`, `TooLarge`, `Unsorted` or `Overlaps`, else
+    /// with `Memory`. A failed call returns the nodes in the error.
+    ///
+    /// # Complexity
+    ///
+    /// Allocates one number for every 32 nodes.
     pub fn from_nodes(nodes: Vec<Node>, size: usize, next: u64) -> Result<Self, Refused<Vec<Node>>>
         requires two { 2 ≤ size }
         requires within { size ≤ Node.most }
@@ -111,7 +124,9 @@ impl<K: Ord + Clone + Drop, V: Clone + Drop, Node: NodeLike<Pair<K, V>>> BTreeMa
         }
     }
 
-    /// Returns an empty map, whose events are numbered from 0.
+    /// Returns an empty map with nodes of at most `size` pairs and events numbered from 0.
+    ///
+    /// The size must be at least 2 and at most the limit of the node type.
     ///
     /// ```
     /// let tree: map::BTreeMap<u64, u64, Vec<Pair<u64, u64>>> = map::BTreeMap::with_maximum_node_size(alloc, 256);
@@ -125,7 +140,7 @@ impl<K: Ord + Clone + Drop, V: Clone + Drop, Node: NodeLike<Pair<K, V>>> BTreeMa
         BTreeMap::starting_at(alloc, size, 0)
     }
 
-    /// Returns an empty map of the default node size, whose events are numbered from 0.
+    /// Returns an empty map of the default node size, with events numbered from 0.
     ///
     /// ```
     /// let mut tree: map::BTreeMap<u64, u64, Vec<Pair<u64, u64>>> = map::BTreeMap::new(alloc);
@@ -139,7 +154,7 @@ impl<K: Ord + Clone + Drop, V: Clone + Drop, Node: NodeLike<Pair<K, V>>> BTreeMa
         BTreeMap::with_maximum_node_size(alloc, DEFAULT_INNER_SIZE)
     }
 
-    /// Returns an empty map, as `new` makes it.
+    /// Returns an empty map, as `new`.
     ///
     /// ```
     /// let tree: map::BTreeMap<u64, u64, Vec<Pair<u64, u64>>> = map::BTreeMap::default(alloc);
@@ -166,7 +181,7 @@ impl<K: Ord + Clone + Drop, V: Clone + Drop, Node: NodeLike<Pair<K, V>>> BTreeMa
         self.set.len()
     }
 
-    /// Returns whether there is no pair.
+    /// Returns true if the map contains no pairs.
     ///
     /// ```
     /// let mut tree: map::BTreeMap<u64, u64, Vec<Pair<u64, u64>>> = map::BTreeMap::new(alloc);
@@ -180,8 +195,10 @@ impl<K: Ord + Clone + Drop, V: Clone + Drop, Node: NodeLike<Pair<K, V>>> BTreeMa
         self.set.is_empty()
     }
 
-    /// Returns the number of nodes: no more than pairs. None is empty or holds more than the node
-    /// size, and the pairs of all ascend by key, one node after another.
+    /// Returns the number of nodes.
+    ///
+    /// No node is empty or has more pairs than the node size, and the pairs ascend by key, within
+    /// and across nodes.
     ///
     /// ```
     /// let mut tree: map::BTreeMap<u64, u64, Vec<Pair<u64, u64>>> = map::BTreeMap::new(alloc);
@@ -197,8 +214,7 @@ impl<K: Ord + Clone + Drop, V: Clone + Drop, Node: NodeLike<Pair<K, V>>> BTreeMa
         self.set.node_count()
     }
 
-    /// Returns how many pairs there is room for: the sum of the nodes' capacities, which stops at
-    /// `usize::MAX`.
+    /// Returns the sum of the capacities of the nodes, at most `usize::MAX`.
     ///
     /// ```
     /// let mut tree: map::BTreeMap<u64, u64, Vec<Pair<u64, u64>>> = map::BTreeMap::new(alloc);
@@ -227,7 +243,7 @@ impl<K: Ord + Clone + Drop, V: Clone + Drop, Node: NodeLike<Pair<K, V>>> BTreeMa
         self.set.events_issued()
     }
 
-    /// Returns the allocator that it keeps.
+    /// Returns the allocator of the map.
     ///
     /// ```
     /// // A key made by the allocator of the map.
@@ -257,8 +273,11 @@ impl<K: Ord + Clone + Drop, V: Clone + Drop, Node: NodeLike<Pair<K, V>>> BTreeMa
         self.set.iter_nodes()
     }
 
-    /// Inserts a whole node of pairs, as the set does. It emits no event and consumes no event
-    /// number. A failed call returns the node in the error and changes nothing.
+    /// Inserts a node of pairs among the other nodes.
+    ///
+    /// It emits no event and consumes no event number.
+    ///
+    /// # Examples
     ///
     /// ```
     /// let mut tree: map::BTreeMap<u64, u64, Vec<Pair<u64, u64>>> = map::BTreeMap::new(alloc);
@@ -267,6 +286,11 @@ impl<K: Ord + Clone + Drop, V: Clone + Drop, Node: NodeLike<Pair<K, V>>> BTreeMa
     /// tree.attach_node(vec![in alloc; Pair { key: 5, value: 50 }]?)?;
     /// assert!(rt; tree.node_count() == 2 && tree.last_key_value() == Some((&5, &50)));
     /// ```
+    ///
+    /// # Errors
+    ///
+    /// Fails as the set's `attach_node`: with `Empty`, `TooLarge`, `Unsorted` or `Overlaps`, else
+    /// with `Memory`. A failed call returns the node in the error and changes nothing.
     pub fn attach_node(&mut self, node: Node) -> Result<(), Refused<Node>>
         ensures nodes { OnOk result (self.new.nodes ≡ attached (by_key K.cmp) self.old.nodes
             (Node.list node)) }
@@ -285,7 +309,7 @@ impl<K: Ord + Clone + Drop, V: Clone + Drop, Node: NodeLike<Pair<K, V>>> BTreeMa
         self.set.attach_node(node)
     }
 
-    /// Returns the pair of a key, or `None` if there is none.
+    /// Returns the pair of a key, if any.
     ///
     /// ```
     /// let mut tree: map::BTreeMap<u64, u64, Vec<Pair<u64, u64>>> = map::BTreeMap::new(alloc);
@@ -298,8 +322,11 @@ impl<K: Ord + Clone + Drop, V: Clone + Drop, Node: NodeLike<Pair<K, V>>> BTreeMa
         self.set.get_by(&mut self.by_key(&key))
     }
 
-    /// Returns the first pair that the comparator finds equal, or `None` if there is none, by
-    /// two binary searches, as `get` makes. The comparator must find the pairs in order.
+    /// Returns the first pair that the comparator finds equal, if any.
+    ///
+    /// The comparator must find the pairs in order.
+    ///
+    /// # Examples
     ///
     /// ```
     /// // A text key, found by a &str without an allocation.
@@ -308,6 +335,10 @@ impl<K: Ord + Clone + Drop, V: Clone + Drop, Node: NodeLike<Pair<K, V>>> BTreeMa
     /// let mut sought = OnKey::new(ByStr::new("pear"));
     /// assert!(rt; prices.get_by(&mut sought).is_some_and(|pair| pair.value == 120));
     /// ```
+    ///
+    /// # Complexity
+    ///
+    /// Makes two binary searches, as `get`.
     pub fn get_by<P: Probe<Pair<K, V>>>(&self, probe: &mut P) -> Option<&Pair<K, V>>
         requires { IsParted (P.answer probe.old) (concat self.now.nodes) }
         ensures value { option_copied result ≡ find (λ p. is_eq (P.answer probe.old p))
@@ -319,7 +350,9 @@ impl<K: Ord + Clone + Drop, V: Clone + Drop, Node: NodeLike<Pair<K, V>>> BTreeMa
         self.set.get_by(probe)
     }
 
-    /// Returns whether a key is present, by two binary searches.
+    /// Returns true if the map contains the key.
+    ///
+    /// # Examples
     ///
     /// ```
     /// let mut tree: map::BTreeMap<u64, u64, Vec<Pair<u64, u64>>> = map::BTreeMap::new(alloc);
@@ -327,6 +360,10 @@ impl<K: Ord + Clone + Drop, V: Clone + Drop, Node: NodeLike<Pair<K, V>>> BTreeMa
     /// tree.insert(2, 20)?;
     /// assert!(rt; tree.contains_key(&1) && !tree.contains_key(&3));
     /// ```
+    ///
+    /// # Complexity
+    ///
+    /// Makes two binary searches.
     pub fn contains_key<Q: LookupKey<K> + Drop>(&self, key: Q) -> bool
         ensures { result ≡ has_key Q.order (concat self.now.nodes) key }
     {
@@ -338,19 +375,19 @@ impl<K: Ord + Clone + Drop, V: Clone + Drop, Node: NodeLike<Pair<K, V>>> BTreeMa
         ensures probe { result ≡ (key.now, 0) }
         ensures parted { IsParted (λ p. Q.order p.key key.now) (concat self.now.nodes) }
     {
-        // The contract of `node_count` says that the pairs ascend.
+        // The contract of `node_count` states that the pairs ascend.
         let _nodes = self.set.node_count();
         ByKey::new(key)
     }
 
-    // Returns where a search for a key ends.
+    // Returns the place where a search for a key ends.
     fn locate<Q: LookupKey<K> + Drop>(&self, key: Q) -> Result<(usize, usize), (usize, usize)>
         ensures place { result ≡ located (λ p. Q.order p.key key) self.now.nodes }
         ensures lawful { IsLawful (by_key K.cmp) self.now.size self.now.nodes }
         ensures two { 2 ≤ self.now.size }
         ensures number { self.now.next ≤ u64.MAX }
     {
-        // The counter fits a u64, so a call without events lacks no number.
+        // The counter fits a u64, so a call without events does not overflow it.
         let _next = self.set.events_issued();
         self.set.locate(&mut self.by_key(&key))
     }

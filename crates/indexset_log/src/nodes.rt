@@ -1,4 +1,4 @@
-//! What is done to the nodes.
+//! Edits of the node list and its index.
 ghost use Rattle.std.specs.Prelude.{◌≡◌, ◌+◌, ◌/◌, ◌<◌, ◌≤◌, ◌++◌, Bool, true, false, IsTrue, [], vec_len, vec_capacity, length, map, set, cond, if◌then◌else◌, min, sum_by, Option, Some, nat_le, ◌⊎◌, insert, remove, slice_get, IfOk, OnOk, IfErr, OnErr, IsOk, is_err};
 ghost use Rattle.std.specs.List.{HoldsAt};
 ghost use Rattle.indexset_core.specs.Nodes.{concat, node_at, node_lengths};
@@ -15,7 +15,7 @@ use indexset_core::refusal::{Refusal, Refused};
 use indexset_index::blocks::Blocks;
 use std::alloc::Global;
 
-/// A node that stays whole, or the half of one that is full.
+/// Returns a node, or one half of it if it is full.
 pub(crate) fn part_of<T>(items: &[T], full: bool, right: bool) -> &[T]
     ensures { result.now ≡ half_of full right items.now }
 {
@@ -66,8 +66,8 @@ pub(crate) fn halve_at<T: Ord + Drop, Node: NodeLike<T>>(
     }
 }
 
-/// Makes room where an item goes, and returns its node: a full node is halved. A failed call leaves
-/// the items as they are.
+/// Makes room for an item, by halving a full node, and returns the place of its node. A failed call
+/// leaves the items as they are.
 pub(crate) fn make_room<T: Ord + Drop, Node: NodeLike<T>>(
     nodes: &mut Vec<Node>,
     index: &mut Blocks,
@@ -103,8 +103,7 @@ pub(crate) fn make_room<T: Ord + Drop, Node: NodeLike<T>>(
     Ok(aim.node)
 }
 
-/// Inserts an item into its place in a node that has room, and returns the equal item that it
-/// replaces.
+/// Inserts an item into a node that has room, or replaces an equal one and returns it.
 pub(crate) fn put_in<T: Ord + Drop, Node: NodeLike<T>>(
     nodes: &mut Vec<Node>,
     index: &mut Blocks,
@@ -140,7 +139,8 @@ pub(crate) fn put_in<T: Ord + Drop, Node: NodeLike<T>>(
     }
 }
 
-/// Returns an empty node with room for one item, and makes room for it in the list and the index.
+/// Returns an empty node with room for one item, and reserves room for it in the list and the
+/// index.
 pub(crate) fn first_node<T: Ord + Drop, Node: NodeLike<T>>(
     nodes: &mut Vec<Node>,
     index: &mut Blocks,
@@ -159,14 +159,14 @@ pub(crate) fn first_node<T: Ord + Drop, Node: NodeLike<T>>(
     Node::with_capacity(*nodes.allocator(), 1)
 }
 
-/// Returns whether two nodes of these lengths hold no more than `most` items together.
+/// Returns whether two nodes of these lengths hold at most `most` items together.
 pub(crate) fn fit_in_one_node(left: usize, right: usize, most: usize) -> bool
     ensures { result ≡ nat_le (left + right) most }
 {
     left <= most && right <= most - left
 }
 
-/// Inserts a whole node at a place. A failed call returns it in the error and changes nothing.
+/// Inserts a node at a place. A failed call returns it in the error and changes nothing.
 pub(crate) fn insert_node<T: Ord + Drop, Node: NodeLike<T>>(
     nodes: &mut Vec<Node>,
     index: &mut Blocks,
@@ -202,7 +202,7 @@ pub(crate) fn insert_node<T: Ord + Drop, Node: NodeLike<T>>(
     }
 }
 
-/// Removes the item at a place, and a node that it leaves empty.
+/// Removes the item at a place, and the node if this empties it.
 pub(crate) fn remove_item<T: Ord + Drop, Node: NodeLike<T>>(
     nodes: &mut Vec<Node>,
     index: &mut Blocks,
@@ -226,8 +226,8 @@ pub(crate) fn remove_item<T: Ord + Drop, Node: NodeLike<T>>(
     nodes[node].remove_at(offset)
 }
 
-/// Removes the item at a place, and merges the node at `left` with the one after it: the item is in
-/// either. Room is reserved first. A failed call leaves the items as they are.
+/// Removes the item at a place, which is in the node at `left` or the next one, and merges the two.
+/// It reserves room first. A failed call leaves the items as they are.
 pub(crate) fn remove_and_merge<T: Ord + Drop, Node: NodeLike<T>>(
     nodes: &mut Vec<Node>,
     index: &mut Blocks,
@@ -260,7 +260,7 @@ pub(crate) fn remove_and_merge<T: Ord + Drop, Node: NodeLike<T>>(
     let first = &mut nodes[left];
     first.reserve(more)?;
     let mut next = nodes.remove(left + 1);
-    // The sum of all lengths fits.
+    // The sum of all lengths fits a usize.
     let _count = index.len();
     index.remove::<T, Node, OfNode>(left + 1, more, nodes.as_slice());
     index.add(left, more);
@@ -288,7 +288,7 @@ pub(crate) fn index_of<T: Ord + Drop, Node: NodeLike<T>>(
     Blocks::from_nodes::<T, Node, OfNode>(alloc, nodes)
 }
 
-/// Returns how many items the nodes have room for, up to `usize::MAX`.
+/// Returns the sum of the capacities of the nodes, at most `usize::MAX`.
 pub(crate) fn capacity_of<T: Ord + Drop, Node: NodeLike<T>>(nodes: &[Node]) -> usize
     ensures value { result ≡ min usize.MAX (sum_by Node.room nodes.now) }
     ensures enough { min usize.MAX (length (concat (map Node.list nodes.now))) ≤ result }

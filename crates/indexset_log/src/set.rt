@@ -35,7 +35,9 @@ use indexset_index::blocks::Blocks;
 use std::alloc::Global;
 use std::marker::{Model, PhantomData};
 
-/// An ascending list partitioned into nodes, which returns its changes as events.
+/// A logged set: items in ascending order, partitioned into nodes.
+///
+/// It returns its changes as events.
 ///
 /// ```
 /// let mut tree: set::BTreeSet<u64, Vec<u64>> = set::BTreeSet::new(alloc);
@@ -49,11 +51,11 @@ use std::marker::{Model, PhantomData};
 #[derive(Drop)]
 pub struct BTreeSet<T: Ord + Clone + Drop, Node: NodeLike<T> = Vec<T>> {
     nodes: Vec<Node>,
-    // How many items a node holds at most.
+    // The maximum number of items in a node.
     size: usize,
-    // How many items there are.
+    // The number of items.
     len: usize,
-    // The lengths of the nodes, summed by blocks of 32.
+    // The lengths of the nodes, summed over blocks of 32.
     index: Blocks,
     // The number of the next event.
     next: u64,
@@ -77,7 +79,9 @@ impl<T: Ord + Clone + Drop, Node: NodeLike<T>> Model for BTreeSet<T, Node> {
 }
 
 impl<T: Ord + Clone + Drop, Node: NodeLike<T>> BTreeSet<T, Node> {
-    /// Returns an empty tree, whose events are numbered from `next`.
+    /// Returns an empty tree with nodes of at most `size` items and events numbered from `next`.
+    ///
+    /// The size must be at least 2 and at most the limit of the node type.
     ///
     /// ```
     /// let tree: set::BTreeSet<u64, Vec<u64>> = set::BTreeSet::starting_at(alloc, 256, 100);
@@ -99,7 +103,9 @@ impl<T: Ord + Clone + Drop, Node: NodeLike<T>> BTreeSet<T, Node> {
         }
     }
 
-    /// Returns an empty tree, whose events are numbered from 0.
+    /// Returns an empty tree with nodes of at most `size` items and events numbered from 0.
+    ///
+    /// The size must be at least 2 and at most the limit of the node type.
     ///
     /// ```
     /// let tree: set::BTreeSet<u64, Vec<u64>> = set::BTreeSet::with_maximum_node_size(alloc, 256);
@@ -113,7 +119,7 @@ impl<T: Ord + Clone + Drop, Node: NodeLike<T>> BTreeSet<T, Node> {
         BTreeSet::starting_at(alloc, size, 0)
     }
 
-    /// Returns an empty tree of the default node size, whose events are numbered from 0.
+    /// Returns an empty tree of the default node size, with events numbered from 0.
     ///
     /// ```
     /// let tree: set::BTreeSet<u64, Vec<u64>> = set::BTreeSet::new(alloc);
@@ -126,7 +132,7 @@ impl<T: Ord + Clone + Drop, Node: NodeLike<T>> BTreeSet<T, Node> {
         BTreeSet::with_maximum_node_size(alloc, DEFAULT_INNER_SIZE)
     }
 
-    /// Returns an empty tree, as `new` makes it.
+    /// Returns an empty tree, as `new`.
     ///
     /// ```
     /// let tree: set::BTreeSet<u64, Vec<u64>> = set::BTreeSet::default(alloc);
@@ -151,7 +157,7 @@ impl<T: Ord + Clone + Drop, Node: NodeLike<T>> BTreeSet<T, Node> {
         self.len
     }
 
-    /// Returns whether there is no item.
+    /// Returns true if the tree contains no items.
     ///
     /// ```
     /// let mut tree: set::BTreeSet<u64, Vec<u64>> = set::BTreeSet::new(alloc);
@@ -165,8 +171,10 @@ impl<T: Ord + Clone + Drop, Node: NodeLike<T>> BTreeSet<T, Node> {
         self.len == 0
     }
 
-    /// Returns the number of nodes: no more than items. None is empty or holds more than the node
-    /// size, and the items of all ascend, one node after another.
+    /// Returns the number of nodes.
+    ///
+    /// No node is empty or has more items than the node size, and the items ascend, within and
+    /// across nodes.
     ///
     /// ```
     /// // The fifth item halves a full node.
@@ -198,8 +206,9 @@ impl<T: Ord + Clone + Drop, Node: NodeLike<T>> BTreeSet<T, Node> {
         self.next
     }
 
-    /// Returns how many items a node holds at most: at least 2, and within the limit of the node
-    /// type.
+    /// Returns the maximum number of items in a node.
+    ///
+    /// It is at least 2 and at most the limit of the node type.
     ///
     /// ```
     /// let tree: set::BTreeSet<u64, Vec<u64>> = set::BTreeSet::new(alloc);
@@ -213,7 +222,7 @@ impl<T: Ord + Clone + Drop, Node: NodeLike<T>> BTreeSet<T, Node> {
         self.size
     }
 
-    /// Returns the allocator that it keeps.
+    /// Returns the allocator of the tree.
     ///
     /// ```
     /// // A second tree from the allocator of the first.
@@ -225,8 +234,12 @@ impl<T: Ord + Clone + Drop, Node: NodeLike<T>> BTreeSet<T, Node> {
         self.nodes.allocator()
     }
 
-    /// Returns where the probe finds what it seeks, by two binary searches: the node and the offset
-    /// in it. It makes no comparison if there is no node.
+    /// Returns the place of the first item that the probe finds Equal, a node and an offset in it.
+    ///
+    /// Returns `Err` with the place after the items that it finds Less if it finds none Equal. The
+    /// probe must find the items in order.
+    ///
+    /// # Examples
     ///
     /// ```
     /// # use indexset::base::probe::ByItem;
@@ -234,6 +247,10 @@ impl<T: Ord + Clone + Drop, Node: NodeLike<T>> BTreeSet<T, Node> {
     /// assert!(rt; tree.locate_by(&mut ByItem::new(&10)) == Ok((0, 1)));
     /// assert!(rt; tree.locate_by(&mut ByItem::new(&12)) == Err((0, 2)));
     /// ```
+    ///
+    /// # Complexity
+    ///
+    /// Makes two binary searches, and no comparison if the tree is empty.
     pub fn locate_by<P: Probe<T>>(&self, probe: &mut P) -> Result<(usize, usize), (usize, usize)>
         requires { IsParted (P.answer probe.old) (concat self.now.nodes) }
         ensures place { result ≡ located (P.answer probe.old) self.now.nodes }
@@ -245,7 +262,7 @@ impl<T: Ord + Clone + Drop, Node: NodeLike<T>> BTreeSet<T, Node> {
         self.locate(probe)
     }
 
-    // Does the same, and its caller learns that the nodes are lawful.
+    // Does the same, with a contract that also states that the nodes are lawful.
     pub(crate) fn locate<P: Probe<T>>(
         &self,
         probe: &mut P,
@@ -272,7 +289,7 @@ impl<T: Ord + Clone + Drop, Node: NodeLike<T>> BTreeSet<T, Node> {
         ByItem::new(value)
     }
 
-    // Returns where the equal item is: its node, and the offset in it.
+    // Returns the place of the equal item, if any: its node, and the offset in it.
     fn place_of<Q: LookupKey<T> + Drop>(&self, value: Q) -> Option<(usize, usize)>
         ensures place { MatchOption result (equal_element Q.order (concat self.now.nodes) value
             ≡ None) (λ p. IsFoundIn Q.order self.now.nodes value p.0 p.1) }
@@ -282,7 +299,7 @@ impl<T: Ord + Clone + Drop, Node: NodeLike<T>> BTreeSet<T, Node> {
         self.locate(&mut self.by_item(&value)).ok()
     }
 
-    /// Returns whether an item equal to the value is present.
+    /// Returns true if the tree contains an item equal to the value.
     ///
     /// ```
     /// let tree: set::BTreeSet<u64, Vec<u64>> = set::BTreeSet::from_iter(alloc, [5, 10, 15])?;
@@ -306,8 +323,11 @@ impl<T: Ord + Clone + Drop, Node: NodeLike<T>> BTreeSet<T, Node> {
         self.get_by(&mut self.by_item(&value))
     }
 
-    /// Returns the first item that the comparator finds equal, or `None` if there is none. It
-    /// compares as `locate_by` does.
+    /// Returns the first item that the comparator finds equal, if any.
+    ///
+    /// The comparator must find the items in order.
+    ///
+    /// # Examples
     ///
     /// ```
     /// // A text, found by a &str without an allocation.
@@ -315,6 +335,10 @@ impl<T: Ord + Clone + Drop, Node: NodeLike<T>> BTreeSet<T, Node> {
     /// names.insert(String::from_str(alloc, "pear")?)?;
     /// assert!(rt; names.get_by(&mut ByStr::new("pear")).is_some());
     /// ```
+    ///
+    /// # Complexity
+    ///
+    /// Makes two binary searches, as `locate_by`.
     pub fn get_by<P: Probe<T>>(&self, probe: &mut P) -> Option<&T>
         requires { IsParted (P.answer probe.old) (concat self.now.nodes) }
         ensures value { option_copied result ≡ find (λ x. is_eq (P.answer probe.old x))

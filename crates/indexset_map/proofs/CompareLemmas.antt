@@ -1,4 +1,4 @@
--- Lists compared past their first elements, which are equal, and what is fed to a hasher.
+-- Lists compared past their first elements, which are equal, and the input of a hasher.
 use Rattle.std.proofs.Common.{◌≡◌, List, [], ◌∷◌, ◌++◌, Option, Some, Ordering, refl, ap, sym, ◌∙◌}
 use Rattle.std.specs.List.{flat_map, fold}
 use Rattle.std.specs.declared.cmp.Ordering.TheVariants.{Equal}
@@ -14,7 +14,7 @@ module _ {T : Type 0} (l r ls rs : List T) (p q : T) (left : l ≡ p ∷ ls) (ri
   pub past_partial_equal : (R : T → T → Option Ordering) → R p q ≡ Some Equal → slice_partial_cmp R ls rs ≡ slice_partial_cmp R l r
   past_partial_equal R e = rw (left, right, e) refl
 
--- what is fed for one more thing, in two parts
+-- the input of one more item, in two parts
 pub fed_next : {S A X : Type 0} (write : S → A → S) (f : X → List A) (s : S) (xs : List X) (x : X) (a b : List A) → f x ≡ a ++ b → fold write (fold write (fold write s (flat_map f xs)) a) b ≡ fold write s (flat_map f (xs ++ x ∷ []))
 fed_next write f s xs x a b is =
     sym (ap (fold write s) (flat_map-append f xs (x ∷ []) ∙ ap (λ l. flat_map f xs ++ l) (append-nil (f x) ∙ is)) ∙ (fold-append write s (flat_map f xs) (a ++ b) ∙ fold-append write (fold write s (flat_map f xs)) a b))

@@ -1,4 +1,4 @@
--- What a written value leaves of the pairs of a map.
+-- The pairs of a map after a write of a value.
 use Rattle.std.proofs.Common.{◌≡◌, ℕ, zero, suc, ◌-◌, ◌<◌, ◌≤◌, true, false, List, [], ◌∷◌, ◌++◌, length, take, Ordering, Option, Some, None, IsSome, is_some, slice_get, refl, ap, sym, ◌∙◌, arith}
 use Rattle.std.specs.Borrow.{Bor}
 use Rattle.std.specs.Option.{option_copied, option_map, option_map_or}
@@ -47,7 +47,7 @@ module _ {K V : Type 0} where
   set_there (p ∷ l) zero w lt = refl
   set_there (p ∷ l) (suc i) w lt = ap (λ t. option_map (λ q. q.value) (slice_get t (suc i))) (sym (set_cons p l i w)) ∙ set_there l i w (omega arith)
 
-  -- a write of a value leaves its key, and goes with the pair
+  -- a write of a value keeps its key, and is lost with the removal of the pair
   pub set_key : (l : List (Pair K V)) (i : ℕ) (w : V) → option_map (λ p. p.key) (slice_get (set_value_at l i w) i) ≡ option_map (λ p. p.key) (slice_get l i)
   set_key [] i w = refl
   set_key (p ∷ l) zero w = refl
@@ -72,14 +72,14 @@ module _ {K V : Type 0} where
   pub last_removed : (l : List (Pair K V)) → remove l (length l - 1) ≡ take (length l - 1) l
   last_removed l = ap (λ rest. take (length l - 1) l ++ rest) (drop_of_length-le l {i = suc (length l - 1)} (omega arith)) ∙ append-nil _
 
-  -- a key is there where it has a pair
+  -- a key is present if it has a pair
   pub key_of_pair : {Q : Type 0} (cmp : K → Q → Ordering) (l : List (Pair K V)) (k : Q) (r : Option (Bor (Pair K V))) → option_copied r ≡ pair_of cmp l k → is_some r ≡ has_key cmp l k
   key_of_pair cmp l k r e = same r ∙ (ap is_some e ∙ is_some-find (λ p. is_eq (cmp p.key k)) l) where
     same : (r : Option (Bor (Pair K V))) → is_some r ≡ is_some (option_copied r)
     same (Some p) = refl
     same None = refl
 
-  -- a key that is there has a value
+  -- a present key has a value
   pub value_there : {Q : Type 0} (cmp : K → Q → Ordering) (l : List (Pair K V)) (k : Q) → has_key cmp l k ≡ true → (r : Option (Bor V)) → option_copied r ≡ value_of cmp l k → IsSome r
   value_there cmp l k h r e = is_there r (pair_of cmp l k) e (is_some-find (λ p. is_eq (cmp p.key k)) l ∙ h) where
     is_there : (r : Option (Bor V)) (o : Option (Pair K V)) → option_copied r ≡ option_map (λ p. p.value) o → is_some o ≡ true → IsSome r

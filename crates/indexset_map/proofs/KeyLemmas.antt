@@ -1,4 +1,4 @@
--- What a search for a key says of the pairs of a map.
+-- The pairs of a map, by the result of a search for a key.
 use Rattle.std.proofs.Common.{◌≡◌, ℕ, Bool, true, false, if◌then◌else◌, List, Ordering, Some, slice_get, ap, sym, ◌∙◌}
 use Rattle.std.specs.Cmp.{IsTotalOrder, on_total}
 use Rattle.std.specs.List.{AllWithin, position, remove}
@@ -18,12 +18,12 @@ use Rattle.indexset_map.proofs.ContentsLemmas.{put_there}
 use Rattle.indexset_spine.proofs.CallerLemmas.{node_lengths-without}
 use Rattle.indexset_set.specs.SetNodes.{IsWithoutAt}
 
--- the pair of a key, taken out
+-- the removal of a key's pair
 pub key_taken : {K V Q : Type 0} {cmp : K → K → Ordering} {among : Q → Q → Ordering} (order : K → Q → Ordering) (l : List (Pair K V)) (k : Q) → IsTotalOrder cmp → OrdersAsItem cmp order among → EqualsAtMostOne cmp order → IsAscending (by_key cmp) l → (i : ℕ) → position (λ p. is_eq (order p.key k)) l ≡ Some i → remove l i ≡ without_key order l k
 key_taken {K = K} {V = V} {cmp = cmp} order l k o acts one up i h = sym (sought_without (on_total (λ (p : Pair K V). p.key) o) (one_on (λ (p : Pair K V). p.key) one) l k i up (found_key order l k i h (parted_by_sought_key acts l up k)))
 
 module _ {K V Q : Type 0} {cmp : K → K → Ordering} {among : Q → Q → Ordering} (order : K → Q → Ordering) (acts : OrdersAsItem cmp order among) (l : List (Pair K V)) (up : IsAscending (by_key cmp) l) where
-  -- the keys at the places before a key's rank are below it
+  -- the keys at the positions before a key's rank are below it
   pub key_before : (k : Q) (i : ℕ) → i ≡ key_rank order l k → AllWithin (λ p. order p.key k ≡ Less) l 0 i
   key_before k i place n d low high =
       let parts : Parts (λ p. is_lt (order p.key k)) l (key_rank order l k) = count_parts is_lt front-is_lt (λ p. order p.key k) l (parted_by_sought_key acts l up k) in
@@ -36,7 +36,7 @@ module _ {K V : Type 0} (cmp : K → K → Ordering) (o : IsTotalOrder cmp) (l :
       let total = pairs_total cmp o in
       ap (option_map (λ q. q.value)) (sym (slice_get-rank_equal (by_key cmp) total l up p has) ∙ (ap (slice_get l) (rank-slice_get (by_key cmp) total l up i p is) ∙ is))
 
--- what is removed from the set is removed from the map
+-- an item removed from the set is removed from the map
 pub contents_removed : {K V : Type 0} (s t : NodeList (Pair K V)) (m : Contents K V) (i : ℕ) → contents s ≡ m → items t ≡ remove (items s) i
     → IsWithoutAt s.nodes i t.nodes → t.size ≡ s.size → contents t ≡ without_at m i
 contents_removed {K = K} {V = V} s t m i e is nodes size =

@@ -1,4 +1,4 @@
--- Entries and the pairs that are made of them.
+-- Entries and their pairs.
 use Rattle.std.proofs.Common.{◌≡◌, List, map, Ordering, arith, sym, subst}
 use Rattle.std.proofs.Math.ListN.{get_or-map}
 use Rattle.std.proofs.lemmas.List.{length-map}

@@ -1,4 +1,4 @@
--- The set that holds the pairs of a map, from its pairs and the lengths of its nodes.
+-- The set of a map's pairs, from the pairs and the lengths of the nodes.
 use Rattle.std.proofs.Common.{◌≡◌, List, [], ◌∷◌, length, take, Ordering, refl, ap, sym, ◌∙◌}
 use Rattle.std.proofs.lemmas.List.{drop_at, take_at}
 use Rattle.indexset_core.specs.declared.pair.Pair.{Pair}
@@ -13,11 +13,11 @@ unfolding parts
 parted_back [] = refl
 parted_back (n ∷ ns) = rw (take_at n (concat ns) (length n) refl, drop_at n (concat ns) (length n) refl) (ap (λ t. n ∷ t) (parted_back ns))
 
--- nothing of the set is lost
+-- the set is recovered from its pairs and lengths
 pub set_seen : {K V : Type 0} (s : NodeList (Pair K V)) → set_of (contents s) ≡ s
 set_seen s = ap (λ ns. node_list ns s.size) (parted_back s.nodes)
 
--- pairs that were inserted into the set s of a map m were inserted into the map
+-- pairs inserted into the set s of a map m are inserted into the map
 module _ {K V : Type 0} (cmp : K → K → Ordering) (s t : NodeList (Pair K V)) (m : Contents K V) (e : contents s ≡ m) (sizes : t.size ≡ s.size) where
   pub all_put : (ps : List (Pair K V)) → t.nodes ≡ nodes_put_all (by_key cmp) s ps → contents t ≡ with_pairs_put cmp m ps
   all_put ps nodes =

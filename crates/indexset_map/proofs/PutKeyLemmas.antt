@@ -1,4 +1,4 @@
--- What is found under a key, once a value was put there, and what is found under another.
+-- The value of a key after an insertion or a removal of that key or of another.
 use Rattle.std.proofs.Common.{◌≡◌, Bool, true, false, cond, not, ◌||◌, List, [], ◌∷◌, filter, find, if◌then◌else◌, Option, Ordering, Some, None, refl, ap, sym, ◌∙◌}
 use Rattle.std.specs.Cmp.{IsTotalOrder}
 use Rattle.std.specs.Option.{option_map, option_or}
@@ -32,7 +32,7 @@ module _ {K V : Type 0} (cmp : K → K → Ordering) where
         | false ↦ λ e. value_put cmp o l k w
       ] refl
 
--- a filter that keeps all that a test finds, or none of it
+-- a filter that keeps all items that a test finds, or drops all of them
 module _ {X : Type 0} (own p : X → Bool) where
   found_kept : ((x : X) → own x ≡ true → p x ≡ true) → (l : List X) → find own (filter p l) ≡ find own l
   found_kept keeps [] = refl
@@ -57,7 +57,7 @@ module _ {X : Type 0} (own p : X → Bool) where
       ] refl
 
 module _ {K : Type 0} (cmp : K → K → Ordering) (o : IsTotalOrder cmp) (k other : K) (apart : is_eq (cmp other k) ≡ false) where
-  -- what has the one key, or the other
+  -- an item equal to the other key compares with the one key as the other key does
   beside : (x : K) → is_eq (cmp x other) ≡ true → cmp x k ≡ cmp other k
   beside x e = o.congr x other k (equal_from _ e)
 
@@ -68,7 +68,7 @@ module _ {K : Type 0} (cmp : K → K → Ordering) (o : IsTotalOrder cmp) (k oth
     reversed Equal = refl
     reversed Greater = refl
 
--- the value of another key stays
+-- the value of another key is unchanged by an insertion
 module _ {K V : Type 0} (cmp : K → K → Ordering) (o : IsTotalOrder cmp) (k other : K) (apart : is_eq (cmp other k) ≡ false) where
   set_beside : (l : List (Pair K V)) (w : V) → value_of cmp (set_value cmp l k w) other ≡ value_of cmp l other
   unfolding set_found
@@ -112,7 +112,7 @@ module _ {K V : Type 0} (cmp : K → K → Ordering) (o : IsTotalOrder cmp) (k o
     | false ↦ put_beside l w
   ]
 
--- the value of a key that is not what was taken out stays
+-- the value of another key is unchanged by a removal
 pub without_beside : {K V Q : Type 0} {cmp : K → K → Ordering} (order : K → Q → Ordering) → IsTotalOrder cmp → EqualsAtMostOne cmp order → (k : Q) (other : K) → is_eq (order other k) ≡ false → (l : List (Pair K V)) → value_of cmp (without_key order l k) other ≡ value_of cmp l other
 unfolding unequal
 without_beside {cmp = cmp} order o one k other apart l = ap (option_map (λ p. p.value)) (found_kept (λ p. is_eq (cmp p.key other)) (λ p. not (is_eq (order p.key k))) (λ p e. stays p.key (order p.key k) refl (equal_from _ e)) l) where

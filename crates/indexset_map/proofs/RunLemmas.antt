@@ -1,4 +1,4 @@
--- Pairs that go behind those of a map, in turn or as a run of its set.
+-- Pairs appended to a map, one by one or as a run of its set.
 use Rattle.std.proofs.Common.{◌≡◌, ℕ, ◌+◌, ◌-◌, ◌≤◌, List, [], ◌∷◌, ◌++◌, length, map, Ordering, refl, ap, sym, subst, ◌∙◌, arith}
 use Rattle.std.specs.Cmp.{IsTotalOrder}
 use Rattle.std.specs.List.{insert}
@@ -17,7 +17,7 @@ use Rattle.indexset_set.proofs.CallerLemmas.{all_nodes, front_ascending, gap_beh
 use Rattle.indexset_map.specs.Contents.{Contents, contents, with_all, with_entry}
 use Rattle.indexset_map.proofs.SpotLemmas.{put_in}
 
--- the end of a list is where an item may go
+-- the spot at the end of a node list is a place
 module _ {X : Type 0} (ns : List (List X)) (some : 1 ≤ length ns) where
   behind_all : position_of ns (end_spot ns) ≡ length (concat ns)
   behind_all = omega (arith, length-concat-more ns (length ns - 1) (omega arith), ap (λ (l : List (List X)). length (concat l)) (take_all (length ns - 1 + 1) ns (omega arith)))
@@ -27,7 +27,7 @@ module _ {X : Type 0} (ns : List (List X)) (some : 1 ≤ length ns) where
 
 module _ {K V : Type 0} (cmp : K → K → Ordering) (total : IsTotalOrder cmp) where
   module _ (size : ℕ) where
-    -- a pair above all goes behind the last
+    -- a pair above all is inserted at the end
     one_behind : (ns : List (List (Pair K V))) (p : Pair K V) (rest : List (Pair K V)) → AreNodeLengths (node_lengths ns) size → IsAscending (by_key cmp) (concat ns ++ p ∷ rest) → contents (node_list (with_last size ns p) size) ≡ with_entry cmp (contents (node_list ns size)) p.key p.value
     one_behind ns p rest is up =
         let some : 1 ≤ length ns = omega (arith, is.some, length-map ns (λ (n : List (Pair K V)). length n)) in
@@ -37,7 +37,7 @@ module _ {K V : Type 0} (cmp : K → K → Ordering) (total : IsTotalOrder cmp) 
         (behind_place ns some) (place_position ns (end_spot ns) ∙ (at ∙ sym (gap_rank (by_key cmp) (concat ns) p _ gap))) (node_list ns size) (node_list (with_last size ns p) size) p.value refl
         (joined_last size ns p some ∙ (sym (insert_end (concat ns) p) ∙ ap (λ i. insert (concat ns) i p) (sym at))) refl refl
 
-    -- and so do those of a run, one by one
+    -- the pairs of a run are inserted at the end, one by one
     run_behind : (ns : List (List (Pair K V))) (run : List (Pair K V)) → AreNodeLengths (node_lengths ns) size → IsAscending (by_key cmp) (concat ns ++ run) → contents (node_list (with_all_last size ns run) size) ≡ with_all cmp (contents (node_list ns size)) (map entry_of run)
     unfolding with_all_last
     run_behind ns [] is up = refl
@@ -50,7 +50,7 @@ module _ {K V : Type 0} (cmp : K → K → Ordering) (total : IsTotalOrder cmp) 
     resized : (ns : List (List (Pair K V))) → t.nodes ≡ ns → contents t ≡ contents (node_list ns s.size)
     resized ns same = ap (λ n. contents (node_list t.nodes n)) sizes ∙ ap (λ z. contents (node_list z s.size)) same
 
-    -- with nothing left of the run
+    -- after the move of the whole run
     pub run_moved : IsAscending (by_key cmp) (items s ++ run) → t.nodes ≡ with_all_last s.size s.nodes run → contents t ≡ with_all cmp m (map entry_of run)
     run_moved up moved =
         resized _ moved ∙ (run_behind s.size s.nodes run is up ∙ ap (λ (n : Contents K V). with_all cmp n (map entry_of run)) e)
@@ -58,7 +58,7 @@ module _ {K V : Type 0} (cmp : K → K → Ordering) (total : IsTotalOrder cmp) 
     pub run_taken : IsAscending (by_key cmp) (items s ++ run) → others ≡ [] → with_all_last s.size t.nodes others ≡ with_all_last s.size s.nodes run → contents t ≡ with_all cmp m (map entry_of run)
     run_taken up none same = run_moved up (all_nodes others none s.size t.nodes _ same)
 
-    -- with p behind the run, some first ones of which may have gone in
+    -- with p at the end of the run, of which a prefix may have been inserted
     pub run_joined : (p : Pair K V) → AreNodeLengths (node_lengths t.nodes) t.size → IsAscending (by_key cmp) (items t ++ others) → items t ++ others ≡ items s ++ (run ++ p ∷ []) → with_all_last s.size t.nodes others ≡ with_all_last s.size s.nodes (run ++ p ∷ [])
         → with_all cmp (contents t) (map entry_of others) ≡ with_entry cmp (with_all cmp m (map entry_of run)) p.key p.value
     run_joined p still up all same =
@@ -70,7 +70,7 @@ module _ {K V : Type 0} (cmp : K → K → Ordering) (total : IsTotalOrder cmp) 
         ∙ (fold-append (λ n e. with_entry cmp n e.0 e.1) (contents s) (map entry_of run) (entry_of p ∷ [])
         ∙ ap (λ (n : Contents K V). with_entry cmp (with_all cmp n (map entry_of run)) p.key p.value) e)))))
 
-    -- with q inserted once nothing is left of the run, which is p
+    -- with q, which is p, inserted after the move of the whole run
     pub run_then_put : (p q : Pair K V) (n : Contents K V) → q ≡ p → others ≡ [] → IsAscending (by_key cmp) (items s ++ run) → t.nodes ≡ with_all_last s.size s.nodes run → n ≡ with_entry cmp (contents t) q.key q.value
         → with_all cmp n (map entry_of others) ≡ with_entry cmp (with_all cmp m (map entry_of run)) p.key p.value
     run_then_put p q n same none up moved put =

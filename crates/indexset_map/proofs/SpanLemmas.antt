@@ -1,4 +1,5 @@
--- The part of a list that passes a test, where it is one span, and the keys between two bounds, which are one.
+-- The part of a list that passes a test, as one span, and the keys between two bounds, which are a
+-- span.
 use Rattle.std.proofs.Common.{◌≡◌, ℕ, zero, suc, ◌+◌, ◌-◌, ◌≤◌, min, Bool, true, false, not, ◌&&◌, if◌then◌else◌, List, [], ◌∷◌, ◌++◌, length, take, drop, filter, map, Ordering, refl, ap, subst, ◌∙◌, arith}
 use Rattle.std.specs.declared.ops.Bound.{Bound}
 use Rattle.std.specs.List.{AllWithin, between, count_by, position_or_len}
@@ -18,7 +19,7 @@ and_no true = refl
 and_no false = refl
 
 module _ {X : Type 0} where
-  -- what the test p does not pass any more and the test q still passes
+  -- the items that fail the test p and pass the test q
   span_of : (p q : X → Bool) (l : List X) (i j : ℕ) → Parts p l i → Parts q l j → IsSpan (λ x. not (p x) && q x) l (min i j) j
   span_of p q l i j ps qs = record {
     order = omega arith;
@@ -28,7 +29,7 @@ module _ {X : Type 0} where
     after = λ k d low high. rw (qs.after k d low high) (and_no _);
   }
 
-  -- the first that passes, where those that fail stand first
+  -- the first item that passes, after those that fail
   first_passing : (p : X → Bool) (l : List X) (i : ℕ) → Parts p l i → position_or_len (λ x. not (p x)) l ≡ i
   first_passing p [] i ps = let h = ps.inside in omega (arith, h)
   first_passing p (x ∷ l) zero ps = rw (ps.after 0 x (omega arith) (omega arith)) refl
@@ -37,7 +38,7 @@ module _ {X : Type 0} where
       let rest : Parts p l i = record { inside = omega (arith, inside); before = λ k d low high. ps.before (suc k) d (omega arith) (omega arith); after = λ k d low high. ps.after (suc k) d (omega arith) (omega arith) } in
       let ih = first_passing p l i rest in rw (ps.before 0 x (omega arith) (omega arith)) (omega (arith, ih))
 
-  -- the n items from i on pass, and no others do
+  -- exactly the n items from i pass
   module _ (r : X → Bool) (h : X → X) where
     parted_at : (l : List X) (i n : ℕ) → i + n ≤ length l → AllWithin (λ x. r x ≡ false) l 0 i → AllWithin (λ x. r x ≡ true) l i (i + n) → AllWithin (λ x. r x ≡ false) l (i + n) (length l)
         → (take n (drop i l) ≡ filter r l) × (take i l ++ (map h (take n (drop i l)) ++ drop n (drop i l)) ≡ map (λ x. if r x then h x else x) l)
@@ -85,7 +86,7 @@ module _ {K V Q : Type 0} {cmp : K → K → Ordering} {among : Q → Q → Orde
       subst (λ (f : Pair K V → Bool). IsSpan f l (min (count_by (λ p. is_before order start p.key) l) (count_by (λ p. is_up_to_end order end p.key) l)) (count_by (λ p. is_up_to_end order end p.key) l))
       (λ k p. not_before order start p.key k && is_up_to_end order end p.key) (span_of (λ p. is_before order start p.key) (λ p. is_up_to_end order end p.key) l _ _ (before_parts order (λ (p : Pair K V). p.key) l parted start) (up_to_parts order (λ (p : Pair K V). p.key) l parted end))
 
-  -- the same where a walk clips both counts to the length
+  -- the same for an iterator that clips both counts to the length
   pub key_walk : (start end : Bound Q) (i j from to : ℕ) → from ≡ count_by (λ p. is_before order start p.key) l → to ≡ count_by (λ p. is_up_to_end order end p.key) l → j ≡ min to (length l) → i ≡ min from j → IsSpan (λ p. is_within order start end p.key) l i j
   key_walk start end i j from to f t b a =
       let inside = (up_to_parts order (λ (p : Pair K V). p.key) l parted end).inside in
@@ -93,11 +94,11 @@ module _ {K V Q : Type 0} {cmp : K → K → Ordering} {among : Q → Q → Orde
       let first : i ≡ min (count_by (λ p. is_before order start p.key) l) (count_by (λ p. is_up_to_end order end p.key) l) = omega (arith, f, a, last) in
       rw (first, last) (key_span start end)
 
-  -- the same where a walk goes from the one count to the other
+  -- the same for an iterator from the one count to the other
   pub key_places : (start end : Bound Q) (i from to : ℕ) → from ≡ count_by (λ p. is_before order start p.key) l → to ≡ count_by (λ p. is_up_to_end order end p.key) l → i ≡ min from to → IsSpan (λ p. is_within order start end p.key) l i to
   key_places start end i from to f t a = let inside = (up_to_parts order (λ (p : Pair K V). p.key) l parted end).inside in key_walk start end i to from to f t (omega (arith, inside, t)) a
 
--- the items of a span are those that pass, and a function of them is one where the test passes
+-- the items of a span are those that pass, so a map over the span is a map over those that pass
 module _ {X : Type 0} (r : X → Bool) (l : List X) (i j : ℕ) (s : IsSpan r l i j) where
   end_is : i + (j - i) ≡ j
   end_is = let h = s.order in omega (arith, h)

@@ -1,4 +1,4 @@
--- Spots of a map: where a search for a key ends, and what an edit there leaves.
+-- Spots of a map: where a search for a key ends, and the map after an edit there.
 use Rattle.std.proofs.Common.{◌≡◌, ℕ, ◌+◌, ◌<◌, ◌≤◌, Bool, false, if◌then◌else◌, List, length, take, Ordering, Option, Some, None, MatchOption, IsTrue, slice_get, refl, ap, sym, subst, ◌∙◌, arith, inl, inr}
 use Rattle.std.specs.Cmp.{IsTotalOrder}
 use Rattle.std.specs.List.{All, insert, remove}
@@ -30,7 +30,7 @@ module _ {X : Type 0} where
         | inr done ↦ done
       ]
 
-  -- a search ends where an item goes
+  -- a search ends at a place where an item can be inserted
   pub sought_place : (answer : X → Ordering) (size : ℕ) (ns : List (List X)) (s : Spot) → IsParted answer (concat ns) → AreNodeLengths (node_lengths ns) size → IsSearchResult answer ns s → IsPlace (node_lengths ns) s
   sought_place answer size ns s parted is sought =
       let n = length-map ns (λ (l : List X). length l) in
@@ -42,7 +42,7 @@ module _ {X : Type 0} where
       spot_place ns s sought.spot (λ a. last_node ns s.node size sought.spot.node_in is (omega (arith, ends (omega (arith, a, there)), inside, there)))
 
 module _ {K V : Type 0} where
-  -- a spot of the set s is one of the map m
+  -- a spot of the set s is a spot of the map m
   module _ (s : NodeList (Pair K V)) (m : Contents K V) (spot : Spot) (e : contents s ≡ m) where
     pub place_at : place_of m.lengths spot ≡ position_of s.nodes spot
     place_at = ap (λ (n : Contents K V). place_of n.lengths spot) (sym e) ∙ place_position s.nodes spot
@@ -59,12 +59,12 @@ module _ {K V : Type 0} where
     pub value_placed : (w : V) → contents (cut.with_value_at s (position_of s.nodes spot) w) ≡ with_written m (place_of m.lengths spot) w
     value_placed w = contents_written s m (position_of s.nodes spot) w e ∙ ap (λ i. with_written m i w) (sym place_at)
 
-    -- what is removed from the set there is removed from the map
+    -- an item removed from the set there is removed from the map
     pub taken_out : (t : NodeList (Pair K V)) → IsItemPlace m.lengths spot → items t ≡ remove (items s) (position_of s.nodes spot) → t.nodes ≡ without_item s.nodes spot → t.size ≡ s.size → contents t ≡ without_at m (place_of m.lengths spot)
     taken_out t h is nodes size =
         contents_removed s t m (place_of m.lengths spot) e (is ∙ ap (remove (items s)) (sym place_at)) (spot, item_in h, sym place_at, nodes) size
 
-  -- the spot of an item, at an end of the list
+  -- the spot of the first or the last item
   pub end_place : (s : NodeList (Pair K V)) (m : Contents K V) (i : ℕ) → contents s ≡ m → (r : Option Spot)
       → MatchOption r (length (items s) ≡ 0) (λ t. IsItemSpot s.nodes t × (position_of s.nodes t ≡ i) × IsTrue t.found) → MatchOption r (length m.pairs ≡ 0) (λ t. IsItemPlace m.lengths t × (place_of m.lengths t ≡ i) × (0 < length m.pairs))
   end_place s m i e None h = ap (λ (n : Contents K V). length n.pairs) (sym e) ∙ h
@@ -90,7 +90,7 @@ module _ {K V : Type 0} where
         subst (λ n. IsSpotOf order n k spot) e (subst (λ i. IsSpotOf order (contents s) i spot) same of)
 
   module _ (cmp : K → K → Ordering) (total : IsTotalOrder cmp) where
-    -- a pair that is put into the set where its key would go is put into the map
+    -- a pair inserted into the set at its key's rank is inserted into the map
     module _ (m : Contents K V) (k : K) (spot : Spot) (none : has_key cmp m.pairs k ≡ false) (up : IsAscending (by_key cmp) m.pairs) (place : IsPlace m.lengths spot) (rank : place_of m.lengths spot ≡ key_rank cmp m.pairs k) where
       pub gap_in : (s : NodeList (Pair K V)) (v : V) → contents s ≡ m → IsGapFor (by_key cmp) (items s) (pair k v) (position_of s.nodes spot)
       gap_in s v e =
@@ -112,6 +112,6 @@ module _ {K V : Type 0} where
           let sizes : t.size ≡ m.size = size ∙ ap (λ (n : Contents K V). n.size) e in
           λ j. record { pairs = pairs j; lengths = chosen j; size = sizes j }
 
-      -- where it then stands
+      -- the spot of the inserted pair
       pub stands_in : (s t : NodeList (Pair K V)) (to : Spot) → contents s ≡ m → IsItemSpot t.nodes to → position_of t.nodes to ≡ position_of s.nodes spot → IsItemPlace (contents t).lengths to × (place_of (contents t).lengths to ≡ key_rank cmp m.pairs k)
       stands_in s t to e item at = (item_place t.nodes to item, place_position t.nodes to ∙ (at ∙ (sym (place_at s m spot e) ∙ rank)))

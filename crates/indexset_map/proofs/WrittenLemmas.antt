@@ -1,4 +1,5 @@
--- A caller's loop over a walk that lends: what stands in the map after each turn, and at the end.
+-- A caller's loop over an iterator with mutable references: the map after each iteration, and at
+-- the end.
 use Rattle.std.proofs.Common.{◌≡◌, ℕ, zero, suc, ◌+◌, ◌-◌, ◌<◌, ◌≤◌, Bool, if◌then◌else◌, List, [], ◌∷◌, ◌++◌, length, map, take, drop, Option, Some, None, slice_get, refl, sym, ap, subst, ◌∙◌, arith, zero-add}
 use Rattle.std.proofs.lemmas.List.{append-nil, drop-drop, drop_all, take-append-drop, take_all}
 use Rattle.std.specs.Option.{option_map}
@@ -26,7 +27,7 @@ module _ {K V : Type 0} (h : Pair K V → V) where
   abbrev step : Pair K V → Pair K V
   step p = valued p (h p)
 
-  -- the n pairs from the front, and then the n pairs from place i, were written
+  -- the first n pairs are written; then the n pairs from position i
   abbrev front_part : List (Pair K V) → ℕ → List (Pair K V)
   front_part l n = map step (take n l) ++ drop n l
 
@@ -105,14 +106,14 @@ module _ {K V : Type 0} (h : Pair K V → V) where
                 ∙ ap (with_pairs s.map.now) (ap (set_value_at (written h s.map.now.pairs s.front t.front) t.front) made ∙ written_more s.map.now.pairs s.front t.front p order there);
           }
 
-      -- after a turn, by what a walk tells of the pair that it lent, to which w was written
+      -- after an iteration that wrote w to the pair which the iterator returned
       pub pair_written : (k : K) (v w : V) → t.front < t.back → option_map entry_of (slice_get t.map.now.pairs t.front) ≡ Some (k, v) → w ≡ h (pair k v) → HasWritten h s (after_first t w)
       pair_written k v w lt at made = turn (pair k v) w lt (of_entry (slice_get t.map.now.pairs t.front) k v at) made
 
       pub value_written : (v w : V) → t.front < t.back → option_map (λ p. p.value) (slice_get t.map.now.pairs t.front) ≡ Some v → ((k : K) → w ≡ h (pair k v)) → HasWritten h s (after_first t w)
       value_written v w lt at made = let p = of_value (slice_get t.map.now.pairs t.front) v at in turn (pair p.0 v) w lt p.1 (made p.0)
 
-      -- at the end of a loop over a walk of the map m
+      -- at the end of a loop over an iterator of the map m
       module _ (over : t.back ≤ t.front) (m : Contents K V) (unchanged : s.map.now ≡ m) where
         up_to_end : t.map.now ≡ with_pairs m (written h m.pairs s.front s.back)
         up_to_end =

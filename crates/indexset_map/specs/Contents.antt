@@ -1,4 +1,4 @@
--- What a contract sees of a map: its pairs in order, how long the nodes are that hold them, and how long a node is at most.
+-- The model of a map: its pairs in order, the lengths of its nodes, and the node size.
 use Rattle.std.specs.Prelude.{◌≡◌, ℕ, List, [], ◌∷◌, map, refl, if◌then◌else◌, length, remove, slice_get, slice_set, take, drop}
 use Rattle.std.specs.Coded.{Coded, code_by, coded×, coded_ℕ, coded_list}
 use Rattle.std.specs.List.{fold}
@@ -17,7 +17,7 @@ pub record Contents (K V : Type 0) : Type 0 where
   pub lengths : List ℕ
   pub size : ℕ
 
--- the list in parts of these lengths
+-- the list, partitioned into parts of these lengths
 unfoldable pub parts : {X : Type 0} → List ℕ → List X → List (List X)
 parts [] l = []
 parts (n ∷ ns) l = take n l ∷ parts ns (drop n l)
@@ -39,7 +39,7 @@ module _ {K V : Type 0} where
   abbrev pub with_pairs : Contents K V → List (Pair K V) → Contents K V
   with_pairs m l = record { pairs = l; lengths = m.lengths; size = m.size }
 
-  -- the map, once w is the value at the position
+  -- the map with w as the value at the position
   abbrev pub with_written : Contents K V → ℕ → V → Contents K V
   with_written m i w = with_pairs m (set_value_at m.pairs i w)
 
@@ -48,7 +48,7 @@ module _ {K V : Type 0} where
   without_at m i = record { pairs = remove m.pairs i; lengths = lengths_without m.lengths i; size = m.size }
 
   module _ {Q : Type 0} (cmp : K → Q → Ordering) where
-    -- the map, once w is the value of the key if it is there
+    -- the map with w as the value of the key, if the key is present
     abbrev pub with_value : Contents K V → Q → V → Contents K V
     with_value m k w = with_pairs m (set_value cmp m.pairs k w)
 
@@ -61,7 +61,7 @@ module _ {K V : Type 0} where
     }
 
   module _ (cmp : K → K → Ordering) where
-    -- the map, once w is the value of the key, inserted where it is absent
+    -- the map with w as the value of the key, which is inserted if absent
     abbrev pub with_entry : Contents K V → K → V → Contents K V
     with_entry m k w = record {
       pairs = put_value cmp m.pairs k w;
@@ -69,15 +69,15 @@ module _ {K V : Type 0} where
       size = m.size;
     }
 
-    -- the map, once the entries were inserted in order
+    -- the map after the insertion of the entries in order
     abbrev pub with_all : Contents K V → List (K × V) → Contents K V
     with_all m entries = fold (λ n e. with_entry n e.0 e.1) m entries
 
-    -- the map, once the pairs of ps were inserted in order, replacing pairs of equal keys
+    -- the map after the insertion of the pairs ps in order, replacing pairs of equal keys
     abbrev pub with_pairs_put : Contents K V → List (Pair K V) → Contents K V
     with_pairs_put m ps = contents (node_list (nodes_put_all (by_key cmp) (set_of m) ps) m.size)
 
-    -- a prefix of ps was inserted in order, which made n of the map, and the others remain
+    -- n is the map m after the insertion of a prefix of ps in order, and rest has the other pairs
     abbrev pub PutsPairPrefix : Contents K V → List (Pair K V) → Contents K V → List (Pair K V) → Type 0
     PutsPairPrefix m ps n rest = (k : ℕ) × (n ≡ with_pairs_put m (take k ps)) × (rest ≡ drop k ps)
 

@@ -1,4 +1,4 @@
--- A copy of a map: clones of its pairs, in the order in which their keys compare.
+-- A copy of a map: clones of its pairs, in the order of the cloned keys.
 use Rattle.std.specs.Prelude.{◌≡◌, List, [], ◌∷◌}
 use Rattle.std.specs.List.{AllZip, fold}
 use Rattle.std.specs.declared.cmp.Ordering.{Ordering}
@@ -15,7 +15,8 @@ module _ {K V : Type 0} (C : K → K → Type 0) (D : V → V → Type 0) where
   abbrev pub IsPairClone : Pair K V → Pair K V → Type 0
   IsPairClone p q = C p.key q.key × D p.value q.value
 
-  -- clones whose keys ascend stand in nodes as long as those of their sources; others are inserted one by one, unless an equal key is present
+  -- if the clones of the keys ascend, the copy has the clones in nodes of the same lengths;
+  -- otherwise they are inserted one by one, unless an equal key is present
   pub record IsMapCopy (cmp : K → K → Ordering) (m copy : Contents K V) : Type 0 where
     pub clones : List (Pair K V)
     pub cloned : AllZip IsPairClone m.pairs clones
@@ -24,7 +25,8 @@ module _ {K V : Type 0} (C : K → K → Type 0) (D : V → V → Type 0) where
     pub pairs : copy.pairs ≡ fold (keep (by_key cmp)) [] clones
     pub size : copy.size ≡ m.size
 
-  -- a copy that has a clone of each pair in its place where clones of keys are equal to their sources, and is the same map where clones are identical to them
+  -- a copy that has a clone of each pair at its position if clones of keys are equal to their
+  -- sources, and is identical to the map if clones are identical to their sources
   pub record IsMapClone (cmp : K → K → Ordering) (m copy : Contents K V) : Type 0 where
     pub copied : IsMapCopy cmp m copy
     pub cloned : ((x y : K) → C x y → cmp x y ≡ Equal) → AllZip IsPairClone m.pairs copy.pairs

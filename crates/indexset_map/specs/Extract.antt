@@ -1,4 +1,4 @@
--- A map from which a closure takes pairs out, one by one.
+-- The state of an iterator that removes the pairs for which a closure returns true.
 use Rattle.std.specs.Prelude.{◌≡◌, Bool, MatchOption, Option}
 use Rattle.std.specs.Borrow.{Bor, MutBor}
 use Rattle.std.specs.Fn.{Mut}
@@ -18,7 +18,7 @@ module _ {K V F : Type 0} {g : ord.Ghosts K} {g' : eq.Ghosts K} {g'' : partial.G
   abbrev pub extract_map : ExtractIfMap K V F g g' g'' → MutBor (Contents K V)
   extract_map s = s.map
 
-  -- the pairs that stay, those that the closure has yet to be asked about, and those after them
+  -- the pairs that were kept, those not yet passed to the closure, and those after the range
   abbrev pub extract_pairs : ExtractIfMap K V F g g' g'' → ExtractState (Pair K V)
   extract_pairs s = extract_state s.map.now.pairs s.at.front s.at.back
 
@@ -26,7 +26,8 @@ module _ {K V F : Type 0} {g : ord.Ghosts K} {g' : eq.Ghosts K} {g'' : partial.G
   abbrev pub extract_map_pred : ExtractIfMap K V F g g' g'' → F
   extract_map_pred s = s.pred
 
-  -- a step of the iterator: the closure was asked up to the pair that came out, or about all
+  -- a step of the iterator: the closure was called up to the pair that was removed, or for all
+  -- pairs
   pub record ExtractsPair (f : Mut F (Bor K × (MutBor V × Unit {0})) (Bool × (MutBor V × Unit {0}))) (s : ExtractIfMap K V F g g' g'') (r : Option (K × V)) (t : ExtractIfMap K V F g g' g'') : Type 0 where
     pub extracted : Extracts (CalledOnPair f) (extract_map_pred s) (extract_pairs s) (option_map (λ entry. pair entry.0 entry.1) r) (extract_map_pred t) (extract_pairs t)
     pub same_map : (extract_map t).ghost_name ≡ (extract_map s).ghost_name

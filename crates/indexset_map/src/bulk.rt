@@ -11,14 +11,21 @@ use indexset_core::lookup_key::LookupKey;
 use indexset_core::refusal::Refusal;
 
 impl<K: Ord + Drop, V: Drop> BTreeMap<K, V> {
-    /// Removes the pairs whose keys are not below the key, and returns them as a map of the same
-    /// node size. Fails with `Memory`: a failed call changes nothing.
+    /// Splits the map at the key and returns the pairs whose keys are not below it.
+    ///
+    /// The returned map has the same node size.
+    ///
+    /// # Examples
     ///
     /// ```
     /// let mut low = BTreeMap::from_iter(alloc, [(1, 'a'), (2, 'b'), (3, 'c')])?;
     /// let high = low.split_off(&2)?;
     /// assert!(rt; low.len() == 1 && high.len() == 2);
     /// ```
+    ///
+    /// # Errors
+    ///
+    /// Fails with `Memory`. A failed call changes nothing.
     pub fn split_off<Q: LookupKey<K> + Drop>(&mut self, key: Q) -> Result<Self, Refusal>
         ensures below { OnOk result (self.new.pairs ≡ pairs_below Q.order self.old.pairs key) }
         ensures rest { IfOk result (λ m. m.pairs ≡ pairs_from Q.order self.old.pairs key) }
@@ -31,16 +38,16 @@ impl<K: Ord + Drop, V: Drop> BTreeMap<K, V> {
         ensures refusal { IfErr result (λ e. e ≡ Refusal.Memory) }
         ensures unchanged { OnErr result (self.new ≡ self.old) }
     {
-        // A map says here that its keys ascend, so the rank cuts them at the key.
+        // The contract of `len` states that the keys ascend, so the rank of the key splits them.
         let _len = self.len();
         let place = self.rank(key);
         let set = self.set.split_off_index(place)?;
         Ok(BTreeMap { set })
     }
 
-    /// Moves all pairs of the other map into this one, first to last, replacing pairs of equal
-    /// keys. Fails with `Memory`: a failed call has moved a prefix, and the other map keeps the
-    /// rest.
+    /// Moves all pairs of `other` into this map, first to last, replacing pairs of equal keys.
+    ///
+    /// # Examples
     ///
     /// ```
     /// let mut map = BTreeMap::from_iter(alloc, [(1, 'a'), (2, 'b')])?;
@@ -48,6 +55,10 @@ impl<K: Ord + Drop, V: Drop> BTreeMap<K, V> {
     /// map.append(&mut other)?;
     /// assert!(rt; map.get(&2) == Some(&'c') && other.is_empty());
     /// ```
+    ///
+    /// # Errors
+    ///
+    /// Fails with `Memory`. A failed call has moved a prefix of the pairs; `other` keeps the rest.
     pub fn append(&mut self, other: &mut Self) -> Result<(), Refusal>
         ensures ok { OnOk result (self.new.pairs
             ≡ put_all (by_key K.cmp) self.old.pairs other.old.pairs) }

@@ -1,4 +1,4 @@
-//! Equality, order and hash of maps: those of their keys and values in order, whatever the nodes.
+//! Equality, order and hash of maps, by their keys and values in order. The nodes do not matter.
 ghost use Rattle.std.specs.Prelude.{◌&&◌, ◌++◌};
 ghost use Rattle.std.specs.Hash as fed;
 ghost use Rattle.std.specs.Hash.{on_Alike, and-Alike, items_Alike};

@@ -14,16 +14,15 @@ use indexset_set::Cursor;
 use std::marker::Model;
 use std::ops::Bound;
 
-/// A position of a map: that of a pair, or the length, which is past the end.
+/// A cursor over a map, at a pair or at the past-the-end position.
+///
+/// A cursor wraps around: the past-the-end position follows the last pair and precedes the first.
 ///
 /// ```
 /// let map = BTreeMap::from_iter(alloc, [(1, 'a'), (3, 'b')])?;
 /// let cursor = map.lower_bound(Bound::Included(&2));
 /// assert!(rt; cursor.key() == Some(&3) && cursor.peek_prev() == Some((&1, &'a')));
 /// ```
-///
-/// A cursor wraps around: after the last pair comes the position past the end, and then the first
-/// pair.
 #[derive(Drop)]
 pub struct CursorMap<'a, K: Ord, V> {
     cursor: Cursor<'a, Pair<K, V>>,
@@ -40,8 +39,9 @@ impl<'a, K: Ord, V> Model for CursorMap<'a, K, V> {
 }
 
 impl<K: Ord, V> BTreeMap<K, V> {
-    /// Returns a cursor at the first pair whose key is within the bound, or past the end if there
-    /// is none.
+    /// Returns a cursor at the first pair whose key is within the lower bound.
+    ///
+    /// The cursor is at the past-the-end position if no key is.
     ///
     /// ```
     /// let map = BTreeMap::from_iter(alloc, [(10, 'a'), (20, 'b')])?;
@@ -61,8 +61,10 @@ impl<K: Ord, V> BTreeMap<K, V> {
         }
     }
 
-    /// Returns a cursor at the first pair whose key is past the bound, as the end of a range, or
-    /// past the end if there is none: above an included key, and at or above an excluded one.
+    /// Returns a cursor at the first pair whose key is past the upper bound.
+    ///
+    /// That key is above an included key, and at or above an excluded one. The cursor is at the
+    /// past-the-end position if no key is past the bound.
     ///
     /// ```
     /// let map = BTreeMap::from_iter(alloc, [(10, 'a'), (20, 'b')])?;
@@ -84,7 +86,7 @@ impl<K: Ord, V> BTreeMap<K, V> {
 }
 
 impl<'a, K: Ord, V> CursorMap<'a, K, V> {
-    /// Moves to the next pair; from past the end, to the first.
+    /// Moves to the next pair; from the past-the-end position, to the first.
     ///
     /// ```
     /// let map = BTreeMap::from_iter(alloc, [(1, 'a'), (3, 'b')])?;
@@ -98,7 +100,7 @@ impl<'a, K: Ord, V> CursorMap<'a, K, V> {
         self.cursor.move_next();
     }
 
-    /// Moves to the previous pair; from the first, past the end.
+    /// Moves to the previous pair; from the first pair, to the past-the-end position.
     ///
     /// ```
     /// let map = BTreeMap::from_iter(alloc, [(1, 'a'), (3, 'b')])?;
@@ -112,7 +114,7 @@ impl<'a, K: Ord, V> CursorMap<'a, K, V> {
         self.cursor.move_prev();
     }
 
-    /// Moves to a position, or past the end if there is no such pair.
+    /// Moves to the pair at a position, or to the past-the-end position if there is none.
     ///
     /// ```
     /// let map = BTreeMap::from_iter(alloc, [(1, 'a'), (3, 'b')])?;
@@ -126,7 +128,7 @@ impl<'a, K: Ord, V> CursorMap<'a, K, V> {
         self.cursor.move_index(i);
     }
 
-    /// Returns the key of the pair that the cursor points at, or `None` past the end.
+    /// Returns the key of the pair at the cursor, or `None` at the past-the-end position.
     ///
     /// ```
     /// let map = BTreeMap::from_iter(alloc, [(1, 'a'), (3, 'b')])?;
@@ -139,7 +141,7 @@ impl<'a, K: Ord, V> CursorMap<'a, K, V> {
         Some(&self.cursor.item()?.key)
     }
 
-    /// Returns the value of the pair that the cursor points at, or `None` past the end.
+    /// Returns the value of the pair at the cursor, or `None` at the past-the-end position.
     ///
     /// ```
     /// let map = BTreeMap::from_iter(alloc, [(1, 'a'), (3, 'b')])?;
@@ -152,7 +154,7 @@ impl<'a, K: Ord, V> CursorMap<'a, K, V> {
         Some(&self.cursor.item()?.value)
     }
 
-    /// Returns the pair that the cursor points at, or `None` past the end.
+    /// Returns the pair at the cursor, or `None` at the past-the-end position.
     ///
     /// ```
     /// let map = BTreeMap::from_iter(alloc, [(1, 'a'), (3, 'b')])?;
@@ -167,8 +169,9 @@ impl<'a, K: Ord, V> CursorMap<'a, K, V> {
         Some((&pair.key, &pair.value))
     }
 
-    /// Returns the pair that `move_next` would move to, past the end the first, or `None` if there
-    /// is none.
+    /// Returns the pair that `move_next` would move to, if any.
+    ///
+    /// At the past-the-end position that is the first pair.
     ///
     /// ```
     /// let map = BTreeMap::from_iter(alloc, [(1, 'a'), (3, 'b')])?;
@@ -183,7 +186,7 @@ impl<'a, K: Ord, V> CursorMap<'a, K, V> {
         Some((&pair.key, &pair.value))
     }
 
-    /// Returns the previous pair, or `None` at the first.
+    /// Returns the previous pair, or `None` at the first position.
     ///
     /// ```
     /// let map = BTreeMap::from_iter(alloc, [(1, 'a'), (3, 'b')])?;
@@ -199,7 +202,7 @@ impl<'a, K: Ord, V> CursorMap<'a, K, V> {
         Some((&pair.key, &pair.value))
     }
 
-    /// Returns the pair at another position, if any. The cursor stays.
+    /// Returns the pair at a position, if any, without moving the cursor.
     ///
     /// ```
     /// let map = BTreeMap::from_iter(alloc, [(1, 'a'), (3, 'b')])?;

@@ -13,10 +13,12 @@ use indexset_core::refusal::{Refusal, Refused};
 use std::mem;
 
 impl<K: Ord + Drop, V: Drop> BTreeMap<K, V> {
-    /// Inserts a pair and returns `None`. If the key is present, keeps the stored key, replaces its
-    /// value, allocates nothing and returns the old value. It makes two binary searches at most,
-    /// one comparison where the key is above all keys. Fails with `Memory`: a failed call returns
-    /// both in the error and changes nothing.
+    /// Inserts a pair, or replaces the value of a present key and returns the old value.
+    ///
+    /// Returns `None` if the key was absent. A present key stays as it is, and the call then
+    /// allocates nothing.
+    ///
+    /// # Examples
     ///
     /// ```
     /// let mut prices = BTreeMap::new(alloc)?;
@@ -24,6 +26,15 @@ impl<K: Ord + Drop, V: Drop> BTreeMap<K, V> {
     /// let again = prices.insert("pear", 130)?;
     /// assert!(rt; first.is_none() && again == Some(120));
     /// ```
+    ///
+    /// # Errors
+    ///
+    /// Fails with `Memory`. A failed call returns the key and the value in the error and changes
+    /// nothing.
+    ///
+    /// # Complexity
+    ///
+    /// Makes one comparison if the key is above all keys, and two binary searches at most.
     pub fn insert(&mut self, key: K, value: V) -> Result<Option<V>, Refused<(K, V)>>
         ensures old { IfOk result (λ o. o ≡ value_of K.cmp self.old.pairs key) }
         ensures ok { OnOk result (self.new ≡ with_entry K.cmp self.old key value) }
@@ -43,13 +54,18 @@ impl<K: Ord + Drop, V: Drop> BTreeMap<K, V> {
         Ok(None)
     }
 
-    /// Removes the pair of a key and returns it, if any, by two binary searches. It allocates
-    /// nothing.
+    /// Removes a key and returns the stored key and its value, if any.
+    ///
+    /// # Examples
     ///
     /// ```
     /// let mut prices = BTreeMap::from_iter(alloc, [("pear", 120), ("fig", 45)])?;
     /// assert_eq!(rt; prices.remove_entry(&"fig"), Some(("fig", 45)));
     /// ```
+    ///
+    /// # Complexity
+    ///
+    /// Makes two binary searches and allocates nothing.
     pub fn remove_entry<Q: UniqueKey<K> + Drop>(&mut self, key: Q) -> Option<(K, V)>
         ensures value { result ≡ option_map entry_of (pair_of Q.order self.old.pairs key) }
         ensures rest { self.new ≡ without_entry Q.order self.old key }
@@ -66,13 +82,18 @@ impl<K: Ord + Drop, V: Drop> BTreeMap<K, V> {
         }
     }
 
-    /// Removes the pair of a key and returns its value, if any, by two binary searches. It
-    /// allocates nothing.
+    /// Removes a key and returns its value, if any.
+    ///
+    /// # Examples
     ///
     /// ```
     /// let mut prices = BTreeMap::from_iter(alloc, [("pear", 120)])?;
     /// assert!(rt; prices.remove(&"pear") == Some(120) && prices.remove(&"pear").is_none());
     /// ```
+    ///
+    /// # Complexity
+    ///
+    /// Makes two binary searches and allocates nothing.
     pub fn remove<Q: UniqueKey<K> + Drop>(&mut self, key: Q) -> Option<V>
         ensures value { result ≡ value_of Q.order self.old.pairs key }
         ensures rest { self.new ≡ without_entry Q.order self.old key }
@@ -85,7 +106,9 @@ impl<K: Ord + Drop, V: Drop> BTreeMap<K, V> {
         Some(value)
     }
 
-    /// Removes the pair of the first key and returns it, if any. It allocates nothing.
+    /// Removes the pair of the first key and returns it, if any.
+    ///
+    /// It allocates nothing.
     ///
     /// ```
     /// let mut prices = BTreeMap::from_iter(alloc, [("pear", 120), ("fig", 45)])?;
@@ -103,7 +126,9 @@ impl<K: Ord + Drop, V: Drop> BTreeMap<K, V> {
         Some((key, value))
     }
 
-    /// Removes the pair of the last key and returns it, if any. It allocates nothing.
+    /// Removes the pair of the last key and returns it, if any.
+    ///
+    /// It allocates nothing.
     ///
     /// ```
     /// let mut prices = BTreeMap::from_iter(alloc, [("pear", 120), ("fig", 45)])?;
@@ -122,7 +147,9 @@ impl<K: Ord + Drop, V: Drop> BTreeMap<K, V> {
         Some((key, value))
     }
 
-    /// Removes the pair at a position and returns it. It allocates nothing.
+    /// Removes the pair at a position and returns it.
+    ///
+    /// The position must be less than the length. It allocates nothing.
     ///
     /// ```
     /// let mut prices = BTreeMap::from_iter(alloc, [("pear", 120), ("fig", 45)])?;
@@ -137,7 +164,9 @@ impl<K: Ord + Drop, V: Drop> BTreeMap<K, V> {
         (key, value)
     }
 
-    /// Removes all pairs, and keeps one empty node. It allocates nothing.
+    /// Removes all pairs, and keeps one empty node.
+    ///
+    /// It allocates nothing.
     ///
     /// ```
     /// let mut prices = BTreeMap::from_iter(alloc, [("pear", 120), ("fig", 45)])?;
@@ -150,8 +179,9 @@ impl<K: Ord + Drop, V: Drop> BTreeMap<K, V> {
         self.set.clear();
     }
 
-    /// Retains the pairs for which the closure returns true, with the values that it left. It is
-    /// called once for each pair, in order. It allocates nothing.
+    /// Retains the pairs for which the closure returns true, with the values that it wrote.
+    ///
+    /// It calls the closure once for each pair, in order, and allocates nothing.
     ///
     /// ```
     /// let mut prices = BTreeMap::from_iter(alloc, [("pear", 120), ("fig", 45)])?;

@@ -1,4 +1,4 @@
-//! Pairs that leave a map one by one, as a closure picks them.
+//! An iterator that removes the pairs for which a closure returns true.
 ghost use Rattle.std.specs.Prelude.{◌≡◌, IsTrue, MatchOption, length};
 ghost use Rattle.std.specs.Fn.{always_mut};
 ghost use Rattle.std.specs.Iterator.{at_most};
@@ -18,9 +18,10 @@ use indexset_spine::extract_range::ExtractRange;
 use std::iter::FusedIterator;
 use std::ops::Bound;
 
-/// The pairs of a range of a map that a closure picks, in order of their keys. Each leaves the map
-/// as the iterator returns it. Once the iterator is dropped, those that it has not returned stay,
-/// with the values that the closure left.
+/// An iterator that removes the pairs of a range for which a closure returns true, in order.
+///
+/// Each call of `next` removes the pair that it returns. Pairs that were not returned when the
+/// iterator is dropped stay in the map, with the values that the closure wrote.
 #[derive(Drop)]
 #[must_use]
 pub struct ExtractIfMap<'a, K: Ord, V, F> {
@@ -33,10 +34,12 @@ pub struct ExtractIfMap<'a, K: Ord, V, F> {
 impl<K: Ord + Drop, V: Drop> BTreeMap<K, V> {
     ghost use Rattle.indexset_map.specs.Extract.{extract_pairs, extract_map, extract_map_pred};
 
-    /// Returns an iterator that calls the closure for each pair whose key is within the range, in
-    /// order, and removes and returns those for which it returns true. A pair costs as in a walk, and
-    /// one that goes moves those after it in its node. It allocates nothing. The start must not be
-    /// past the end, nor at it where both are excluded.
+    /// Returns an iterator that removes and returns the pairs for which the closure returns true.
+    ///
+    /// It calls the closure for each pair whose key is within the range, in order. The start must
+    /// not be past the end, nor equal to it if both are excluded.
+    ///
+    /// # Examples
     ///
     /// ```
     /// let mut prices = BTreeMap::from_iter(alloc, [("pear", 120), ("fig", 45), ("plum", 80)])?;
@@ -44,6 +47,11 @@ impl<K: Ord + Drop, V: Drop> BTreeMap<K, V> {
     /// assert!(rt; dear.eq([("pear", 120), ("plum", 80)]));
     /// assert!(rt; prices.len() == 1 && prices.contains_key(&"fig"));
     /// ```
+    ///
+    /// # Complexity
+    ///
+    /// A step costs as that of `iter_mut`; a removal also moves the later pairs of its node. It
+    /// allocates nothing.
     pub fn extract_if<F: FnMut(&K, &mut V) -> bool, R: KeyRange<K> + Drop>(
         &mut self,
         range: R,
@@ -74,7 +82,8 @@ impl<K: Ord + Drop, V: Drop> BTreeMap<K, V> {
             self.now.pairs (bound_map (λ k. k.now) start.entry)
             (bound_map (λ k. k.now) end.entry) }
     {
-        // A map says here that its keys ascend, so the two positions cut out the range.
+        // The contract of `len` states that the keys ascend, so the range lies between two
+        // positions.
         let _len = self.len();
         let (spot, from) = self.start_spot(start);
         let back = self.end_position(end);
@@ -86,8 +95,8 @@ impl<K: Ord + Drop, V: Drop> BTreeMap<K, V> {
         }
     }
 
-    // Calls the closure for each pair of a stretch in turn, up to the first for which it returns
-    // true, and removes that one and returns it.
+    // Calls the closure for the pairs of a stretch in order, removes the first for which it returns
+    // true, and returns that pair.
     fn extract<F: FnMut(&K, &mut V) -> bool>(
         &mut self,
         at: &mut ExtractRange,

@@ -6,8 +6,9 @@ ghost use Rattle.indexset_core.specs.DoubleEnded.{IsDoubleEnded};
 use crate::iter::{IterMap, Keys, Values};
 use crate::owned::{IntoIterMap, IntoKeys, IntoValues};
 
-/// An iterator over the pairs, keys or values of a map, or over the pairs of a range of one, yields
-/// each once, whatever calls of `next` and `next_back`, and then `None`.
+/// Iterators over the pairs, keys or values of a map, or over a range, yield each item once.
+///
+/// They do so for every sequence of calls of `next` and `next_back`, and then return `None`.
 pub fn shared_iterators_yield_each_item_once<'a, K: 'a, V: 'a>()
     ensures pairs { IsDoubleEnded pair_deref ⟦<IterMap<'a, K, V> as Iterator>⟧.next_gives
         ⟦<IterMap<'a, K, V> as DoubleEndedIterator>⟧.next_back_gives }
@@ -17,7 +18,9 @@ pub fn shared_iterators_yield_each_item_once<'a, K: 'a, V: 'a>()
         ⟦<Values<'a, K, V> as DoubleEndedIterator>⟧.next_back_gives }
 {}
 
-/// So does an iterator that owns them.
+/// Owning iterators over the pairs, keys or values of a map yield each item once.
+///
+/// They do so for every sequence of calls of `next` and `next_back`, and then return `None`.
 pub fn owning_iterators_yield_each_item_once<K: Drop, V: Drop>()
     ensures pairs { IsDoubleEnded (λ e. e) ⟦<IntoIterMap<K, V> as Iterator>⟧.next_gives
         ⟦<IntoIterMap<K, V> as DoubleEndedIterator>⟧.next_back_gives }

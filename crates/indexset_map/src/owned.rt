@@ -1,4 +1,4 @@
-//! Owning iterators, from both ends.
+//! Owning double-ended iterators.
 ghost use Rattle.std.specs.Prelude.{◌≡◌, length, map, IfSome, Some};
 ghost use Rattle.std.specs.Iterator.{UpTo, at_most};
 ghost use Rattle.std.specs.Iterator.SizeHint.{IsWithinCount};
@@ -11,7 +11,7 @@ use indexset_set::IntoIter;
 use std::iter::FusedIterator;
 use std::marker::Model;
 
-/// The keys with their values that remain, from both ends.
+/// An owning double-ended iterator over the pairs of a map.
 #[derive(Drop)]
 pub struct IntoIterMap<K, V> {
     rest: IntoIter<Pair<K, V>>,
@@ -64,7 +64,7 @@ impl<K: Drop, V: Drop> ExactSizeIterator for IntoIterMap<K, V> {
 
 impl<K: Drop, V: Drop> FusedIterator for IntoIterMap<K, V> {}
 
-/// The remaining keys, from both ends.
+/// An owning double-ended iterator over the keys of a map.
 #[derive(Drop)]
 pub struct IntoKeys<K, V> {
     rest: IntoIter<Pair<K, V>>,
@@ -117,7 +117,7 @@ impl<K: Drop, V: Drop> ExactSizeIterator for IntoKeys<K, V> {
 
 impl<K: Drop, V: Drop> FusedIterator for IntoKeys<K, V> {}
 
-/// The remaining values, in the order of their keys, from both ends.
+/// An owning double-ended iterator over the values of a map, in the order of their keys.
 #[derive(Drop)]
 pub struct IntoValues<K, V> {
     rest: IntoIter<Pair<K, V>>,
@@ -171,7 +171,9 @@ impl<K: Drop, V: Drop> ExactSizeIterator for IntoValues<K, V> {
 impl<K: Drop, V: Drop> FusedIterator for IntoValues<K, V> {}
 
 impl<K: Ord + Drop, V: Drop> BTreeMap<K, V> {
-    /// Returns an iterator over the keys, in order, and drops the values.
+    /// Returns an owning iterator over the keys, in order.
+    ///
+    /// The values are dropped.
     ///
     /// ```
     /// let prices = BTreeMap::from_iter(alloc, [("pear", 120), ("fig", 45)])?;
@@ -188,7 +190,9 @@ impl<K: Ord + Drop, V: Drop> BTreeMap<K, V> {
         }
     }
 
-    /// Returns an iterator over the values, in the order of their keys, and drops the keys.
+    /// Returns an owning iterator over the values, in the order of their keys.
+    ///
+    /// The keys are dropped.
     ///
     /// ```
     /// let prices = BTreeMap::from_iter(alloc, [("pear", 120), ("fig", 45)])?;

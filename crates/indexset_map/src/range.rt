@@ -18,13 +18,14 @@ use indexset_set::inner;
 use indexset_spine::spot::Spot;
 use std::ops::Bound;
 
-/// The remaining pairs of a part of a map, from both ends.
+/// A double-ended iterator over a range of the pairs of a map.
 pub type RangeMap<'a, K, V> = IterMap<'a, K, V>;
 
 impl<K: Ord, V> BTreeMap<K, V> {
     /// Returns a double-ended iterator over the pairs whose keys are within the range, in order.
-    /// The start must not be past the end, nor at it where both are excluded (see
-    /// `base::key_range::bounds_are_ordered`).
+    ///
+    /// The start must not be past the end, nor equal to it if both are excluded: see
+    /// `base::key_range::bounds_are_ordered`.
     ///
     /// ```
     /// let map = BTreeMap::from_iter(alloc, [(5, 'a'), (10, 'b'), (15, 'c'), (20, 'd')])?;
@@ -44,8 +45,9 @@ impl<K: Ord, V> BTreeMap<K, V> {
         IterMap::of(self.set.range_by_key(bounds))
     }
 
-    /// Returns a double-ended iterator over the pairs at the positions within the bounds, in order.
-    /// It is empty where the start is past the end; the bounds are clipped to the length.
+    /// Returns a double-ended iterator over the pairs at a range of positions, in order.
+    ///
+    /// The bounds are clipped to the length. The iterator is empty if the start is past the end.
     ///
     /// ```
     /// let map = BTreeMap::from_iter(alloc, [(5, 'a'), (10, 'b'), (15, 'c')])?;
@@ -61,7 +63,7 @@ impl<K: Ord, V> BTreeMap<K, V> {
         IterMap::of(self.set.range_idx(range))
     }
 
-    // Returns the spot after the pairs before the start, and how many these are.
+    // Returns the spot after the pairs before the start, and the number of these pairs.
     pub(super) fn start_spot<Q: LookupKey<K>>(&self, start: Bound<&Q>) -> (Spot, usize)
         ensures place { result.1 ≡ place_of self.now.lengths result.0 }
         ensures position { result.1 ≡ count_by
@@ -74,7 +76,7 @@ impl<K: Ord, V> BTreeMap<K, V> {
         (spot, position)
     }
 
-    // Returns the first position whose key is past the end, or the length where there is none.
+    // Returns the first position whose key is past the end, or the length if there is none.
     pub(super) fn end_position<Q: LookupKey<K>>(&self, end: Bound<&Q>) -> usize
         ensures { result ≡ count_by (λ p. is_up_to_end Q.order (bound_map (λ k. k.now) end.entry)
             p.key) self.now.pairs }

@@ -11,15 +11,17 @@ use indexset_core::lookup_key::LookupKey;
 use indexset_core::position_range::{PositionRange, end_position, first_position};
 use std::ops::Bound;
 
-/// The remaining pairs of a part of a map, with mutable references to the values, from both ends.
+/// A double-ended iterator over a range of a map, with mutable references to the values.
 pub type RangeMut<'a, K, V> = IterMut<'a, K, V>;
 
 impl<K: Ord, V> BTreeMap<K, V> {
     ghost use Rattle.indexset_map.specs.Walk.{IsSpan, walk_back, walk_front, walk_map, walk_rest};
 
-    /// Returns a double-ended iterator over the pairs whose keys are within the range, in order,
-    /// with mutable references to the values. The start must not be past the end, nor at it where
-    /// both are excluded (see `base::key_range::bounds_are_ordered`).
+    /// Returns a mutable double-ended iterator over the pairs whose keys are within the range.
+    ///
+    /// It yields the pairs in order, each key with a mutable reference to its value. The start must
+    /// not be past the end, nor equal to it if both are excluded: see
+    /// `base::key_range::bounds_are_ordered`.
     ///
     /// ```
     /// let mut map = BTreeMap::from_iter(alloc, [(5, 1), (10, 1), (15, 1)])?;
@@ -57,7 +59,8 @@ impl<K: Ord, V> BTreeMap<K, V> {
             (bound_map (λ k. k.now) end.entry) p.key) self.old.pairs (walk_front result)
             (walk_back result) }
     {
-        // A map says here that its keys ascend, so the two positions cut out the range.
+        // The contract of `len` states that the keys ascend, so the range lies between two
+        // positions.
         let _len = self.len();
         let (spot, from) = self.start_spot(start);
         let back = self.end_position(end);
@@ -70,9 +73,10 @@ impl<K: Ord, V> BTreeMap<K, V> {
         }
     }
 
-    /// Returns a double-ended iterator over the pairs at the positions within the bounds, in order,
-    /// with mutable references to the values. It is empty where the start is past the end; the
-    /// bounds are clipped to the length.
+    /// Returns a mutable double-ended iterator over the pairs at a range of positions.
+    ///
+    /// It yields the pairs in order, each key with a mutable reference to its value. The bounds are
+    /// clipped to the length. The iterator is empty if the start is past the end.
     ///
     /// ```
     /// let mut map = BTreeMap::from_iter(alloc, [(5, 1), (10, 1), (15, 1)])?;

@@ -1,4 +1,4 @@
-//! Entries whose keys ascend, gathered in a run that is appended by blocks.
+//! Entries whose keys ascend, collected in a run that is appended by blocks.
 ghost use Rattle.std.specs.Prelude.{◌≡◌, ◌++◌, OnOk, IfErr, map};
 ghost use Rattle.indexset_core.specs.Order.{IsAscending};
 ghost use Rattle.indexset_core.specs.Pairs.{by_key, entry_of};
@@ -10,8 +10,8 @@ use indexset_core::refusal::Refusal;
 use indexset_set::inner;
 
 impl<K: Ord + Drop, V: Drop> BTreeMap<K, V> {
-    // Inserts an entry, where the pairs of a run are yet to go behind those of the map: one whose
-    // key is above all joins the run, and any other goes in after the run. A failed call drops it.
+    // Inserts an entry behind a run that is not yet appended. If its key is above all others, it
+    // joins the run; otherwise the run is appended first. A failed call drops the entry.
     pub(super) fn put_behind(
         &mut self,
         run: &mut Vec<Pair<K, V>>,
@@ -24,7 +24,7 @@ impl<K: Ord + Drop, V: Drop> BTreeMap<K, V> {
             ≡ with_entry K.cmp (with_all K.cmp self.old (map entry_of run.old.items)) key value) }
         ensures refusal { IfErr result (λ e. e ≡ Refusal.Memory) }
     {
-        // A set says here how long its nodes are, before and after.
+        // The contract of `node_count` states the lengths of the nodes, before and after.
         let _count = self.set.node_count();
         let concat = inner::join_run(&mut self.set, run, Pair { key, value });
         let _left = self.set.node_count();
@@ -39,7 +39,7 @@ impl<K: Ord + Drop, V: Drop> BTreeMap<K, V> {
         }
     }
 
-    // Moves the pairs of a run behind those of the map. A failed call has moved a prefix.
+    // Appends the pairs of a run. A failed call has moved a prefix.
     pub(super) fn take_run(&mut self, run: &mut Vec<Pair<K, V>>) -> Result<(), Refusal>
         requires order { IsAscending (by_key K.cmp) (self.old.pairs ++ run.old.items) }
         ensures inserted { OnOk result (self.new

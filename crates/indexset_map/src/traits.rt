@@ -1,5 +1,4 @@
-//! Traits of the standard library that a map has beside its functions: so `derive`, `collect` and
-//! `extend` know it.
+//! Traits of the standard library for maps, which `derive`, `collect` and `extend` use.
 ghost use Rattle.std.specs.Prelude.{◌≡◌, map};
 ghost use Rattle.indexset_core.specs.declared.constants.TheConstants.{DEFAULT_INNER_SIZE};
 ghost use Rattle.indexset_map.specs.Contents.{no_pairs, with_all};
@@ -19,7 +18,11 @@ impl<K: Ord + fmt::Debug, V: fmt::Debug> fmt::Debug for BTreeMap<K, V> {
 impl<K: Ord + Clone, V: Clone> Clone for BTreeMap<K, V> {
     ghost is_clone = { λ m copy. IsMapClone K.is_clone V.is_clone K.cmp m copy };
 
-    /// Returns what the inherent `clone` returns; fails with `AllocError`.
+    /// Returns a copy of the map, as the inherent `clone`.
+    ///
+    /// # Errors
+    ///
+    /// Fails with `AllocError`.
     fn clone(&self) -> Result<BTreeMap<K, V>, AllocError> {
         match BTreeMap::clone(self) {
             Ok(copy) => Ok(copy),

@@ -5,7 +5,7 @@ ghost use Rattle.std.specs.Option.{option_map};
 
 use super::BTreeMap;
 
-/// The remaining values of a map, by mutable references, from both ends.
+/// A double-ended iterator over mutable references to the values of a map.
 ///
 /// ```
 /// let mut map = BTreeMap::from_iter(alloc, [(1, 1u8), (2, 2)])?;
@@ -21,7 +21,7 @@ pub struct ValuesMut<'a, K: Ord, V> {
     map: &'a mut BTreeMap<K, V>,
     front: usize,
     back: usize,
-    // The node of the value that was given last, and how many values are before that node.
+    // The node of the value that was returned last, and how many values precede that node.
     node: usize,
     start: usize,
     ghost within: { back ≤ length map.now.pairs },
@@ -77,7 +77,7 @@ impl<'a, K: Ord, V> ValuesMut<'a, K, V> {
         self.back.saturating_sub(self.front)
     }
 
-    /// Returns whether a value remains.
+    /// Returns true if a value remains.
     ///
     /// ```
     /// let mut map = BTreeMap::from_iter(alloc, [(1, 10), (2, 20)])?;
@@ -90,7 +90,7 @@ impl<'a, K: Ord, V> ValuesMut<'a, K, V> {
         self.front < self.back
     }
 
-    /// Returns a mutable reference to the next value, or `None` where none remains.
+    /// Returns a mutable reference to the next value, or `None` if none remains.
     ///
     /// ```
     /// let mut map = BTreeMap::from_iter(alloc, [(1, 10), (2, 20)])?;
@@ -113,7 +113,7 @@ impl<'a, K: Ord, V> ValuesMut<'a, K, V> {
         }
     }
 
-    /// Returns a mutable reference to the last remaining value.
+    /// Returns a mutable reference to the last remaining value, if any.
     ///
     /// ```
     /// let mut map = BTreeMap::from_iter(alloc, [(1, 10), (2, 20)])?;
@@ -138,6 +138,8 @@ impl<'a, K: Ord, V> ValuesMut<'a, K, V> {
 
     /// Returns a mutable reference to the next value.
     ///
+    /// A value must remain.
+    ///
     /// ```
     /// let mut map = BTreeMap::from_iter(alloc, [(1, 10), (2, 20)])?;
     /// let mut values = map.values_mut();
@@ -161,6 +163,8 @@ impl<'a, K: Ord, V> ValuesMut<'a, K, V> {
     }
 
     /// Returns a mutable reference to the last remaining value.
+    ///
+    /// A value must remain.
     ///
     /// ```
     /// let mut map = BTreeMap::from_iter(alloc, [(1, 10), (2, 20)])?;

@@ -1,4 +1,4 @@
--- An insertion that takes no two values for equal: its pair is new.
+-- An insertion for which no two values are equal, so its pair is new.
 use Rattle.std.proofs.Common.{◌≡◌, ◌+◌, ◌==◌, ◌&&◌, ◌++◌, Bool, true, false, if◌then◌else◌, List, [], ◌∷◌, length, find, is_none, None, Ordering, refl, ap, sym, ◌∙◌}
 use Rattle.std.below.core.specs.declared.int.u64.TheConstants.{MAX}
 use Rattle.std.specs.Cmp.{IsTotalOrder}
@@ -35,19 +35,19 @@ module _ {K V : Type 0} (cmp : K → K → Ordering) (m : MultiTree K V) (k : K)
   pub next_is : m.pair_next + 1 ≡ pair_next_after cmp no m k w
   next_is = sym (ap (λ t. if t then m.pair_next + 1 else m.pair_next) takes)
 
-  -- no number is left for the pair
+  -- no number remains for the pair
   pub none_left : (m.pair_next == MAX) ≡ true → Numbers ≡ addition_refusal cmp m k w
   none_left last =
       sym (ap (λ t. if t && (m.pair_next == MAX) then Numbers else refusal_for m.next (length (put_events (by_number cmp) m.size m.nodes (inserted_pair cmp no m k w)))) takes
       ∙ ap (λ b. if b then Numbers else refusal_for m.next (length (put_events (by_number cmp) m.size m.nodes (inserted_pair cmp no m k w)))) last)
 
-  -- else the events say why
+  -- otherwise the events determine the error
   pub some_left : (m.pair_next == MAX) ≡ false → refusal_for m.next (length (put_events (by_number cmp) m.size m.nodes (inserted_pair cmp no m k w))) ≡ addition_refusal cmp m k w
   some_left more =
       sym (ap (λ t. if t && (m.pair_next == MAX) then Numbers else refusal_for m.next (length (put_events (by_number cmp) m.size m.nodes (inserted_pair cmp no m k w)))) takes
       ∙ ap (λ b. if b then Numbers else refusal_for m.next (length (put_events (by_number cmp) m.size m.nodes (inserted_pair cmp no m k w)))) more)
 
-  -- the pairs after it
+  -- the pairs after the insertion
   pub added : IsTotalOrder cmp → IsLawful (by_number cmp) m.size m.nodes → AreNumberedBelow m.pair_next (concat m.nodes) → (new : MultiTree K V) → concat new.nodes ≡ put (by_number cmp) (concat m.nodes) (inserted_pair cmp no m k w) → IsAdded cmp m new k w
   added o law low new made =
       let up = lawful_ascends (by_number cmp) m.size m.nodes law in

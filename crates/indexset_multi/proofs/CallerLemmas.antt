@@ -1,2 +1,2 @@
--- What crates above this one may cite of its proofs.
+-- The lemmas that other crates may cite.
 pub use Rattle.indexset_multi.proofs.SearchLemmas.{lawful_keys}

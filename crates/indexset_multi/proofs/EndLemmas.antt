@@ -18,7 +18,7 @@ none_behind q x l =
       | false ↦ λ e. e
     ]
 
--- where no pair stands on one side of v, no key is on that side of v's
+-- if no pair is on one side of v, no key is on that side of v's key
 module _ {K V : Type 0} (cmp : K → K → Ordering) (v : MultiPair K V) (is_aside : Ordering → Bool) (tied : is_aside Equal ≡ false) where
   by_key_alone : (a b : Ordering) → is_aside a ≡ true → is_aside (ordering_then a b) ≡ true
   by_key_alone Less b e = e
@@ -34,7 +34,7 @@ module _ {K V : Type 0} (cmp : K → K → Ordering) (v : MultiPair K V) (is_asi
         | false ↦ λ e. rw e rest
       ] refl
 
--- the set's events of the removal of the item at a position are the map's of that pair
+-- the set's events of the removal of the item at a position are the multimap's of that pair
 pub told_at : {K V : Type 0} (cmp : K → K → Ordering) (position : MultiTree K V → ℕ) {m n : MultiTree K V} → n ≡ m → removal_events_at (by_number cmp) n.size n.nodes (position n) ≡ pair_removal_events cmp m.size m.nodes (slice_get (concat m.nodes) (position m))
 unfolding removal_events_at
 told_at cmp position seen = λ j. let t = seen j in pair_removal_events cmp t.size t.nodes (slice_get (concat t.nodes) (position t))

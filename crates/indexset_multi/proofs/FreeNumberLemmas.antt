@@ -38,7 +38,7 @@ module _ {K V : Type 0} where
   greatest-append : (l r : List (MultiPair K V)) → has_greatest (l ++ r) ≡ (has_greatest l || has_greatest r)
   greatest-append l r = list_any-append (λ p. eqb p.discriminator MAX) l r
 
-  -- one node more
+  -- with one more node
   module _ {N : Type 0} (held : N → List (MultiPair K V)) where
     read_more : (vs : List N) (i : ℕ) (v : N) → i < length vs → v ≡ get_or vs i v → concat (take (i + 1) (map held vs)) ≡ concat (take i (map held vs)) ++ held v
     read_more [] i v lt at = absurd (omega arith)
@@ -53,7 +53,7 @@ module _ {K V : Type 0} where
     pub greatest_read : (vs : List N) (i : ℕ) (v : N) → i < length vs → v ≡ get_or vs i v → has_greatest (concat (take (i + 1) (map held vs))) ≡ (has_greatest (concat (take i (map held vs))) || has_greatest (held v))
     greatest_read vs i v lt at = ap has_greatest (read_more vs i v lt at) ∙ greatest-append (concat (take i (map held vs))) (held v)
 
-    -- the greatest number in a node is that of the joined nodes
+    -- the greatest number in a node is in the joined nodes
     pub greatest_among : (vs : List N) (i : ℕ) (v : N) → i < length vs → v ≡ get_or vs i v → has_greatest (held v) ≡ true → has_greatest (concat (map held vs)) ≡ true
     greatest_among [] i v lt at h = absurd (omega arith)
     greatest_among (u ∷ vs) zero v lt at h = greatest-append (held u) (concat (map held vs)) ∙ rw (← at, h) refl

@@ -1,4 +1,4 @@
--- What an insertion makes of a map, by what a put of its pair makes of the set.
+-- A multimap after an insertion, by the put of the pair into the set.
 use Rattle.std.proofs.Common.{◌≡◌, ℕ, ◌+◌, Bool, if◌then◌else◌, List, length, None, Some, is_none, Ordering, refl, sym, ◌∙◌, arith}
 use Rattle.std.specs.Cmp.{IsTotalOrder}
 use Rattle.std.specs.Option.{unwrap_or}
@@ -25,7 +25,7 @@ module _ {K V : Type 0} (cmp : K → K → Ordering) (eq : V → V → Bool) (m 
         | Some n ↦ λ e. kept_found cmp o eq l (lawful_ascends (by_number cmp) m.size m.nodes law) k w n e
       ] refl
 
-  -- each number is below the next one after it
+  -- each number is below the next one after the insertion
   pub numbered_after : AreNumberedBelow m.pair_next (concat m.nodes) → AreNumberedBelow (pair_next_after cmp eq m k w) (put (by_number cmp) (concat m.nodes) (inserted_pair cmp eq m k w))
   numbered_after low =
       let l = concat m.nodes in
@@ -35,7 +35,7 @@ module _ {K V : Type 0} (cmp : K → K → Ordering) (eq : V → V → Bool) (m 
         | Some i ↦ λ e. below_put (by_number cmp) n l (numbered_pair k w i) low (kept_below cmp eq n l low k w i e)
       ] refl
 
-  -- the map whose set, as n shows it, was put the pair
+  -- the multimap after its set, which n has, was put the pair
   pub insertion_tree : {n : MultiTree K V} {pair : MultiPair K V} {nodes : List (List (MultiPair K V))} {size next pair_next : ℕ} → n ≡ m → pair ≡ inserted_pair cmp eq m k w → nodes ≡ with_put (by_number cmp) n.size n.nodes pair → size ≡ n.size → next ≡ n.next + length (put_events (by_number cmp) n.size n.nodes pair) → pair_next ≡ pair_next_after cmp eq m k w → (let t : MultiTree K V = record { nodes = nodes; size = size; next = next; pair_next = pair_next } in t) ≡ after_insertion cmp eq m k w
   insertion_tree seen is nodes size next pair_next =
       let all_nodes = nodes ∙ (λ j. let t = seen j in with_put (by_number cmp) t.size t.nodes (is j)) in

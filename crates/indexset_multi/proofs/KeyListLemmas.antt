@@ -1,4 +1,4 @@
--- What insertions and removals make of the pairs of a key.
+-- The pairs of a key after insertions and removals.
 use Rattle.std.proofs.Common.{◌≡◌, ℕ, ◌<◌, ◌||◌, Bool, true, false, not, cond, List, [], ◌∷◌, ◌++◌, drop, filter, find, Option, Some, None, is_none, is_some, Ordering, refl, ap, sym, ◌∙◌, subst}
 use Rattle.std.specs.Cmp.{IsTotalOrder}
 use Rattle.std.specs.List.{list_any}
@@ -38,7 +38,7 @@ any_each [] = tt
 any_each (x ∷ l) = (tt, any_each l)
 
 module _ {X : Type 0} (p q : X → Bool) where
-  -- two filters, where the first test passes all or none that the second does
+  -- two filters, of which the first passes all or no items that the second passes
   nested_all : (l : List X) → Each (λ x. p x ≡ true → q x ≡ true) l → filter p (filter q l) ≡ filter p l
   nested_all [] h = refl
   nested_all (x ∷ l) h =
@@ -63,7 +63,7 @@ module _ {X : Type 0} (p q : X → Bool) where
         ]
       ] refl
 
-  -- what is found is of the list, and passes
+  -- an item that is found is in the list, and passes
   found_each : (P : X → Type 0) (l : List X) (x : X) → Each P l → find q (filter p l) ≡ Some x → P x × (p x ≡ true)
   found_each P [] x h e = absurd (none-some x e)
   found_each P (y ∷ l) x h e =
@@ -76,7 +76,7 @@ module _ {X : Type 0} (p q : X → Bool) where
       ] refl e
 
 module _ {X : Type 0} (q : X → Bool) where
-  -- the first item that passes stands behind what does not
+  -- the first item that passes follows items that do not
   first_after : (l : List X) (x : X) (r : List X) → find q l ≡ None → q x ≡ true → without_first q (l ++ x ∷ r) ≡ l ++ r
   first_after [] x r none passes = rw passes refl
   first_after (y ∷ l) x r none passes =
@@ -122,7 +122,7 @@ module _ {K V : Type 0} (cmp : K → K → Ordering) (o : IsTotalOrder cmp) wher
       first_equal Greater b e = e
 
   module _ (k : K) (v : MultiPair K V) (at : cmp v.key k ≡ Equal) where
-    -- the pairs of a key stand by their numbers
+    -- the pairs of a key are ordered by their numbers
     by_numbers : (p : MultiPair K V) → is_eq (cmp p.key k) ≡ true → by_number cmp p v ≡ nat_cmp p.discriminator v.discriminator
     by_numbers p e =
         let tied : cmp p.key v.key ≡ Equal = alike_right o v.key k p.key at ∙ equal_from (cmp p.key k) e in
@@ -131,7 +131,7 @@ module _ {K V : Type 0} (cmp : K → K → Ordering) (o : IsTotalOrder cmp) wher
     here : is_eq (cmp v.key k) ≡ true
     here = ap is_eq at
 
-    -- a pair whose number is above all others comes last
+    -- a pair whose number is above all others is put last
     pub put_last : (l : List (MultiPair K V)) → AreNumberedBelow v.discriminator l → pairs_of cmp (put (by_number cmp) l v) k ≡ pairs_of cmp l k ++ v ∷ []
     unfolding put
     put_last l low =
@@ -143,7 +143,7 @@ module _ {K V : Type 0} (cmp : K → K → Ordering) (o : IsTotalOrder cmp) wher
         let behind : filter p (filter is_high l) ≡ [] = nested_none p is_high l (each-map _ _ (λ x h e. ap is_gt (h e)) l less) in
         filter-append p (filter is_low l) (v ∷ filter is_high l) ∙ rw (before, here, behind) refl
 
-    -- the pairs of other keys stay
+    -- the pairs of other keys are unchanged
     pub put_others : (l : List (MultiPair K V)) → IsAscending (by_number cmp) l → (other : K) → is_eq (cmp other k) ≡ false → pairs_of cmp (put (by_number cmp) l v) other ≡ pairs_of cmp l other
     put_others l up other ne =
         let p : MultiPair K V → Bool = λ x. is_eq (cmp x.key other) in
@@ -162,7 +162,8 @@ module _ {K V : Type 0} (cmp : K → K → Ordering) (o : IsTotalOrder cmp) wher
             back Equal e = e
             back Greater e = refl
 
-    -- the first pair with an equal value is the one that was put, where it has the number of such a pair
+    -- the first pair with an equal value is the pair that was put, if it has the number of such a
+    -- pair
     module _ (q : MultiPair K V → Bool) (passes : q v ≡ true) where
       none_before : (l : List (MultiPair K V)) → Each (λ x. by_number cmp x v ≡ Less) l → ((x : MultiPair K V) → find q (pairs_of cmp l k) ≡ Some x → x.discriminator ≡ v.discriminator) → find q (pairs_of cmp l k) ≡ None
       none_before l low number =
@@ -189,13 +190,13 @@ module _ {K V : Type 0} (cmp : K → K → Ordering) (o : IsTotalOrder cmp) wher
           (λ l y r low same high number. rw (parts-put (by_number cmp) (numbers_total cmp o) l (y ∷ []) r v low (same, tt) high) (put_found l r low (λ x e. number x (front l (y ∷ r) x e))))
           l (rises (by_number cmp) l up)
 
--- a removal, whose key may be sought by what stands for it
+-- a removal by a look-up key
 module _ {K V Q : Type 0} {cmp : K → K → Ordering} (o : IsTotalOrder cmp) {order : K → Q → Ordering} {among : Q → Q → Ordering} (acts : OrdersAsItem cmp order among) where
-  -- pairs that compare equal have keys that are found alike
+  -- pairs that compare equal have keys that compare alike with the look-up key
   alike : (k : Q) (p x : MultiPair K V) → by_number cmp p x ≡ Equal → order p.key k ≡ order x.key k
   alike k p x tied = acts.alike k p.key x.key (keys_tied cmp o p x tied)
 
-  -- the pair x of the key goes, which is the first that passes
+  -- the removal of the pair x of the key, the first that passes
   module _ (k : Q) (q : MultiPair K V → Bool) (x : MultiPair K V) where
     same : by_number cmp x x ≡ Equal
     same = tied_itself (numbers_total cmp o) x
@@ -243,7 +244,7 @@ module _ {K V Q : Type 0} {cmp : K → K → Ordering} (o : IsTotalOrder cmp) {o
         (λ l y r low tied high e. rw (parts-without (by_number cmp) (numbers_total cmp o) l (y ∷ []) r x low (tied, tt) high) (first_gone l y r low tied high e))
         l (rises (by_number cmp) l up)
 
-  -- the list of a key after its first pair that passes is removed, where there is one
+  -- the pairs of a key after the removal of the first that passes, if any
   pub pair_gone : (k : Q) (q : MultiPair K V → Bool) (l : List (MultiPair K V)) → IsAscending (by_number cmp) l → pairs_of order (without_named cmp l (find q (pairs_of order l k))) k ≡ without_first q (pairs_of order l k)
   pair_gone k q l up =
       elim (find q (pairs_of order l k)) as (λ f. find q (pairs_of order l k) ≡ f → pairs_of order (without_named cmp l f) k ≡ without_first q (pairs_of order l k)) [
@@ -254,7 +255,7 @@ module _ {K V Q : Type 0} {cmp : K → K → Ordering} (o : IsTotalOrder cmp) {o
   pub first_pair_gone : (k : Q) (l : List (MultiPair K V)) → IsAscending (by_number cmp) l → pairs_of order (without_named cmp l (first_pair order l k)) k ≡ drop 1 (pairs_of order l k)
   first_pair_gone k l up = ap (λ f. pairs_of order (without_named cmp l f) k) (first_filtered (λ p. is_eq (order p.key k)) l) ∙ (pair_gone k (λ _. true) l up ∙ any_first (pairs_of order l k))
 
-  -- the pairs of other keys stay
+  -- the pairs of other keys are unchanged
   module _ (k : Q) (q : MultiPair K V → Bool) (l : List (MultiPair K V)) (other : K) (ne : is_eq (order other k) ≡ false) where
     pair_left : (x : MultiPair K V) → find q (pairs_of order l k) ≡ Some x → pairs_of cmp (without (by_number cmp) l x) other ≡ pairs_of cmp l other
     unfolding unequal
@@ -275,7 +276,7 @@ module _ {K V Q : Type 0} {cmp : K → K → Ordering} (o : IsTotalOrder cmp) {o
   pub others_left_first : (k : Q) (l : List (MultiPair K V)) (other : K) → is_eq (order other k) ≡ false → pairs_of cmp (without_named cmp l (first_pair order l k)) other ≡ pairs_of cmp l other
   others_left_first k l other ne = ap (λ f. pairs_of cmp (without_named cmp l f) other) (first_filtered (λ p. is_eq (order p.key k)) l) ∙ others_left k (λ _. true) l other ne
 
-  -- and so do all of them, in order
+  -- all of them are unchanged, in order
   module _ (k : Q) (l : List (MultiPair K V)) where
     rest_left : (x : MultiPair K V) → find (λ _. true) (pairs_of order l k) ≡ Some x → without_key order (without (by_number cmp) l x) k ≡ without_key order l k
     unfolding unequal
@@ -293,7 +294,7 @@ module _ {K V Q : Type 0} {cmp : K → K → Ordering} (o : IsTotalOrder cmp) {o
           | Some x ↦ λ e. rest_left x e
         ] refl
 
--- an insertion into a map
+-- an insertion into a multimap
 module _ {K V : Type 0} (cmp : K → K → Ordering) (o : IsTotalOrder cmp) (eq : V → V → Bool) (m : MultiTree K V) (k : K) (w : V) where
   keyed : cmp k k ≡ Equal
   keyed = tied_itself o k
@@ -313,7 +314,7 @@ module _ {K V : Type 0} (cmp : K → K → Ordering) (o : IsTotalOrder cmp) (eq 
   pub inserted_others : IsAscending (by_number cmp) (concat m.nodes) → (other : K) → is_eq (cmp other k) ≡ false → pairs_of cmp (put (by_number cmp) (concat m.nodes) (inserted_pair cmp eq m k w)) other ≡ pairs_of cmp (concat m.nodes) other
   inserted_others up other ne = put_others cmp o k (inserted_pair cmp eq m k w) keyed (concat m.nodes) up other ne
 
-  -- the pairs after an insertion, as a caller meets them
+  -- the pairs after an insertion, for a caller
   pub record Inserted (after : List (MultiPair K V)) : Type 0 where
     pub contains : equal_pair cmp eq after k w ≡ Some (inserted_pair cmp eq m k w)
     pub last : takes_number cmp eq m k w ≡ true → pairs_of cmp after k ≡ pairs_of cmp (concat m.nodes) k ++ inserted_pair cmp eq m k w ∷ []

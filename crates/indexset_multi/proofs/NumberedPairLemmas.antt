@@ -17,7 +17,7 @@ use Rattle.indexset_core.specs.Order.{IsAscending, equal_element, has_equal, ran
 use Rattle.indexset_core.proofs.CallerLemmas.{equal_from, rank-slice_get, slice_get-rank_equal}
 use Rattle.indexset_multi.specs.Keys.{AreNumberedBelow, equal_pair, kept_number, pairs_between, pairs_of}
 
--- an item that two tests in turn find
+-- an item that two tests find, one after the other
 record Member {X : Type 0} (p q : X → Bool) (l : List X) (x : X) : Type 0 where
   pub index : ℕ
   pub here : slice_get l index ≡ Some x
@@ -55,16 +55,16 @@ module _ {K : Type 0} (cmp : K → K → Ordering) (o : IsTotalOrder cmp) where
   one_ordered k = rw (tied_itself o k) refl
 
 module _ {K V Q : Type 0} (cmp : K → Q → Ordering) where
-  -- the pairs between a key and itself are those of the key
+  -- the pairs between a key and itself are the pairs of the key
   pub between_one : (l : List (MultiPair K V)) (k : Q) → pairs_between cmp l (Included k) (Included k) ≡ pairs_of cmp l k
   between_one l k = let same : (a : Ordering) → is_ge a && is_le a ≡ is_eq a = elim [ Less ↦ refl | Equal ↦ refl | Greater ↦ refl ] in λ j. filter (λ p. same (cmp p.key k) j) l
 
 module _ {K V : Type 0} (cmp : K → K → Ordering) where
-  -- how a pair stands to a key and a number
+  -- how a pair compares with a key and a number
   abbrev pub answer_to : K → ℕ → MultiPair K V → Ordering
   answer_to k n p = ordering_then (cmp p.key k) (nat_cmp p.discriminator n)
 
-  -- no pair has a number that all are below
+  -- no pair has a number that is above all
   pub none_numbered : (l : List (MultiPair K V)) (k : K) (n : ℕ) → AreNumberedBelow n l → find (λ p. is_eq (answer_to k n p)) l ≡ None
   none_numbered [] k n below = refl
   none_numbered (p ∷ l) k n below =
@@ -73,7 +73,7 @@ module _ {K V : Type 0} (cmp : K → K → Ordering) where
       rw less (rw (other (cmp p.key k)) (none_numbered l k n (All-tail (λ p. p.discriminator < n) p l below)))
 
   module _ (eq : V → V → Bool) (l : List (MultiPair K V)) (k : K) (w : V) where
-    -- where no number is kept, there is no such pair
+    -- if no number is kept, no pair of the key has an equal value
     pub none_kept : ((n : ℕ) → kept_number cmp eq l k w ≡ Some n → ⊥) → equal_pair cmp eq l k w ≡ None
     none_kept h = elim (equal_pair cmp eq l k w) as (λ r. ((n : ℕ) → option_map (λ p. p.discriminator) r ≡ Some n → ⊥) → r ≡ None) [
       | None ↦ λ g. refl
@@ -88,7 +88,7 @@ module _ {K V : Type 0} (cmp : K → K → Ordering) (o : IsTotalOrder cmp) wher
   numbers_total = on_total place_of (places_total cmp o)
 
   module _ (l : List (MultiPair K V)) (up : IsAscending (by_number cmp) l) where
-    -- a pair that is there is found by its key, or one equal to it, and its number
+    -- a pair of the list is found by its key, or one equal to it, and its number
     found_by_number : (k : K) (i : ℕ) (x : MultiPair K V) → slice_get l i ≡ Some x → cmp x.key k ≡ Equal → find (λ p. is_eq (answer_to cmp k x.discriminator p)) l ≡ Some x
     found_by_number k i x here same =
         let there : has_equal (by_number cmp) l x ≡ true = any_here (λ p. is_eq (by_number cmp p x)) l i x here (ap is_eq (tied_itself numbers_total x)) in
@@ -97,7 +97,7 @@ module _ {K V : Type 0} (cmp : K → K → Ordering) (o : IsTotalOrder cmp) wher
         ap (λ (f : MultiPair K V → Ordering). find (λ p. is_eq (f p)) l) (λ j p. ordering_then (sym (alike_right o x.key k p.key same) j) (nat_cmp p.discriminator x.discriminator)) ∙ it
 
   module _ (eq : V → V → Bool) (l : List (MultiPair K V)) (up : IsAscending (by_number cmp) l) (k : K) (w : V) where
-    -- the number that a pair of the key and an equal value keeps names that pair
+    -- a kept number finds the pair of the key with an equal value
     pub kept_found : (n : ℕ) → kept_number cmp eq l k w ≡ Some n → find (λ p. is_eq (answer_to cmp k n p)) l ≡ equal_pair cmp eq l k w
     kept_found n h =
         elim (equal_pair cmp eq l k w) as (λ r. equal_pair cmp eq l k w ≡ r → option_map (λ p. p.discriminator) r ≡ Some n → find (λ p. is_eq (answer_to cmp k n p)) l ≡ r) [

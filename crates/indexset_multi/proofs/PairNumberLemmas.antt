@@ -1,4 +1,4 @@
--- Numbers that stay below the next one.
+-- The numbers of pairs stay below the next one.
 use Rattle.std.proofs.Common.{◌≡◌, ℕ, zero, suc, ◌<◌, ◌≤◌, true, false, cond, Bool, List, [], ◌∷◌, ◌++◌, find, Ordering, Some, None, insert, refl, subst, arith}
 use Rattle.std.specs.Option.{option_map}
 use Rattle.std.specs.Ordering.{is_eq, is_gt, is_lt}
@@ -28,7 +28,7 @@ module _ {K V : Type 0} where
   below_free [] = All-nil (λ p. p.discriminator < 0)
   below_free (p ∷ l) = All-cons (λ q. q.discriminator < free_number (p ∷ l)) p l (omega arith) (below_more (free_number l) (free_number (p ∷ l)) (omega arith) l (below_free l))
 
-  -- of nodes with one more among them
+  -- for nodes with an inserted node
   pub below_insert : (n : ℕ) (ns : List (List (MultiPair K V))) (i : ℕ) (m : List (MultiPair K V)) → AreNumberedBelow n (concat ns) → AreNumberedBelow n m → AreNumberedBelow n (concat (insert ns i m))
   below_insert n ns zero m h g = All-append (λ p. p.discriminator < n) m (concat ns) g h
   below_insert n [] (suc i) m h g = All-append (λ p. p.discriminator < n) m [] g h

@@ -1,4 +1,4 @@
--- What one equation says of the removal of a pair.
+-- The facts of a removal of a pair, from one equation.
 use Rattle.std.proofs.Common.{◌≡◌, ℕ, ◌+◌, zero, suc, ◌<◌, ◌≤◌, List, [], ◌∷◌, length, Option, None, Some, is_some, true, Result, OnOk, Ordering, slice_get, refl, ap, sym, ◌∙◌, subst, arith}
 use Rattle.std.specs.Cmp.{IsTotalOrder}
 use Rattle.std.specs.Option.{unwrap_or}
@@ -28,11 +28,11 @@ pub pair_removal_few : {K V : Type 0} (cmp : K → K → Ordering) (size : ℕ) 
 pair_removal_few cmp size ns None = omega arith
 pair_removal_few cmp size ns (Some p) = removal_few (by_number cmp) size ns p
 
--- the map whose set is left with the nodes to which the events lead
+-- the multimap whose set has the nodes after the replay of the events
 pub removal_tree : {K V : Type 0} (cmp : K → K → Ordering) (m : MultiTree K V) (pair : Option (MultiPair K V)) {nodes : List (List (MultiPair K V))} {size next pair_next : ℕ} → replay (by_number cmp) m.nodes (numbered_from m.next (pair_removal_events cmp m.size m.nodes pair)) ≡ Some nodes → size ≡ m.size → next ≡ m.next + length (pair_removal_events cmp m.size m.nodes pair) → pair_next ≡ m.pair_next → (let t : MultiTree K V = record { nodes = nodes; size = size; next = next; pair_next = pair_next } in t) ≡ after_removal cmp m pair
 removal_tree cmp m pair replayed size next pair_next = λ i. record { nodes = unwrap_or (sym replayed i) m.nodes; size = size i; next = next i; pair_next = pair_next i }
 
--- clones of pairs are identical where those of keys and of values are
+-- clones of pairs are identical to their sources if clones of keys and of values are
 pub pair_same : {K V : Type 0} {C : K → K → Type 0} {D : V → V → Type 0} → ((x y : K) → C x y → y ≡ x) → ((x y : V) → D x y → y ≡ x) → (p q : MultiPair K V) → C p.key q.key × (D p.value q.value × (q.discriminator ≡ p.discriminator)) → q ≡ p
 pair_same hk hv p q e = λ i. record { key = hk p.key q.key e.0 i; value = hv p.value q.value e.1.0 i; discriminator = e.1.1 i }
 
@@ -41,7 +41,7 @@ some_read [] i lt = absurd (omega arith)
 some_read (x ∷ xs) zero lt = (x, refl)
 some_read (x ∷ xs) (suc i) lt = some_read xs i (omega arith)
 
--- a pair stands at a place of one
+-- the place of an item has an item
 pub item_there : {T : Type 0} (ns : List (List T)) (place : Option (ℕ × ℕ)) (p : ℕ × ℕ) → place ≡ Some p → IsItemPlace ns place → is_some (placed_item ns place) ≡ true
 item_there ns place p is at =
     let inside = rw is at at in
@@ -49,7 +49,7 @@ item_there ns place p is at =
     rw is (ap is_some there.1)
 
 module _ {K V : Type 0} {cmp : K → K → Ordering} (o : IsTotalOrder cmp) (old : MultiTree K V) {most len : ℕ} (t : IsTree (by_number cmp) most old.nodes old.size len) where
-  -- the events lead to lawful nodes
+  -- the replay of the events gives lawful nodes
   pair_leads : (pair : Option (MultiPair K V)) → Leads (by_number cmp) (λ p. Unit {0}) old.size old.next old.nodes (pair_removal_events cmp old.size old.nodes pair)
   pair_leads None = nothing_leads (by_number cmp) (numbers_total cmp o) (λ p. Unit {0}) old.size old.next t.two old.nodes t.lawful (any_each (concat old.nodes))
   pair_leads (Some p) = removal_leads (by_number cmp) (numbers_total cmp o) (λ p. Unit {0}) old.size old.next t.two old.nodes t.lawful (any_each (concat old.nodes)) p
@@ -86,7 +86,7 @@ module _ {K V : Type 0} {cmp : K → K → Ordering} (o : IsTotalOrder cmp) (old
         at None = below
         at (Some p) = below_without (by_number cmp) n (concat old.nodes) p below
 
--- a change, by what holds of its set
+-- a change of the multimap, from that of its set
 module _ {K V : Type 0} {cmp : K → K → Ordering} {old new : MultiTree K V} {made : MultiChange K V} where
   pub multi_changed : new ≡ made.tree → Fits old made → Altered (by_number cmp) (set_tree old) (set_tree new) made.items made.events → MultiChanged cmp old new made
   multi_changed e fits a = record {
@@ -118,11 +118,11 @@ module _ {K V : Type 0} {cmp : K → K → Ordering} {old new : MultiTree K V} {
   pub multi_told : (C : K → K → Type 0) (D : V → V → Type 0) (fs : List (ChangeEvent (MultiPair K V))) → MultiChanged cmp old new made → AreTableEvents (IsPairClone C D) old.next made.events fs → MultiPairEvents cmp C D old new made fs
   multi_told C D fs d clones = told_where (IsPairClone C D) (λ h. pair_same h.0 h.1) fs (set_changed d) clones
 
--- a call that removes the pair, or is refused
+-- a call removes the pair, or it fails
 pub removed : {K V A E : Type 0} {cmp : K → K → Ordering} {most len : ℕ} (old new : MultiTree K V) → IsTotalOrder cmp → IsTree (by_number cmp) most old.nodes old.size len → (pair : Option (MultiPair K V)) (r : Result A E) → OnOk r (new ≡ after_removal cmp old pair) → OnOk r (Fits old (named_removal cmp old pair)) → OnOk r (MultiChanged cmp old new (named_removal cmp old pair))
 removed {cmp = cmp} old new o t pair r tree fits = on_ok_both r tree fits (λ e f. multi_changed {made = named_removal cmp old pair} e f (pair_altered o old t pair e))
 
--- the removal of the pair at a place, as the set's contract says it
+-- the removal of the pair at a place, as in the set's contract
 module _ {K V : Type 0} (cmp : K → K → Ordering) where
   abbrev place_removal : MultiTree K V → Option (ℕ × ℕ) → List (ChangeEventUnassigned (MultiPair K V))
   place_removal m place = pair_removal_events cmp m.size m.nodes (placed_item m.nodes place)

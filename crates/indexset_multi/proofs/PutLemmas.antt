@@ -1,4 +1,4 @@
--- What a call makes of a map that puts the pair of an insertion into its set.
+-- A multimap after a call that puts the pair of an insertion into its set.
 use Rattle.std.proofs.Common.{◌≡◌, ℕ, Bool, List, length, Ordering, refl, ◌∙◌, subst}
 use Rattle.indexset_core.specs.declared.multipair.MultiPair.{MultiPair}
 use Rattle.indexset_core.specs.MultiPairs.{by_number}
@@ -15,13 +15,13 @@ use Rattle.indexset_multi.specs.Tree.{IsPairClone, MultiTree, inserted_pair, pai
 use Rattle.indexset_multi.proofs.InsertLemmas.{insertion_tree, numbered_after}
 use Rattle.indexset_multi.proofs.PairRemovalLemmas.{multi_changed, multi_told}
 
--- the set as the map shows it, and the pair
+-- the set of the multimap, and the pair
 module _ {K V : Type 0} (cmp : K → K → Ordering) (eq : V → V → Bool) (m : MultiTree K V) (k : K) (w : V) {set : Tree (MultiPair K V)} {pair : MultiPair K V} (seen : set ≡ set_tree m) (is : pair ≡ inserted_pair cmp eq m k w) where
-  -- why the events are refused
+  -- the error of events that do not fit
   pub put_refusal : refusal_for set.next (length (put_events (by_number cmp) set.size set.nodes pair)) ≡ refusal_for m.next (length (put_events (by_number cmp) m.size m.nodes (inserted_pair cmp eq m k w)))
   put_refusal = λ i. let t = seen i in refusal_for t.next (length (put_events (by_number cmp) t.size t.nodes (is i)))
 
-  -- what the pair replaces
+  -- the item that the pair replaces
   pub put_replaced : equal_element (by_number cmp) (concat set.nodes) pair ≡ equal_element (by_number cmp) (concat m.nodes) (inserted_pair cmp eq m k w)
   put_replaced = λ i. let t = seen i in equal_element (by_number cmp) (concat t.nodes) (is i)
 
@@ -47,6 +47,6 @@ module _ {K V : Type 0} (cmp : K → K → Ordering) (eq : V → V → Bool) (m 
           dense = made.dense;
         })
 
-    -- and what it reports
+    -- the events that it returns
     pub put_told : {C : K → K → Type 0} {D : V → V → Type 0} (told : List (ChangeEvent (MultiPair K V))) → AreTableEvents (IsPairClone C D) set.next (put_events (by_number cmp) set.size set.nodes pair) told → MultiPairEvents cmp C D m new (insertion cmp eq m k w) told
     put_told {C} {D} told clones = multi_told C D told put_changed (subst (λ p. AreTableEvents (IsPairClone C D) m.next (put_events (by_number cmp) m.size m.nodes p) told) is (subst (λ t. AreTableEvents (IsPairClone C D) t.next (put_events (by_number cmp) t.size t.nodes pair) told) seen clones))

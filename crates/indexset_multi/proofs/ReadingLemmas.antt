@@ -3,7 +3,7 @@ use Rattle.std.proofs.Common.{◌≡◌, ℕ, zero, suc, ◌+◌, ◌-◌, ◌<�
 use Rattle.std.specs.List.{between}
 use Rattle.std.proofs.lemmas.List.{length-drop}
 
--- the next item at place i is x, and t comes after it
+-- the next item, at index i, is x, and t is the rest after it
 pub record Next {X : Type 0} (l : List X) (i : ℕ) (x : X) (t : List X) : Type 0 where
   pub inside : i < length l
   pub here : slice_get l i ≡ Some x
@@ -24,7 +24,7 @@ module _ {X : Type 0} where
   find_later : (q : X → Bool) (x : X) (t : List X) → q x ≡ false → find q (x ∷ t) ≡ find q t
   find_later q x t e = rw e refl
 
-  -- the first that passes, of what is left from place i on
+  -- the first item that passes, of the rest from index i on
   module _ (q : X → Bool) (l r : List X) (i : ℕ) (x : X) (t : List X) (left : r ≡ drop i l) (so_far : find q r ≡ find q l) (next : r ≡ x ∷ t) where
     pub read : Next l i x t
     read = next_read l i x t (sym next ∙ left)
@@ -54,7 +54,7 @@ module _ {X : Type 0} where
   take_fewer (suc n) [] = omega arith
   take_fewer (suc n) (x ∷ l) = omega (arith, take_fewer n l)
 
-  -- an item of a part is one of the whole
+  -- an item of a part is an item of the whole
   module _ (a b : ℕ) (l : List X) (i : ℕ) (lt : i < length (between a b l)) where
     pub between_inside : a + i < length l
     between_inside = omega (arith, lt, take_fewer (b - a) (drop a l), length-drop a l)

@@ -1,4 +1,4 @@
--- The first pairs of a key removed one after another.
+-- Removals of the first pairs of a key, one after another.
 use Rattle.std.proofs.Common.{◌≡◌, ℕ, zero, suc, ◌+◌, ◌-◌, ◌/◌, ◌≤◌, Bool, true, false, not, cond, List, [], ◌∷◌, ◌++◌, length, drop, filter, find, Option, Some, None, is_some, Ordering, refl, ap, sym, ◌∙◌, subst, add-one, arith, length-append}
 use Rattle.std.specs.Cmp.{IsTotalOrder}
 use Rattle.std.specs.List.{AllZip}
@@ -28,7 +28,7 @@ use Rattle.indexset_multi.specs.Tree.{EvolvesBy, EvolvesTo, IsPairClone, MultiTr
 use Rattle.indexset_multi.proofs.KeyListLemmas.{first_pair_gone, others_left_first, rest_left_first}
 use Rattle.indexset_multi.proofs.PairRemovalLemmas.{pair_altered, pair_same, pair_tree}
 
--- one call's events after those of others
+-- the events of one call after those of others
 led_further : {K V : Type 0} (cmp : K → K → Ordering) (m n p : MultiTree K V) → EvolvesTo cmp m n → EvolvesTo cmp n p → EvolvesTo cmp m p
 led_further cmp m n p a b = record {
   events = a.events ++ b.events;
@@ -41,7 +41,7 @@ led_nowhere : {K V : Type 0} (cmp : K → K → Ordering) (m : MultiTree K V) �
 led_nowhere cmp m = record { events = []; numbered = λ i lt d. absurd (omega (arith, lt)); replayed = refl; next = omega arith }
 
 module _ {X : Type 0} (p : X → Bool) where
-  -- where none passes, all stay
+  -- if no item passes, all stay
   none_go : (l : List X) → filter p l ≡ [] → filter (λ x. not (p x)) l ≡ l
   none_go [] e = refl
   none_go (x ∷ l) e =
@@ -95,7 +95,7 @@ numbered_on s (e ∷ a) b =
     let e' : s + 1 + length a ≡ s + suc (length a) = omega arith in
     ap (λ l. assigned s e ∷ l) (numbered_on (s + 1) a b ∙ ap (λ n. numbered_from (s + 1) a ++ numbered_from n b) e')
 
--- the trees after the first pairs of a key are removed, one after another
+-- the multimaps after removals of the first pairs of a key
 module _ {K V Q : Type 0} {cmp : K → K → Ordering} (o : IsTotalOrder cmp) {order : K → Q → Ordering} {among : Q → Q → Ordering} (acts : OrdersAsItem cmp order among) (old : MultiTree K V) {most len : ℕ} (t : IsTree (by_number cmp) most old.nodes old.size len) (k : Q) where
   pub record Gone (n : ℕ) (now : MultiTree K V) : Type 0 where
     pub rule : IsTree (by_number cmp) most now.nodes now.size (length (concat now.nodes))
@@ -148,7 +148,7 @@ module _ {K V Q : Type 0} {cmp : K → K → Ordering} (o : IsTotalOrder cmp) {o
     pub one_more : {new : MultiTree K V} → new ≡ after_removal cmp now (first_pair order (concat now.nodes) k) → new ≡ after_removals cmp order old k (n + 1)
     one_more e = rw add-one (e ∙ ap (λ t. after_removal cmp t (first_pair order (concat t.nodes) k)) is)
 
-    -- what was told of one more
+    -- the returned events with those of one more removal
     pub told_more : (C : MultiPair K V → MultiPair K V → Type 0) (fs gs : List (ChangeEvent (MultiPair K V))) → AreTableEvents C old.next (removals_events cmp order old k n) fs → AppendsEvents C now.next (first_events cmp order now k) fs gs → AreTableEvents C old.next (removals_events cmp order old k (n + 1)) gs
     told_more C fs gs before on =
         let g = now_gone in
@@ -165,7 +165,7 @@ module _ {K V Q : Type 0} {cmp : K → K → Ordering} (o : IsTotalOrder cmp) {o
         let x = some_held (first_pair order (concat now.nodes) k) found in
         omega (arith, some_found (λ p. is_eq (order p.key k)) (concat now.nodes) x.0 x.1, ap (λ l. length l) g.gone, length-drop n (pairs_of order (concat old.nodes) k))
 
-    -- where the key had no pair, a removal tells nothing
+    -- a removal returns no events if the key had no pair
     pub nothing_told : pairs_of order (concat old.nodes) k ≡ [] → first_events cmp order now k ≡ []
     nothing_told none =
         elim (first_pair order (concat now.nodes) k) as (λ o. first_pair order (concat now.nodes) k ≡ o → pair_removal_events cmp now.size now.nodes o ≡ []) [
@@ -186,7 +186,8 @@ module _ {K V Q : Type 0} {cmp : K → K → Ordering} (o : IsTotalOrder cmp) {o
       pub table_is : replay (by_number cmp) old.nodes (numbered_from old.next (key_events cmp order old now k)) ≡ Some now.nodes
       table_is = let g = now_gone in subst (λ m. replay (by_number cmp) old.nodes (numbered_from old.next (removals_events cmp order old k m)) ≡ Some now.nodes) (sym number) g.table
 
-      -- the told events lead to the tree, where clones are identical to their sources
+      -- the replay of the returned events gives the multimap, if clones are identical to their
+      -- sources
       pub led_by : (C : MultiPair K V → MultiPair K V → Type 0) (fs : List (ChangeEvent (MultiPair K V))) → AreTableEvents C old.next (removals_events cmp order old k n) fs → ((p q : MultiPair K V) → C p q → q ≡ p) → EvolvesBy cmp old now fs
       led_by C fs told same =
           let g = now_gone in
@@ -213,7 +214,7 @@ module _ {K V Q : Type 0} {cmp : K → K → Ordering} (o : IsTotalOrder cmp) {o
         replay = λ h. led_by (IsPairClone C D) fs told (pair_same h.0 h.1);
       }
 
-      -- the one that found none changed nothing, and all are gone
+      -- the removal that found no pair changed nothing, and all pairs of the key are removed
       module _ (none : is_some (first_pair order (concat now.nodes) k) ≡ false) where
         pub none_left : pairs_of order (concat now.nodes) k ≡ []
         none_left = none_found (λ p. is_eq (order p.key k)) (concat now.nodes) (none_from (first_pair order (concat now.nodes) k) none)

@@ -1,4 +1,4 @@
--- Where a search of lawful nodes ends, as the code passes it on.
+-- The place where a search of lawful nodes ends, as the code returns it.
 use Rattle.std.proofs.Common.{◌≡◌, ℕ, ◌<◌, ◌≤◌, zero, suc, true, List, slice_get, [], ◌∷◌, length, Option, None, Some, MatchOption, Result, Ok, Err, is_ok, is_some, Ordering, refl, ap, sym, ◌∙◌, arith}
 use Rattle.std.proofs.lemmas.Option.{slice_get_past}
 use Rattle.std.specs.Cmp.{IsTotalOrder}
@@ -17,14 +17,14 @@ use Rattle.indexset_core.specs.Places.{items_before, located}
 use Rattle.indexset_events.proofs.CallerLemmas.{lawful_ascends, lawful_filled}
 
 module _ {T : Type 0} (cmp : T → T → Ordering) (size : ℕ) (ns : List (List T)) (law : IsLawful cmp size ns) (answer : T → Ordering) (parted : IsParted answer (concat ns)) (r : Result (ℕ × ℕ) (ℕ × ℕ)) (e : r ≡ located answer ns) where
-  -- it stands at an item where it has found one
+  -- it is the place of an item if the search found one
   pub ok_place : IsItemPlace ns (result_ok r)
   ok_place = elim r as (λ s. r ≡ s → IsItemPlace ns (result_ok s)) [
     | Ok p ↦ λ is. (end_node answer ns (lawful_filled cmp size ns law) parted r e p is, end_offset answer ns (lawful_filled cmp size ns law) parted r e p is)
     | Err p ↦ λ is. tt
   ] refl
 
-  -- which is the first that is answered Equal
+  -- that item is the first that is found Equal
   pub ok_item : placed_item ns (result_ok r) ≡ find (λ x. is_eq (answer x)) (concat ns)
   ok_item = elim r as (λ s. r ≡ s → placed_item ns (result_ok s) ≡ find (λ x. is_eq (answer x)) (concat ns)) [
     | Ok p ↦ λ is. sym (end_found answer ns (lawful_filled cmp size ns law) parted r e p is)

@@ -1,10 +1,11 @@
--- Events that are added to others.
+-- Events that are appended to others.
 use Rattle.std.specs.Prelude.{◌≡◌, ℕ, List, ◌++◌}
 use Rattle.indexset_events.specs.declared.change.ChangeEvent.{ChangeEvent}
 use Rattle.indexset_events.specs.declared.change.ChangeEventUnassigned.{ChangeEventUnassigned}
 use Rattle.indexset_events.specs.Clones.{AreTableEvents}
 
--- the second list is the first, and behind it what is reported of the table's events, numbered from s on
+-- the list `after` is the list `before` with the returned events of the table appended, numbered
+-- from s
 pub record AppendsEvents {T : Type 0} (C : T → T → Type 0) (s : ℕ) (table : List (ChangeEventUnassigned T)) (before after : List (ChangeEvent T)) : Type 0 where
   pub told : List (ChangeEvent T)
   pub added : after ≡ before ++ told

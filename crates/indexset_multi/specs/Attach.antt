@@ -1,4 +1,4 @@
--- Nodes of numbered pairs, given whole.
+-- Whole nodes of numbered pairs.
 use Rattle.std.specs.Prelude.{◌≡◌, ℕ, ◌+◌, ◌==◌, length, max, Bool, List, [], ◌∷◌, if◌then◌else◌, Option, Some}
 use Rattle.std.below.core.specs.declared.int.u64.TheConstants.{MAX}
 use Rattle.std.specs.List.{list_any}
@@ -22,11 +22,12 @@ module _ {K V : Type 0} where
   free_number [] = 0
   free_number (p ∷ n) = max (p.discriminator + 1) (free_number n)
 
-  -- why n is refused: the first cause that applies, where one does
+  -- the error of the insertion of n: the first that applies, if any
   abbrev pub pairs_refusal : (K → K → Ordering) → MultiTree K V → List (MultiPair K V) → Option Refusal
   pairs_refusal cmp m n = if has_greatest n then Some PairNumber else attach_refusal (by_number cmp) m.size m.nodes n
 
-  -- n was put among the nodes: no event, and the number of the next new pair is above those of n
+  -- n was inserted among the nodes without an event, and the number of the next new pair is above
+  -- those of n
   pub record IsAttached (cmp : K → K → Ordering) (old new : MultiTree K V) (n : List (MultiPair K V)) : Type 0 where
     pub nodes : new.nodes ≡ attached (by_number cmp) old.nodes n
     pub ascending : IsAscending (by_number cmp) (concat new.nodes)
@@ -35,6 +36,6 @@ module _ {K V : Type 0} where
     pub next : new.next ≡ old.next
     pub pair_next : new.pair_next ≡ max old.pair_next (free_number n)
 
-  -- why the nodes are refused as those of a multimap: the first cause that applies, where one does
+  -- the error of a construction from the nodes: the first that applies, if any
   abbrev pub pair_nodes_refusal : (K → K → Ordering) → ℕ → List (List (MultiPair K V)) → Option Refusal
   pair_nodes_refusal cmp size ns = if has_greatest (concat ns) then Some PairNumber else nodes_refusal (by_number cmp) size ns

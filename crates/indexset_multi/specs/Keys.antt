@@ -12,7 +12,7 @@ use Rattle.indexset_core.specs.KeyRange.{is_within}
 use Rattle.indexset_core.specs.MultiPairs.{by_number, numbered_pair, unnumbered}
 use Rattle.indexset_core.specs.Order.{without}
 
--- the items without the first that passes
+-- the items without the first that passes the test
 abbrev pub without_first : {X : Type 0} → (X → Bool) → List X → List X
 without_first test [] = []
 without_first test (x ∷ l) = if test x then l else x ∷ without_first test l
@@ -22,7 +22,7 @@ module _ {K V : Type 0} where
   abbrev pub key_and_value : MultiPair K V → K × V
   key_and_value p = (p.key, p.value)
 
-  -- what a `(&K, &u64, &V)` points to
+  -- the pair that a `(&K, &u64, &V)` refers to
   abbrev pub number_shown : Bor K × Bor ℕ × Bor V → MultiPair K V
   number_shown p = numbered_pair p.0.now p.2.now p.1.now
 
@@ -43,7 +43,7 @@ module _ {K V : Type 0} where
     abbrev pub pairs_of : List (MultiPair K V) → Q → List (MultiPair K V)
     pairs_of l k = filter (λ p. is_eq (cmp p.key k)) l
 
-    -- the first of them, where there is one
+    -- the first pair of the key, if any
     abbrev pub first_pair : List (MultiPair K V) → Q → Option (MultiPair K V)
     first_pair l k = find (λ p. is_eq (cmp p.key k)) l
 
@@ -51,19 +51,19 @@ module _ {K V : Type 0} where
     abbrev pub without_key : List (MultiPair K V) → Q → List (MultiPair K V)
     without_key l k = filter (λ p. not (is_eq (cmp p.key k))) l
 
-    -- the first of them whose value equals w, where there is one
+    -- the first pair of the key whose value equals w, if any
     abbrev pub equal_pair : (V → V → Bool) → List (MultiPair K V) → Q → V → Option (MultiPair K V)
     equal_pair eq l k w = find (λ p. eq p.value w) (pairs_of l k)
 
-    -- the number of that pair
+    -- the number of that pair, if any
     abbrev pub kept_number : (V → V → Bool) → List (MultiPair K V) → Q → V → Option ℕ
     kept_number eq l k w = option_map (λ p. p.discriminator) (equal_pair eq l k w)
 
-    -- the pairs whose keys satisfy both bounds
+    -- the pairs whose keys are within both bounds
     abbrev pub pairs_between : List (MultiPair K V) → Bound Q → Bound Q → List (MultiPair K V)
     pairs_between l start end = filter (λ p. is_within cmp start end p.key) l
 
   module _ (cmp : K → K → Ordering) where
-    -- the pairs without the one that is named, where one is
+    -- the pairs without an optional pair
     abbrev pub without_named : List (MultiPair K V) → Option (MultiPair K V) → List (MultiPair K V)
     without_named l pair = option_map_or (λ p. without (by_number cmp) l p) pair l

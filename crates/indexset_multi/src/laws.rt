@@ -8,8 +8,9 @@ use crate::multimap::range::{Range, RawRange};
 use indexset_core::multipair::MultiPair;
 use indexset_core::node::NodeLike;
 
-/// An iterator over the pairs of a multimap, of a range of one or of a key yields each once,
-/// whatever calls of `next` and `next_back`, and then `None`.
+/// Iterators over a multimap, over a range of it or over a key's pairs, yield each pair once.
+///
+/// They do so for every sequence of calls of `next` and `next_back`, and then return `None`.
 pub fn iterators_yield_each_pair_once<
     'a,
     K: Ord + Clone + Drop + 'a,

@@ -29,8 +29,9 @@ use indexset_log::set::nodes::Nodes;
 use std::alloc::Global;
 use std::marker::Model;
 
-/// A list of numbered pairs, ascending by key and then by number and partitioned into nodes, which
-/// returns its changes as events.
+/// A logged multimap: numbered pairs, ascending by key and then by number.
+///
+/// The pairs are partitioned into nodes. It returns its changes as events.
 ///
 /// ```
 /// // Two values of one key.
@@ -74,8 +75,9 @@ impl<K: Ord + Clone + Drop, V: Eq + Clone + Drop, Node: NodeLike<MultiPair<K, V>
     V,
     Node,
 > {
-    /// Returns an empty map, whose nodes are to hold at most `size` pairs each, and whose events
-    /// are numbered from `next`.
+    /// Returns an empty multimap with nodes of at most `size` pairs and events from `next` on.
+    ///
+    /// The size must be at least 2 and at most the limit of the node type.
     ///
     /// ```
     /// let tags: multimap::BTreeMultiMap<u64, u64, Vec<MultiPair<u64, u64>>> = multimap::BTreeMultiMap::starting_at(alloc, 256, 100);
@@ -92,7 +94,9 @@ impl<K: Ord + Clone + Drop, V: Eq + Clone + Drop, Node: NodeLike<MultiPair<K, V>
         }
     }
 
-    /// Returns an empty map, whose events are numbered from 0.
+    /// Returns an empty multimap with nodes of at most `size` pairs and events from 0 on.
+    ///
+    /// The size must be at least 2 and at most the limit of the node type.
     ///
     /// ```
     /// let tags: multimap::BTreeMultiMap<u64, u64, Vec<MultiPair<u64, u64>>> = multimap::BTreeMultiMap::with_maximum_node_size(alloc, 256);
@@ -106,7 +110,7 @@ impl<K: Ord + Clone + Drop, V: Eq + Clone + Drop, Node: NodeLike<MultiPair<K, V>
         BTreeMultiMap::starting_at(alloc, size, 0)
     }
 
-    /// Returns an empty map of the default node size, whose events are numbered from 0.
+    /// Returns an empty multimap of the default node size, with events numbered from 0.
     ///
     /// ```
     /// let mut tags: multimap::BTreeMultiMap<u64, u64, Vec<MultiPair<u64, u64>>> = multimap::BTreeMultiMap::new(alloc);
@@ -126,7 +130,7 @@ impl<K: Ord + Clone + Drop, V: Eq + Clone + Drop, Node: NodeLike<MultiPair<K, V>
         BTreeMultiMap::with_maximum_node_size(alloc, DEFAULT_INNER_SIZE)
     }
 
-    /// Returns an empty map, as `new` makes it.
+    /// Returns an empty multimap, as `new`.
     ///
     /// ```
     /// let tree: multimap::BTreeMultiMap<u64, u64, Vec<MultiPair<u64, u64>>> =
@@ -160,7 +164,7 @@ impl<K: Ord + Clone + Drop, V: Eq + Clone + Drop, Node: NodeLike<MultiPair<K, V>
         self.set.len()
     }
 
-    /// Returns whether there is no pair.
+    /// Returns true if the multimap contains no pairs.
     ///
     /// ```
     /// let mut tags: multimap::BTreeMultiMap<u64, u64, Vec<MultiPair<u64, u64>>> = multimap::BTreeMultiMap::new(alloc);
@@ -174,9 +178,10 @@ impl<K: Ord + Clone + Drop, V: Eq + Clone + Drop, Node: NodeLike<MultiPair<K, V>
         self.set.is_empty()
     }
 
-    /// Returns the number of nodes: no more than pairs. None is empty or holds more than the node
-    /// size, and the pairs of all ascend by key and then by number, one node after another, with
-    /// numbers below that of the next new pair.
+    /// Returns the number of nodes.
+    ///
+    /// No node is empty or has more pairs than the node size. The pairs ascend by key and then by
+    /// number, within and across nodes, and their numbers are below that of the next new pair.
     ///
     /// ```
     /// let mut tags: multimap::BTreeMultiMap<u64, u64, Vec<MultiPair<u64, u64>>> = multimap::BTreeMultiMap::new(alloc);
@@ -194,8 +199,7 @@ impl<K: Ord + Clone + Drop, V: Eq + Clone + Drop, Node: NodeLike<MultiPair<K, V>
         self.set.node_count()
     }
 
-    /// Returns how many pairs there is room for: the sum of the nodes' capacities, which stops at
-    /// `usize::MAX`.
+    /// Returns the sum of the capacities of the nodes, at most `usize::MAX`.
     ///
     /// ```
     /// let mut tags: multimap::BTreeMultiMap<u64, u64, Vec<MultiPair<u64, u64>>> = multimap::BTreeMultiMap::new(alloc);
@@ -243,7 +247,7 @@ impl<K: Ord + Clone + Drop, V: Eq + Clone + Drop, Node: NodeLike<MultiPair<K, V>
         self.set.iter_nodes()
     }
 
-    /// Returns whether a pair has the key.
+    /// Returns true if a pair has the key.
     ///
     /// ```
     /// let mut tags: multimap::BTreeMultiMap<u64, u64, Vec<MultiPair<u64, u64>>> = multimap::BTreeMultiMap::new(alloc);
@@ -258,7 +262,7 @@ impl<K: Ord + Clone + Drop, V: Eq + Clone + Drop, Node: NodeLike<MultiPair<K, V>
         self.locate(&key).is_ok()
     }
 
-    // Says what holds of the nodes, and that the counter fits.
+    // States the invariant of the nodes, and that the counter fits a u64.
     fn rule(&self)
         ensures tree { IsTree (by_number K.cmp) Node.most self.now.nodes self.now.size
             (length (concat self.now.nodes)) }
@@ -269,12 +273,12 @@ impl<K: Ord + Clone + Drop, V: Eq + Clone + Drop, Node: NodeLike<MultiPair<K, V>
         let _next = self.set.events_issued();
     }
 
-    // Returns where a search for a key ends.
+    // Returns the place where a search for a key ends.
     fn locate<Q: LookupKey<K>>(&self, key: &Q) -> Result<(usize, usize), (usize, usize)>
         ensures place { result ≡ located (λ p. Q.order p.key key.now) self.now.nodes }
         ensures lawful { IsLawful (by_number K.cmp) self.now.size self.now.nodes }
     {
-        // The contract of `node_count` says that the pairs ascend, as a search by key requires.
+        // The contract of `node_count` states that the pairs ascend, as a search by key requires.
         let _nodes = self.set.node_count();
         self.set.locate_by(&mut ByKey::new(key))
     }

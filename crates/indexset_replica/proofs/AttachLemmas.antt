@@ -1,4 +1,4 @@
--- A whole node that a replica is given.
+-- A node that is attached to a replica.
 use Rattle.std.proofs.Common.{◌≡◌, ℕ, ◌-◌, true, false, List, length, get_or, insert, drop, slice_get, Option, Some, None, Ordering, refl, ap, sym, ◌∙◌, subst, arith}
 use Rattle.std.specs.Cmp.{IsTotalOrder}
 use Rattle.std.specs.List.{position_or_len}
@@ -13,13 +13,14 @@ use Rattle.indexset_events.proofs.CallerLemmas.{Attaches, Ruled, attaches_node, 
 use Rattle.indexset_replica.specs.Replica.{first_item}
 use Rattle.indexset_replica.proofs.NodeSearchLemmas.{next_is}
 
--- the node goes to that place, and the nodes with it are nodes
+-- k is the place of the node n, and the nodes with it are a node list
 pub record GoesTo {T : Type 0} (cmp : T → T → Ordering) (ns : List (List T)) (n : List T) (k : ℕ) : Type 0 where
   pub place : k ≡ attach_index cmp ns n
   pub nodes : IsNodeList cmp (insert ns k n)
   pub good : attach_refusal cmp (length n) ns n ≡ None
 
--- a search among the nodes for where an ascending node goes, by its first item, ends at that place
+-- a search among the nodes for the place of an ascending node, by its first item, ends at that
+-- place
 pub record IsPlaceFor {T : Type 0} (cmp : T → T → Ordering) (ns : List (List T)) (n : List T) (first : T) (k : ℕ) : Type 0 where
   pub rule : Ruled cmp ns
   pub head : slice_get n 0 ≡ Some first
@@ -34,7 +35,7 @@ module _ {T : Type 0} (cmp : T → T → Ordering) (o : IsTotalOrder cmp) (ns : 
     good = not_refused cmp (length n) ns n (filled_first n first found.head) (omega arith) found.up apart;
   }
 
-  -- whether the node goes there, by the item that follows, if one does
+  -- whether the node can be inserted there, by the item that follows, if any
   module _ (last : T) (own : last ≡ get_or n (length n - 1) last) (s : Option T) (follows : first_item (concat (drop k ns)) ≡ s) where
     attaches : Attaches cmp ns n first last
     attaches = attaches_node cmp o ns found.rule n first last found.head own found.up

@@ -1,4 +1,4 @@
--- An equal clone stands where its source would.
+-- Equal clones in the place of their sources.
 use Rattle.std.proofs.Common.{◌≡◌, ◌==◌, ◌&&◌, ℕ, zero, suc, ◌+◌, ◌<◌, true, not, if◌then◌else◌, List, [], ◌∷◌, length, slice_get, take, insert, Result, Ok, Err, OnOk, Option, Some, None, Ordering, option_and_then, refl, ap, sym, ◌∙◌, inl, inr, subst}
 use Rattle.std.below.core.specs.declared.int.u64.TheConstants.{MAX}
 use Rattle.std.specs.Cmp.{IsTotalOrder}
@@ -23,7 +23,7 @@ use Rattle.indexset_replica.proofs.EditLemmas.{some_inj}
 use Rattle.indexset_replica.proofs.NodeSearchLemmas.{fits_alone, fits_node}
 use Rattle.indexset_replica.proofs.StepLemmas.{else_none, misfit_refused, none_some, step_fits}
 
--- clones that are identical add the event's own item
+-- a clone that is identical to its source is the event's own item
 pub adds_same : {T : Type 0} (cmp : T → T → Ordering) (C : T → T → Type 0) → ((x y : T) → C x y → y ≡ x) → (e f : ChangeEventUnassigned T) → AddsClone cmp C e f → f ≡ e
 adds_same cmp C h (InsertAt m v i) f a = a.2 ∙ ap (λ w. InsertAt m w i) (h v a.0 a.1.0)
 adds_same cmp C h (CreateNode m) f a = a.2 ∙ ap (λ w. CreateNode w) (h m a.0 a.1.0)
@@ -36,7 +36,7 @@ module _ {T : Type 0} (cmp : T → T → Ordering) (o : IsTotalOrder cmp) (v w :
   between_same : (before after : Option T) → is_between cmp before w after ≡ is_between cmp before v after
   between_same before after = λ i. (let t = option_map_or (λ x. is_lt (alike_right o w v x same i)) before true in t) && option_map_or (λ x. is_lt (o.congr w v x same i)) after true
 
-  -- the items ascend with the clone where they do with its source
+  -- the items ascend with the clone if and only if they do with its source
   pub inserted_same : (ns : List (List T)) → Ruled cmp ns → (p : ℕ) → p < length ns → (i : ℕ) → let n = node_at ns p in is_ascending cmp (concat (splice ns p (p + 1) (insert n i w ∷ []))) ≡ is_ascending cmp (concat (splice ns p (p + 1) (insert n i v ∷ [])))
   inserted_same ns rule p inside i = fits_node cmp o w ns rule p inside i ∙ (between_same _ _ ∙ sym (fits_node cmp o v ns rule p inside i))
 
@@ -60,7 +60,7 @@ module _ {T : Type 0} {cmp : T → T → Ordering} {C : T → T → Type 0} {ns 
   pub kept_merge : {m w : T} → IsEdit cmp ns (MergeNodes m w) after → IsClonedEdit cmp C ns (MergeNodes m w) after
   kept_merge d = record { fits = d.fits; event = _; adds = refl; done = d }
 
--- an event that is the next, where it is applied
+-- an event that is the next, if it is applied
 module _ {T U E : Type 0} (cmp : T → T → Ordering) (C : T → T → Type 0) where
   pub delivery_where_ok : (o : Result U E) (r q : ReplicaState T) (e : ChangeEvent T) → event_number e ≡ r.next → OnOk o (apply_refusal cmp r.nodes r.next e ≡ None) → OnOk o (q.next ≡ r.next + 1) → OnOk o (IsClonedStep cmp C r.nodes (unassigned e) q.nodes) → OnOk o (IsDelivery cmp C r e q)
   unfolding apply_refusal
@@ -70,7 +70,7 @@ module _ {T U E : Type 0} (cmp : T → T → Ordering) (C : T → T → Type 0) 
       inr (number, eqb-false r.next MAX last.0, next, made)
   delivery_where_ok (Err x) r q e number fits next made = tt
 
--- one more place
+-- with one more place
 module _ {T : Type 0} (cmp : T → T → Ordering) (C : T → T → Type 0) where
   pub followed_on : (es : List (ChangeEvent T)) (r q s : ReplicaState T) (e : ChangeEvent T) (order : List ℕ) (i p : ℕ)
       → slice_get order i ≡ Some p → slice_get es p ≡ Some e → IsFollowed cmp C es r (take i order) q → IsDelivery cmp C q e s → IsFollowed cmp C es r (take (suc i) order) s
@@ -78,7 +78,7 @@ module _ {T : Type 0} (cmp : T → T → Ordering) (C : T → T → Type 0) wher
   followed_on es r q s e (x ∷ order) zero p placed told before made = (s, rw (some_inj placed, told) (subst (λ t. IsDelivery cmp C t e s) before made), refl)
   followed_on es r q s e (x ∷ order) (suc i) p placed told before made = (before.0, before.1, followed_on es before.0 q s e order i p placed told before.2 made)
 
--- where clones are identical, the replica is as the events themselves leave it
+-- if clones are identical to their sources, the replica is as after the events themselves
 module _ {T : Type 0} (cmp : T → T → Ordering) (C : T → T → Type 0) (h : (x y : T) → C x y → y ≡ x) where
   pub step_same : (ns : List (List T)) (e : ChangeEventUnassigned T) (after : List (List T)) → IsClonedStep cmp C ns e after → step_plain cmp ns e ≡ Some after
   step_same ns e after s = subst (λ f. step_plain cmp ns f ≡ Some after) (adds_same cmp C h e s.event s.adds) s.made

@@ -1,4 +1,4 @@
--- Events that are clones of others lead where these lead, up to related items.
+-- The replay of clones of events gives the nodes after the events, up to related items.
 use Rattle.std.proofs.Common.{◌≡◌, List, [], ◌∷◌, Option, Some, None, Ordering, refl, ap, sym, ◌∙◌, subst}
 use Rattle.std.specs.Cmp.{IsTotalOrder}
 use Rattle.std.specs.List.{AllZip}

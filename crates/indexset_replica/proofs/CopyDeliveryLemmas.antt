@@ -33,7 +33,7 @@ module _ {T : Type 0} (cmp : T → T → Ordering) (o : IsTotalOrder cmp) (C : T
   alike_itself r = record { nodes = copies_itself cmp C r.nodes; next = refl }
 
   module _ (s : ℕ) (ns : List (List T)) (es : List (ChangeEvent T)) (feed : IsEventLog cmp s ns es) where
-    -- the event that a replica on its way awaits is a step
+    -- the event that a replica expects is a step
     stepped : (j : ℕ) (x : ReplicaState T) (p : ℕ) (e : ChangeEvent T) → IsAt cmp s ns es j x → slice_get es p ≡ Some e → event_number e ≡ x.next → (after : List (List T)) × (step cmp x.nodes e ≡ Some after)
     stepped j x p e at told number =
         let same : p ≡ j = omega (arith, number_at cmp s ns es feed p e told, number, at.next) in

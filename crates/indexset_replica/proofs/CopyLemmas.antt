@@ -1,4 +1,4 @@
--- Copies of items: items themselves, equal clones of them, clones of such clones, and so on.
+-- Copies of items: the items themselves, equal clones of them, clones of such clones, and so on.
 use Rattle.std.proofs.Common.{◌≡◌, ℕ, zero, suc, List, [], ◌∷◌, map, Some, Ordering, refl, ap, sym, ◌∙◌, subst}
 use Rattle.std.specs.Cmp.{IsTotalOrder}
 use Rattle.std.specs.List.{AllZip}
@@ -42,7 +42,7 @@ module _ {T : Type 0} (cmp : T → T → Ordering) (C : T → T → Type 0) wher
   copies_again (n ∷ ns) (m ∷ ms) [] c d = absurd d
   copies_again (n ∷ ns) (m ∷ ms) (k ∷ ks) c d = (copies_one n m k c.0 d.0, copies_again ns ms ks c.1 d.1)
 
-  -- what clones keep, copies keep
+  -- copies keep each property that clones keep
   module _ {U : Type 0} (f : T → U) (kept : (x y : T) → C x y → f y ≡ f x) where
     keep_after : (n : ℕ) (x y : T) → IsCloneAfter cmp C n x y → f y ≡ f x
     keep_after zero x y e = ap f e
@@ -76,11 +76,11 @@ module _ {T : Type 0} (cmp : T → T → Ordering) (C : T → T → Type 0) wher
       copy_once : (x y : T) → C x y → IsCopy cmp C x y
       copy_once x y c = copy_on x x y (copy_itself x) (c, tied_back o x y (equal x y c))
 
-      -- clones of events lead to copies of the nodes to which the events lead
+      -- the replay of clones of events gives copies of the nodes after the events
       pub replay_copies : (ns ms after : List (List T)) (es fs : List (ChangeEvent T)) → AreCopies cmp C ns ms → AllZip (IsEventClone C) es fs → replay cmp ns es ≡ Some after → LeadsToCopies cmp C ms fs after
       replay_copies = replay_clones cmp o C (IsCopy cmp C) copy_equal copy_once
 
-      -- and so does a replica that adds clones of their items
+      -- a replica that adds clones of their items has such copies too
       pub step_copies : (ns ms after new : List (List T)) (e f : ChangeEvent T) → AreCopies cmp C ns ms → IsEventClone C e f → step cmp ns e ≡ Some after → IsClonedStep cmp C ms (unassigned f) new → AreCopies cmp C after new
       step_copies ns ms after new e f near h made d =
           let told = clone_alike cmp o C (IsCopy cmp C) copy_equal copy_once e f h in

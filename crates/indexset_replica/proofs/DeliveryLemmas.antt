@@ -1,4 +1,4 @@
--- Events delivered out of turn, and the beginning that they make.
+-- Events delivered out of order, and the prefix that they make.
 use Rattle.std.proofs.Common.{◌≡◌, ◌==◌, is_some, inl, inr, ℕ, zero, suc, ◌+◌, ◌-◌, ◌<◌, ◌≤◌, Bool, true, false, if◌then◌else◌, List, [], ◌∷◌, ◌++◌, length, get_or, slice_get, take, drop, Option, Some, None, Ordering, option_and_then, refl, ap, sym, ◌∙◌, subst, arith}
 use Rattle.std.below.core.specs.declared.int.u64.TheConstants.{MAX}
 use Rattle.std.specs.List.{fold}
@@ -31,7 +31,7 @@ module _ {A : Type 0} where
 
 -- ---- the greatest number that is reached
 
--- as `IsDeliveredUpTo`, by counts from j on
+-- `IsDeliveredUpTo`, by a count from j on
 record Reach (j : ℕ) (order : List ℕ) (m : ℕ) : Type 0 where
   count : ℕ
   end : m ≡ j + count

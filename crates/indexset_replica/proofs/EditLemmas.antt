@@ -1,4 +1,4 @@
--- What an event does to the nodes of a replica, and when it does not fit.
+-- The nodes of a replica after an event, and when an event does not apply.
 use Rattle.std.proofs.Common.{◌≡◌, ℕ, ◌+◌, ◌<◌, ◌≤◌, true, false, not, cond, List, [], ◌∷◌, length, map, get_or, slice_get, take, drop, set, insert, remove, ltb, leb, eqb, Option, Some, None, Ordering, refl, ap, sym, ◌∙◌, add-one, arith}
 use Rattle.std.proofs.lemmas.Option.{slice_get-get_or}
 use Rattle.std.proofs.lemmas.List.{get_or_read, length-map, set_split}
@@ -30,7 +30,7 @@ set_splice : {X : Type 0} (xs : List X) (p : ℕ) (x : X) → p < length xs → 
 set_splice xs p x lt = rw add-one (set_split xs p x lt)
 
 module _ {T : Type 0} (cmp : T → T → Ordering) (ns : List (List T)) (m : T) where
-  -- no node of that name
+  -- no node has that name
   module _ (none : node_named cmp ns m ≡ None) where
     pub absent_insert : (v : T) (i : ℕ) → misfit cmp ns (InsertAt m v i) ≡ Some NoSuchNode
     unfolding misfit
@@ -73,7 +73,7 @@ module _ {T : Type 0} (cmp : T → T → Ordering) (ns : List (List T)) (m : T) 
     unfolding misfit
     split_start k none = rw (named, eq-eqb k 0 none) refl
 
-    -- the node that is to follow it
+    -- the node that must follow it
     module _ (w : T) where
       pub absent_next : node_named cmp ns w ≡ None → misfit cmp ns (MergeNodes m w) ≡ Some NoSuchNode
       unfolding misfit
@@ -157,7 +157,7 @@ module _ {T N : Type 0} (cmp : T → T → Ordering) (f : N → List T) (items :
         edited = rw (named, held, lt-ltb 0 k (omega arith), lt-ltb k (length (f n)) inside) refl;
       }
 
--- a node of the item alone
+-- a node of one item
 module _ {T : Type 0} (cmp : T → T → Ordering) (ns : List (List T)) (v : T) (p : ℕ) (is : p ≡ position_or_len (reaches cmp v) ns) where
   pub create_disorder : is_ascending cmp (concat (insert ns p (v ∷ []))) ≡ false → misfit cmp ns (CreateNode v) ≡ Some OutOfOrder
   unfolding misfit

@@ -1,4 +1,4 @@
--- The index of a replica's nodes, and what an edit does to it.
+-- The index of a replica's nodes after an edit.
 use Rattle.std.proofs.Common.{◌≡◌, ℕ, ◌+◌, ◌-◌, ◌/◌, ◌<◌, List, [], ◌∷◌, ◌++◌, length, set, sum, take, drop, get_or, insert, remove, ap, sym, ◌∙◌, arith, length-append}
 use Rattle.std.specs.List.{splice}
 use Rattle.std.proofs.lemmas.List.Sums.{sum_by-insert}
@@ -9,11 +9,11 @@ use Rattle.indexset_index.specs.Blocks.{block_sums}
 use Rattle.indexset_index.proofs.CallerLemmas.{both, lengths-insert, lengths_set, lowered, made-of-two, sum-blocks, without-half}
 
 module _ {X : Type 0} where
-  -- the nodes with one more, added up
+  -- the sum of the lengths with one more node
   pub insert_sum : {index : List ℕ} (ns : List (List X)) (k : ℕ) (n : List X) → index ≡ block_sums (node_lengths ns) → sum (node_lengths (insert ns k n)) ≡ sum index + length n
   insert_sum ns k n is = omega (arith, ap sum (lengths-insert ns k n), sum_by-insert (λ x. x) (node_lengths ns) k (length n), ap sum is, sum-blocks (node_lengths ns))
 
-  -- a node cut in two
+  -- a node split in two
   module _ {index : List ℕ} {ms : List (List X)} (ns : List (List X)) (k : ℕ) (a b : List X) (made : ms ≡ splice ns k (k + 1) (a ∷ b ∷ [])) (is : index ≡ block_sums (node_lengths ns)) (inside : k < length ns) (cut : length a + length b ≡ length (node_at ns k)) where
     pub cut_in_two : set index (k / 32) (get_or index (k / 32) 0 - length b) ≡ block_sums (remove (node_lengths ms) (k + 1))
     cut_in_two =
@@ -25,7 +25,7 @@ module _ {X : Type 0} where
       let parts = a ∷ b ∷ ends in
       omega (arith, cut, length-concat ns, length-concat (take k ns ++ parts), ap (λ (l : List X). length l) (concat-append (take k ns) parts), ap (λ (l : List X). length l) (joined_around ns k inside), length-append (concat (take k ns)) (concat parts), length-append (concat (take k ns)) (node_at ns k ++ concat ends), length-append (node_at ns k) (concat ends), length-append a (b ++ concat ends), length-append b (concat ends))
 
-  -- two merged
+  -- two nodes merged
   pub merged_lengths : (ns : List (List X)) (j : ℕ) (inside : j + 1 < length ns) → node_lengths (both ns j inside) ≡ node_lengths (with_merged ns j)
   merged_lengths ns j inside =
       let m = node_at ns j ++ node_at ns (j + 1) in

@@ -14,7 +14,7 @@ module _ {T : Type 0} (answer : T → Ordering) (l : List T) (parted : IsParted 
   some_at (x ∷ m) zero lt = refl
   some_at (x ∷ m) (suc i) lt = some_at m i (omega arith)
 
-  -- where one is answered Equal, the first such item stands after those answered Less
+  -- if an item is found Equal, the first such item follows those found Less
   pub there : list_any (λ x. is_eq (answer x)) l ≡ true → equal_at answer l (less_count answer l) ≡ true
   there has = elim (equal_at answer l (less_count answer l)) as (λ b. equal_at answer l (less_count answer l) ≡ b → b ≡ true) [
     | true ↦ λ e. refl
@@ -32,11 +32,11 @@ module _ {T : Type 0} (answer : T → Ordering) (l : List T) (parted : IsParted 
   pub all_before : AllWithin (λ x. answer x ≡ Less) l 0 (less_count answer l)
   all_before k d low high = less_from _ ((count_parts is_lt front-is_lt answer l parted).before k d low high)
 
-  -- what stands at a position that is answered Equal is there
+  -- an item at a position that is found Equal is present
   pub has_there : (i : ℕ) → position (λ x. is_eq (answer x)) l ≡ Some i → i < length l → list_any (λ x. is_eq (answer x)) l ≡ true
   has_there i at lt = sym (is_some-find (λ x. is_eq (answer x)) l) ∙ (ap is_some (find_position (λ x. is_eq (answer x)) l i at) ∙ some_at l i lt)
 
--- those answered Less and those answered Equal are those not answered Greater
+-- the items found Less or Equal are those not found Greater
 module _ {T : Type 0} (answer : T → Ordering) where
   cond_or : (a : Ordering) → cond (is_le a) 1 0 ≡ cond (is_lt a) 1 0 + cond (is_eq a) 1 0
   cond_or Less = refl

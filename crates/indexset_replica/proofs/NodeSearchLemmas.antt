@@ -1,4 +1,4 @@
--- Where a value stands in the nodes of a replica.
+-- The place of a value in the nodes of a replica.
 use Rattle.std.proofs.Common.{◌≡◌, ℕ, zero, suc, ◌+◌, ◌-◌, ◌<◌, ◌≤◌, ◌==◌, Bool, true, false, List, [], ◌∷◌, ◌++◌, length, map, get_or, slice_get, take, drop, insert, Option, Some, None, Ordering, All, inl, inr, refl, ap, sym, ◌∙◌, subst, arith, append_assoc, length-append}
 use Rattle.std.specs.Borrow.{Bor}
 use Rattle.std.specs.Cmp.{IsTotalOrder}
@@ -20,7 +20,7 @@ use Rattle.indexset_replica.specs.Replica.{first_item, is_between, last_item}
 pub filled_each : {T : Type 0} (ns : List (List T)) → All (λ n. 1 ≤ n) (node_lengths ns) → Each (λ n. is_filled n ≡ true) ns
 filled_each ns h = each-map _ _ (λ n. length_filled n) ns (nodes_each (λ n. 1 ≤ n) ns h)
 
--- the first item from a place on is that of the node there
+-- the first item from a place on is that of the node at the place
 pub next_is : {T : Type 0} (ns : List (List T)) → Each (λ n. is_filled n ≡ true) ns → (k : ℕ) → first_item (concat (drop k ns)) ≡ first_item (node_at ns k)
 next_is [] full zero = refl
 next_is [] full (suc k) = refl
@@ -28,7 +28,7 @@ next_is ([] ∷ ns) full zero = absurd (false≢true full.0)
 next_is ((x ∷ n) ∷ ns) full zero = refl
 next_is (n ∷ ns) full (suc k) = next_is ns full.1 k
 
--- where there is no node there is no item, and the other way round
+-- the list has no node if and only if it has no item
 pub empty_is : {T : Type 0} (ns : List (List T)) → Each (λ n. is_filled n ≡ true) ns → (length ns == 0) ≡ (length (concat ns) == 0)
 empty_is [] full = refl
 empty_is ([] ∷ ns) full = absurd (false≢true full.0)
@@ -39,13 +39,13 @@ bool_same true b f g = sym (f refl)
 bool_same false true f g = g refl
 bool_same false false f g = refl
 
--- the test of a node's name, as the code asks it
+-- the test of a node's name, as the code makes it
 pub named_by : {T : Type 0} (cmp : T → T → Ordering) (n : List T) (m x : T) → slice_get n (length n - 1) ≡ Some x → has_name cmp m n ≡ is_eq (cmp x m)
 named_by cmp n m x e =
     let inside = slice_get_within n (length n - 1) x e in
     rw (length_filled n (omega arith), last_some n m x e) refl
 
--- the last item of a list with items
+-- the last item of a list that is not empty
 last_get : {X : Type 0} (x : X) (xs : List X) → last_item (x ∷ xs) ≡ Some (last_of xs x)
 last_get x xs = subst (λ k. slice_get (x ∷ xs) k ≡ Some (last_of xs x)) {x = length xs} {y = length (x ∷ xs) - 1} (omega arith) (at_end x xs)
   where
@@ -67,7 +67,7 @@ first_item-append : {X : Type 0} (xs ys : List X) → first_item (xs ++ ys) ≡ 
 first_item-append [] ys = refl
 first_item-append (x ∷ xs) ys = refl
 
--- the last item of the last node is the last of all
+-- the last item of the last node is the last item of the list
 last_item-concat : {T : Type 0} (ns : List (List T)) (k : ℕ) (n : List T) → slice_get ns k ≡ Some n → k ≡ length ns - 1 → Each (λ n. is_filled n ≡ true) ns → last_item (concat ns) ≡ last_item n
 last_item-concat ns k n =
     at_place (λ q j m. j ≡ length q - 1 → Each (λ n. is_filled n ≡ true) q → last_item (concat q) ≡ last_item m)
@@ -103,7 +103,7 @@ module _ {T N : Type 0} (f : N → List T) (items : List N) (filled : All (λ n.
 -- ---- the nodes before a value and those from it on
 
 module _ {T : Type 0} (cmp : T → T → Ordering) (o : IsTotalOrder cmp) (v : T) where
-  -- the first of the nodes reaches v, and what follows it is above v
+  -- the first of the nodes reaches v, and the items of the later nodes are above v
   abbrev pub Reached : List (List T) → Type 0
   Reached [] = Unit {0}
   Reached (n ∷ a) = (reaches cmp v n ≡ true) × (is_lt (cmp (last_of n v) v) ≡ false) × Each (λ y. cmp v y ≡ Less) (concat a)
@@ -178,7 +178,7 @@ module _ {T : Type 0} (cmp : T → T → Ordering) (o : IsTotalOrder cmp) (v : T
     pub unnamed_past : length items ≤ k → node_named cmp (map f items) v ≡ None
     unnamed_past past = named_not (map f items) rule (λ inside. absurd (omega (arith, inside, is, length-map items f)))
 
-  -- the same of the node that a search by the last items ends in
+  -- the same for the node in which a search by the last items ends
   module _ {N : Type 0} (f : N → List T) (items : List N) (rule : Ruled cmp (map f items)) (k : ℕ) (is : k ≡ node_for (λ x. cmp x v) (map f items)) (n : N) (some : 1 ≤ length items) (read : n ≡ get_or items k n) where
     inside : k < length items
     inside = omega (arith, some, is, length-map items f)
@@ -234,7 +234,7 @@ module _ {T : Type 0} (cmp : T → T → Ordering) (o : IsTotalOrder cmp) (v : T
   high_is [] up = (λ _. tt, λ _. refl)
   high_is (x ∷ xs) up = (λ e. let first = less_from (cmp v x) e in (first, each-map _ _ (λ y. o.trans v x y first) xs up.0), λ high. ap is_lt high.0)
 
-  -- a value fits where it is between its neighbours
+  -- a value fits if it is between its neighbours
   pub between : (l r : List T) → Up cmp (l ++ r) → is_ascending cmp (l ++ v ∷ r) ≡ is_between cmp (last_item l) v (first_item r)
   unfolding low_test high_test
   between l r up =
@@ -249,7 +249,7 @@ module _ {T : Type 0} (cmp : T → T → Ordering) (o : IsTotalOrder cmp) (v : T
       let both = and_parts (low_test l) (high_test r) test in
       up_true cmp (l ++ v ∷ r) (up_put cmp l v r (low.0 both.0) (high.0 both.1) up))
 
-  -- a value put into a node, or into a node of its own
+  -- a value inserted into a node, or as a new node
   pub fits_node : (ns : List (List T)) → Ruled cmp ns → (p : ℕ) → p < length ns → (i : ℕ) → let n = node_at ns p in is_ascending cmp (concat (splice ns p (p + 1) (insert n i v ∷ []))) ≡ is_between cmp (option_or (last_item (take i n)) (last_item (concat (take p ns)))) v (option_or (first_item (drop i n)) (first_item (concat (drop (p + 1) ns))))
   fits_node ns rule p inside i =
       let n = node_at ns p in

@@ -10,7 +10,7 @@ module _ {T : Type 0} (l : List T) where
   none zero = refl
   none (suc n) = refl
 
-  -- what is past the end of the list adds nothing
+  -- positions past the end of the list add nothing
   pub clipped : (s e i j : ℕ) → j ≡ min e (length l) → i ≡ min (min s (length l)) j → between i j l ≡ between s e l
   clipped s e i j to from = elim (cases_lt s (length l)) [
     | inl inside ↦ elim (cases_lt e (length l)) [

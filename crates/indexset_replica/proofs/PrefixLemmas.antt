@@ -1,4 +1,4 @@
--- The beginning of a feed that a replica holds, whatever came.
+-- The prefix of a feed that a replica has applied, for any delivery.
 use Rattle.std.proofs.Common.{◌≡◌, ℕ, zero, suc, ◌+◌, ◌-◌, ◌≤◌, List, [], ◌∷◌, length, slice_get, Some, Ordering, inl, inr, ap, subst, refl, arith}
 use Rattle.std.specs.Cmp.{IsTotalOrder}
 use Rattle.std.proofs.lemmas.List.{take_all}
@@ -24,7 +24,7 @@ later_places (suc d) i n j zero from all = absurd (omega (arith, all))
 later_places (suc d) i n j (suc m) from all =
     subsequence_more (numbers_from j n) (numbers_from (i + 1) m) i (later_places d (i + 1) n j m (omega (arith, from)) (omega (arith, all)))
 
--- it has each of them in turn, from any one on
+-- it has the places from any j on in order
 pub all_places : (j n : ℕ) → IsSubsequence (numbers_from j (n - j)) (numbers_from 0 n)
 all_places j n = by (n - j) refl
   where
@@ -35,7 +35,7 @@ all_places j n = by (n - j) refl
 -- ---- a replica that follows
 
 module _ {T : Type 0} (cmp : T → T → Ordering) (C : T → T → Type 0) where
-  -- the number awaited never falls
+  -- the expected number never decreases
   next_one : (x y : ReplicaState T) (e : ChangeEvent T) → IsDelivery cmp C x e y → x.next ≤ y.next
   next_one x y e d =
       elim d [
@@ -68,7 +68,7 @@ module _ {T : Type 0} (cmp : T → T → Ordering) (s : ℕ) (ns : List (List T)
         let end : q.next ≡ s + length es = omega (arith, here.next, here.within, most) in
         record { nodes = all_held q (begun _ q here) end; next = end }
 
-    -- the same of copies
+    -- the same for copies
     module _ (o : IsTotalOrder cmp) (C : T → T → Type 0) where
       pub copied_beginning : (order : List ℕ) (r q : ReplicaState T) → CopiesPrefix cmp C s ns es r → IsFollowed cmp C es r order q → CopiesPrefix cmp C s ns es q
       copied_beginning order r q at d =

@@ -1,4 +1,5 @@
--- From nodes whose items a relation of equal items relates, one by one, an event leads to such nodes.
+-- A step of an event keeps a relation between the items of two lists of nodes, if related items are
+-- equal.
 use Rattle.std.proofs.Common.{◌≡◌, ◌==◌, ◌&&◌, ℕ, zero, suc, ◌+◌, ◌-◌, Bool, true, false, not, if◌then◌else◌, List, [], ◌∷◌, ◌++◌, length, get_or, slice_get, take, drop, insert, remove, nat_lt, ltb, leb, Option, Some, None, Ordering, cond, option_and_then, refl, ap, sym, ◌∙◌, subst}
 use Rattle.std.specs.Cmp.{IsTotalOrder}
 use Rattle.std.specs.List.{AllZip, list_all, position, position_or_len, splice}
@@ -54,7 +55,7 @@ module _ {X : Type 0} (R : X → X → Type 0) where
   zip_itself r [] = tt
   zip_itself r (x ∷ xs) = (r x, zip_itself r xs)
 
-  -- both hold nothing, or items that R relates
+  -- both are `None`, or items that R relates
   abbrev pub AreAlike : Option X → Option X → Type 0
   AreAlike None None = Unit {0}
   AreAlike None (Some y) = ⊥

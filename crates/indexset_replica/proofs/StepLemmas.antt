@@ -1,4 +1,4 @@
--- An event that fits is a step, and the other way round.
+-- An event that applies is a step, and a step applies.
 use Rattle.std.proofs.Common.{◌≡◌, ◌≢◌, ◌==◌, ◌↔◌, is_some, ℕ, ◌+◌, ◌<◌, ◌≤◌, ◌||◌, Bool, true, false, not, if◌then◌else◌, ◌&&◌, List, [], ◌∷◌, ◌++◌, length, get_or, slice_get, take, drop, insert, remove, nat_lt, nat_le, ltb, leb, Option, Some, None, Ordering, option_and_then, refl, ap, sym, ◌∙◌, subst, arith}
 use Rattle.std.below.core.specs.declared.int.u64.TheConstants.{MAX}
 use Rattle.std.specs.Cmp.{IsTotalOrder}
@@ -62,7 +62,7 @@ with_item [] full f = absurd (false≢true full)
 with_item (x ∷ n) full f = f x
 
 module _ {T : Type 0} (cmp : T → T → Ordering) where
-  -- what an edit of a named node makes
+  -- the result of an edit of a named node
   named_parts : (ns : List (List T)) (m : T) (f : List T → Option (List (List T))) (r : List (List T)) → at_named cmp ns m f ≡ Some r
       → (p : ℕ) × (parts : List (List T)) × (node_named cmp ns m ≡ Some p) × (f (node_at ns p) ≡ Some parts) × (splice ns p (p + 1) parts ≡ r)
   named_parts ns m f r e =
@@ -70,7 +70,7 @@ module _ {T : Type 0} (cmp : T → T → Ordering) where
       let made = map_some (f (node_at ns at.0)) (splice ns at.0 (at.0 + 1)) r at.2 in
       (at.0, made.0, at.1, made.1, made.2)
 
-  -- what an edit that joins two nodes makes
+  -- the result of an edit that merges two nodes
   merge_parts : (ns : List (List T)) (m w : T) (r : List (List T)) → edit cmp ns (MergeNodes m w) ≡ Some r → (p : ℕ) × (node_named cmp ns m ≡ Some p) × (node_named cmp ns w ≡ Some (p + 1)) × (with_merged ns p ≡ r)
   merge_parts ns m w r e =
       let at = then_some (node_named cmp ns m) (λ p. option_and_then (λ q. if q == p + 1 then Some (with_merged ns p) else None) (node_named cmp ns w)) r e in
@@ -116,7 +116,7 @@ module _ {T : Type 0} (cmp : T → T → Ordering) where
   named_read ns m p named = slice_get-get_or ns p [] (named_inside cmp ns m p named)
 
   module _ (o : IsTotalOrder cmp) where
-    -- a node made into parts, whatever stands around it
+    -- a node replaced by parts, for any neighbours
     parts_ruled : (parts : List (List T)) (ns : List (List T)) (p : ℕ) (n : List T) → slice_get ns p ≡ Some n → ((b a : List (List T)) → At cmp o b n a → Ruled cmp (b ++ (parts ++ a))) → Ruled cmp ns → Ruled cmp (splice ns p (p + 1) parts)
     parts_ruled parts =
         at_place (λ q j m. ((b a : List (List T)) → At cmp o b m a → Ruled cmp (b ++ (parts ++ a))) → Ruled cmp q → Ruled cmp (splice q j (j + 1) parts))

@@ -1,4 +1,4 @@
--- Nodes that hold copies of the items of other nodes.
+-- Nodes whose items are copies of those of other nodes.
 use Rattle.std.specs.Prelude.{◌≡◌, ℕ, zero, suc, List, Some}
 use Rattle.std.specs.List.{AllZip}
 use Rattle.std.specs.declared.cmp.Ordering.{Ordering}
@@ -12,19 +12,19 @@ module _ {T : Type 0} (cmp : T → T → Ordering) (C : T → T → Type 0) wher
   abbrev pub AreClonesEqual : Type 0
   AreClonesEqual = (x y : T) → C x y → cmp x y ≡ Equal
 
-  -- y was made of x by cloning n times, each time with an equal clone
+  -- y results from x by n clonings, each of which gives an equal clone
   abbrev pub IsCloneAfter : ℕ → T → T → Type 0
   IsCloneAfter zero x y = y ≡ x
   IsCloneAfter (suc n) x y = (z : T) × IsCloneAfter n x z × IsEqualClone cmp C z y
 
-  -- y is x, or an equal clone of it, or one of such a clone, and so on
+  -- y results from x by any number of clonings, each of which gives an equal clone
   abbrev pub IsCopy : T → T → Type 0
   IsCopy x y = (n : ℕ) × IsCloneAfter n x y
 
-  -- the nodes have the same lengths, and the items of the second ones are copies of those of the first
+  -- the nodes have the same lengths, and the items of the second are copies of those of the first
   abbrev pub AreCopies : List (List T) → List (List T) → Type 0
   AreCopies = AllZip (AllZip IsCopy)
 
-  -- the events lead from the nodes ns to copies of the nodes after
+  -- the replay of the events turns the nodes ns into copies of the nodes `after`
   abbrev pub LeadsToCopies : List (List T) → List (ChangeEvent T) → List (List T) → Type 0
   LeadsToCopies ns es after = (made : List (List T)) × (replay cmp ns es ≡ Some made) × AreCopies after made

@@ -1,4 +1,4 @@
--- What a replica makes of events that are delivered with losses, repeats and in any order.
+-- A replica after events that are delivered with losses, repeats and in any order.
 use Rattle.std.specs.Prelude.{◌≡◌, ◌≢◌, ℕ, ◌+◌, ◌-◌, ◌≤◌, ◌==◌, ◌⊎◌, ⊤, zero, suc, true, is_some, if◌then◌else◌, Option, Some, None, unwrap_or, IsSomeAnd, slice_get, List, [], ◌∷◌, length, take}
 use Rattle.std.below.core.specs.declared.int.u64.TheConstants.{MAX}
 use Rattle.std.specs.Option.{option_map, option_and_then}
@@ -10,7 +10,7 @@ use Rattle.indexset_events.specs.declared.change.ChangeEvent.{ChangeEvent}
 use Rattle.indexset_replica.specs.Copies.{AreCopies}
 use Rattle.indexset_replica.specs.Replica.{IsClonedStep, ReplicaState, apply_refusal}
 
--- the items xs are among the ys, in their order
+-- xs is a subsequence of ys
 abbrev pub IsSubsequence : {A : Type 0} → List A → List A → Type 0
 IsSubsequence [] ys = ⊤
 IsSubsequence (x ∷ xs) [] = ⊥
@@ -21,88 +21,94 @@ abbrev pub numbers_from : ℕ → ℕ → List ℕ
 numbers_from j zero = []
 numbers_from j (suc n) = j ∷ numbers_from (j + 1) n
 
--- m is the greatest number from j on for which j, j + 1, .. m - 1 are among the places, in this order
+-- m is the greatest number from j on for which j, j + 1, .. m - 1 occur among the places in this
+-- order
 pub record IsDeliveredUpTo (j : ℕ) (order : List ℕ) (m : ℕ) : Type 0 where
   pub from : j ≤ m
   pub came : IsSubsequence (numbers_from j (m - j)) order
   pub greatest : (n : ℕ) → j ≤ n → IsSubsequence (numbers_from j (n - j)) order → n ≤ m
 
--- the number awaited after the event at place p was delivered to one that awaits m
+-- the number expected after the event at place p was delivered to a replica that expects m
 abbrev pub awaited : ℕ → ℕ → ℕ
 awaited m p = if p == m then m + 1 else m
 
 module _ {T : Type 0} (cmp : T → T → Ordering) where
-  -- the replica after an event: unchanged where the event is out of turn, and none where it does not fit
+  -- the replica after an event: unchanged if the event is not the next, and none if it does not
+  -- apply
   unfoldable pub delivered : ReplicaState T → ChangeEvent T → Option (ReplicaState T)
   delivered r e = if event_number e == r.next then (if r.next == MAX then None else option_map (λ ns. record { nodes = ns; next = r.next + 1 }) (step cmp r.nodes e)) else Some r
 
-  -- the replica after the events at these places, one after the other
+  -- the replica after the events at these places, in order
   abbrev pub followed : List (ChangeEvent T) → ReplicaState T → List ℕ → Option (ReplicaState T)
   followed es r [] = Some r
   followed es r (p ∷ order) = option_and_then (λ q. followed es q order) (option_and_then (delivered r) (slice_get es p))
 
   -- the same, with an equal clone in the place of the item that an event adds
   module _ (C : T → T → Type 0) where
-    -- the replica q after an event
+    -- q is the replica r after the event e, up to an equal clone of the item that it adds
     abbrev pub IsDelivery : ReplicaState T → ChangeEvent T → ReplicaState T → Type 0
     IsDelivery r e q = ((event_number e ≢ r.next) × (q ≡ r)) ⊎ ((event_number e ≡ r.next) × (r.next ≢ MAX) × (q.next ≡ r.next + 1) × IsClonedStep cmp C r.nodes (unassigned e) q.nodes)
 
-    -- the replica q after the events at these places, one after the other
+    -- q is the replica r after the events at these places, in order, up to equal clones of the
+    -- items that they add
     abbrev pub IsFollowed : List (ChangeEvent T) → ReplicaState T → List ℕ → ReplicaState T → Type 0
     IsFollowed es r [] q = q ≡ r
     IsFollowed es r (p ∷ order) q = (s : ReplicaState T) × IsSomeAnd (slice_get es p) (λ e. IsDelivery r e s) × IsFollowed es s order q
 
-  -- why a replica fails at this event, where it may fail for memory too
+  -- the error of a replica that fails at this event: `Memory` if no other applies
   abbrev pub failure : ReplicaState T → ChangeEvent T → Refusal
   failure r e = unwrap_or (apply_refusal cmp r.nodes r.next e) Memory
 
-  -- the replica failed at the event that it awaited, and is as the places before it left it
+  -- the replica failed at the event that it expected, and is as after the places before
   pub record IsStopped (es : List (ChangeEvent T)) (old : ReplicaState T) (order : List ℕ) (cause : Refusal) (new : ReplicaState T) : Type 0 where
     pub count : ℕ
     pub before : followed es old (take count order) ≡ Some new
     pub at : IsSomeAnd (slice_get order count) (λ p. IsSomeAnd (slice_get es p) (λ e. (event_number e ≡ new.next) × (cause ≡ failure new e)))
 
-  -- the same, with equal clones in the place of the items that were added
+  -- the same, up to equal clones of the items that were added
   pub record HasStopped (C : T → T → Type 0) (es : List (ChangeEvent T)) (old : ReplicaState T) (order : List ℕ) (cause : Refusal) (new : ReplicaState T) : Type 0 where
     pub count : ℕ
     pub before : IsFollowed C es old (take count order) new
     pub at : IsSomeAnd (slice_get order count) (λ p. IsSomeAnd (slice_get es p) (λ e. (event_number e ≡ new.next) × (cause ≡ failure new e)))
 
-  -- the events are numbered from s on, they lead from these nodes, and a number is left after them
+  -- the events are numbered from s, they apply to the nodes ns in order, and a number remains after
+  -- them
   pub record IsEventLog (s : ℕ) (ns : List (List T)) (es : List (ChangeEvent T)) : Type 0 where
     pub numbered : IsNumberedFrom s es
     pub defined : is_some (replay cmp ns es) ≡ true
     pub fits : s + length es ≤ MAX
 
-  -- the replica holds what the first j events lead to, and awaits the event after them
+  -- the replica has the nodes after the first j events, and expects the event after them
   pub record IsAt (s : ℕ) (ns : List (List T)) (es : List (ChangeEvent T)) (j : ℕ) (r : ReplicaState T) : Type 0 where
     pub within : j ≤ length es
     pub nodes : replay cmp ns (take j es) ≡ Some r.nodes
     pub next : r.next ≡ s + j
 
-  -- the replica holds what a beginning of the events leads to, and awaits the event after it
+  -- the replica has the nodes after a prefix of the events, and expects the event after it
   abbrev pub IsPrefix : ℕ → List (List T) → List (ChangeEvent T) → ReplicaState T → Type 0
   IsPrefix s ns es r = IsAt s ns es (r.next - s) r
 
-  -- the replica holds what all events lead to, and awaits the event after them
+  -- the replica has the nodes after all events, and expects the event after them
   pub record IsCaughtUp (s : ℕ) (ns : List (List T)) (es : List (ChangeEvent T)) (r : ReplicaState T) : Type 0 where
     pub nodes : replay cmp ns es ≡ Some r.nodes
     pub next : r.next ≡ s + length es
 
   module _ (C : T → T → Type 0) where
-    -- the replica q holds copies of what r holds, and awaits the same event
+    -- the replica q has copies of the nodes of r, and expects the same event
     pub record IsAlike (r q : ReplicaState T) : Type 0 where
       pub nodes : AreCopies cmp C r.nodes q.nodes
       pub next : q.next ≡ r.next
 
-    -- the replica holds copies of what a beginning of the events leads to, and awaits the event after it
+    -- the replica has copies of the nodes after a prefix of the events, and expects the event after
+    -- it
     abbrev pub CopiesPrefix : ℕ → List (List T) → List (ChangeEvent T) → ReplicaState T → Type 0
     CopiesPrefix s ns es q = (r : ReplicaState T) × IsPrefix s ns es r × IsAlike r q
 
-    -- the replica holds copies of what all events lead to, and awaits the event after them
+    -- the replica has copies of the nodes after all events, and expects the event after them
     abbrev pub CopiesAll : ℕ → List (List T) → List (ChangeEvent T) → ReplicaState T → Type 0
     CopiesAll s ns es q = (r : ReplicaState T) × IsCaughtUp s ns es r × IsAlike r q
 
-  -- the replica holds what the longest beginning leads to whose events came in turn, from event j on
+  -- the replica has the nodes after the longest prefix of which the events from j on were delivered
+  -- in order
   abbrev pub IsDelivered : ℕ → List (List T) → List (ChangeEvent T) → ℕ → List ℕ → ReplicaState T → Type 0
   IsDelivered s ns es j order r = (m : ℕ) → IsDeliveredUpTo j order m → IsAt s ns es m r

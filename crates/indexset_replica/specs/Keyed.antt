@@ -1,4 +1,4 @@
--- How many items have a key.
+-- The number of items of a key.
 use Rattle.std.specs.Prelude.{ℕ, List, count_by}
 use Rattle.std.specs.Ordering.{is_eq}
 use Rattle.std.specs.declared.cmp.Ordering.{Ordering}

@@ -1,4 +1,4 @@
--- What fits a replica.
+-- The model of a replica, and when an event applies to it.
 use Rattle.std.specs.Prelude.{◌≡◌, Option, Some, None, ℕ, ◌+◌, ◌-◌, Bool, true, ◌==◌, ◌&&◌, ◌||◌, not, if◌then◌else◌, nat_lt, nat_le, List, length, get_or, slice_get}
 use Rattle.std.below.core.specs.declared.int.u64.TheConstants.{MAX}
 use Rattle.std.specs.Option.{option_map_or}
@@ -15,33 +15,33 @@ use Rattle.indexset_events.specs.declared.change.ChangeEvent.{ChangeEvent}
 use Rattle.indexset_events.specs.declared.change.ChangeEventUnassigned.{ChangeEventUnassigned}
 use Rattle.indexset_events.specs.declared.change.ChangeEventUnassigned.TheVariants.{InsertAt, RemoveAt, CreateNode, RemoveNode, SplitNode, MergeNodes}
 
--- the first item and the last
+-- the first item, if any
 abbrev pub first_item : {T : Type 0} → List T → Option T
 first_item l = slice_get l 0
 
 abbrev pub last_item : {T : Type 0} → List T → Option T
 last_item l = slice_get l (length l - 1)
 
--- what a replica holds: its nodes, and the number of the next event
+-- the nodes of a replica, and the number of the next event
 pub record ReplicaState (T : Type 0) : Type 0 where
   pub nodes : List (List T)
   pub next : ℕ
 
--- the nodes are lawful, and these are the sums of their lengths by blocks
+-- the nodes are a node list, and these are the sums of their lengths over blocks
 pub record IsIndexed {T : Type 0} (cmp : T → T → Ordering) (ns : List (List T)) (sums : List ℕ) : Type 0 where
   pub nodes : IsNodeList cmp ns
   pub index : sums ≡ block_sums (node_lengths ns)
 
 module _ {T : Type 0} (cmp : T → T → Ordering) where
-  -- the nodes that an edit leads to would not be ascending as a whole
+  -- the error of an edit whose nodes would not ascend as a whole
   abbrev pub disorder : Option (List (List T)) → Option Refusal
   disorder edited = option_map_or (λ ns. if is_ascending cmp (concat ns) then None else Some OutOfOrder) edited None
 
-  -- what speaks against an edit of the node named m, where f tells it of that node
+  -- the error of an edit of the node named m, where f gives the error for that node
   abbrev pub in_named : List (List T) → T → (List T → Option Refusal) → Option Refusal
   in_named ns m f = option_map_or (λ p. f (node_at ns p)) (node_named cmp ns m) (Some NoSuchNode)
 
-  -- the first reason why an event does not fit the nodes, if any
+  -- the first reason why an event does not apply to the nodes, if any
   unfoldable pub misfit : List (List T) → ChangeEventUnassigned T → Option Refusal
   misfit ns (CreateNode m) = disorder (edit cmp ns (CreateNode m))
   misfit ns (RemoveNode m) = in_named ns m (λ n. None)
@@ -52,20 +52,21 @@ module _ {T : Type 0} (cmp : T → T → Ordering) where
   misfit ns (MergeNodes m w) =
       option_map_or (λ p. option_map_or (λ q. if q == p + 1 then None else Some NotNeighbours) (node_named cmp ns w) (Some NoSuchNode)) (node_named cmp ns m) (Some NoSuchNode)
 
-  -- why a replica of these nodes that waits for the event of this number refuses an event, memory aside
+  -- the error of an event for a replica of these nodes that expects the number `next`, other than
+  -- `Memory`
   unfoldable pub apply_refusal : List (List T) → ℕ → ChangeEvent T → Option Refusal
   apply_refusal ns next e = if not (event_number e == next) then Some Gap else if next == MAX then Some Numbers else misfit ns (unassigned e)
 
-  -- the value is above the item before it and below the item after it, where there are such
+  -- the value is above the item before it, if any, and below the item after it, if any
   abbrev pub is_between : Option T → T → Option T → Bool
   is_between before v after = option_map_or (λ x. is_lt (cmp x v)) before true && option_map_or (λ x. is_lt (cmp v x)) after true
 
 module _ {T : Type 0} (cmp : T → T → Ordering) (C : T → T → Type 0) where
-  -- y is a clone of x, and equal to it
+  -- y is a clone of x that equals it
   abbrev pub IsEqualClone : T → T → Type 0
   IsEqualClone x y = C x y × (cmp y x ≡ Equal)
 
-  -- f is e, with an equal clone in the place of the item that it adds
+  -- f is e with an equal clone in the place of the item that it adds
   abbrev pub AddsClone : ChangeEventUnassigned T → ChangeEventUnassigned T → Type 0
   AddsClone (InsertAt m v i) f = (w : T) × IsEqualClone v w × (f ≡ InsertAt m w i)
   AddsClone (CreateNode m) f = (w : T) × IsEqualClone m w × (f ≡ CreateNode w)
@@ -74,18 +75,19 @@ module _ {T : Type 0} (cmp : T → T → Ordering) (C : T → T → Type 0) wher
   AddsClone (SplitNode m k) f = f ≡ SplitNode m k
   AddsClone (MergeNodes m w) f = f ≡ MergeNodes m w
 
-  -- the nodes after are those that the event leads to, with an equal clone in the place of the item that it adds
+  -- the event, with an equal clone in the place of the item that it adds, turns the nodes ns into
+  -- the nodes `after`
   pub record IsClonedStep (ns : List (List T)) (e : ChangeEventUnassigned T) (after : List (List T)) : Type 0 where
     pub event : ChangeEventUnassigned T
     pub adds : AddsClone e event
     pub made : step_plain cmp ns event ≡ Some after
 
--- the event fits the nodes, and changes them so
+-- the event applies to the nodes ns and turns them into the nodes `after`
 pub record IsEdit {T : Type 0} (cmp : T → T → Ordering) (ns : List (List T)) (e : ChangeEventUnassigned T) (after : List (List T)) : Type 0 where
   pub fits : misfit cmp ns e ≡ None
   pub edited : edit cmp ns e ≡ Some after
 
--- the event fits the nodes, and changes them so, with an equal clone in the place of the item that it adds
+-- the same, with an equal clone in the place of the item that the event adds
 pub record IsClonedEdit {T : Type 0} (cmp : T → T → Ordering) (C : T → T → Type 0) (ns : List (List T)) (e : ChangeEventUnassigned T) (after : List (List T)) : Type 0 where
   pub fits : misfit cmp ns e ≡ None
   pub event : ChangeEventUnassigned T

@@ -1,4 +1,4 @@
-//! The change that an event makes to a replica's nodes, and to their index.
+//! The change that an event makes to the nodes of a replica and to their index.
 ghost use Rattle.std.specs.Prelude.{◌≡◌, ◌<◌, [], ◌∷◌, IfOk, OnOk, IfErr, OnErr, unwrap_or, vec_len, vec_capacity};
 ghost use Rattle.indexset_core.specs.Nodes.{node_lengths, IsNodeList, vec_items};
 ghost use Rattle.indexset_index.specs.Blocks.{block_sums};
@@ -12,7 +12,7 @@ use indexset_core::moves;
 use indexset_core::refusal::Refusal;
 use indexset_events::change::ChangeEvent;
 
-/// Makes the event's change, whatever its number.
+/// Makes the change of an event, for any number of the event.
 pub(super) fn carry_out<T: Ord + Clone + Drop>(
     nodes: &mut Vec<Vec<T>>,
     lengths: &mut NodeIndex,
@@ -56,7 +56,7 @@ pub(super) fn carry_out<T: Ord + Clone + Drop>(
     }
 }
 
-// Inserts an item into the node of that name.
+// Inserts an item into the named node.
 fn insert_item<T: Ord + Clone + Drop>(
     nodes: &mut Vec<Vec<T>>,
     lengths: &mut NodeIndex,
@@ -90,7 +90,7 @@ fn insert_item<T: Ord + Clone + Drop>(
     Ok(())
 }
 
-// Removes the item at an index of the node of that name.
+// Removes the item at an index of the named node.
 fn remove_item<T: Ord + Clone + Drop>(
     nodes: &mut Vec<Vec<T>>,
     lengths: &mut NodeIndex,
@@ -124,7 +124,7 @@ fn remove_item<T: Ord + Clone + Drop>(
     Ok(())
 }
 
-// Inserts a node of this item alone.
+// Inserts a node with one item.
 fn create_node<T: Ord + Clone + Drop>(
     nodes: &mut Vec<Vec<T>>,
     lengths: &mut NodeIndex,
@@ -151,7 +151,7 @@ fn create_node<T: Ord + Clone + Drop>(
     Ok(())
 }
 
-// Reserves room for one more node, and returns a node of this item alone.
+// Reserves room for one more node, and returns a node with one item.
 fn room_for_node_of<T: Ord + Clone + Drop>(
     nodes: &mut Vec<Vec<T>>,
     value: &T,
@@ -168,7 +168,7 @@ fn room_for_node_of<T: Ord + Clone + Drop>(
     Ok(node)
 }
 
-// A clone that equals its source, so that it stands where the source would.
+// Returns a clone that equals its source, so that the nodes ascend with it as with the source.
 fn equal_clone<T: Ord + Clone + Drop>(value: &T) -> Result<T, Refusal>
     ensures clone { IfOk result (λ item. IsEqualClone T.cmp T.is_clone value.now item) }
     ensures refusal { IfErr result (λ e. e ≡ Refusal.Memory) }
@@ -180,7 +180,7 @@ fn equal_clone<T: Ord + Clone + Drop>(value: &T) -> Result<T, Refusal>
     Ok(item)
 }
 
-// Removes the node of that name.
+// Removes the named node.
 fn remove_node<T: Ord + Clone + Drop>(
     nodes: &mut Vec<Vec<T>>,
     lengths: &mut NodeIndex,
@@ -202,7 +202,7 @@ fn remove_node<T: Ord + Clone + Drop>(
     Ok(())
 }
 
-// Splits the node of that name into its first items and the rest.
+// Splits the named node into its first items and the rest.
 fn split_node<T: Ord + Clone + Drop>(
     nodes: &mut Vec<Vec<T>>,
     lengths: &mut NodeIndex,
@@ -233,7 +233,7 @@ fn split_node<T: Ord + Clone + Drop>(
     Ok(())
 }
 
-// Merges the node of that name with the one after it, which has the second name.
+// Merges the named node with the next one, which has the second name.
 fn merge_nodes<T: Ord + Clone + Drop>(
     nodes: &mut Vec<Vec<T>>,
     lengths: &mut NodeIndex,
@@ -258,7 +258,7 @@ fn merge_nodes<T: Ord + Clone + Drop>(
     let count = nodes[next].len();
     let node = &mut nodes[place];
     node.reserve(count)?;
-    // The sum of all lengths fits.
+    // The sum of all lengths fits a usize.
     let _total = lengths.total();
     let mut rest = moves::remove_item(nodes, next);
     lengths.remove_node(next, count, nodes.as_slice());

@@ -10,19 +10,18 @@ use indexset_core::refusal::Refusal;
 use indexset_events::change::ChangeEvent;
 
 impl<T: Ord + Clone + Drop> Replica<T> {
-    /// Applies the events at these places of a list, one after the other, and passes over each
-    /// whose number is not the next. It costs one comparison of numbers for an event that is passed
-    /// over, and otherwise what `apply` does. It fails at the first event that `apply` refuses for
-    /// another reason than `Gap`, with that reason; what was applied before it stays.
+    /// Applies the events at places of a list in order, and skips each that is not the next.
     ///
-    /// Where the events are numbered without a gap, lead from some nodes to others, and the replica
-    /// holds what the first j of them lead to, it then holds what the first m lead to, and expects
-    /// event m: m is the greatest number for which j, j + 1, .. m - 1 are among the places in this
-    /// order. A call then fails with `Memory` alone, and the same holds of a prefix of the places.
-    /// In particular it holds what a prefix leads to whatever the places are, and what all events
-    /// lead to where the places are all of them in order, or where it expects the event after the
-    /// last. What it holds are the items themselves where clones are identical to their sources,
-    /// and else copies of them.
+    /// Each place must be within the list.
+    ///
+    /// Let the events be numbered without a gap and apply to some nodes in order, and let the
+    /// replica have the nodes after the first j of them. It then has the nodes after the first m,
+    /// and expects event m: m is the greatest number for which j, j + 1, .. m - 1 occur among the
+    /// places in this order. So it always has the nodes after some prefix of the events, and those
+    /// after all events if all occur in order among the places. The items are identical to those of
+    /// the events if clones are identical to their sources, and are copies of them otherwise.
+    ///
+    /// # Examples
     ///
     /// ```
     /// // The first event comes twice, and the second before it: that one is passed over.
@@ -32,6 +31,15 @@ impl<T: Ord + Clone + Drop> Replica<T> {
     /// copy.follow([first, second].as_slice(), [1, 0, 0].as_slice())?;
     /// assert!(rt; copy.len() == 1 && copy.next() == 1);
     /// ```
+    ///
+    /// # Errors
+    ///
+    /// Fails with the first error of `apply` other than `Gap`; the events before stay applied. For
+    /// events as above that error is `Memory`, and the replica has the nodes after a prefix.
+    ///
+    /// # Complexity
+    ///
+    /// Compares one number for a skipped event, and costs as `apply` for another.
     pub fn follow(&mut self, events: &[ChangeEvent<T>], order: &[usize]) -> Result<(), Refusal>
         requires inside { All (λ p. p < length events.now) order.now }
         ensures cloned { OnOk result (IsFollowed T.cmp T.is_clone events.now self.old order.now
@@ -62,7 +70,7 @@ impl<T: Ord + Clone + Drop> Replica<T> {
             × IsDelivered T.cmp s ns events.now j (take k order.now) r
             × IsAlike T.cmp T.is_clone r self.new) }
 
-        // From a prefix of a feed it goes on to a prefix.
+        // From a prefix of a feed to a longer one.
         ensures onwards { self.old.next ≤ self.new.next }
         ensures beginning { ((x y : T) → T.is_clone x y → y ≡ x) → (s : ℕ) (ns : List (List T))
             → IsEventLog T.cmp s ns events.now
@@ -78,7 +86,7 @@ impl<T: Ord + Clone + Drop> Replica<T> {
             → self.new.next ≡ s + length events.now
             → replay T.cmp ns events.now ≡ Some self.new.nodes }
 
-        // At every type, of copies.
+        // The same for copies, at every type.
         ensures copied_beginning { (s : ℕ) (ns : List (List T)) → IsEventLog T.cmp s ns events.now
             → CopiesPrefix T.cmp T.is_clone s ns events.now self.old
             → CopiesPrefix T.cmp T.is_clone s ns events.now self.new }
@@ -98,7 +106,7 @@ impl<T: Ord + Clone + Drop> Replica<T> {
         Ok(())
     }
 
-    // Applies an event that is the next, and passes over any other.
+    // Applies an event if it is the next, and skips it otherwise.
     fn deliver(&mut self, event: &ChangeEvent<T>) -> Result<(), Refusal>
         ensures cloned { OnOk result (IsDelivery T.cmp T.is_clone self.old event.now self.new) }
         ensures awaited { OnErr result (event_number event.now ≡ self.old.next) }

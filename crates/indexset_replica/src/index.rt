@@ -1,4 +1,4 @@
-//! The index of a replica: the lengths of its nodes by blocks, and how many items there are.
+//! The index of a replica: the lengths of its nodes by blocks, and the number of items.
 ghost use Rattle.std.specs.Prelude.{◌≡◌, ◌+◌, ◌-◌, ◌/◌, ◌<◌, ◌≤◌, ◌^◌, [], insert, length, remove, sum, slice_index, slice_set, IfOk, IfErr, IfSome, OnOk, MatchOption};
 ghost use Rattle.indexset_core.specs.Nodes.{concat, node_at, node_lengths, vec_items};
 ghost use Rattle.indexset_core.specs.Places.{IsPlace, items_before};
@@ -10,7 +10,7 @@ use indexset_index::blocks::Blocks;
 use std::alloc::Global;
 use std::marker::Model;
 
-/// The sums of the lengths of nodes by blocks, and of all, which is at most `usize::MAX`.
+/// The sums of the lengths of nodes over blocks, and their total, which is at most `usize::MAX`.
 #[derive(Drop)]
 pub(super) struct NodeIndex {
     blocks: Blocks,
@@ -29,7 +29,7 @@ impl Model for NodeIndex {
 }
 
 impl NodeIndex {
-    /// Returns the index of no node.
+    /// Returns the index of an empty list of nodes.
     pub(super) fn new(alloc: Global) -> Self
         ensures { result.sums ≡ [] }
     {
@@ -39,8 +39,8 @@ impl NodeIndex {
         }
     }
 
-    /// Returns the index of these nodes. It fails for memory, or where the items are more than
-    /// `usize::MAX`.
+    /// Returns the index of these nodes. It fails with `Memory`, also if there are more than
+    /// `usize::MAX` items.
     pub(super) fn of_nodes<T>(alloc: Global, nodes: &[Vec<T>]) -> Result<Self, Refusal>
         ensures sums { IfOk result (λ n. n.sums ≡ block_sums (node_lengths
             (vec_items nodes.now))) }
@@ -60,7 +60,7 @@ impl NodeIndex {
         self.total
     }
 
-    /// Fails where so many items more would be more than `usize::MAX`.
+    /// Fails if the total with `more` items would exceed `usize::MAX`.
     pub(super) fn fits(&self, more: usize) -> Result<(), Refusal>
         ensures fits { OnOk result (sum self.now.sums + more < 2 ^ 64) }
         ensures refusal { IfErr result (λ e. e ≡ Refusal.Memory) }
@@ -71,7 +71,7 @@ impl NodeIndex {
         Ok(())
     }
 
-    /// Makes room for a node of so many items more. A failed call changes nothing.
+    /// Reserves room for a node of `count` new items. A failed call changes nothing.
     pub(super) fn reserve_node(&mut self, count: usize) -> Result<(), Refusal>
         ensures room { OnOk result (length self.new.sums < self.new.room) }
         ensures fits { OnOk result (sum self.new.sums + count < 2 ^ 64) }
@@ -82,7 +82,7 @@ impl NodeIndex {
         self.blocks.reserve_one()
     }
 
-    /// Adds items to a node.
+    /// Adds to the length of a node.
     pub(super) fn add_items(&mut self, node: usize, count: usize)
         requires inside { node / 32 < length self.old.sums }
         requires fits { sum self.old.sums + count < 2 ^ 64 }
@@ -94,7 +94,7 @@ impl NodeIndex {
         self.total += count;
     }
 
-    /// Takes items from a node.
+    /// Subtracts from the length of a node.
     pub(super) fn take_items(&mut self, node: usize, count: usize)
         requires inside { node / 32 < length self.old.sums }
         requires enough { count ≤ slice_index self.old.sums (node / 32) }
@@ -106,7 +106,7 @@ impl NodeIndex {
         self.total -= count;
     }
 
-    /// Changes the index for a node that was inserted at a place of these, where there is room. It
+    /// Updates the index after a node was inserted at a place of `nodes`, for which it has room. It
     /// allocates nothing.
     pub(super) fn insert_node<T>(&mut self, place: usize, nodes: &[Vec<T>])
         requires inside { place < length nodes.now }
@@ -120,7 +120,7 @@ impl NodeIndex {
         self.total += nodes[place].len();
     }
 
-    /// Changes the index for a node of so many items that was removed from a place of these.
+    /// Updates the index after a node of `count` items was removed from a place of `nodes`.
     pub(super) fn remove_node<T>(&mut self, place: usize, count: usize, nodes: &[Vec<T>])
         requires inside { place ≤ length nodes.now }
         requires before { self.old.sums
@@ -131,13 +131,13 @@ impl NodeIndex {
         self.total -= count;
     }
 
-    /// Returns how many items stand before a place of these nodes, by a sum over the index.
+    /// Returns the number of items before a place of these nodes, by a sum over the index.
     pub(super) fn position<T>(&self, nodes: &[Vec<T>], place: (usize, usize)) -> usize
         requires sums { self.now.sums ≡ block_sums (node_lengths (vec_items nodes.now)) }
         requires place { IsPlace (vec_items nodes.now) place }
         ensures { result ≡ items_before (vec_items nodes.now) place }
     {
-        // The sum of all lengths fits, so each sum of some does.
+        // The sum of all lengths fits a usize, so each partial sum does.
         let _count = self.blocks.len();
         self.blocks.prefix::<T, Vec<T>, OfVec>(place.0, nodes) + place.1
     }
@@ -171,7 +171,7 @@ impl NodeIndex {
     }
 }
 
-// Returns how many items these nodes hold, if that is a usize.
+// Returns the number of items in these nodes, if it fits a usize.
 fn total_of<T>(nodes: &[Vec<T>]) -> Option<usize>
     ensures total { IfSome result (λ total. total ≡ length (concat (vec_items nodes.now))) }
     ensures fits { IfSome result (λ total. total < 2 ^ 64) }

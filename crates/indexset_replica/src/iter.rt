@@ -1,4 +1,4 @@
-//! The items of a replica in order.
+//! Double-ended iterators over the items of a replica.
 ghost use Rattle.std.specs.Prelude.{◌≡◌, ◌≤◌, length, IfSome};
 ghost use Rattle.std.specs.Iterator.{UpTo, at_most};
 ghost use Rattle.std.specs.Iterator.SizeHint.{IsWithinCount};
@@ -14,7 +14,7 @@ use std::alloc::AllocError;
 use std::iter::FusedIterator;
 use std::marker::Model;
 
-/// The remaining items of a replica, from both ends.
+/// A double-ended iterator over the items of a replica.
 #[derive(Drop)]
 pub struct Iter<'a, T> {
     rest: ItemIter<'a, T, Vec<T>, OfVec>,
@@ -29,7 +29,7 @@ impl<'a, T> Model for Iter<'a, T> {
 }
 
 impl<'a, T> Iter<'a, T> {
-    // Returns the items of all nodes.
+    // Returns the iterator over the items of all nodes.
     fn over(nodes: &'a [Vec<T>]) -> Self
         ensures { result ≡ concat (vec_items nodes.now) }
     {
@@ -38,7 +38,7 @@ impl<'a, T> Iter<'a, T> {
         }
     }
 
-    // Returns the items from one place, a node and an offset, to before another.
+    // Returns the iterator over the items from one place to before another.
     pub(super) fn between(nodes: &'a [Vec<T>], from: (usize, usize), to: (usize, usize)) -> Self
         requires from { IsPlace (vec_items nodes.now) from }
         requires to { IsPlace (vec_items nodes.now) to }
@@ -64,7 +64,7 @@ impl<'a, T> Iterator for Iter<'a, T> {
         self.rest.next()
     }
 
-    /// Returns how many items remain, by adding up the lengths of the nodes.
+    /// Returns the number of remaining items, as the sum of the lengths of the nodes.
     fn size_hint(&self) -> (usize, Option<usize>)
         ensures lower { IsWithinCount result.0 (at_most (length self.now)) }
         ensures upper { IfSome result.1 (UpTo (at_most (length self.now))) }
@@ -77,7 +77,7 @@ impl<'a, T> Iterator for Iter<'a, T> {
     }
 }
 
-// Returns how many items an iterator yields, or `None` where they are more than a usize can say.
+// Returns the number of items of an iterator, if it fits a usize.
 fn count_left<T>(walk: ItemIter<'_, T, Vec<T>, OfVec>) -> Option<usize>
     ensures { result ≡ counted (length walk.entry) }
 {
@@ -116,14 +116,21 @@ impl<'a, T> Clone for Iter<'a, T> {
 }
 
 impl<T: Ord + Clone + Drop> Replica<T> {
-    /// Returns a double-ended iterator over the items, in order, in constant time. It allocates
-    /// nothing.
+    /// Returns a double-ended iterator over the items, in order.
+    ///
+    /// It allocates nothing.
+    ///
+    /// # Examples
     ///
     /// ```
     /// let nodes = vec![in alloc; vec![in alloc; 10, 20]?, vec![in alloc; 30]?]?;
     /// let replica = Replica::from_nodes(nodes, 3)?;
     /// assert!(rt; replica.iter().rev().copied().eq([30, 20, 10]));
     /// ```
+    ///
+    /// # Complexity
+    ///
+    /// Takes constant time.
     pub fn iter(&self) -> Iter<'_, T>
         ensures rest { result ≡ concat self.now.nodes }
         ensures runs { ShowsInOrder (deref {X = T}) }

@@ -1,16 +1,17 @@
-//! A copy of a logged tree's nodes that follows the tree by its events.
+//! A replica of a logged tree's nodes, which applies the tree's events.
 //!
-//! [`Replica`] holds a list of nodes and the number of the next event. `new` returns one without nodes,
-//! `attach` gives it the nodes that the tree has when the copy begins, and `from_nodes` makes one of all
-//! of them at once. `apply` makes the change of one event. It takes the next event alone, and fails with
-//! a `Refusal` that says why where an event is not the next or does not apply to the nodes. Once the events of
-//! the tree's calls are applied, the nodes are those of the tree, boundaries included; `nodes`,
-//! `contains`, `next`, `range` and the calls of [`lookup`], [`positions`] and [`iter`] read them. Items
-//! are sought by what a look-up takes (`base::lookup_key`), of pairs by the key too. `follow` is for events
-//! that are delivered with losses, repeats and in any order. [`laws`] states what the definitions mean,
-//! whatever the code: memory aside, an event is refused exactly where it is no step from the nodes. What
-//! each kind of event changes is in `edits`, the searches among the nodes are in `places`, and the
-//! lengths of the nodes are kept in `index`.
+//! [`Replica`] is a list of nodes with the number of the next event. `new` returns a replica
+//! without nodes, `attach` inserts a node, and `from_nodes` makes a replica of all nodes at once.
+//! `apply` applies the next event; it fails with a `Refusal` that states the reason if the event is
+//! not the next or does not apply to the nodes. After it has applied the events of the tree's
+//! calls, a replica has the nodes of the tree, with the same boundaries.
+//!
+//! `nodes`, `contains`, `next`, `range` and the calls of [`lookup`], [`positions`] and [`iter`]
+//! read the nodes. Look-ups take the keys of `base::lookup_key`; pairs are also found by their key.
+//! `follow` is for events that are delivered with losses, repeats and in any order. [`laws`] states
+//! properties of the definitions: for example, which events a replica applies. `edits` has the
+//! change of each kind of event, `places` the searches among the nodes, and `index` the lengths of
+//! the nodes.
 #![tactic(auto)]
 
 ghost use Rattle.std.specs.Prelude.{◌≡◌, ◌+◌, ◌≤◌, [], insert, length, None, Some, OnOk, IfErr, OnErr, unwrap_or};
@@ -37,8 +38,10 @@ use indexset_events::change::ChangeEvent;
 use std::alloc::Global;
 use std::marker::Model;
 
-/// Nodes that follow a tree's events: non-empty lists whose concatenation is ascending. A node is
-/// named by its last item.
+/// A replica of a tree: nodes that change by the tree's events.
+///
+/// No node is empty, and the items ascend, within and across nodes. Events name a node by its last
+/// item.
 ///
 /// ```
 /// let mut tree: set::BTreeSet<u64, Vec<u64>> = set::BTreeSet::new(alloc);
@@ -53,7 +56,7 @@ use std::marker::Model;
 #[derive(Drop)]
 pub struct Replica<T: Ord + Clone + Drop> {
     nodes: Vec<Vec<T>>,
-    // The lengths of the nodes, summed by blocks of 32.
+    // The lengths of the nodes, summed over blocks of 32.
     lengths: NodeIndex,
     // The number of the next event.
     next: u64,
@@ -71,7 +74,9 @@ impl<T: Ord + Clone + Drop> Model for Replica<T> {
 }
 
 impl<T: Ord + Clone + Drop> Replica<T> {
-    /// Returns a replica without nodes, which expects the event `next`. It allocates nothing.
+    /// Returns a replica without nodes, which expects the event `next`.
+    ///
+    /// It allocates nothing.
     ///
     /// ```
     /// let mut replica: Replica<u64> = Replica::new(alloc, 0);
@@ -88,13 +93,19 @@ impl<T: Ord + Clone + Drop> Replica<T> {
         }
     }
 
-    /// Returns the nodes, in order, in constant time.
+    /// Returns the nodes, in order.
+    ///
+    /// # Examples
     ///
     /// ```
     /// let nodes = vec![in alloc; vec![in alloc; 10, 20]?, vec![in alloc; 30]?]?;
     /// let replica = Replica::from_nodes(nodes, 3)?;
     /// assert!(rt; replica.nodes().len() == 2);
     /// ```
+    ///
+    /// # Complexity
+    ///
+    /// Takes constant time.
     pub fn nodes(&self) -> &[Vec<T>]
         ensures value { vec_items result.now ≡ self.now.nodes }
         ensures lawful { IsNodeList T.cmp self.now.nodes }
@@ -102,29 +113,45 @@ impl<T: Ord + Clone + Drop> Replica<T> {
         self.nodes.as_slice()
     }
 
-    /// Returns the number of the next event, in constant time.
+    /// Returns the number of the next event.
+    ///
+    /// # Examples
     ///
     /// ```
     /// let replica: Replica<u64> = Replica::new(alloc, 7);
     /// assert!(rt; replica.next() == 7);
     /// ```
+    ///
+    /// # Complexity
+    ///
+    /// Takes constant time.
     pub fn next(&self) -> u64
         ensures { result ≡ self.now.next }
     {
         self.next
     }
 
-    /// Inserts a whole node in its place among the others, and consumes no event number. It
-    /// compares the items of the node once each, and makes one binary search among the nodes. It
-    /// fails with the first of these: `Empty`; `Unsorted`, where the node is not strictly
-    /// ascending; `Overlaps`, where it does not lie wholly before, after or between two
-    /// neighbouring nodes; `Memory`. A call that fails returns the node and changes nothing.
+    /// Inserts a node among the other nodes.
+    ///
+    /// It consumes no event number.
+    ///
+    /// # Examples
     ///
     /// ```
     /// let mut replica: Replica<u64> = Replica::new(alloc, 7);
     /// replica.attach(vec![in alloc; 10, 20]?)?;
     /// assert!(rt; replica.len() == 2 && replica.next() == 7);
     /// ```
+    ///
+    /// # Errors
+    ///
+    /// Fails with the first of these that applies: `Empty` if the node is empty; `Unsorted` if its
+    /// items do not ascend strictly; `Overlaps` if it does not lie entirely below or above each
+    /// other node; `Memory`. A failed call returns the node in the error and changes nothing.
+    ///
+    /// # Complexity
+    ///
+    /// Compares the items of the node once each, and makes one binary search among the nodes.
     pub fn attach(&mut self, node: Vec<T>) -> Result<(), Refused<Vec<T>>>
         ensures nodes { OnOk result (self.new.nodes ≡ attached T.cmp self.old.nodes node.items) }
         ensures good { OnOk result (attach_refusal T.cmp (length node.items) self.old.nodes
@@ -142,7 +169,7 @@ impl<T: Ord + Clone + Drop> Replica<T> {
         }
     }
 
-    // Inserts a node at a place where it goes.
+    // Inserts a node at its place among the nodes.
     fn insert_node(&mut self, place: usize, node: Vec<T>) -> Result<(), Refused<Vec<T>>>
         requires within { place ≤ length self.old.nodes }
         requires nodes { IsNodeList T.cmp (insert self.old.nodes place node.items) }
@@ -167,13 +194,11 @@ impl<T: Ord + Clone + Drop> Replica<T> {
         }
     }
 
-    /// Applies an event, and expects the next. It makes a binary search among the nodes for each
-    /// node that the event names, moves no items of other nodes, and inserts a clone, which it
-    /// compares with its source. It fails with the first of these: `Gap`, where the event is not
-    /// the next; `Numbers`, where its number is `u64::MAX`, so that none is left after it; the
-    /// reason why it does not apply (`NoSuchNode`, `IndexOutside`, `ValueDiffers`, `WouldBeEmpty`,
-    /// `OutOfOrder`, `BadSplit` or `NotNeighbours`); `Memory`, also where the clone does not equal
-    /// its source. A call that fails changes nothing.
+    /// Applies the next event.
+    ///
+    /// It inserts a clone of the event's item, which it compares with its source.
+    ///
+    /// # Examples
     ///
     /// ```
     /// let mut copy: Replica<u64> = Replica::new(alloc, 0);
@@ -181,6 +206,19 @@ impl<T: Ord + Clone + Drop> Replica<T> {
     /// let again = copy.apply(&ChangeEvent::CreateNode { event_id: Id::from(0), max_value: 5 });
     /// assert!(rt; copy.contains(&5) && again.is_err() && copy.next() == 1);
     /// ```
+    ///
+    /// # Errors
+    ///
+    /// Fails with the first of these that applies: `Gap` if the event is not the next; `Numbers` if
+    /// its number is `u64::MAX`, so that no number remains after it; the reason why it does not
+    /// apply to the nodes, which is `NoSuchNode`, `IndexOutside`, `ValueDiffers`, `WouldBeEmpty`,
+    /// `OutOfOrder`, `BadSplit` or `NotNeighbours`; `Memory`, also if the clone does not equal its
+    /// source. A failed call changes nothing.
+    ///
+    /// # Complexity
+    ///
+    /// Makes a binary search among the nodes for each node that the event names, and moves no items
+    /// of other nodes.
     pub fn apply(&mut self, event: &ChangeEvent<T>) -> Result<(), Refusal>
         ensures cloned { OnOk result (IsClonedStep T.cmp T.is_clone self.old.nodes
             (unassigned event.now) self.new.nodes) }

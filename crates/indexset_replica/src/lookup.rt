@@ -1,5 +1,4 @@
-//! The item equal to a value or of a key, the first and the last item, and whether an event is the
-//! next.
+//! Look-ups of items, the first and the last item, and whether an event is the next.
 ghost use Rattle.std.specs.Prelude.{◌≡◌, ℕ, ◌+◌, ◌≤◌, ◌==◌, if◌then◌else◌, find, length, nat_lt};
 ghost use Rattle.std.specs.List.{All};
 ghost use Rattle.std.specs.Option.{option_copied};
@@ -19,7 +18,7 @@ use indexset_core::lookup_key::LookupKey;
 use indexset_core::probe::{ByItem, Probe};
 use indexset_events::change::ChangeEvent;
 
-/// Whether an event is the one that a replica expects.
+/// The number of an event, compared with the one that a replica expects.
 ///
 /// ```
 /// # use indexset::replica::lookup::Delivery;
@@ -31,47 +30,64 @@ use indexset_events::change::ChangeEvent;
 pub enum Delivery {
     /// The event is the next one.
     Next,
-    /// An event of that number was applied, or stands before the first: the event may be dropped.
+    /// An event with this number was applied, or it precedes the first one: it can be dropped.
     Had,
     /// Events between the last applied one and this one are missing.
     Missing,
 }
 
 impl<T: Ord + Clone + Drop> Replica<T> {
-    /// Returns the item equal to the value, if any, by two binary searches: one among the nodes and
-    /// one in a node. A key finds the pair of that key, of numbered pairs the first; a numbered pair
-    /// finds the pair with its key and its number.
+    /// Returns the item equal to the value, if any.
+    ///
+    /// A key finds the pair of that key, and the first one of numbered pairs; a numbered pair finds
+    /// the pair with its key and its number.
+    ///
+    /// # Examples
     ///
     /// ```
     /// let mut copy: Replica<Pair<u64, u64>> = Replica::new(alloc, 0);
     /// copy.apply(&ChangeEvent::CreateNode { event_id: Id::from(0), max_value: Pair { key: 5, value: 50 } })?;
     /// assert!(rt; copy.get(&5).is_some() && copy.get(&6).is_none());
     /// ```
+    ///
+    /// # Complexity
+    ///
+    /// Makes two binary searches, one among the nodes and one in a node.
     pub fn get<Q: LookupKey<T> + Drop>(&self, value: Q) -> Option<&T>
         ensures { option_copied result
             ≡ equal_element Q.order (concat self.now.nodes) value }
     {
-        // The nodes ascend, so a search by a key may go by them.
+        // The nodes ascend, so a search by a key finds them in order.
         let _nodes = &self.nodes;
         self.get_by(&mut ByItem::new(&value))
     }
 
-    /// Returns whether an item equal to the value is present, by the same two binary searches. A
-    /// key is compared with the keys of pairs.
+    /// Returns true if the replica contains an item equal to the value.
+    ///
+    /// A key is compared with the keys of pairs.
+    ///
+    /// # Examples
     ///
     /// ```
     /// let nodes = vec![in alloc; vec![in alloc; 10, 20]?, vec![in alloc; 30]?]?;
     /// let replica = Replica::from_nodes(nodes, 3)?;
     /// assert!(rt; replica.contains(&20) && !replica.contains(&25));
     /// ```
+    ///
+    /// # Complexity
+    ///
+    /// Makes two binary searches, as `get`.
     pub fn contains<Q: LookupKey<T> + Drop>(&self, value: Q) -> bool
         ensures { result ≡ has_equal Q.order (concat self.now.nodes) value }
     {
         self.get(value).is_some()
     }
 
-    /// Returns the first item that the comparator finds equal, if any, by the same two searches,
-    /// with at most one comparison more. The comparator must find the items in order.
+    /// Returns the first item that the comparator finds equal, if any.
+    ///
+    /// The comparator must find the items in order.
+    ///
+    /// # Examples
     ///
     /// ```
     /// # use indexset::base::probe::ByItem;
@@ -79,6 +95,10 @@ impl<T: Ord + Clone + Drop> Replica<T> {
     /// let replica = Replica::from_nodes(nodes, 3)?;
     /// assert!(rt; replica.get_by(&mut ByItem::new(&20)) == Some(&20));
     /// ```
+    ///
+    /// # Complexity
+    ///
+    /// Makes two binary searches, as `get`, and at most one comparison more.
     pub fn get_by<P: Probe<T>>(&self, probe: &mut P) -> Option<&T>
         requires { IsParted (P.answer probe.old) (concat self.now.nodes) }
         ensures value { option_copied result
@@ -97,38 +117,56 @@ impl<T: Ord + Clone + Drop> Replica<T> {
         }
     }
 
-    /// Returns whether there is no item, in constant time.
+    /// Returns true if the replica contains no items.
+    ///
+    /// # Examples
     ///
     /// ```
     /// let replica: Replica<u64> = Replica::new(alloc, 0);
     /// assert!(rt; replica.is_empty());
     /// ```
+    ///
+    /// # Complexity
+    ///
+    /// Takes constant time.
     pub fn is_empty(&self) -> bool
         ensures { result ≡ (length (concat self.now.nodes) == 0) }
     {
         self.nodes.is_empty()
     }
 
-    /// Returns the first item, the least, if any, in constant time.
+    /// Returns the first item, which is the least, if any.
+    ///
+    /// # Examples
     ///
     /// ```
     /// let nodes = vec![in alloc; vec![in alloc; 10, 20]?, vec![in alloc; 30]?]?;
     /// let replica = Replica::from_nodes(nodes, 3)?;
     /// assert!(rt; replica.first() == Some(&10));
     /// ```
+    ///
+    /// # Complexity
+    ///
+    /// Takes constant time.
     pub fn first(&self) -> Option<&T>
         ensures { option_copied result ≡ first_item (concat self.now.nodes) }
     {
         item_from(self.nodes.as_slice(), 0)
     }
 
-    /// Returns the last item, the greatest, if any, in constant time.
+    /// Returns the last item, which is the greatest, if any.
+    ///
+    /// # Examples
     ///
     /// ```
     /// let nodes = vec![in alloc; vec![in alloc; 10, 20]?, vec![in alloc; 30]?]?;
     /// let replica = Replica::from_nodes(nodes, 3)?;
     /// assert!(rt; replica.last() == Some(&30));
     /// ```
+    ///
+    /// # Complexity
+    ///
+    /// Takes constant time.
     pub fn last(&self) -> Option<&T>
         ensures { option_copied result ≡ last_item (concat self.now.nodes) }
     {
@@ -136,9 +174,12 @@ impl<T: Ord + Clone + Drop> Replica<T> {
         item_before(nodes, nodes.len())
     }
 
-    /// Returns whether the event is the next one, is one that was applied already (`Had`), or comes
-    /// after events that are missing (`Missing`), in constant time. `apply` fails with `Gap` for
-    /// the two last. It looks at the number alone, not at whether the event applies.
+    /// Returns whether the event is the next, was applied already, or comes after missing events.
+    ///
+    /// It compares only the number, and does not test whether the event applies. `apply` fails with
+    /// `Gap` for `Had` and `Missing`.
+    ///
+    /// # Examples
     ///
     /// ```
     /// # use indexset::replica::lookup::Delivery;
@@ -147,6 +188,10 @@ impl<T: Ord + Clone + Drop> Replica<T> {
     /// let early = ChangeEvent::CreateNode { event_id: Id::from(4), max_value: 5 };
     /// assert!(rt; replica.expects(&late) == Delivery::Had && replica.expects(&early) == Delivery::Missing);
     /// ```
+    ///
+    /// # Complexity
+    ///
+    /// Takes constant time.
     pub fn expects(&self, event: &ChangeEvent<T>) -> Delivery
         ensures { result ≡ (if event_number event.now
             == self.now.next then Delivery.Next else if nat_lt (event_number event.now) self.now.next

@@ -1,4 +1,4 @@
-//! Where nodes and items stand in a replica.
+//! The places of nodes and items in a replica.
 ghost use Rattle.std.specs.Prelude.{◌≡◌, ◌+◌, ◌<◌, ◌≤◌, Some, None, not, [], ◌∷◌, length, take, drop, insert, IfOk, OnOk, IfErr};
 ghost use Rattle.std.specs.Option.{option_copied};
 ghost use Rattle.std.specs.List.{All, position_or_len, splice};
@@ -70,7 +70,7 @@ fn is_named<T: Ord>(node: &[T], name: &T) -> bool
     }
 }
 
-/// Returns where a whole node goes among the nodes, if it may.
+/// Returns the place of a node among the nodes, if it can be inserted.
 pub(super) fn place_of_node<T: Ord>(nodes: &[Vec<T>], node: &[T]) -> Result<usize, Refusal>
     requires { IsNodeList T.cmp (vec_items nodes.now) }
     ensures place { IfOk result (λ place. place
@@ -115,7 +115,7 @@ pub(super) fn item_from<T>(nodes: &[Vec<T>], place: usize) -> Option<&T>
     nodes.get(place)?.first()
 }
 
-/// Returns whether the nodes ascend with the value at an index of the node at a place.
+/// Returns whether the nodes ascend with the value inserted at an index of the node at a place.
 pub(super) fn fits_at<T: Ord>(nodes: &[Vec<T>], place: usize, index: usize, value: &T) -> bool
     requires nodes { IsNodeList T.cmp (vec_items nodes.now) }
     requires place { place < length nodes.now }
@@ -130,7 +130,7 @@ pub(super) fn fits_at<T: Ord>(nodes: &[Vec<T>], place: usize, index: usize, valu
     is_between(before, value, after)
 }
 
-/// Returns whether the nodes ascend with the value as a node before the one at a place.
+/// Returns whether the nodes ascend with a node of the value inserted at a place.
 pub(super) fn fits_before<T: Ord>(nodes: &[Vec<T>], place: usize, value: &T) -> bool
     requires nodes { IsNodeList T.cmp (vec_items nodes.now) }
     requires place { place ≤ length nodes.now }
@@ -140,8 +140,8 @@ pub(super) fn fits_before<T: Ord>(nodes: &[Vec<T>], place: usize, value: &T) -> 
     is_between(item_before(nodes, place), value, item_from(nodes, place))
 }
 
-/// Returns whether the value is above the item before it and below the item after it, where there
-/// are such.
+/// Returns whether the value is above the item before it, if any, and below the item after it, if
+/// any.
 fn is_between<T: Ord>(before: Option<&T>, value: &T, after: Option<&T>) -> bool
     ensures { result ≡ is_between T.cmp (option_copied before.entry) value.now
         (option_copied after.entry) }

@@ -20,22 +20,31 @@ use indexset_core::probe::{ByItem, Probe};
 use std::ops::Bound;
 
 impl<T: Ord + Clone + Drop> Replica<T> {
-    /// Returns the number of items, in constant time.
+    /// Returns the number of items.
+    ///
+    /// # Examples
     ///
     /// ```
     /// let nodes = vec![in alloc; vec![in alloc; 10, 20]?, vec![in alloc; 30]?]?;
     /// let replica = Replica::from_nodes(nodes, 3)?;
     /// assert!(rt; replica.len() == 3);
     /// ```
+    ///
+    /// # Complexity
+    ///
+    /// Takes constant time.
     pub fn len(&self) -> usize
         ensures { result ≡ length (concat self.now.nodes) }
     {
         self.lengths.total()
     }
 
-    /// Returns how many items are below the value, by two binary searches and a sum over the index.
-    /// Of a key, it is how many pairs have a key below it; of a numbered pair, also how many pairs
-    /// of its key have a number below its own.
+    /// Returns the number of items below the value.
+    ///
+    /// For a key, that is the number of pairs with a lower key; for a numbered pair, also of pairs
+    /// with its key and a lower number.
+    ///
+    /// # Examples
     ///
     /// ```
     /// let nodes = vec![in alloc; vec![in alloc; 10, 20]?, vec![in alloc; 30]?]?;
@@ -46,6 +55,10 @@ impl<T: Ord + Clone + Drop> Replica<T> {
     /// let replica: Replica<MultiPair<u64, u64>> = Replica::from_nodes(nodes, 2)?;
     /// assert!(rt; replica.rank(&1) == 0 && replica.rank(&MultiPair::new(1, 101, 1)) == 1);
     /// ```
+    ///
+    /// # Complexity
+    ///
+    /// Makes two binary searches and a sum over the index.
     pub fn rank<Q: LookupKey<T> + Drop>(&self, value: Q) -> usize
         ensures value { result ≡ rank Q.order (concat self.now.nodes) value }
         ensures at_rank { has_equal Q.order (concat self.now.nodes) value ≡ true
@@ -56,26 +69,33 @@ impl<T: Ord + Clone + Drop> Replica<T> {
         ensures before { AllWithin (λ x. Q.order x value ≡ Less)
             (concat self.now.nodes) 0 result }
     {
-        // The nodes ascend, so a search by a key may go by them.
+        // The nodes ascend, so a search by a key finds them in order.
         let _nodes = &self.nodes;
         self.count_before(Bound::Included(ByItem::new(&value)))
     }
 
-    /// Returns the position of the item equal to the value, or `None`, by the searches of `get` and
-    /// `rank`. Of a key, it is the position of the first pair of that key.
+    /// Returns the position of the item equal to the value, if any.
+    ///
+    /// For a key, that is the position of its first pair.
+    ///
+    /// # Examples
     ///
     /// ```
     /// let nodes = vec![in alloc; vec![in alloc; 10, 20]?, vec![in alloc; 30]?]?;
     /// let board = Replica::from_nodes(nodes, 3)?;
     /// assert!(rt; board.index_of(&20) == Some(1) && board.index_of(&25).is_none());
     /// ```
+    ///
+    /// # Complexity
+    ///
+    /// Makes two binary searches and a sum over the index.
     pub fn index_of<Q: LookupKey<T> + Drop>(&self, value: Q) -> Option<usize>
         ensures value { result ≡ index_of Q.order (concat self.now.nodes) value }
         ensures at_index { IfSome result (λ i. slice_get (concat self.now.nodes) i
             ≡ equal_element Q.order (concat self.now.nodes) value) }
         ensures inside { IfSome result (λ i. i < length (concat self.now.nodes)) }
     {
-        // The nodes ascend, so a search by a key may go by them.
+        // The nodes ascend, so a search by a key finds them in order.
         let _nodes = &self.nodes;
         match locate_by::<T, Vec<T>, OfVec, ByItem<'_, Q>>(
             self.nodes.as_slice(),
@@ -86,30 +106,43 @@ impl<T: Ord + Clone + Drop> Replica<T> {
         }
     }
 
-    /// Returns how many items equal the value, by four binary searches and two sums over the index.
-    /// Of a key, it is how many pairs have it.
+    /// Returns the number of items equal to the value.
+    ///
+    /// For a key, that is the number of its pairs.
+    ///
+    /// # Examples
     ///
     /// ```
     /// let nodes = vec![in alloc; vec![in alloc; MultiPair::new(1, 100, 0), MultiPair::new(1, 101, 1)]?]?;
     /// let replica: Replica<MultiPair<u64, u64>> = Replica::from_nodes(nodes, 2)?;
     /// assert!(rt; replica.count(&1) == 2 && replica.count(&2) == 0);
     /// ```
+    ///
+    /// # Complexity
+    ///
+    /// Makes four binary searches and two sums over the index.
     pub fn count<Q: LookupKey<T> + Drop>(&self, value: Q) -> usize
         ensures { result ≡ count_equal Q.order (concat self.now.nodes) value }
     {
-        // The nodes ascend, so a search by a key may go by them.
+        // The nodes ascend, so a search by a key finds them in order.
         let _nodes = &self.nodes;
         let past = self.count_up_to(Bound::Included(ByItem::new(&value)));
         past - self.count_before(Bound::Included(ByItem::new(&value)))
     }
 
-    /// Returns the item at a position, counted from 0, or `None` past the end, in logarithmic time.
+    /// Returns the item at a position, counted from 0, or `None` past the end.
+    ///
+    /// # Examples
     ///
     /// ```
     /// let nodes = vec![in alloc; vec![in alloc; 10, 20]?, vec![in alloc; 30]?]?;
     /// let board = Replica::from_nodes(nodes, 3)?;
     /// assert!(rt; board.get_index(2) == Some(&30) && board.get_index(3).is_none());
     /// ```
+    ///
+    /// # Complexity
+    ///
+    /// Takes logarithmic time.
     pub fn get_index(&self, i: usize) -> Option<&T>
         ensures { option_copied result ≡ slice_get (concat self.now.nodes) i }
     {
@@ -118,8 +151,9 @@ impl<T: Ord + Clone + Drop> Replica<T> {
         Some(&items[offset])
     }
 
-    /// Returns a double-ended iterator over the items at the positions within the bounds, clipped
-    /// to the length, in order.
+    /// Returns a double-ended iterator over the items at a range of positions, in order.
+    ///
+    /// The bounds are clipped to the length.
     ///
     /// ```
     /// // The second page of two items each.
@@ -145,8 +179,11 @@ impl<T: Ord + Clone + Drop> Replica<T> {
         )
     }
 
-    /// Returns how many items are before the start, a bound given by a comparator, by two
-    /// binary searches and a sum over the index.
+    /// Returns the number of items before the start, a bound given by a comparator.
+    ///
+    /// The comparator must find the items in order.
+    ///
+    /// # Examples
     ///
     /// ```
     /// # use indexset::base::probe::ByItem;
@@ -154,6 +191,10 @@ impl<T: Ord + Clone + Drop> Replica<T> {
     /// let replica = Replica::from_nodes(nodes, 3)?;
     /// assert!(rt; replica.count_before(Bound::Included(ByItem::new(&20))) == 1);
     /// ```
+    ///
+    /// # Complexity
+    ///
+    /// Makes two binary searches and a sum over the index.
     pub fn count_before<P: Probe<T> + Drop>(&self, start: Bound<P>) -> usize
         requires { IfBounded (λ p. IsParted (P.answer p) (concat self.now.nodes)) start }
         ensures { result ≡ count_by (is_before (λ x p. P.answer p x) start)
@@ -164,8 +205,11 @@ impl<T: Ord + Clone + Drop> Replica<T> {
         self.lengths.position(nodes, place)
     }
 
-    /// Returns how many items are not past the end, a bound given by a comparator, by two
-    /// binary searches and a sum over the index.
+    /// Returns the number of items that are not past the end, a bound given by a comparator.
+    ///
+    /// The comparator must find the items in order.
+    ///
+    /// # Examples
     ///
     /// ```
     /// # use indexset::base::probe::ByItem;
@@ -173,6 +217,10 @@ impl<T: Ord + Clone + Drop> Replica<T> {
     /// let replica = Replica::from_nodes(nodes, 3)?;
     /// assert!(rt; replica.count_up_to(Bound::Included(ByItem::new(&20))) == 2);
     /// ```
+    ///
+    /// # Complexity
+    ///
+    /// Makes two binary searches and a sum over the index.
     pub fn count_up_to<P: Probe<T> + Drop>(&self, end: Bound<P>) -> usize
         requires { IfBounded (λ p. IsParted (P.answer p) (concat self.now.nodes)) end }
         ensures { result ≡ count_by (is_up_to_end (λ x p. P.answer p x) end)

@@ -15,10 +15,12 @@ use indexset_core::probe::ByItem;
 use std::ops::Bound;
 
 impl<T: Ord + Clone + Drop> Replica<T> {
-    /// Returns a double-ended iterator over the items within the range, in order. A range of keys
-    /// has the pairs of these keys. The start must not be past the end, nor at it where both are
-    /// excluded (see `base::key_range::bounds_are_ordered`). For each bound that names an item it makes
-    /// two binary searches: one among the nodes and one in a node. It allocates nothing.
+    /// Returns a double-ended iterator over the items within the range, in order.
+    ///
+    /// A range of keys has the pairs of these keys. The start must not be past the end, nor equal
+    /// to it if both are excluded: see `base::key_range::bounds_are_ordered`.
+    ///
+    /// # Examples
     ///
     /// ```
     /// // The items from 10 on that are below 20.
@@ -27,6 +29,11 @@ impl<T: Ord + Clone + Drop> Replica<T> {
     /// let teens = copy.range(10..20);
     /// assert!(rt; teens.copied().eq([10, 15]));
     /// ```
+    ///
+    /// # Complexity
+    ///
+    /// Makes two binary searches for each bound that names an item, one among the nodes and one in
+    /// a node. It allocates nothing.
     pub fn range<R: KeyRange<T> + Drop>(&self, range: R) -> Iter<'_, T>
         requires { IsTrue (are_ordered R.Key.cmp (R.start range) (R.end range)) }
         ensures rest { result ≡ in_range R.Key.order (concat self.now.nodes) (R.start range)

@@ -1,10 +1,12 @@
-//! The text of a replica.
+//! The text form of a replica.
 
 use super::Replica;
 use indexset_core::node_text::write_node;
 use std::fmt;
 
-/// The nodes with their items, as in `[0, 2] [4, 5]`; nothing where there is none.
+/// Formats the nodes with their items, as in `[0, 2] [4, 5]`.
+///
+/// A replica without nodes has the empty text.
 impl<T: Ord + Clone + Drop + fmt::Display> fmt::Display for Replica<T> {
     fn fmt<W: fmt::Write>(&self, f: &mut fmt::Formatter<W>) -> fmt::Result {
         let mut is_first = true;

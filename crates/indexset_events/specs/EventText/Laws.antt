@@ -1,4 +1,4 @@
--- The texts of pairs are read as them, and nothing else is.
+-- The texts of pairs are read as the identical pairs, and no other texts are.
 use Rattle.std.proofs.Common.{Option, Some, ◌≡◌, ℕ, ◌<◌, ◌^◌, true, not, eqb, List, [], ◌∷◌, ◌++◌, refl, ap, subst, ◌∙◌}
 use lib.Chars.{codes}
 use Rattle.std.specs.Fmt.{decimal}
@@ -11,7 +11,7 @@ use Rattle.indexset_events.specs.EventText.{multi_pair_reading, multi_pair_text,
 use Rattle.indexset_events.specs.Spelling.{are_sharp, behind, cut_at, is_item, is_word, lacks, number_of}
 use Rattle.indexset_events.specs.Spelling.Laws.{behind_sound, behind_told, both, cut_sound, cut_told, decimal_word, lacks_sharp, lacks_tested, map_some, number_sound, number_told, then_some, word_parts}
 
--- what holds of a type's texts
+-- the properties of a type's texts
 abbrev pub Shown : {T : Type 0} → (T → Option (List ℕ)) → (T → List ℕ) → Type 0
 Shown {T} output spelling = (x : T) → output x ≡ Some (spelling x)
 

@@ -1,4 +1,4 @@
--- Numbers and parts of a text: what is read is what was written.
+-- Numbers and parts of a text are read as they were written.
 use Rattle.std.proofs.Common.{take, drop, Option, None, Some, MatchOption, ◌≡◌, ◌≢◌, ℕ, suc, ◌+◌, ◌-◌, ◌<◌, ◌≤◌, ◌^◌, Bool, true, false, cond, not, eqb, ◌&&◌, ◌||◌, List, [], ◌∷◌, ◌++◌, get_or, length, refl, sym, ap, subst, ◌∙◌, arith, append_assoc, ne_eqb, length-append}
 use Rattle.std.specs.Prelude.{nat_le, nat_lt, unwrap_or, is_some, ℤ, pos, negsuc, Result}
 use lib.Signed.{mag}
@@ -32,7 +32,7 @@ pub none_some : {X : Type 0} {P : Type 0} (x : X) → None ≡ Some x → P
 none_some x e = absurd (cc)
 
 module _ {X Y : Type 0} where
-  -- what a step that gave something was made on
+  -- the value that a successful step was applied to
   pub then_some : (o : Option X) (f : X → Option Y) (y : Y) → option_and_then f o ≡ Some y → (x : X) × (o ≡ Some x) × (f x ≡ Some y)
   then_some None f y e = none_some y e
   then_some (Some x) f y e = (x, refl, e)
@@ -46,9 +46,9 @@ both true true e = (refl, refl)
 both true false e = cc
 both false b e = cc
 
--- ---- bytes that are not there
+-- ---- bytes that a text does not contain
 
--- no byte of the text is c
+-- the text does not contain the byte c
 abbrev pub Lacks : ℕ → List ℕ → Type 0
 Lacks c xs = All (λ x. x ≢ c) xs
 
@@ -94,7 +94,7 @@ number_sound text n e = at (nat_lt v (2 ^ 64) && bytes_eq text (decimal v)) refl
         (subst (λ k. text ≡ decimal k) same ((bytes_eq-Decides text (decimal v)).0 tests.1), subst (λ k. k < 2 ^ 64) same (ltb-true v (2 ^ 64) tests.0))
     at false is e = none_some n e
 
--- the text is that of the number, or of none
+-- the text is that of the number, or of no number
 abbrev pub IsNumberOf : List ℕ → Option ℕ → Type 0
 IsNumberOf text o = MatchOption o ((n : ℕ) → n < 2 ^ 64 → text ≢ decimal n) (λ n. (text ≡ decimal n) × (n < 2 ^ 64))
 
@@ -123,7 +123,7 @@ cut_sound c text a b e = at (position (λ x. eqb x c) text) refl e
     at None here e = none_some (a, b) e
     at (Some s) here e = cut_parts c text s here ∙ ap (λ p. p.0 ++ c ∷ p.1) (some_inj (take s text, drop (s + 1) text) (a, b) e)
 
--- the byte is found behind what lacks it
+-- the byte is found after a part that does not contain it
 first_at : (c : ℕ) (a b : List ℕ) → Lacks c a → position_or_len (λ x. eqb x c) (a ++ c ∷ b) ≡ length a
 first_at c [] b lacks = ap (λ t. cond (not t) (1 + position_or_len (λ x. eqb x c) b) 0) (same c)
   where
@@ -141,7 +141,7 @@ cut_told c a b lacks =
     ap (option_map (λ i. (take i (a ++ c ∷ b), drop (i + 1) (a ++ c ∷ b)))) found
     ∙ (λ i. Some (take-append_seam a (c ∷ b) i, drop-append-add a (c ∷ b) 1 i))
 
--- ---- what stands behind a front
+-- ---- the rest after a prefix
 
 pub behind_told : (front rest : List ℕ) → behind front (front ++ rest) ≡ Some rest
 unfolding behind
@@ -159,7 +159,7 @@ behind_sound front text rest e = at (bytes_eq (take (length front) text) front) 
         sym (take-append-drop (length front) text) ∙ (λ i. begins i ++ some_inj (drop (length front) text) rest e i)
     at false is e = none_some rest e
 
--- what a call tells of the front
+-- the result of a call that strips the prefix
 pub behind_is : (front text : List ℕ) (o : Option (Bor (List ℕ))) → MatchOption o (bytes_eq (take (length front) text) front ≡ false) (λ x. (bytes_eq (take (length front) text) front ≡ true) × (x.now ≡ drop (length front) text) × (length x.now + length front ≡ length text)) → option_map (λ x. x.now) o ≡ behind front text
 unfolding behind
 behind_is front text None h = rw h refl
@@ -167,7 +167,7 @@ behind_is front text (Some x) h = rw (h.0, h.1) refl
 
 -- ---- where an item ends
 
--- a byte that does not end it
+-- a byte that does not end the item
 pub item_on : (c : ℕ) (rest : List ℕ) → (c ≡ 32 → is_sharp rest ≡ true) → item_end (c ∷ rest) ≡ option_map (λ i. i + 1) (item_end rest)
 item_on c rest on = at (eqb c 32) (is_sharp rest) refl refl
   where
@@ -185,13 +185,13 @@ end_told (c ∷ a) b up sharp =
     let h = both (not (eqb c 32) || is_sharp a) (are_sharp a) up in
     item_on c (a ++ 32 ∷ b) (λ e. follows a (eqb c 32) h.0 (ap (λ n. eqb n 32) e)) ∙ ap (option_map (λ i. i + 1)) (end_told a b h.1 sharp) ∙ ap Some (omega arith)
   where
-    -- a space in it is not the last of it
+    -- a space in the item is not its last byte
     follows : (a : List ℕ) (space : Bool) → (not space || is_sharp a) ≡ true → space ≡ true → is_sharp (a ++ 32 ∷ b) ≡ true
     follows [] true h e = absurd (cc)
     follows (d ∷ a) true h e = h
     follows a false h e = absurd (cc)
 
--- the text ends where it says
+-- the text has a space where the item ends
 abbrev EndsSo : List ℕ → Type 0
 EndsSo text = (j : ℕ) → item_end text ≡ Some j → text ≡ take j text ++ 32 ∷ drop (suc j) text
 
@@ -226,7 +226,7 @@ item_sound text a b e =
     let next : suc made.0 ≡ made.0 + 1 = omega arith in
     end_sound text made.0 made.1 ∙ ap (λ j. take made.0 text ++ 32 ∷ drop j text) next ∙ ap (λ p. p.0 ++ 32 ∷ p.1) made.2
 
--- the search so far
+-- the search up to a place
 pub end_on : (text : List ℕ) (place d : ℕ) → place < length text → (get_or text place d ≡ 32 → is_sharp (drop (place + 1) text) ≡ true)
     → option_map (λ i. i + place) (item_end (drop place text)) ≡ option_map (λ i. i + (place + 1)) (item_end (drop (place + 1) text))
 end_on text place d inside on =
@@ -245,7 +245,7 @@ lacks_digits : (c : ℕ) → 10 ≤ digit_value c → (ds : List ℕ) → AllDig
 lacks_digits c big [] all = refl
 lacks_digits c big (x ∷ xs) all = rw (ne_eqb x c (λ e. omega (arith, ap digit_value e, all.0, big)), lacks_digits c big xs all.1) refl
 
--- a text with no space has a sharp after each
+-- a text without spaces has a `#` after each
 pub lacks_sharp : (xs : List ℕ) → lacks 32 xs ≡ true → are_sharp xs ≡ true
 lacks_sharp [] e = refl
 lacks_sharp (x ∷ xs) e = let h = both (not (eqb x 32)) (lacks 32 xs) e in rw (h.0, lacks_sharp xs h.1) refl
@@ -295,7 +295,7 @@ below_sound bound text n e =
 
 -- ---- signed numbers
 
--- a number begins with no minus
+-- the text of a number does not begin with a minus
 no_minus : (n : ℕ) → n < 2 ^ 64 → eqb (get_or (decimal n) 0 0) 45 ≡ false
 no_minus n small =
     let own = numerals_by_value (AllDigits 10) tells_digits in
@@ -365,7 +365,7 @@ module _ (half : ℕ) where
     pub signed_item : (z : ℤ) → mag z < half → is_item (signed_decimal z) ≡ true
     signed_item z less = word_item (signed_decimal z) (signed_word z less)
 
-    -- such a text is one
+    -- such a text is UTF-8
     pub signed_utf8 : (text : List ℕ) (z : ℤ) → signed_below half text ≡ Some z → IsUtf8 text
     signed_utf8 text z e = let h = signed_sound text z e in subst IsUtf8 (sym h.0) (IsUtf8-from_ascii (signed_decimal z) (IsAscii-signed z (narrow (mag z) h.1)))
 
@@ -373,7 +373,7 @@ pub some_is : {X : Type 0} (o : Option X) → is_some o ≡ true → (x : X) × 
 some_is None e = absurd (cc)
 some_is (Some x) e = (x, refl)
 
--- what `parse` reads of it
+-- the result of `parse` for such a text
 pub signed_parsed : {E : Type 0} (w : Width) (bs text : List ℕ) (r : Result ℤ E) (z : ℤ) → nat_le (2 ^ hbits w) (2 ^ 63) ≡ true → signed_below (2 ^ hbits w) bs ≡ Some z → text ≡ bs → ParsesSigned w 10 text r → result_ok r ≡ signed_below (2 ^ hbits w) bs
 signed_parsed {E = E} w bs text r z most told same parses =
     let h = signed_sound (2 ^ hbits w) bs z told in

@@ -3,7 +3,7 @@
 use super::{ChangeEvent, Id};
 use std::fmt;
 
-/// The number, as a `u64` is written.
+/// Formats the number as a `u64`.
 impl fmt::Display for Id {
     ghost use Rattle.std.specs.Prelude.{Some};
     ghost use Rattle.std.specs.Fmt.{decimal};
@@ -15,8 +15,9 @@ impl fmt::Display for Id {
     }
 }
 
-/// One line with no end of line: the number, what is done, and the node by its last item, as in
-/// `7 insert 5 at 2 in the node of 9`.
+/// Formats the event as one line without its end, as in `7 insert 5 at 2 in the node of 9`.
+///
+/// The line has the number, the change, and the node by its last item.
 impl<T: fmt::Display> fmt::Display for ChangeEvent<T> {
     ghost use Rattle.indexset_events.specs.Text.{event_shown};
 

@@ -1,4 +1,4 @@
-//! The text of an event, read.
+//! Reading the text of an event.
 ghost use Rattle.std.specs.Prelude.{◌≡◌};
 ghost use Rattle.std.specs.Fmt.{decimal};
 ghost use Rattle.std.specs.Option.{option_and_then};
@@ -13,7 +13,7 @@ use std::error::Error;
 use std::fmt;
 use std::str::FromStr;
 
-/// The text is that of no event.
+/// The error of a text that is not the text of an event.
 #[derive(Clone, Copy, Debug, PartialEq, Eq)]
 pub struct ParseEventError;
 
@@ -29,7 +29,7 @@ impl fmt::Display for ParseEventError {
 
 impl Error for ParseEventError {}
 
-/// Reads what `{}` writes, as the identical event, and nothing else.
+/// Reads the text that `{}` writes, as the identical event, and no other text.
 impl<T: Spelled + Drop> FromStr for ChangeEvent<T> {
     type Err = ParseEventError;
 
@@ -43,7 +43,7 @@ impl<T: Spelled + Drop> FromStr for ChangeEvent<T> {
     }
 }
 
-/// Returns the event of which this is the text, or `None` where it is that of no event.
+/// Returns the event with this text, if any.
 ///
 /// ```
 /// # use indexset::cdc::spelling::read_event;
@@ -61,7 +61,7 @@ pub fn read_event<T: Spelled + Drop>(text: &[u8]) -> Option<ChangeEvent<T>>
     read_change(event_id, change)
 }
 
-// Returns the event of a number, by the text after it.
+// Reads the event with this number from the text after it.
 #[tactic(auto, unfolding(crate::specs::EventText::change_reading))]
 fn read_change<T: Spelled + Drop>(event_id: Id, text: &[u8]) -> Option<ChangeEvent<T>>
     ensures { result ≡ change_reading T.reading event_id text.now }
@@ -70,7 +70,7 @@ fn read_change<T: Spelled + Drop>(event_id: Id, text: &[u8]) -> Option<ChangeEve
     read_word(event_id, word, rest)
 }
 
-// Returns the event of a word, by the text after it.
+// Reads the event of this word from the text after it.
 #[tactic(auto, unfolding(crate::specs::EventText::word_reading))]
 fn read_word<T: Spelled + Drop>(event_id: Id, word: &[u8], text: &[u8]) -> Option<ChangeEvent<T>>
     ensures { result ≡ word_reading T.reading event_id word.now text.now }
@@ -96,7 +96,7 @@ fn read_word<T: Spelled + Drop>(event_id: Id, word: &[u8], text: &[u8]) -> Optio
     read_named(event_id, word, text)
 }
 
-// Returns the event of a word, by the text after it, which names a node.
+// Reads the event of this word from the text after it, which names a node.
 #[tactic(auto, unfolding(crate::specs::EventText::named_reading))]
 fn read_named<T: Spelled + Drop>(event_id: Id, word: &[u8], text: &[u8]) -> Option<ChangeEvent<T>>
     ensures { result ≡ named_reading T.reading event_id word.now text.now }
@@ -105,7 +105,7 @@ fn read_named<T: Spelled + Drop>(event_id: Id, word: &[u8], text: &[u8]) -> Opti
     read_node(event_id, word, name)
 }
 
-// Returns an item, its index and the name of its node.
+// Reads an item, its index and the name of its node.
 #[tactic(auto, unfolding(crate::specs::EventText::place_reading))]
 fn read_place<T: Spelled + Drop>(text: &[u8]) -> Option<(T, usize, T)>
     ensures { result ≡ place_reading T.reading text.now }
@@ -118,7 +118,7 @@ fn read_place<T: Spelled + Drop>(text: &[u8]) -> Option<(T, usize, T)>
     Some((value, index, last))
 }
 
-// Returns the event of a word, by the text after `the node of `.
+// Reads the event of this word from the text after `the node of `.
 #[tactic(auto, unfolding(crate::specs::EventText::node_reading))]
 fn read_node<T: Spelled + Drop>(event_id: Id, word: &[u8], text: &[u8]) -> Option<ChangeEvent<T>>
     ensures { result ≡ node_reading T.reading event_id word.now text.now }
@@ -141,7 +141,7 @@ fn read_node<T: Spelled + Drop>(event_id: Id, word: &[u8], text: &[u8]) -> Optio
     read_rest(event_id, word, T::read(name)?, rest)
 }
 
-// Returns the event of a word, by its node and the text after that.
+// Reads the event of this word from its node and the text after that.
 #[tactic(auto, unfolding(crate::specs::EventText::rest_reading))]
 fn read_rest<T: Spelled + Drop>(
     event_id: Id,
@@ -162,7 +162,7 @@ fn read_rest<T: Spelled + Drop>(
     read_merge(event_id, word, max_value, rest)
 }
 
-// Returns the event of a merge, by its node and the text after that.
+// Reads a merge from its node and the text after that.
 #[tactic(auto, unfolding(crate::specs::EventText::merge_reading))]
 fn read_merge<T: Spelled + Drop>(
     event_id: Id,
@@ -183,7 +183,7 @@ fn read_merge<T: Spelled + Drop>(
     None
 }
 
-// Returns the number behind a front.
+// Reads the number after a prefix.
 fn number_behind(text: &[u8], front: &[u8]) -> Option<u64>
     ensures { result ≡ option_and_then number_of (behind front.now text.now) }
 {
@@ -191,7 +191,7 @@ fn number_behind(text: &[u8], front: &[u8]) -> Option<u64>
     read_number(digits)
 }
 
-// Returns the item behind a front.
+// Reads the item after a prefix.
 fn item_behind<T: Spelled>(text: &[u8], front: &[u8]) -> Option<T>
     ensures { result ≡ option_and_then T.reading (behind front.now text.now) }
 {
@@ -200,8 +200,10 @@ fn item_behind<T: Spelled>(text: &[u8], front: &[u8]) -> Option<T>
 }
 
 impl<T: Spelled> ChangeEvent<T> {
-    /// Does nothing. From its contract a proof learns that the items and numbers of the event are
-    /// in range, so that its text is read as the identical event (`laws::texts_are_read`).
+    /// Does nothing; its contract states that the items and numbers of the event are in range.
+    ///
+    /// A proof then knows that the text of the event is read as the identical event: see
+    /// `laws::texts_are_read`.
     ///
     /// ```
     /// let event = ChangeEvent::CreateNode { event_id: Id::from(7), max_value: 5u64 };

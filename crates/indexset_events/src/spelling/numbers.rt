@@ -1,4 +1,4 @@
-//! The texts of numbers: the plain decimal, with a minus where it is negative.
+//! The texts of numbers: the plain decimal, after a minus if the number is negative.
 ghost use Rattle.std.specs.Prelude.{◌^◌, ◌<◌, refl};
 ghost use lib.Signed.{mag};
 ghost use Rattle.std.specs.Fmt.{decimal, signed_decimal};

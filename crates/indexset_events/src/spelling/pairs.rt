@@ -1,4 +1,4 @@
-//! The texts of pairs: the key, a colon and the value, and the number of a numbered one.
+//! The texts of pairs: the key, a colon and the value, then the number of a numbered pair.
 ghost use Rattle.std.specs.Prelude.{◌^◌, ◌<◌};
 ghost use Rattle.indexset_events.specs.EventText.{multi_pair_reading, multi_pair_text, pair_reading, pair_text};
 ghost use Rattle.indexset_events.specs.EventText.Laws.{multi_item, multi_output, multi_sound, multi_told, pair_item, pair_output, pair_sound, pair_told};

@@ -13,7 +13,9 @@ use indexset_core::refusal::Refusal;
 use indexset_events::change::ChangeEvent;
 
 impl<K: Ord + Clone + Drop, V: Clone + Drop, Node: NodeLike<Pair<K, V>>> BTreeMap<K, V, Node> {
-    /// Returns the first key, the least, and its value, if any, in constant time.
+    /// Returns the first key, which is the least, and its value, if any.
+    ///
+    /// # Examples
     ///
     /// ```
     /// let mut tree: map::BTreeMap<u64, u64, Vec<Pair<u64, u64>>> = map::BTreeMap::new(alloc);
@@ -21,6 +23,10 @@ impl<K: Ord + Clone + Drop, V: Clone + Drop, Node: NodeLike<Pair<K, V>>> BTreeMa
     /// tree.insert(2, 20)?;
     /// assert!(rt; tree.first_key_value() == Some((&1, &10)));
     /// ```
+    ///
+    /// # Complexity
+    ///
+    /// Takes constant time.
     pub fn first_key_value(&self) -> Option<(&K, &V)>
         ensures pair { option_map (λ p. (p.0.now, p.1.now)) result
             ≡ option_map entry_of (slice_get (concat self.now.nodes) 0) }
@@ -32,7 +38,9 @@ impl<K: Ord + Clone + Drop, V: Clone + Drop, Node: NodeLike<Pair<K, V>>> BTreeMa
         Some((&pair.key, &pair.value))
     }
 
-    /// Returns the last key, the greatest, and its value, if any, in constant time.
+    /// Returns the last key, which is the greatest, and its value, if any.
+    ///
+    /// # Examples
     ///
     /// ```
     /// let mut tree: map::BTreeMap<u64, u64, Vec<Pair<u64, u64>>> = map::BTreeMap::new(alloc);
@@ -40,6 +48,10 @@ impl<K: Ord + Clone + Drop, V: Clone + Drop, Node: NodeLike<Pair<K, V>>> BTreeMa
     /// tree.insert(2, 20)?;
     /// assert!(rt; tree.last_key_value() == Some((&2, &20)));
     /// ```
+    ///
+    /// # Complexity
+    ///
+    /// Takes constant time.
     pub fn last_key_value(&self) -> Option<(&K, &V)>
         ensures pair { option_map (λ p. (p.0.now, p.1.now)) result
             ≡ option_map entry_of (slice_get (concat self.now.nodes)
@@ -52,10 +64,11 @@ impl<K: Ord + Clone + Drop, V: Clone + Drop, Node: NodeLike<Pair<K, V>>> BTreeMa
         Some((&pair.key, &pair.value))
     }
 
-    /// Removes the pair of the least key, if any, and returns it with the events, which are those
-    /// of `remove_cdc` of that key. A node that is left small is merged with a small neighbour.
-    /// Fails with `Numbers` where the events do not fit the counter, else with `Memory`. A failed
-    /// call changes nothing.
+    /// Removes the pair of the least key and returns it, if any, with the events.
+    ///
+    /// The events are those of `remove_cdc` of that key.
+    ///
+    /// # Examples
     ///
     /// ```
     /// let mut tree: map::BTreeMap<u64, u64, Vec<Pair<u64, u64>>> = map::BTreeMap::new(alloc);
@@ -64,6 +77,11 @@ impl<K: Ord + Clone + Drop, V: Clone + Drop, Node: NodeLike<Pair<K, V>>> BTreeMa
     /// let (removed, events) = tree.pop_first_cdc()?;
     /// assert!(rt; removed == Some((1, 10)) && events.len() == 1);
     /// ```
+    ///
+    /// # Errors
+    ///
+    /// Fails with `Numbers` if the events do not fit the counter, else with `Memory`. A failed call
+    /// changes nothing.
     pub fn pop_first_cdc(
         &mut self,
     ) -> Result<(Option<(K, V)>, Vec<ChangeEvent<Pair<K, V>>>), Refusal>
@@ -82,10 +100,12 @@ impl<K: Ord + Clone + Drop, V: Clone + Drop, Node: NodeLike<Pair<K, V>>> BTreeMa
         Ok((entry_of(pair), events))
     }
 
-    /// Removes the pair of the least key, if any, and returns it. It consumes as many event numbers
-    /// as `pop_first_cdc`, and fails with `Numbers` where they do not fit. It allocates only where
-    /// it merges two nodes of a type that allocates, and else does not fail with `Memory`. A failed
-    /// call changes nothing.
+    /// Removes the pair of the least key and returns it, if any.
+    ///
+    /// It consumes as many event numbers as `pop_first_cdc`, and allocates only if it merges two
+    /// nodes of a type that allocates.
+    ///
+    /// # Examples
     ///
     /// ```
     /// let mut tree: map::BTreeMap<u64, u64, Vec<Pair<u64, u64>>> = map::BTreeMap::new(alloc);
@@ -94,6 +114,11 @@ impl<K: Ord + Clone + Drop, V: Clone + Drop, Node: NodeLike<Pair<K, V>>> BTreeMa
     /// assert!(rt; tree.pop_first()? == Some((1, 10)) && tree.pop_first()? == Some((2, 20)));
     /// assert!(rt; tree.pop_first()?.is_none());
     /// ```
+    ///
+    /// # Errors
+    ///
+    /// Fails with `Numbers` if the event numbers do not fit the counter, else with `Memory`, only
+    /// if it allocates. A failed call changes nothing.
     pub fn pop_first(&mut self) -> Result<Option<(K, V)>, Refusal>
         ensures answer { IfOk result (λ entry.
             entry ≡ option_map entry_of (slice_get (concat self.old.nodes) 0)) }
@@ -112,10 +137,11 @@ impl<K: Ord + Clone + Drop, V: Clone + Drop, Node: NodeLike<Pair<K, V>>> BTreeMa
         Ok(entry_of(pair))
     }
 
-    /// Removes the pair of the greatest key, if any, and returns it with the events, which are
-    /// those of `remove_cdc` of that key. A node that is left small is merged with a small
-    /// neighbour. Fails with `Numbers` where the events do not fit the counter, else with `Memory`.
-    /// A failed call changes nothing.
+    /// Removes the pair of the greatest key and returns it, if any, with the events.
+    ///
+    /// The events are those of `remove_cdc` of that key.
+    ///
+    /// # Examples
     ///
     /// ```
     /// let mut tree: map::BTreeMap<u64, u64, Vec<Pair<u64, u64>>> = map::BTreeMap::new(alloc);
@@ -124,6 +150,11 @@ impl<K: Ord + Clone + Drop, V: Clone + Drop, Node: NodeLike<Pair<K, V>>> BTreeMa
     /// let (removed, events) = tree.pop_last_cdc()?;
     /// assert!(rt; removed == Some((2, 20)) && events.len() == 1);
     /// ```
+    ///
+    /// # Errors
+    ///
+    /// Fails with `Numbers` if the events do not fit the counter, else with `Memory`. A failed call
+    /// changes nothing.
     pub fn pop_last_cdc(
         &mut self,
     ) -> Result<(Option<(K, V)>, Vec<ChangeEvent<Pair<K, V>>>), Refusal>
@@ -143,10 +174,12 @@ impl<K: Ord + Clone + Drop, V: Clone + Drop, Node: NodeLike<Pair<K, V>>> BTreeMa
         Ok((entry_of(pair), events))
     }
 
-    /// Removes the pair of the greatest key, if any, and returns it. It consumes as many event
-    /// numbers as `pop_last_cdc`, and fails with `Numbers` where they do not fit. It allocates only
-    /// where it merges two nodes of a type that allocates, and else does not fail with `Memory`. A
-    /// failed call changes nothing.
+    /// Removes the pair of the greatest key and returns it, if any.
+    ///
+    /// It consumes as many event numbers as `pop_last_cdc`, and allocates only if it merges two
+    /// nodes of a type that allocates.
+    ///
+    /// # Examples
     ///
     /// ```
     /// let mut tree: map::BTreeMap<u64, u64, Vec<Pair<u64, u64>>> = map::BTreeMap::new(alloc);
@@ -155,6 +188,11 @@ impl<K: Ord + Clone + Drop, V: Clone + Drop, Node: NodeLike<Pair<K, V>>> BTreeMa
     /// assert!(rt; tree.pop_last()? == Some((2, 20)) && tree.pop_last()? == Some((1, 10)));
     /// assert!(rt; tree.pop_last()?.is_none());
     /// ```
+    ///
+    /// # Errors
+    ///
+    /// Fails with `Numbers` if the event numbers do not fit the counter, else with `Memory`, only
+    /// if it allocates. A failed call changes nothing.
     pub fn pop_last(&mut self) -> Result<Option<(K, V)>, Refusal>
         ensures answer { IfOk result (λ entry.
             entry ≡ option_map entry_of (slice_get (concat self.old.nodes)

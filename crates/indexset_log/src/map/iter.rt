@@ -1,4 +1,4 @@
-//! Iterators over a map, from both ends.
+//! Double-ended iterators over a map.
 ghost use Rattle.std.specs.Prelude.{◌≡◌, length, IfSome, Some};
 ghost use Rattle.std.specs.Iterator.{UpTo, at_most};
 ghost use Rattle.std.specs.Iterator.SizeHint.{IsWithinCount};
@@ -13,7 +13,7 @@ use indexset_core::pair::Pair;
 use std::iter::FusedIterator;
 use std::marker::Model;
 
-/// The remaining pairs of a map, from both ends.
+/// A double-ended iterator over the pairs of a map.
 #[derive(Drop)]
 pub struct Iter<
     'a,

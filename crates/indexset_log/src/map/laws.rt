@@ -6,8 +6,9 @@ use super::iter::Iter;
 use indexset_core::node::NodeLike;
 use indexset_core::pair::Pair;
 
-/// An iterator over a logged map or over a range of one yields each pair once, whatever calls of
-/// `next` and `next_back`, and then `None`.
+/// Iterators over a logged map, or over a range of it, yield each pair once.
+///
+/// They do so for every sequence of calls of `next` and `next_back`, and then return `None`.
 pub fn iterators_yield_each_pair_once<
     'a,
     K: Ord + Clone + Drop + 'a,

@@ -24,13 +24,19 @@ use indexset_core::probe::Probe;
 use std::ops::Bound;
 
 impl<K: Ord + Clone + Drop, V: Clone + Drop, Node: NodeLike<Pair<K, V>>> BTreeMap<K, V, Node> {
-    /// Returns the stored key and the value of a key, or `None`, by two binary searches.
+    /// Returns the stored key and the value of a key, if any.
+    ///
+    /// # Examples
     ///
     /// ```
     /// let mut tree: map::BTreeMap<u64, u64, Vec<Pair<u64, u64>>> = map::BTreeMap::new(alloc);
     /// tree.insert(1, 10)?;
     /// assert_eq!(rt; tree.get_key_value(&1), Some((&1, &10)));
     /// ```
+    ///
+    /// # Complexity
+    ///
+    /// Makes two binary searches.
     pub fn get_key_value<Q: LookupKey<K> + Drop>(&self, key: Q) -> Option<(&K, &V)>
         ensures { option_map (λ p. (p.0.now, p.1.now)) result
             ≡ option_map entry_of (pair_of Q.order (concat self.now.nodes) key) }
@@ -39,8 +45,11 @@ impl<K: Ord + Clone + Drop, V: Clone + Drop, Node: NodeLike<Pair<K, V>>> BTreeMa
         Some((&pair.key, &pair.value))
     }
 
-    /// Returns the stored key and the value of the first pair that the comparator finds equal, or
-    /// `None` if there is none, as `get_by` finds it.
+    /// Returns the first pair that the comparator finds equal, if any.
+    ///
+    /// The comparator must find the pairs in order.
+    ///
+    /// # Examples
     ///
     /// ```
     /// let mut prices: map::BTreeMap<String, u64, Vec<Pair<String, u64>>> = map::BTreeMap::new(alloc);
@@ -48,6 +57,10 @@ impl<K: Ord + Clone + Drop, V: Clone + Drop, Node: NodeLike<Pair<K, V>>> BTreeMa
     /// let mut sought = OnKey::new(ByStr::new("pear"));
     /// assert!(rt; prices.get_key_value_by(&mut sought).is_some_and(|(_, price)| *price == 120));
     /// ```
+    ///
+    /// # Complexity
+    ///
+    /// Makes two binary searches, as `get_by`.
     pub fn get_key_value_by<P: Probe<Pair<K, V>>>(&self, probe: &mut P) -> Option<(&K, &V)>
         requires { IsParted (P.answer probe.old) (concat self.now.nodes) }
         ensures pair { option_map (λ p. (p.0.now, p.1.now)) result
@@ -61,7 +74,9 @@ impl<K: Ord + Clone + Drop, V: Clone + Drop, Node: NodeLike<Pair<K, V>>> BTreeMa
         Some((&pair.key, &pair.value))
     }
 
-    /// Returns how many keys are below the key, by two binary searches and a sum over the index.
+    /// Returns the number of keys below the key.
+    ///
+    /// # Examples
     ///
     /// ```
     /// let mut tree: map::BTreeMap<u64, u64, Vec<Pair<u64, u64>>> = map::BTreeMap::new(alloc);
@@ -69,6 +84,10 @@ impl<K: Ord + Clone + Drop, V: Clone + Drop, Node: NodeLike<Pair<K, V>>> BTreeMa
     /// tree.insert(7, 70)?;
     /// assert!(rt; tree.rank(&7) == 1 && tree.rank(&6) == 1);
     /// ```
+    ///
+    /// # Complexity
+    ///
+    /// Makes two binary searches and a sum over the index.
     pub fn rank<Q: LookupKey<K> + Drop>(&self, key: Q) -> usize
         ensures value { result ≡ key_rank Q.order (concat self.now.nodes) key }
         ensures at_rank { has_key Q.order (concat self.now.nodes) key ≡ true
@@ -82,7 +101,9 @@ impl<K: Ord + Clone + Drop, V: Clone + Drop, Node: NodeLike<Pair<K, V>>> BTreeMa
         self.set.count_before(Bound::Included(self.by_key(&key)))
     }
 
-    /// Returns the position of a key, or `None`, by two binary searches and a sum over the index.
+    /// Returns the position of a key, if any.
+    ///
+    /// # Examples
     ///
     /// ```
     /// let mut tree: map::BTreeMap<u64, u64, Vec<Pair<u64, u64>>> = map::BTreeMap::new(alloc);
@@ -90,6 +111,10 @@ impl<K: Ord + Clone + Drop, V: Clone + Drop, Node: NodeLike<Pair<K, V>>> BTreeMa
     /// tree.insert(7, 70)?;
     /// assert!(rt; tree.index_of(&7) == Some(1) && tree.index_of(&6).is_none());
     /// ```
+    ///
+    /// # Complexity
+    ///
+    /// Makes two binary searches and a sum over the index.
     pub fn index_of<Q: LookupKey<K> + Drop>(&self, key: Q) -> Option<usize>
         ensures value { result ≡ (if has_key Q.order (concat self.now.nodes) key
             then Some (key_rank Q.order (concat self.now.nodes) key) else None) }
@@ -100,7 +125,9 @@ impl<K: Ord + Clone + Drop, V: Clone + Drop, Node: NodeLike<Pair<K, V>>> BTreeMa
         self.set.position_by(&mut self.by_key(&key)).ok()
     }
 
-    /// Returns how many pairs are before the start, a bound given by a comparator.
+    /// Returns the number of pairs before the start, a bound given by a comparator.
+    ///
+    /// The comparator must find the pairs in order.
     ///
     /// ```
     /// # use indexset::base::probe::ByKey;
@@ -117,7 +144,9 @@ impl<K: Ord + Clone + Drop, V: Clone + Drop, Node: NodeLike<Pair<K, V>>> BTreeMa
         self.set.count_before(start)
     }
 
-    /// Returns how many pairs are not past the end, a bound given by a comparator.
+    /// Returns the number of pairs that are not past the end, a bound given by a comparator.
+    ///
+    /// The comparator must find the pairs in order.
     ///
     /// ```
     /// # use indexset::base::probe::ByKey;
@@ -134,8 +163,9 @@ impl<K: Ord + Clone + Drop, V: Clone + Drop, Node: NodeLike<Pair<K, V>>> BTreeMa
         self.set.count_up_to(end)
     }
 
-    /// Returns the pair at a position, counted from 0, or `None` past the end. It makes no
-    /// comparison.
+    /// Returns the pair at a position, counted from 0, or `None` past the end.
+    ///
+    /// # Examples
     ///
     /// ```
     /// let mut tree: map::BTreeMap<u64, u64, Vec<Pair<u64, u64>>> = map::BTreeMap::new(alloc);
@@ -143,6 +173,10 @@ impl<K: Ord + Clone + Drop, V: Clone + Drop, Node: NodeLike<Pair<K, V>>> BTreeMa
     /// tree.insert(5, 50)?;
     /// assert_eq!(rt; tree.get_index(0), Some((&5, &50)));
     /// ```
+    ///
+    /// # Complexity
+    ///
+    /// Makes no comparison.
     pub fn get_index(&self, i: usize) -> Option<(&K, &V)>
         ensures { option_map (λ p. (p.0.now, p.1.now)) result
             ≡ option_map entry_of (slice_get (concat self.now.nodes) i) }
@@ -151,8 +185,11 @@ impl<K: Ord + Clone + Drop, V: Clone + Drop, Node: NodeLike<Pair<K, V>>> BTreeMa
         Some((&pair.key, &pair.value))
     }
 
-    /// Returns a double-ended iterator over the pairs at the positions within the bounds, clipped
-    /// to the length, in order. It makes no comparison.
+    /// Returns a double-ended iterator over the pairs at a range of positions, in order.
+    ///
+    /// The bounds are clipped to the length.
+    ///
+    /// # Examples
     ///
     /// ```
     /// let mut tree: map::BTreeMap<u64, u64, Vec<Pair<u64, u64>>> = map::BTreeMap::new(alloc);
@@ -162,6 +199,10 @@ impl<K: Ord + Clone + Drop, V: Clone + Drop, Node: NodeLike<Pair<K, V>>> BTreeMa
     /// let page = tree.range_idx(1..);
     /// assert!(rt; page.eq([(&10, &100), (&15, &150)]));
     /// ```
+    ///
+    /// # Complexity
+    ///
+    /// Makes no comparison.
     pub fn range_idx<R: PositionRange + Drop>(&self, range: R) -> Range<'_, K, V, Node>
         ensures rest { result ≡ in_positions (concat self.now.nodes) (R.start range)
             (R.end range) }

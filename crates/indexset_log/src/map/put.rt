@@ -13,8 +13,9 @@ use indexset_core::refusal::Refused;
 use indexset_events::change::ChangeEvent;
 
 impl<K: Ord + Clone + Drop, V: Clone + Drop, Node: NodeLike<Pair<K, V>>> BTreeMap<K, V, Node> {
-    /// Inserts a pair, or replaces that of an equal key, and returns the old value with the events.
-    /// A failed call returns key and value in the error and changes nothing.
+    /// Inserts or replaces the pair of a key, and returns the old value, if any, with the events.
+    ///
+    /// # Examples
     ///
     /// ```
     /// // The events of a change, applied to a copy.
@@ -26,6 +27,11 @@ impl<K: Ord + Clone + Drop, V: Clone + Drop, Node: NodeLike<Pair<K, V>>> BTreeMa
     /// }
     /// assert!(rt; copy.len() == 1 && copy.next() == tree.events_issued());
     /// ```
+    ///
+    /// # Errors
+    ///
+    /// Fails with `Numbers` if the events do not fit the counter, else with `Memory`. A failed call
+    /// returns the key and the value in the error and changes nothing.
     pub fn insert_cdc(
         &mut self,
         key: K,
@@ -48,15 +54,23 @@ impl<K: Ord + Clone + Drop, V: Clone + Drop, Node: NodeLike<Pair<K, V>>> BTreeMa
         Ok((value_in(old), events))
     }
 
-    /// Inserts a pair if the key is absent, and returns the events. If it is present, returns
-    /// `None`, drops key and value, consumes no event number, allocates nothing and changes
-    /// nothing.
+    /// Inserts a pair if the key is absent, and returns the events.
+    ///
+    /// Returns `None` if the key is present: the call then drops the key and the value, allocates
+    /// nothing, consumes no event number and changes nothing.
+    ///
+    /// # Examples
     ///
     /// ```
     /// let mut tree: map::BTreeMap<u64, u64, Vec<Pair<u64, u64>>> = map::BTreeMap::new(alloc);
     /// assert!(rt; tree.checked_insert_cdc(1, 10)?.is_some_and(|events| events.len() == 1));
     /// assert!(rt; tree.checked_insert_cdc(1, 11)?.is_none());
     /// ```
+    ///
+    /// # Errors
+    ///
+    /// Fails with `Numbers` if the events do not fit the counter, else with `Memory`. A failed call
+    /// returns the key and the value in the error and changes nothing.
     pub fn checked_insert_cdc(
         &mut self,
         key: K,
@@ -81,14 +95,21 @@ impl<K: Ord + Clone + Drop, V: Clone + Drop, Node: NodeLike<Pair<K, V>>> BTreeMa
         Ok(self.set.put_cdc_checked(Pair { key, value })?)
     }
 
-    /// Inserts a pair, or replaces that of an equal key and returns the old value. It consumes as
-    /// many event numbers as `insert_cdc`. A failed call returns key and value in the error and
-    /// changes nothing.
+    /// Inserts or replaces the pair of a key, and returns the old value, if any.
+    ///
+    /// It consumes as many event numbers as `insert_cdc`.
+    ///
+    /// # Examples
     ///
     /// ```
     /// let mut tree: map::BTreeMap<u64, u64, Vec<Pair<u64, u64>>> = map::BTreeMap::new(alloc);
     /// assert!(rt; tree.insert(1, 10)?.is_none() && tree.insert(1, 11)? == Some(10));
     /// ```
+    ///
+    /// # Errors
+    ///
+    /// Fails with `Numbers` if the event numbers do not fit the counter, else with `Memory`. A
+    /// failed call returns the key and the value in the error and changes nothing.
     pub fn insert(&mut self, key: K, value: V) -> Result<Option<V>, Refused<(K, V)>>
         ensures answer { IfOk result (λ old. old ≡ value_of K.cmp (concat self.old.nodes) key) }
         ensures refusal { IfErr result (λ e.
@@ -105,14 +126,23 @@ impl<K: Ord + Clone + Drop, V: Clone + Drop, Node: NodeLike<Pair<K, V>>> BTreeMa
         Ok(old.map(|pair| pair.value))
     }
 
-    /// Inserts a pair if the key is absent. If it is present, returns `None`, drops key and value,
-    /// consumes no event number, allocates nothing and changes nothing.
+    /// Inserts a pair if the key is absent.
+    ///
+    /// Returns `None` if the key is present: the call then drops the key and the value, allocates
+    /// nothing, consumes no event number and changes nothing.
+    ///
+    /// # Examples
     ///
     /// ```
     /// let mut tree: map::BTreeMap<u64, u64, Vec<Pair<u64, u64>>> = map::BTreeMap::new(alloc);
     /// assert!(rt; tree.checked_insert(1, 10)?.is_some() && tree.checked_insert(1, 11)?.is_none());
     /// assert!(rt; tree.get(&1).is_some_and(|pair| pair.value == 10));
     /// ```
+    ///
+    /// # Errors
+    ///
+    /// Fails with `Numbers` if the event numbers do not fit the counter, else with `Memory`. A
+    /// failed call returns the key and the value in the error and changes nothing.
     pub fn checked_insert(&mut self, key: K, value: V) -> Result<Option<()>, Refused<(K, V)>>
         ensures answer { IfOk result (λ r. is_none r ≡ has_key K.cmp (concat self.old.nodes) key) }
         ensures refusal { IfErr result (λ e.
@@ -132,7 +162,7 @@ impl<K: Ord + Clone + Drop, V: Clone + Drop, Node: NodeLike<Pair<K, V>>> BTreeMa
     }
 }
 
-// Returns the value of a pair, or `None` where there is none.
+// Returns the value of a pair, if any.
 fn value_in<K: Drop, V>(pair: Option<Pair<K, V>>) -> Option<V>
     ensures { result ≡ option_map (λ p. p.value) pair }
 {

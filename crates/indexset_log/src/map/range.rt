@@ -16,13 +16,14 @@ use indexset_core::pair::Pair;
 use indexset_core::probe::ByKey;
 use std::ops::Bound;
 
-/// The remaining pairs of a part of a map, from both ends.
+/// A double-ended iterator over a range of the pairs of a map.
 pub type Range<'a, K, V, Node = Vec<Pair<K, V>>> = Iter<'a, K, V, Node>;
 
 impl<K: Ord + Clone + Drop, V: Clone + Drop, Node: NodeLike<Pair<K, V>>> BTreeMap<K, V, Node> {
     /// Returns a double-ended iterator over the pairs whose keys are within the range, in order.
-    /// The start must not be past the end, nor at it where both are excluded (see
-    /// `base::key_range::bounds_are_ordered`).
+    ///
+    /// The start must not be past the end, nor equal to it if both are excluded: see
+    /// `base::key_range::bounds_are_ordered`.
     ///
     /// ```
     /// // The pairs of the keys from 10 on that are below 20.
@@ -50,8 +51,8 @@ impl<K: Ord + Clone + Drop, V: Clone + Drop, Node: NodeLike<Pair<K, V>>> BTreeMa
         ensures { result ≡ pairs_within Q.order (concat self.now.nodes)
             (bound_map (λ k. k.now) range.entry.0) (bound_map (λ k. k.now) range.entry.1) }
     {
-        // The contract of `node_count` says that the pairs ascend, so the range is what lies
-        // between the two places.
+        // The contract of `node_count` states that the pairs ascend, so the range lies between two
+        // places.
         let _nodes = self.set.node_count();
         let from = self.set.place_from(range.0.map(ByKey::new));
         let to = self.set.place_to(range.1.map(ByKey::new));

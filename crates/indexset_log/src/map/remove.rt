@@ -14,9 +14,11 @@ use indexset_core::refusal::Refusal;
 use indexset_events::change::ChangeEvent;
 
 impl<K: Ord + Clone + Drop, V: Clone + Drop, Node: NodeLike<Pair<K, V>>> BTreeMap<K, V, Node> {
-    /// Removes the pair of a key, if any, and returns it with the events. A node that is left small
-    /// is merged with a small neighbour. Fails with `Numbers` where the events do not fit the
-    /// counter, else with `Memory`. A failed call changes nothing.
+    /// Removes the pair of a key and returns it, if any, with the events.
+    ///
+    /// Its node is merged with a neighbour if the two then hold at most half the node size.
+    ///
+    /// # Examples
     ///
     /// ```
     /// let mut tree: map::BTreeMap<u64, u64, Vec<Pair<u64, u64>>> = map::BTreeMap::new(alloc);
@@ -24,6 +26,11 @@ impl<K: Ord + Clone + Drop, V: Clone + Drop, Node: NodeLike<Pair<K, V>>> BTreeMa
     /// let (removed, events) = tree.remove_cdc(&1)?;
     /// assert!(rt; removed == Some((1, 10)) && events.len() == 1);
     /// ```
+    ///
+    /// # Errors
+    ///
+    /// Fails with `Numbers` if the events do not fit the counter, else with `Memory`. A failed call
+    /// changes nothing.
     pub fn remove_cdc<Q: UniqueKey<K> + Drop>(
         &mut self,
         key: Q,
@@ -51,10 +58,12 @@ impl<K: Ord + Clone + Drop, V: Clone + Drop, Node: NodeLike<Pair<K, V>>> BTreeMa
         }
     }
 
-    /// Removes the pair of a key, if any, and returns it. It consumes as many event numbers as
-    /// `remove_cdc`, and fails with `Numbers` where they do not fit. It allocates only where it
-    /// merges two nodes of a type that allocates, and else does not fail with `Memory`. A failed
-    /// call changes nothing.
+    /// Removes the pair of a key and returns it, if any.
+    ///
+    /// It consumes as many event numbers as `remove_cdc`, and allocates only if it merges two nodes
+    /// of a type that allocates.
+    ///
+    /// # Examples
     ///
     /// ```
     /// let mut tree: map::BTreeMap<u64, u64, Vec<Pair<u64, u64>>> = map::BTreeMap::new(alloc);
@@ -62,6 +71,11 @@ impl<K: Ord + Clone + Drop, V: Clone + Drop, Node: NodeLike<Pair<K, V>>> BTreeMa
     /// tree.insert(2, 20)?;
     /// assert!(rt; tree.remove(&1)? == Some((1, 10)) && tree.remove(&1)?.is_none());
     /// ```
+    ///
+    /// # Errors
+    ///
+    /// Fails with `Numbers` if the event numbers do not fit the counter, else with `Memory`, only
+    /// if it allocates. A failed call changes nothing.
     pub fn remove<Q: UniqueKey<K> + Drop>(&mut self, key: Q) -> Result<Option<(K, V)>, Refusal>
         ensures answer { IfOk result (λ entry.
             entry ≡ option_map entry_of (pair_of Q.order (concat self.old.nodes) key)) }

@@ -1,4 +1,4 @@
-//! The texts of a logged map.
+//! The text forms of a logged map.
 
 use super::BTreeMap;
 use indexset_core::node::NodeLike;
@@ -15,7 +15,9 @@ impl<
     }
 }
 
-/// The nodes with their pairs, as in `[0:a, 2:b] [4:c]`; nothing where there is none.
+/// Formats the nodes with their pairs, as in `[0:a, 2:b] [4:c]`.
+///
+/// An empty map has the empty text.
 impl<
     K: Ord + Clone + Drop + fmt::Display,
     V: Clone + Drop + fmt::Display,

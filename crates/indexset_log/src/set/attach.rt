@@ -19,17 +19,24 @@ use indexset_core::refusal::{Refusal, Refused};
 use indexset_events::nodes::is_ascending;
 
 impl<T: Ord + Clone + Drop, Node: NodeLike<T>> BTreeSet<T, Node> {
-    /// Inserts a whole node in its place among the others. It emits no event and consumes no event
-    /// number. Fails with the first of these that holds: `Empty`; `TooLarge`, with more items than
-    /// the node size; `Unsorted`, not strictly ascending; `Overlaps`, where it does not lie wholly
-    /// before, after or between two neighbouring nodes; then `Memory`. A failed call returns the
-    /// node in the error and changes nothing.
+    /// Inserts a node among the other nodes.
+    ///
+    /// It emits no event and consumes no event number.
+    ///
+    /// # Examples
     ///
     /// ```
     /// let mut tree: set::BTreeSet<u64, Vec<u64>> = set::BTreeSet::from_iter(alloc, [1, 2])?;
     /// tree.attach_node(vec![in alloc; 5, 10]?)?;
     /// assert!(rt; tree.node_count() == 2 && tree.last() == Some(&10));
     /// ```
+    ///
+    /// # Errors
+    ///
+    /// Fails with the first of these that applies: `Empty` if the node is empty; `TooLarge` if it
+    /// has more items than the node size; `Unsorted` if its items do not ascend strictly;
+    /// `Overlaps` if it does not lie entirely below or above each other node; `Memory`. A failed
+    /// call returns the node in the error and changes nothing.
     pub fn attach_node(&mut self, node: Node) -> Result<(), Refused<Node>>
         ensures nodes { OnOk result (self.new.nodes ≡ attached T.cmp self.old.nodes
             (Node.list node)) }
@@ -55,7 +62,7 @@ impl<T: Ord + Clone + Drop, Node: NodeLike<T>> BTreeSet<T, Node> {
         Ok(())
     }
 
-    // Returns where a node goes among the others, if it may.
+    // Returns the place of a node among the others, if it can be inserted.
     fn attach_place(&self, node: &Node) -> Result<usize, Refusal>
         ensures place { IfOk result (λ place. place ≡ attach_index T.cmp self.now.nodes
             (Node.list node.now)) }
@@ -87,7 +94,7 @@ impl<T: Ord + Clone + Drop, Node: NodeLike<T>> BTreeSet<T, Node> {
         Ok(place)
     }
 
-    // Returns whether the node at a place, if there is one, starts above an item.
+    // Returns whether the node at a place, if any, begins above an item.
     fn starts_above(&self, place: usize, value: &T) -> bool
         ensures { result ≡ option_map_or (λ x. is_lt (T.cmp value.now x))
             (slice_get (node_at self.now.nodes place) 0) true }

@@ -12,12 +12,18 @@ use indexset_core::refusal::Refusal;
 use indexset_events::change::ChangeEvent;
 
 impl<T: Ord + Clone + Drop, Node: NodeLike<T>> BTreeSet<T, Node> {
-    /// Returns the first item, the least, if any, in constant time.
+    /// Returns the first item, which is the least, if any.
+    ///
+    /// # Examples
     ///
     /// ```
     /// let tree: set::BTreeSet<u64, Vec<u64>> = set::BTreeSet::from_iter(alloc, [5, 10, 15])?;
     /// assert!(rt; tree.first() == Some(&5));
     /// ```
+    ///
+    /// # Complexity
+    ///
+    /// Takes constant time.
     pub fn first(&self) -> Option<&T>
         ensures element { option_copied result ≡ slice_get (concat self.now.nodes) 0 }
         ensures variant { IsSome result ↔ (0 < length (concat self.now.nodes)) }
@@ -27,12 +33,18 @@ impl<T: Ord + Clone + Drop, Node: NodeLike<T>> BTreeSet<T, Node> {
         self.iter().next()
     }
 
-    /// Returns the last item, the greatest, if any, in constant time.
+    /// Returns the last item, which is the greatest, if any.
+    ///
+    /// # Examples
     ///
     /// ```
     /// let tree: set::BTreeSet<u64, Vec<u64>> = set::BTreeSet::from_iter(alloc, [5, 10, 15])?;
     /// assert!(rt; tree.last() == Some(&15));
     /// ```
+    ///
+    /// # Complexity
+    ///
+    /// Takes constant time.
     pub fn last(&self) -> Option<&T>
         ensures element { option_copied result ≡ slice_get (concat self.now.nodes)
             (length (concat self.now.nodes) - 1) }
@@ -43,16 +55,22 @@ impl<T: Ord + Clone + Drop, Node: NodeLike<T>> BTreeSet<T, Node> {
         self.iter().next_back()
     }
 
-    /// Removes the least item, if any, and returns it with the events, which are those of
-    /// `remove_cdc` of that item. A node that is left small is merged with a small neighbour. Fails
-    /// with `Numbers` where the events do not fit the counter, else with `Memory`. A failed call
-    /// changes nothing.
+    /// Removes the least item and returns it, if any, with the events.
+    ///
+    /// The events are those of `remove_cdc` of that item.
+    ///
+    /// # Examples
     ///
     /// ```
     /// let mut tree: set::BTreeSet<u64, Vec<u64>> = set::BTreeSet::from_iter(alloc, [5, 10, 15])?;
     /// let (removed, events) = tree.pop_first_cdc()?;
     /// assert!(rt; removed == Some(5) && events.len() == 1);
     /// ```
+    ///
+    /// # Errors
+    ///
+    /// Fails with `Numbers` if the events do not fit the counter, else with `Memory`. A failed call
+    /// changes nothing.
     pub fn pop_first_cdc(&mut self) -> Result<(Option<T>, Vec<ChangeEvent<T>>), Refusal>
         ensures answer { IfOk result (λ r. r.0 ≡ slice_get (concat self.old.nodes) 0) }
         ensures refusal { IfErr result (λ e. e ≡ refusal_of self.old
@@ -68,16 +86,23 @@ impl<T: Ord + Clone + Drop, Node: NodeLike<T>> BTreeSet<T, Node> {
         self.remove_from_cdc(place)
     }
 
-    /// Removes the least item, if any, and returns it. It consumes as many event numbers as
-    /// `pop_first_cdc`, and fails with `Numbers` where they do not fit. It allocates only where it
-    /// merges two nodes of a type that allocates, and else does not fail with `Memory`. A failed
-    /// call changes nothing.
+    /// Removes the least item and returns it, if any.
+    ///
+    /// It consumes as many event numbers as `pop_first_cdc`, and allocates only if it merges two
+    /// nodes of a type that allocates.
+    ///
+    /// # Examples
     ///
     /// ```
     /// let mut tree: set::BTreeSet<u64, Vec<u64>> = set::BTreeSet::from_iter(alloc, [5, 10])?;
     /// assert!(rt; tree.pop_first()? == Some(5) && tree.pop_first()? == Some(10));
     /// assert!(rt; tree.pop_first()?.is_none());
     /// ```
+    ///
+    /// # Errors
+    ///
+    /// Fails with `Numbers` if the event numbers do not fit the counter, else with `Memory`, only
+    /// if it allocates. A failed call changes nothing.
     pub fn pop_first(&mut self) -> Result<Option<T>, Refusal>
         ensures answer { IfOk result (λ item. item ≡ slice_get (concat self.old.nodes) 0) }
         ensures refusal { IfErr result (λ e. e ≡ refusal_of self.old
@@ -95,16 +120,22 @@ impl<T: Ord + Clone + Drop, Node: NodeLike<T>> BTreeSet<T, Node> {
         self.remove_from(place)
     }
 
-    /// Removes the greatest item, if any, and returns it with the events, which are those of
-    /// `remove_cdc` of that item. A node that is left small is merged with a small neighbour. Fails
-    /// with `Numbers` where the events do not fit the counter, else with `Memory`. A failed call
-    /// changes nothing.
+    /// Removes the greatest item and returns it, if any, with the events.
+    ///
+    /// The events are those of `remove_cdc` of that item.
+    ///
+    /// # Examples
     ///
     /// ```
     /// let mut tree: set::BTreeSet<u64, Vec<u64>> = set::BTreeSet::from_iter(alloc, [5, 10, 15])?;
     /// let (removed, events) = tree.pop_last_cdc()?;
     /// assert!(rt; removed == Some(15) && events.len() == 1);
     /// ```
+    ///
+    /// # Errors
+    ///
+    /// Fails with `Numbers` if the events do not fit the counter, else with `Memory`. A failed call
+    /// changes nothing.
     pub fn pop_last_cdc(&mut self) -> Result<(Option<T>, Vec<ChangeEvent<T>>), Refusal>
         ensures answer { IfOk result (λ r.
             r.0 ≡ slice_get (concat self.old.nodes) (length (concat self.old.nodes) - 1)) }
@@ -121,16 +152,23 @@ impl<T: Ord + Clone + Drop, Node: NodeLike<T>> BTreeSet<T, Node> {
         self.remove_from_cdc(place)
     }
 
-    /// Removes the greatest item, if any, and returns it. It consumes as many event numbers as
-    /// `pop_last_cdc`, and fails with `Numbers` where they do not fit. It allocates only where it
-    /// merges two nodes of a type that allocates, and else does not fail with `Memory`. A failed
-    /// call changes nothing.
+    /// Removes the greatest item and returns it, if any.
+    ///
+    /// It consumes as many event numbers as `pop_last_cdc`, and allocates only if it merges two
+    /// nodes of a type that allocates.
+    ///
+    /// # Examples
     ///
     /// ```
     /// let mut tree: set::BTreeSet<u64, Vec<u64>> = set::BTreeSet::from_iter(alloc, [5, 10])?;
     /// assert!(rt; tree.pop_last()? == Some(10) && tree.pop_last()? == Some(5));
     /// assert!(rt; tree.pop_last()?.is_none());
     /// ```
+    ///
+    /// # Errors
+    ///
+    /// Fails with `Numbers` if the event numbers do not fit the counter, else with `Memory`, only
+    /// if it allocates. A failed call changes nothing.
     pub fn pop_last(&mut self) -> Result<Option<T>, Refusal>
         ensures answer { IfOk result (λ item.
             item ≡ slice_get (concat self.old.nodes) (length (concat self.old.nodes) - 1)) }

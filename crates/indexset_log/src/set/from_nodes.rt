@@ -1,4 +1,4 @@
-//! Sets made of nodes.
+//! Construction of sets from nodes.
 ghost use Rattle.std.specs.Prelude.{◌≡◌, ◌≤◌, ◌<◌, length, map, None, Some, MatchOption, IfOk, OnOk, IfErr};
 ghost use Rattle.std.specs.Option.{unwrap_or};
 ghost use Rattle.indexset_core.specs.Nodes.{concat, node_lengths};
@@ -15,18 +15,30 @@ use std::alloc::Global;
 use std::marker::PhantomData;
 
 impl<T: Ord + Clone + Drop, Node: NodeLike<T>> BTreeSet<T, Node> {
-    /// Returns the tree of these nodes, whose events are numbered from `next`: it continues where
-    /// another stopped. The nodes are taken as they are, no item is copied, and no event number is
-    /// consumed; neighbouring nodes are compared once, and one number for 32 nodes is allocated.
-    /// Fails at the first node that is `Empty`, `TooLarge`, `Unsorted`, or `Overlaps` the one
-    /// before, by the first of these that holds; where none is, with `Memory`, also where there are
-    /// more items than `usize::MAX`. A failed call returns the nodes in the error.
+    /// Returns the tree of these nodes, with events numbered from `next`.
+    ///
+    /// It continues where another tree stopped. The nodes become those of the tree; no item is
+    /// copied and no event number is consumed.
+    ///
+    /// # Examples
     ///
     /// ```
     /// let nodes = vec![in alloc; vec![in alloc; 5, 10]?, vec![in alloc; 15]?]?;
     /// let tree: set::BTreeSet<u64, Vec<u64>> = set::BTreeSet::from_nodes(nodes, 64, 7)?;
     /// assert!(rt; tree.len() == 3 && tree.node_count() == 2 && tree.events_issued() == 7);
     /// ```
+    ///
+    /// # Errors
+    ///
+    /// Fails at the first node that is invalid, with the first of these that applies to it:
+    /// `Empty`; `TooLarge` if it has more items than the node size; `Unsorted` if its items do not
+    /// ascend strictly; `Overlaps` if it does not begin above the node before. Otherwise fails with
+    /// `Memory`, also if there are more than `usize::MAX` items. A failed call returns the nodes in
+    /// the error.
+    ///
+    /// # Complexity
+    ///
+    /// Compares neighbouring items once, and allocates one number for every 32 nodes.
     pub fn from_nodes(nodes: Vec<Node>, size: usize, next: u64) -> Result<Self, Refused<Vec<Node>>>
         requires two { 2 ≤ size }
         requires within { size ≤ Node.most }
@@ -54,7 +66,7 @@ impl<T: Ord + Clone + Drop, Node: NodeLike<T>> BTreeSet<T, Node> {
     }
 }
 
-// Returns how many items the nodes hold, and their index, if they may be those of a tree.
+// Returns the number of items and the index of the nodes, if they can be those of a tree.
 fn test_and_count<T: Ord + Drop, Node: NodeLike<T>>(
     alloc: Global,
     nodes: &[Node],
@@ -74,7 +86,7 @@ fn test_and_count<T: Ord + Drop, Node: NodeLike<T>>(
     }
 }
 
-// Returns how many items the nodes hold, if that is a usize.
+// Returns the number of items in the nodes, if it fits a usize.
 fn count<T: Ord + Drop, Node: NodeLike<T>>(nodes: &[Node]) -> Option<usize>
     ensures { MatchOption result (usize.MAX < length (concat (map Node.list nodes.now)))
         (λ len. len ≡ length (concat (map Node.list nodes.now))) }

@@ -1,4 +1,4 @@
-//! Iterators over a set, from both ends.
+//! Double-ended iterators over a set.
 ghost use Rattle.std.specs.Prelude.{◌≡◌, ◌+◌, length, List, map, IfSome, Some};
 ghost use Rattle.std.specs.List.{between};
 ghost use Rattle.std.specs.Iterator.{UpTo, at_most};
@@ -15,7 +15,7 @@ use indexset_core::node::NodeLike;
 use std::iter::FusedIterator;
 use std::marker::Model;
 
-/// The remaining items of a set, from both ends.
+/// A double-ended iterator over the items of a set.
 #[derive(Drop)]
 pub struct Iter<'a, T: Ord + Clone + Drop, Node: NodeLike<T> = Vec<T>> {
     rest: ExactItemIter<'a, T, Node, OfNode>,
@@ -30,7 +30,7 @@ impl<'a, T: Ord + Clone + Drop, Node: NodeLike<T>> Model for Iter<'a, T, Node> {
 }
 
 impl<'a, T: Ord + Clone + Drop, Node: NodeLike<T>> Iter<'a, T, Node> {
-    /// Returns all items of a set, in order.
+    /// Returns a double-ended iterator over the items of a set, in order.
     ///
     /// ```
     /// let tree: set::BTreeSet<u64, Vec<u64>> = set::BTreeSet::from_iter(alloc, [15, 5, 10])?;
@@ -47,7 +47,7 @@ impl<'a, T: Ord + Clone + Drop, Node: NodeLike<T>> Iter<'a, T, Node> {
         }
     }
 
-    // Returns the items from one place, a node and an offset, to before another: so many.
+    // Returns the iterator over the `count` items from one place to before another.
     pub(super) fn between(
         nodes: &'a [Node],
         from: (usize, usize),

@@ -7,8 +7,9 @@ use super::nodes::Nodes;
 use super::range::Range;
 use indexset_core::node::NodeLike;
 
-/// An iterator over a logged set, over a range of one or over its nodes yields each item once,
-/// whatever calls of `next` and `next_back`, and then `None`.
+/// Iterators over a logged set, over a range of it or over its nodes, yield each item once.
+///
+/// They do so for every sequence of calls of `next` and `next_back`, and then return `None`.
 pub fn iterators_yield_each_item_once<'a, T: Ord + Clone + Drop + 'a, Node: NodeLike<T> + 'a>()
     ensures items { IsDoubleEnded deref ⟦<Iter<'a, T, Node> as Iterator>⟧.next_gives
         ⟦<Iter<'a, T, Node> as DoubleEndedIterator>⟧.next_back_gives }

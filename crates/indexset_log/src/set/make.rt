@@ -1,4 +1,4 @@
-//! Sets made of items.
+//! Construction of sets from items.
 ghost use Rattle.std.specs.Prelude.{◌≡◌, ◌⊎◌, ◌<◌, ℕ, [], Err, IfOk, IfErr, fold, take};
 ghost use Rattle.std.specs.Iterator.{IsFiniteIterable};
 ghost use Rattle.std.specs.Iterator.Runs.{SomeRun, WholeRun};
@@ -13,14 +13,22 @@ use indexset_core::refusal::Refusal;
 use std::alloc::Global;
 
 impl<T: Ord + Clone + Drop> BTreeSet<T, Vec<T>> {
-    /// Returns the tree of what an iterator yields, inserted one by one: of equal ones the first
-    /// stays. Fails with `Memory`, or with `Numbers` where the events of the items that came do not
-    /// fit, and then all are dropped.
+    /// Returns the tree of an iterator's items, of the default node size.
+    ///
+    /// It inserts the items one by one: of equal items the first stays. The events are numbered
+    /// from 0.
+    ///
+    /// # Examples
     ///
     /// ```
     /// let tree: set::BTreeSet<u64, Vec<u64>> = set::BTreeSet::from_iter(alloc, [15, 5, 5])?;
     /// assert!(rt; tree.iter().copied().eq([5, 15]));
     /// ```
+    ///
+    /// # Errors
+    ///
+    /// Fails with `Memory`, or with `Numbers` if the event numbers do not fit the counter. A failed
+    /// call drops all items.
     pub fn from_iter<I: IntoIterator<Item = T>>(alloc: Global, iter: I) -> Result<Self, Refusal>
         requires { IsFiniteIterable I.into_iter_gives I.IntoIter.can_next
             I.IntoIter.remaining iter }
@@ -44,12 +52,19 @@ impl<T: Ord + Clone + Drop> BTreeSet<T, Vec<T>> {
         Ok(set)
     }
 
-    /// Returns the tree of the values, as `from_iter` makes it.
+    /// Returns the tree of the values, as `from_iter`.
+    ///
+    /// # Examples
     ///
     /// ```
     /// let tree: set::BTreeSet<u64, Vec<u64>> = set::BTreeSet::from(alloc, vec![in alloc; 15, 5]?)?;
     /// assert!(rt; tree.iter().copied().eq([5, 15]));
     /// ```
+    ///
+    /// # Errors
+    ///
+    /// Fails with `Memory`, or with `Numbers` if the event numbers do not fit the counter. A failed
+    /// call drops all values.
     pub fn from(alloc: Global, values: Vec<T>) -> Result<Self, Refusal>
         ensures contents { IfOk result (λ s. concat s.nodes ≡ fold (keep T.cmp) [] values.items) }
         ensures tree { IfOk result (λ s. s ≡ fold (after_checked_put T.cmp)

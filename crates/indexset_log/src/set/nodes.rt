@@ -13,7 +13,7 @@ use std::iter::FusedIterator;
 use std::marker::Model;
 use std::slice;
 
-/// The remaining nodes of a tree, from both ends.
+/// A double-ended iterator over the nodes of a tree.
 #[derive(Drop)]
 pub struct Nodes<'a, Node> {
     rest: slice::Iter<'a, Node>,
@@ -41,8 +41,7 @@ impl<'a, Node> Nodes<'a, Node> {
         self.rest.as_slice()
     }
 
-    /// Returns how many items the remaining nodes have room for: the sum of their capacities, which
-    /// stops at `usize::MAX`. Of all nodes of a tree it is what the tree's `capacity` returns.
+    /// Returns the sum of the capacities of the remaining nodes, at most `usize::MAX`.
     ///
     /// ```
     /// let tree: set::BTreeSet<u64, Vec<u64>> = set::BTreeSet::from_iter(alloc, [5, 10, 15])?;
@@ -112,8 +111,7 @@ impl<T: Ord + Clone + Drop, Node: NodeLike<T>> BTreeSet<T, Node> {
         }
     }
 
-    /// Returns how many items there is room for: the sum of the nodes' capacities, which stops at
-    /// `usize::MAX`.
+    /// Returns the sum of the capacities of the nodes, at most `usize::MAX`.
     ///
     /// ```
     /// let tree: set::BTreeSet<u64, Vec<u64>> = set::BTreeSet::from_iter(alloc, [5, 10, 15])?;
@@ -123,7 +121,7 @@ impl<T: Ord + Clone + Drop, Node: NodeLike<T>> BTreeSet<T, Node> {
         ensures enough { length (concat self.now.nodes) ≤ result }
         ensures sum { AddsUp Node.list Node.room self.now.nodes result }
     {
-        // The number of items fits.
+        // The number of items fits a usize.
         let _len = self.len;
         capacity_of(self.nodes.as_slice())
     }

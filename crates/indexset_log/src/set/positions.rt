@@ -22,8 +22,9 @@ use indexset_core::probe::Probe;
 use std::ops::Bound;
 
 impl<T: Ord + Clone + Drop, Node: NodeLike<T>> BTreeSet<T, Node> {
-    /// Returns how many items are below the value, by two binary searches and a sum over the
-    /// index.
+    /// Returns the number of items below the value.
+    ///
+    /// # Examples
     ///
     /// ```
     /// let mut board: set::BTreeSet<u64, Vec<u64>> = set::BTreeSet::new(alloc);
@@ -32,6 +33,10 @@ impl<T: Ord + Clone + Drop, Node: NodeLike<T>> BTreeSet<T, Node> {
     /// }
     /// assert!(rt; board.rank(&30) == 2 && board.rank(&25) == 2);
     /// ```
+    ///
+    /// # Complexity
+    ///
+    /// Makes two binary searches and a sum over the index.
     pub fn rank<Q: LookupKey<T> + Drop>(&self, value: Q) -> usize
         ensures value { result ≡ rank Q.order (concat self.now.nodes) value }
         ensures at_rank { has_equal Q.order (concat self.now.nodes) value ≡ true
@@ -45,8 +50,9 @@ impl<T: Ord + Clone + Drop, Node: NodeLike<T>> BTreeSet<T, Node> {
         self.count_before(Bound::Included(self.by_item(&value)))
     }
 
-    /// Returns the position of the item equal to the value, or `None`, by two binary searches and a
-    /// sum over the index.
+    /// Returns the position of the item equal to the value, if any.
+    ///
+    /// # Examples
     ///
     /// ```
     /// let mut set: set::BTreeSet<u64, Vec<u64>> = set::BTreeSet::new(alloc);
@@ -55,6 +61,10 @@ impl<T: Ord + Clone + Drop, Node: NodeLike<T>> BTreeSet<T, Node> {
     /// }
     /// assert!(rt; set.index_of(&20) == Some(1) && set.index_of(&25).is_none());
     /// ```
+    ///
+    /// # Complexity
+    ///
+    /// Makes two binary searches and a sum over the index.
     pub fn index_of<Q: LookupKey<T> + Drop>(&self, value: Q) -> Option<usize>
         ensures value { result ≡ index_of Q.order (concat self.now.nodes) value }
         ensures at_index { IfSome result (λ i. slice_get (concat self.now.nodes) i
@@ -64,8 +74,12 @@ impl<T: Ord + Clone + Drop, Node: NodeLike<T>> BTreeSet<T, Node> {
         self.position_by(&mut self.by_item(&value)).ok()
     }
 
-    /// Returns the position of the first item that the probe finds Equal, or where it finds none,
-    /// how many it finds Less. It compares as `locate_by` does.
+    /// Returns the position of the first item that the probe finds Equal.
+    ///
+    /// Returns `Err` with the number of items that it finds Less if it finds none Equal. The probe
+    /// must find the items in order.
+    ///
+    /// # Examples
     ///
     /// ```
     /// # use indexset::base::probe::ByItem;
@@ -73,6 +87,10 @@ impl<T: Ord + Clone + Drop, Node: NodeLike<T>> BTreeSet<T, Node> {
     /// assert!(rt; tree.position_by(&mut ByItem::new(&10)) == Ok(1));
     /// assert!(rt; tree.position_by(&mut ByItem::new(&12)) == Err(2));
     /// ```
+    ///
+    /// # Complexity
+    ///
+    /// Makes two binary searches, as `locate_by`.
     pub fn position_by<P: Probe<T>>(&self, probe: &mut P) -> Result<usize, usize>
         requires { IsParted (P.answer probe.old) (concat self.now.nodes) }
         ensures found { IfOk result (λ i. position (λ x. is_eq (P.answer probe.old x))
@@ -91,7 +109,9 @@ impl<T: Ord + Clone + Drop, Node: NodeLike<T>> BTreeSet<T, Node> {
         }
     }
 
-    /// Returns how many items are before the start, a bound given by a comparator.
+    /// Returns the number of items before the start, a bound given by a comparator.
+    ///
+    /// The comparator must find the items in order.
     ///
     /// ```
     /// # use indexset::base::probe::ByItem;
@@ -106,7 +126,9 @@ impl<T: Ord + Clone + Drop, Node: NodeLike<T>> BTreeSet<T, Node> {
         self.position(self.place_from(start))
     }
 
-    /// Returns how many items are not past the end, a bound given by a comparator.
+    /// Returns the number of items that are not past the end, a bound given by a comparator.
+    ///
+    /// The comparator must find the items in order.
     ///
     /// ```
     /// # use indexset::base::probe::ByItem;
@@ -121,8 +143,9 @@ impl<T: Ord + Clone + Drop, Node: NodeLike<T>> BTreeSet<T, Node> {
         self.position(self.place_to(end))
     }
 
-    /// Returns the item at a position, counted from 0, or `None` past the end. It makes no
-    /// comparison.
+    /// Returns the item at a position, counted from 0, or `None` past the end.
+    ///
+    /// # Examples
     ///
     /// ```
     /// let mut board: set::BTreeSet<u64, Vec<u64>> = set::BTreeSet::new(alloc);
@@ -131,6 +154,10 @@ impl<T: Ord + Clone + Drop, Node: NodeLike<T>> BTreeSet<T, Node> {
     /// }
     /// assert!(rt; board.get_index(1) == Some(&20) && board.get_index(3).is_none());
     /// ```
+    ///
+    /// # Complexity
+    ///
+    /// Makes no comparison.
     pub fn get_index(&self, i: usize) -> Option<&T>
         ensures { option_copied result ≡ slice_get (concat self.now.nodes) i }
     {
@@ -138,8 +165,11 @@ impl<T: Ord + Clone + Drop, Node: NodeLike<T>> BTreeSet<T, Node> {
         self.nodes[node].get_ith(offset)
     }
 
-    /// Returns a double-ended iterator over the items at the positions within the bounds, clipped
-    /// to the length, in order. It makes no comparison.
+    /// Returns a double-ended iterator over the items at a range of positions, in order.
+    ///
+    /// The bounds are clipped to the length.
+    ///
+    /// # Examples
     ///
     /// ```
     /// // The second page of two items each.
@@ -150,6 +180,10 @@ impl<T: Ord + Clone + Drop, Node: NodeLike<T>> BTreeSet<T, Node> {
     /// let page = set.range_idx(2..4);
     /// assert!(rt; page.copied().eq([15, 20]));
     /// ```
+    ///
+    /// # Complexity
+    ///
+    /// Makes no comparison.
     pub fn range_idx<R: PositionRange + Drop>(&self, range: R) -> Range<'_, T, Node>
         ensures rest { result ≡ in_positions (concat self.now.nodes) (R.start range)
             (R.end range) }
@@ -162,19 +196,26 @@ impl<T: Ord + Clone + Drop, Node: NodeLike<T>> BTreeSet<T, Node> {
         self.range_between(self.place_after(from), self.place_after(to))
     }
 
-    /// Returns how many items stand before a place, a node and an offset in it of at most its
-    /// length, as `locate_by` returns it. It makes no comparison.
+    /// Returns the number of items before a place.
+    ///
+    /// A place is a node and an offset of at most its length, as `locate_by` returns it.
+    ///
+    /// # Examples
     ///
     /// ```
     /// let nodes = vec![in alloc; vec![in alloc; 5, 10]?, vec![in alloc; 15]?]?;
     /// let tree: set::BTreeSet<u64, Vec<u64>> = set::BTreeSet::from_nodes(nodes, 64, 0)?;
     /// assert!(rt; tree.position((1, 0)) == 2);
     /// ```
+    ///
+    /// # Complexity
+    ///
+    /// Makes no comparison.
     pub fn position(&self, place: (usize, usize)) -> usize
         requires { IsPlace self.now.nodes place }
         ensures { result ≡ items_before self.now.nodes place }
     {
-        // The number of items fits, so each sum of some lengths does.
+        // The number of items fits a usize, so each sum of lengths does.
         let _len = self.len;
         let (node, offset) = place;
         self.index
@@ -182,14 +223,19 @@ impl<T: Ord + Clone + Drop, Node: NodeLike<T>> BTreeSet<T, Node> {
             + offset
     }
 
-    /// Returns the place of the item at a position, counted from 0, or `None` past the end. It
-    /// makes no comparison.
+    /// Returns the place of the item at a position, counted from 0, or `None` past the end.
+    ///
+    /// # Examples
     ///
     /// ```
     /// let nodes = vec![in alloc; vec![in alloc; 5, 10]?, vec![in alloc; 15]?]?;
     /// let tree: set::BTreeSet<u64, Vec<u64>> = set::BTreeSet::from_nodes(nodes, 64, 0)?;
     /// assert!(rt; tree.place_at(2) == Some((1, 0)) && tree.place_at(3).is_none());
     /// ```
+    ///
+    /// # Complexity
+    ///
+    /// Makes no comparison.
     pub fn place_at(&self, i: usize) -> Option<(usize, usize)>
         ensures { MatchOption result (length (concat self.now.nodes) ≤ i)
             (λ p. (p.0 < length self.now.nodes) × (p.1 < length (node_at self.now.nodes p.0))

@@ -22,8 +22,9 @@ use indexset_core::search;
 use indexset_events::change::{ChangeEvent, ChangeEventUnassigned};
 
 impl<T: Ord + Clone + Drop, Node: NodeLike<T>> BTreeSet<T, Node> {
-    /// Inserts an item, or replaces an equal one, and returns that with the events. A failed call
-    /// returns the item in the error and changes nothing.
+    /// Inserts an item, replacing an equal one, and returns that one, if any, with the events.
+    ///
+    /// # Examples
     ///
     /// ```
     /// let mut tree: set::BTreeSet<u64, Vec<u64>> = set::BTreeSet::new(alloc);
@@ -31,6 +32,11 @@ impl<T: Ord + Clone + Drop, Node: NodeLike<T>> BTreeSet<T, Node> {
     /// let made = ChangeEvent::CreateNode { event_id: Id::from(0), max_value: 5 };
     /// assert!(rt; old.is_none() && events.as_slice() == [made].as_slice());
     /// ```
+    ///
+    /// # Errors
+    ///
+    /// Fails with `Numbers` if the events do not fit the counter, else with `Memory`. A failed call
+    /// returns the item in the error and changes nothing.
     pub fn put_cdc(&mut self, value: T) -> Result<(Option<T>, Vec<ChangeEvent<T>>), Refused<T>>
         ensures answer { IfOk result (λ r. r.0 ≡ equal_element T.cmp
             (concat self.old.nodes) value) }
@@ -48,14 +54,23 @@ impl<T: Ord + Clone + Drop, Node: NodeLike<T>> BTreeSet<T, Node> {
         self.put_cdc_at(aim, value)
     }
 
-    /// Inserts an item if no equal one is present, and returns the events. If one is, returns
-    /// `None`, drops the item, consumes no event number, allocates nothing and changes nothing.
+    /// Inserts an item if no equal one is present, and returns the events.
+    ///
+    /// Returns `None` if an equal item is present: the call then drops the item, allocates nothing,
+    /// consumes no event number and changes nothing.
+    ///
+    /// # Examples
     ///
     /// ```
     /// let mut tree: set::BTreeSet<u64, Vec<u64>> = set::BTreeSet::new(alloc);
     /// assert!(rt; tree.put_cdc_checked(5)?.is_some_and(|events| events.len() == 1));
     /// assert!(rt; tree.put_cdc_checked(5)?.is_none());
     /// ```
+    ///
+    /// # Errors
+    ///
+    /// Fails with `Numbers` if the events do not fit the counter, else with `Memory`. A failed call
+    /// returns the item in the error and changes nothing.
     #[tactic(auto, unfolding(indexset_core::specs::Order::keep, indexset_events::specs::Edits::with_checked_put, indexset_events::specs::Table::checked_put_events))]
     pub fn put_cdc_checked(&mut self, value: T) -> Result<Option<Vec<ChangeEvent<T>>>, Refused<T>>
         ensures answer { IfOk result (λ r. is_none r ≡ has_equal T.cmp
@@ -82,13 +97,21 @@ impl<T: Ord + Clone + Drop, Node: NodeLike<T>> BTreeSet<T, Node> {
         }
     }
 
-    /// Inserts an item, or replaces an equal one and returns that. It consumes as many event
-    /// numbers as `put_cdc`. A failed call returns the item in the error and changes nothing.
+    /// Inserts an item, replacing an equal one, and returns that one, if any.
+    ///
+    /// It consumes as many event numbers as `put_cdc`.
+    ///
+    /// # Examples
     ///
     /// ```
     /// let mut tree: set::BTreeSet<u64, Vec<u64>> = set::BTreeSet::new(alloc);
     /// assert!(rt; tree.put(5)?.is_none() && tree.put(5)? == Some(5));
     /// ```
+    ///
+    /// # Errors
+    ///
+    /// Fails with `Numbers` if the event numbers do not fit the counter, else with `Memory`. A
+    /// failed call returns the item in the error and changes nothing.
     pub fn put(&mut self, value: T) -> Result<Option<T>, Refused<T>>
         ensures answer { IfOk result (λ old. old ≡ equal_element T.cmp
             (concat self.old.nodes) value) }
@@ -104,14 +127,23 @@ impl<T: Ord + Clone + Drop, Node: NodeLike<T>> BTreeSet<T, Node> {
         self.put_at(aim, value)
     }
 
-    /// Inserts an item and returns true. If an equal one is present, returns false, drops the item,
-    /// consumes no event number, allocates nothing and changes nothing.
+    /// Inserts an item if no equal one is present, and returns true.
+    ///
+    /// Returns false if an equal item is present: the call then drops the item, allocates nothing,
+    /// consumes no event number and changes nothing.
+    ///
+    /// # Examples
     ///
     /// ```
     /// let mut tree: set::BTreeSet<u64, Vec<u64>> = set::BTreeSet::new(alloc);
     /// tree.insert(5)?;
     /// assert!(rt; tree.contains(&5) && tree.events_issued() == 1);
     /// ```
+    ///
+    /// # Errors
+    ///
+    /// Fails with `Numbers` if the event numbers do not fit the counter, else with `Memory`. A
+    /// failed call returns the item in the error and changes nothing.
     #[tactic(auto, unfolding(indexset_core::specs::Order::keep, indexset_events::specs::Edits::with_checked_put, indexset_events::specs::Table::checked_put_events))]
     pub fn insert(&mut self, value: T) -> Result<bool, Refused<T>>
         ensures answer { IfOk result (λ r. r ≡ not (has_equal T.cmp
@@ -135,7 +167,7 @@ impl<T: Ord + Clone + Drop, Node: NodeLike<T>> BTreeSet<T, Node> {
         }
     }
 
-    // Returns where an item goes: `None` in an empty tree.
+    // Returns where to insert an item; `None` in an empty tree.
     fn aim(&self, value: &T) -> Option<InsertPlan>
         ensures aim { IsPlanned T.cmp self.now.size self.now.nodes value.now result }
         ensures present { is_present result ≡ has_equal T.cmp (concat self.now.nodes) value.now }
@@ -143,7 +175,7 @@ impl<T: Ord + Clone + Drop, Node: NodeLike<T>> BTreeSet<T, Node> {
         ensures two { 2 ≤ self.now.size }
         ensures number { self.now.next ≤ u64.MAX }
     {
-        // The counter fits a u64, so a call without events lacks no number.
+        // The counter fits a u64, so a call without events does not overflow it.
         let _next = self.next;
         if self.nodes.is_empty() {
             return None;
@@ -151,7 +183,7 @@ impl<T: Ord + Clone + Drop, Node: NodeLike<T>> BTreeSet<T, Node> {
         Some(self.aim_in_target(value))
     }
 
-    // Inserts an item where it goes, and returns the events.
+    // Inserts an item at its aim, and returns the events.
     fn put_cdc_at(
         &mut self,
         aim: Option<InsertPlan>,
@@ -183,7 +215,7 @@ impl<T: Ord + Clone + Drop, Node: NodeLike<T>> BTreeSet<T, Node> {
         }
     }
 
-    // Inserts an item where it goes.
+    // Inserts an item at its aim.
     fn put_at(&mut self, aim: Option<InsertPlan>, value: T) -> Result<Option<T>, Refused<T>>
         requires { IsPlanned T.cmp self.old.size self.old.nodes value aim }
         ensures tree { OnOk result (self.new ≡ after_put T.cmp self.old value) }
@@ -202,7 +234,7 @@ impl<T: Ord + Clone + Drop, Node: NodeLike<T>> BTreeSet<T, Node> {
         }
     }
 
-    // Returns the number of the next event after a put, where there are numbers for its events.
+    // Returns the number of the next event after a put, if the event numbers fit.
     fn next_after(&self, aim: &Option<InsertPlan>) -> Result<u64, Refusal>
         ensures next { IfOk result (λ next. next ≡ self.now.next + count_for aim.now) }
         ensures fits { OnOk result (self.now.next + count_for aim.now ≤ u64.MAX) }
@@ -233,7 +265,7 @@ impl<T: Ord + Clone + Drop, Node: NodeLike<T>> BTreeSet<T, Node> {
         }
     }
 
-    // Inserts an item where it goes: `next` is the number of the next event after it. A failed call
+    // Inserts an item at its aim, and sets the number of the next event to `next`. A failed call
     // returns the item in the error and changes nothing.
     fn carry_out(
         &mut self,
@@ -256,7 +288,7 @@ impl<T: Ord + Clone + Drop, Node: NodeLike<T>> BTreeSet<T, Node> {
         }
     }
 
-    // Returns where an item goes, in a tree with nodes.
+    // Returns where to insert an item, in a tree with nodes.
     fn aim_in_target(&self, value: &T) -> InsertPlan
         requires { 1 ≤ length self.now.nodes }
         ensures { IsInsertPlan T.cmp self.now.size self.now.nodes value.now result }
@@ -276,7 +308,7 @@ impl<T: Ord + Clone + Drop, Node: NodeLike<T>> BTreeSet<T, Node> {
         }
     }
 
-    // Returns the events of a put where the item goes.
+    // Returns the events of a put into a tree with nodes.
     fn target_log(&self, aim: &InsertPlan, value: &T) -> Result<Vec<ChangeEvent<T>>, Refusal>
         requires aim { IsInsertPlan T.cmp self.now.size self.now.nodes value.now aim.now }
         requires fits { self.now.next + count_for (Some aim.now) ≤ u64.MAX }
@@ -296,7 +328,8 @@ impl<T: Ord + Clone + Drop, Node: NodeLike<T>> BTreeSet<T, Node> {
         Ok(log.events)
     }
 
-    // Inserts an item where it goes. A failed call returns it in the error and changes nothing.
+    // Inserts an item into a tree with nodes. A failed call returns it in the error and changes
+    // nothing.
     fn put_in_target(
         &mut self,
         aim: InsertPlan,
@@ -354,7 +387,7 @@ impl<T: Ord + Clone + Drop, Node: NodeLike<T>> BTreeSet<T, Node> {
         }
     }
 
-    // Returns the event of the first item.
+    // Returns the event of the first item's insertion.
     #[tactic(auto, unfolding(indexset_events::specs::Table::put_events))]
     fn first_log(&self, value: &T) -> Result<Vec<ChangeEvent<T>>, Refusal>
         requires none { self.now.nodes ≡ [] }

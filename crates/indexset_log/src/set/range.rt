@@ -25,7 +25,7 @@ use std::iter::FusedIterator;
 use std::marker::Model;
 use std::ops::Bound;
 
-/// The remaining items of a part of a set, from both ends.
+/// A double-ended iterator over a range of the items of a set.
 #[derive(Drop)]
 pub struct Range<'a, T: Ord + Clone + Drop, Node: NodeLike<T> = Vec<T>> {
     pub(crate) rest: Iter<'a, T, Node>,
@@ -40,7 +40,10 @@ impl<'a, T: Ord + Clone + Drop, Node: NodeLike<T>> Model for Range<'a, T, Node> 
 }
 
 impl<'a, T: Ord + Clone + Drop, Node: NodeLike<T>> Range<'a, T, Node> {
-    /// Returns the items of a set that satisfy both bounds, as the set's `range` has them.
+    /// Returns a double-ended iterator over the items of a set within the range, in order.
+    ///
+    /// It is that of the set's `range`. The start must not be past the end, nor equal to it if both
+    /// are excluded: see `base::key_range::bounds_are_ordered`.
     ///
     /// ```
     /// let tree: set::BTreeSet<u64, Vec<u64>> = set::BTreeSet::from_iter(alloc, [5, 10, 15])?;
@@ -94,9 +97,10 @@ impl<'a, T: Ord + Clone + Drop, Node: NodeLike<T>> ExactSizeIterator for Range<'
 impl<'a, T: Ord + Clone + Drop, Node: NodeLike<T>> FusedIterator for Range<'a, T, Node> {}
 
 impl<T: Ord + Clone + Drop, Node: NodeLike<T>> BTreeSet<T, Node> {
-    /// Returns a double-ended iterator over the items within the range, in order. The start must
-    /// not be past the end, nor at it where both are excluded (see
-    /// `base::key_range::bounds_are_ordered`).
+    /// Returns a double-ended iterator over the items within the range, in order.
+    ///
+    /// The start must not be past the end, nor equal to it if both are excluded: see
+    /// `base::key_range::bounds_are_ordered`.
     ///
     /// ```
     /// let mut tree: set::BTreeSet<u64, Vec<u64>> = set::BTreeSet::new(alloc);
@@ -129,10 +133,10 @@ impl<T: Ord + Clone + Drop, Node: NodeLike<T>> BTreeSet<T, Node> {
         self.range_between(from, to)
     }
 
-    /// Returns a double-ended iterator over the items from one place to before another, in order. A
-    /// place is a node and an offset in it of at most its length, as `locate_by` returns it; where
-    /// there is no node it is (0, 0). No fewer items may stand before the second place. The index
-    /// counts the items between the two, so that the iterator knows its length.
+    /// Returns a double-ended iterator over the items from one place to before another, in order.
+    ///
+    /// A place is a node and an offset of at most its length, as `locate_by` returns it; in an
+    /// empty tree it is (0, 0). The second place must not be before the first.
     ///
     /// ```
     /// let tree: set::BTreeSet<u64, Vec<u64>> = set::BTreeSet::from_iter(alloc, [5, 10, 15])?;
@@ -153,8 +157,7 @@ impl<T: Ord + Clone + Drop, Node: NodeLike<T>> BTreeSet<T, Node> {
         }
     }
 
-    // Returns how many items stand between two places: the index is asked where they are of two
-    // nodes.
+    // Returns the number of items between two places, from the index if they are in two nodes.
     fn count_between(&self, from: (usize, usize), to: (usize, usize)) -> usize
         requires from { IsPlace self.now.nodes from }
         requires to { IsPlace self.now.nodes to }
@@ -168,14 +171,21 @@ impl<T: Ord + Clone + Drop, Node: NodeLike<T>> BTreeSet<T, Node> {
         }
     }
 
-    /// Returns the place after the items before the start, by two binary searches, or none where it
-    /// is unbounded. Its probe must find the items in order.
+    /// Returns the place after the items before the start, a bound given by a comparator.
+    ///
+    /// The comparator must find the items in order.
+    ///
+    /// # Examples
     ///
     /// ```
     /// # use indexset::base::probe::ByItem;
     /// let tree: set::BTreeSet<u64, Vec<u64>> = set::BTreeSet::from_iter(alloc, [5, 10, 15])?;
     /// assert!(rt; tree.place_from(Bound::Excluded(ByItem::new(&5))) == (0, 1));
     /// ```
+    ///
+    /// # Complexity
+    ///
+    /// Makes two binary searches, and none if the start is unbounded.
     pub fn place_from<P: Probe<T> + Drop>(&self, start: Bound<P>) -> (usize, usize)
         requires { IfBounded (λ p. IsParted (P.answer p) (concat self.now.nodes)) start }
         ensures place { IsPlace self.now.nodes result }
@@ -185,14 +195,21 @@ impl<T: Ord + Clone + Drop, Node: NodeLike<T>> BTreeSet<T, Node> {
         place_from::<T, Node, OfNode, P>(self.nodes.as_slice(), start)
     }
 
-    /// Returns the place after the items that are not past the end, by two binary searches, or none
-    /// where it is unbounded. Its probe must find the items in order.
+    /// Returns the place after the items that are not past the end, a bound given by a comparator.
+    ///
+    /// The comparator must find the items in order.
+    ///
+    /// # Examples
     ///
     /// ```
     /// # use indexset::base::probe::ByItem;
     /// let tree: set::BTreeSet<u64, Vec<u64>> = set::BTreeSet::from_iter(alloc, [5, 10, 15])?;
     /// assert!(rt; tree.place_to(Bound::Included(ByItem::new(&10))) == (0, 2));
     /// ```
+    ///
+    /// # Complexity
+    ///
+    /// Makes two binary searches, and none if the end is unbounded.
     pub fn place_to<P: Probe<T> + Drop>(&self, end: Bound<P>) -> (usize, usize)
         requires { IfBounded (λ p. IsParted (P.answer p) (concat self.now.nodes)) end }
         ensures place { IsPlace self.now.nodes result }
@@ -202,16 +219,22 @@ impl<T: Ord + Clone + Drop, Node: NodeLike<T>> BTreeSet<T, Node> {
         place_to::<T, Node, OfNode, P>(self.nodes.as_slice(), end)
     }
 
-    /// Returns the places before and after the items that the comparator finds Equal, which must
-    /// find the items in order: two binary searches for the first, and from there steps that
-    /// double, so that `n` such items cost few comparisons more than one. Where there is none, both
-    /// places are where one would go.
+    /// Returns the places before and after the items that the comparator finds Equal.
+    ///
+    /// If there are none, both are the place where such an item would be inserted. The comparator
+    /// must find the items in order.
+    ///
+    /// # Examples
     ///
     /// ```
     /// # use indexset::base::probe::ByItem;
     /// let tree: set::BTreeSet<u64, Vec<u64>> = set::BTreeSet::from_iter(alloc, [5, 10, 15])?;
     /// assert!(rt; tree.places_by(&mut ByItem::new(&10)) == ((0, 1), (0, 2)));
     /// ```
+    ///
+    /// # Complexity
+    ///
+    /// Makes two binary searches for the first such item, then an exponential search for the last.
     pub fn places_by<P: Probe<T>>(&self, probe: &mut P) -> ((usize, usize), (usize, usize))
         requires { IsParted (P.answer probe.old) (concat self.now.nodes) }
         ensures from { IsPlace self.now.nodes result.0 }
@@ -238,8 +261,7 @@ impl<T: Ord + Clone + Drop, Node: NodeLike<T>> BTreeSet<T, Node> {
         }
     }
 
-    // Returns the place after the items that are not found Greater, where the one at a place is
-    // not.
+    // Returns the place after the items that are not found Greater, if the item at a place is not.
     fn end_from<P: Probe<T>>(&self, node: usize, offset: usize, probe: &mut P) -> (usize, usize)
         requires parted { IsParted (P.answer probe.old) (concat self.now.nodes) }
         requires node { node < length self.now.nodes }
@@ -266,14 +288,21 @@ impl<T: Ord + Clone + Drop, Node: NodeLike<T>> BTreeSet<T, Node> {
         (last, run_end(self.nodes[last].iter().as_slice(), 1, probe))
     }
 
-    /// Returns the place of the item that stands so many items after a place, by the lengths of the
-    /// nodes between: it makes no comparison. There must be such an item.
+    /// Returns the place of the item `count` items after a place.
+    ///
+    /// There must be such an item. It reads the lengths of the nodes between.
+    ///
+    /// # Examples
     ///
     /// ```
     /// let nodes = vec![in alloc; vec![in alloc; 5, 10]?, vec![in alloc; 15]?]?;
     /// let tree: set::BTreeSet<u64, Vec<u64>> = set::BTreeSet::from_nodes(nodes, 64, 0)?;
     /// assert!(rt; tree.place_ahead((0, 0), 2) == (1, 0));
     /// ```
+    ///
+    /// # Complexity
+    ///
+    /// Makes no comparison.
     pub fn place_ahead(&self, place: (usize, usize), count: usize) -> (usize, usize)
         requires place { IsPlace self.now.nodes place }
         requires within { items_before self.now.nodes place + count

@@ -64,8 +64,8 @@ impl<T: Ord + Clone + Drop, Node: NodeLike<T>> BTreeSet<T, Node> {
         })
     }
 
-    // Returns the event of the node at `left` and the one after it that are merged once the item at
-    // a place is gone.
+    // Returns the event that merges the node at `left` with the next one, after the removal of the
+    // item at a place.
     fn merge_event(
         &self,
         left: usize,
@@ -88,7 +88,8 @@ impl<T: Ord + Clone + Drop, Node: NodeLike<T>> BTreeSet<T, Node> {
         })
     }
 
-    // Returns the last item of a node once the item at a place, in a node of two or more, is gone.
+    // Returns the last item of a node after the removal of the item at a place, from a node of two
+    // or more items.
     fn last_without(&self, place: usize, node: usize, offset: usize) -> &T
         requires place { place < length self.now.nodes }
         requires node { node < length self.now.nodes }
@@ -106,7 +107,7 @@ impl<T: Ord + Clone + Drop, Node: NodeLike<T>> BTreeSet<T, Node> {
     }
 }
 
-// Returns the last of the other items.
+// Returns the last item but the one at `index`.
 fn last_but<T>(items: &[T], index: usize) -> &T
     requires index { index < length items.now }
     requires two { 2 ≤ length items.now }

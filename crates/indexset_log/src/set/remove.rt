@@ -18,9 +18,11 @@ use indexset_core::refusal::Refusal;
 use indexset_events::change::ChangeEvent;
 
 impl<T: Ord + Clone + Drop, Node: NodeLike<T>> BTreeSet<T, Node> {
-    /// Removes the equal item, if any, and returns it with the events. A node that is left small is
-    /// merged with a small neighbour. Fails with `Numbers` where the events do not fit the counter,
-    /// else with `Memory`. A failed call changes nothing.
+    /// Removes the equal item and returns it, if any, with the events.
+    ///
+    /// Its node is merged with a neighbour if the two then hold at most half the node size.
+    ///
+    /// # Examples
     ///
     /// ```
     /// let mut tree: set::BTreeSet<u64, Vec<u64>> = set::BTreeSet::new(alloc);
@@ -28,6 +30,11 @@ impl<T: Ord + Clone + Drop, Node: NodeLike<T>> BTreeSet<T, Node> {
     /// let (removed, events) = tree.remove_cdc(&5)?;
     /// assert!(rt; removed == Some(5) && events.len() == 1);
     /// ```
+    ///
+    /// # Errors
+    ///
+    /// Fails with `Numbers` if the events do not fit the counter, else with `Memory`. A failed call
+    /// changes nothing.
     pub fn remove_cdc<Q: UniqueKey<T> + Drop>(
         &mut self,
         value: Q,
@@ -48,14 +55,22 @@ impl<T: Ord + Clone + Drop, Node: NodeLike<T>> BTreeSet<T, Node> {
         self.remove_from_cdc(place)
     }
 
-    /// Removes the item at a place, and returns it with the events. A node that is left small is
-    /// merged with a small neighbour. Fails as `remove_cdc` does, and then changes nothing.
+    /// Removes the item at a place and returns it with the events.
+    ///
+    /// Its node is merged with a neighbour if the two then hold at most half the node size.
+    ///
+    /// # Examples
     ///
     /// ```
     /// let mut tree: set::BTreeSet<u64, Vec<u64>> = set::BTreeSet::from_iter(alloc, [5, 10, 15])?;
     /// let (removed, events) = tree.remove_at_cdc(0, 1)?;
     /// assert!(rt; removed == 10 && events.len() == 1);
     /// ```
+    ///
+    /// # Errors
+    ///
+    /// Fails with `Numbers` if the events do not fit the counter, else with `Memory`. A failed call
+    /// changes nothing.
     pub fn remove_at_cdc(
         &mut self,
         node: usize,
@@ -80,15 +95,22 @@ impl<T: Ord + Clone + Drop, Node: NodeLike<T>> BTreeSet<T, Node> {
         Ok((item, events))
     }
 
-    /// Removes the equal item, if any, and returns it. It consumes as many event numbers as
-    /// `remove_cdc`, and fails with `Numbers` where they do not fit. It allocates only where it
-    /// merges two nodes of a type that allocates, and else does not fail with `Memory`. A failed
-    /// call changes nothing.
+    /// Removes the equal item and returns it, if any.
+    ///
+    /// It consumes as many event numbers as `remove_cdc`, and allocates only if it merges two nodes
+    /// of a type that allocates.
+    ///
+    /// # Examples
     ///
     /// ```
     /// let mut tree: set::BTreeSet<u64, Vec<u64>> = set::BTreeSet::from_iter(alloc, [5, 10, 15])?;
     /// assert!(rt; tree.remove(&10)? == Some(10) && tree.remove(&10)?.is_none());
     /// ```
+    ///
+    /// # Errors
+    ///
+    /// Fails with `Numbers` if the event numbers do not fit the counter, else with `Memory`, only
+    /// if it allocates. A failed call changes nothing.
     pub fn remove<Q: UniqueKey<T> + Drop>(&mut self, value: Q) -> Result<Option<T>, Refusal>
         ensures answer { IfOk result (λ item.
             item ≡ equal_element Q.order (concat self.old.nodes) value) }
@@ -108,15 +130,22 @@ impl<T: Ord + Clone + Drop, Node: NodeLike<T>> BTreeSet<T, Node> {
         self.remove_from(place)
     }
 
-    /// Removes the item at a place, and returns it. It consumes as many event numbers as
-    /// `remove_at_cdc`, and fails with `Numbers` where they do not fit. It allocates only where it
-    /// merges two nodes of a type that allocates, and else does not fail with `Memory`. A failed
-    /// call changes nothing.
+    /// Removes the item at a place and returns it.
+    ///
+    /// It consumes as many event numbers as `remove_at_cdc`, and allocates only if it merges two
+    /// nodes of a type that allocates.
+    ///
+    /// # Examples
     ///
     /// ```
     /// let mut tree: set::BTreeSet<u64, Vec<u64>> = set::BTreeSet::from_iter(alloc, [5, 10, 15])?;
     /// assert!(rt; tree.remove_at(0, 1)? == 10);
     /// ```
+    ///
+    /// # Errors
+    ///
+    /// Fails with `Numbers` if the event numbers do not fit the counter, else with `Memory`, only
+    /// if it allocates. A failed call changes nothing.
     pub fn remove_at(&mut self, node: usize, offset: usize) -> Result<T, Refusal>
         requires node { node < length self.old.nodes }
         requires offset { offset < length (node_at self.old.nodes node) }
@@ -138,8 +167,9 @@ impl<T: Ord + Clone + Drop, Node: NodeLike<T>> BTreeSet<T, Node> {
         self.take(node, offset, join)
     }
 
-    /// Returns why a removal of the item at a place would be refused: with `Numbers` where too few
-    /// are left for its events, else with `Memory`.
+    /// Returns the error that a failed removal of the item at a place would return.
+    ///
+    /// That is `Numbers` if its event numbers do not fit the counter, else `Memory`.
     ///
     /// ```
     /// // A removal needs a number for its event, and none is left.
@@ -154,7 +184,7 @@ impl<T: Ord + Clone + Drop, Node: NodeLike<T>> BTreeSet<T, Node> {
         ensures { result ≡ refusal_for self.now.next
             (place_removal_count self.now.size self.now.nodes node offset) }
     {
-        // The offset is that of an item of the node, which decides nothing here.
+        // The offset is that of an item of the node; the result does not depend on it.
         let _offset = offset;
         match self.check_removal(self.merge_after(node)) {
             Ok(()) => Refusal::Memory,
@@ -179,7 +209,7 @@ impl<T: Ord + Clone + Drop, Node: NodeLike<T>> BTreeSet<T, Node> {
         ensures no_event { events_from self.old place ≡ [] → IsOk result }
         ensures unchanged { OnErr result (self.new ≡ self.old) }
     {
-        // The counter fits a u64, so a call without events lacks no number.
+        // The counter fits a u64, so a call without events does not overflow it.
         let _next = self.next;
         match place {
             Some((node, offset)) => {
@@ -209,7 +239,7 @@ impl<T: Ord + Clone + Drop, Node: NodeLike<T>> BTreeSet<T, Node> {
             ≤ u64.MAX → IsOk result }
         ensures unchanged { OnErr result (self.new ≡ self.old) }
     {
-        // The counter fits a u64, so a call without events lacks no number.
+        // The counter fits a u64, so a call without events does not overflow it.
         let _next = self.next;
         match place {
             Some((node, offset)) => Ok(Some(self.remove_at(node, offset)?)),
@@ -217,8 +247,7 @@ impl<T: Ord + Clone + Drop, Node: NodeLike<T>> BTreeSet<T, Node> {
         }
     }
 
-    // Returns the first of the two nodes that are merged once a node has lost an item, whichever it
-    // is.
+    // Returns the first of the two nodes to merge after the removal of any item of a node, if any.
     fn merge_after(&self, node: usize) -> Option<usize>
         requires { node < length self.now.nodes }
         ensures join { (i : ℕ) → i < length (node_at self.now.nodes node)
@@ -238,8 +267,8 @@ impl<T: Ord + Clone + Drop, Node: NodeLike<T>> BTreeSet<T, Node> {
         None
     }
 
-    // Returns whether the node at `left` and the one after it are few items together, once a node
-    // has lost one.
+    // Returns whether the node at `left` and the next one are small together, after the removal of
+    // an item of a node.
     fn are_small(&self, left: usize, node: usize) -> bool
         requires left { left < length self.now.nodes }
         requires node { node < length self.now.nodes }
@@ -256,7 +285,7 @@ impl<T: Ord + Clone + Drop, Node: NodeLike<T>> BTreeSet<T, Node> {
             )
     }
 
-    // Returns the length of the node at a place, once a node has lost an item.
+    // Returns the length of the node at a place, after the removal of an item of a node.
     fn length_without(&self, place: usize, node: usize) -> usize
         requires place { place < length self.now.nodes }
         requires node { node < length self.now.nodes }
@@ -268,7 +297,7 @@ impl<T: Ord + Clone + Drop, Node: NodeLike<T>> BTreeSet<T, Node> {
         if place == node { length - 1 } else { length }
     }
 
-    // Returns whether there are numbers for the events of a removal.
+    // Returns whether the event numbers of a removal fit the counter.
     fn check_removal(&self, join: Option<usize>) -> Result<(), Refusal>
         ensures fits { OnOk result (self.now.next + count_with join ≤ u64.MAX) }
         ensures memory { OnOk result (refusal_for self.now.next (count_with join)
@@ -282,7 +311,8 @@ impl<T: Ord + Clone + Drop, Node: NodeLike<T>> BTreeSet<T, Node> {
         Ok(())
     }
 
-    // Removes the item at a place, and merges the nodes named. A failed call changes nothing.
+    // Removes the item at a place, and merges the node at `join`, if given, with the next one. A
+    // failed call changes nothing.
     fn take(&mut self, node: usize, offset: usize, join: Option<usize>) -> Result<T, Refusal>
         requires node { node < length self.old.nodes }
         requires offset { offset < length (node_at self.old.nodes node) }
@@ -302,8 +332,8 @@ impl<T: Ord + Clone + Drop, Node: NodeLike<T>> BTreeSet<T, Node> {
         }
     }
 
-    // Removes the item at a place, and merges the node at `left` with the one after it. A failed
-    // call changes nothing.
+    // Removes the item at a place, and merges the node at `left` with the next one. A failed call
+    // changes nothing.
     fn take_joining(&mut self, node: usize, offset: usize, left: usize) -> Result<T, Refusal>
         requires node { node < length self.old.nodes }
         requires offset { offset < length (node_at self.old.nodes node) }
@@ -322,7 +352,7 @@ impl<T: Ord + Clone + Drop, Node: NodeLike<T>> BTreeSet<T, Node> {
         Ok(item)
     }
 
-    // Removes the item at a place, and a node that it leaves empty.
+    // Removes the item at a place, and the node if this empties it.
     fn remove_item(&mut self, node: usize, offset: usize) -> T
         requires node { node < length self.old.nodes }
         requires offset { offset < length (node_at self.old.nodes node) }
@@ -337,7 +367,7 @@ impl<T: Ord + Clone + Drop, Node: NodeLike<T>> BTreeSet<T, Node> {
     }
 }
 
-// Returns how many events a removal gives.
+// Returns the number of events of a removal.
 fn removal_count(join: Option<usize>) -> u64
     ensures { result ≡ count_with join }
 {

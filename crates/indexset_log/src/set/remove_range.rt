@@ -12,9 +12,10 @@ use indexset_core::lookup_key::LookupKey;
 use std::ops::Bound;
 
 impl<T: Ord + Clone + Drop> BTreeSet<T, Vec<T>> {
-    /// Removes the items that satisfy both bounds. An emptied node is removed. No nodes are merged,
-    /// no event is emitted, no event number is consumed and nothing is allocated. None where the
-    /// start is past the end.
+    /// Removes the items within the range, and the nodes that this empties.
+    ///
+    /// It removes nothing if the start is past the end. It merges no nodes, emits no event,
+    /// consumes no event number and allocates nothing.
     ///
     /// ```
     /// let mut tree: set::BTreeSet<u64, Vec<u64>> = set::BTreeSet::from_iter(alloc, [5, 10, 15])?;
@@ -32,14 +33,14 @@ impl<T: Ord + Clone + Drop> BTreeSet<T, Vec<T>> {
         let bounds = (range.start_bound(), range.end_bound());
         self.len = remove_within(self.nodes.as_mut_slice(), bounds);
         self.nodes.retain(|node| !node.is_empty());
-        // There is room for as many lengths as there were, and their sum fits.
+        // The index has room for as many lengths as before, and their sum fits a usize.
         let _count = self.index.len();
         self.index
             .rebuild::<T, Vec<T>, OfVec>(self.nodes.as_slice());
     }
 }
 
-// Removes the items that satisfy both bounds from each node, and returns how many remain.
+// Removes the items within the bounds from each node, and returns how many remain.
 fn remove_within<T: Ord + Drop, Q: LookupKey<T>>(
     nodes: &mut [Vec<T>],
     range: (Bound<&Q>, Bound<&Q>),
@@ -58,7 +59,7 @@ fn remove_within<T: Ord + Drop, Q: LookupKey<T>>(
     left
 }
 
-// Returns whether an item satisfies both bounds.
+// Returns whether an item is within the bounds.
 fn is_within<T: Ord, Q: LookupKey<T>>(item: &T, range: (Bound<&Q>, Bound<&Q>)) -> bool
     ensures { result ≡ is_within Q.order (bound_map (λ v. v.now) range.entry.0)
         (bound_map (λ v. v.now) range.entry.1) item.now }

@@ -1,4 +1,4 @@
-//! The texts of a logged set.
+//! The text forms of a logged set.
 
 use super::BTreeSet;
 use indexset_core::node::NodeLike;
@@ -11,7 +11,9 @@ impl<T: Ord + Clone + Drop + fmt::Debug, Node: NodeLike<T>> fmt::Debug for BTree
     }
 }
 
-/// The nodes with their items, as in `[0, 2] [4, 5]`; nothing where there is none.
+/// Formats the nodes with their items, as in `[0, 2] [4, 5]`.
+///
+/// An empty set has the empty text.
 ///
 /// ```
 /// let mut tree: set::BTreeSet<u64, Vec<u64>> = set::BTreeSet::with_maximum_node_size(alloc, 2);

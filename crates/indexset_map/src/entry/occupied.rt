@@ -1,4 +1,4 @@
-//! The entry of a key that is present: its pair, its value's changes, its removal.
+//! The entry of a present key: reads, writes and removes its pair.
 ghost use Rattle.std.specs.Prelude.{◌≡◌, Some};
 ghost use Rattle.std.specs.Borrow.{sem};
 
@@ -72,7 +72,7 @@ impl<'a, K: Ord, V> OccupiedEntry<'a, K, V> {
         self.map.value_in(spot)
     }
 
-    /// Returns a mutable reference to the value that lives as long as the borrow of the map.
+    /// Returns a mutable reference to the value, with the lifetime of the map's borrow.
     ///
     /// ```
     /// let mut stock = BTreeMap::from_iter(alloc, [("fig", 5), ("pear", 2)])?;

@@ -24,7 +24,7 @@ impl<'a, K: Ord, V> VacantEntry<'a, K, V> {
         &self.key
     }
 
-    /// Returns the key, and changes nothing.
+    /// Returns the key and changes nothing.
     ///
     /// ```
     /// # use indexset::Entry;
@@ -45,8 +45,9 @@ impl<'a, K: Ord, V> VacantEntry<'a, K, V> {
 impl<'a, K: Ord + Drop, V: Drop> VacantEntry<'a, K, V> {
     ghost use Rattle.indexset_map.specs.Entry.{Vacant, entry_lends_ok, missing_key};
 
-    /// Inserts the key with a value, and returns a mutable reference to the value. Fails with
-    /// `Memory`: a failed call returns both in the error and changes nothing.
+    /// Inserts the key with a value, and returns a mutable reference to the value.
+    ///
+    /// # Examples
     ///
     /// ```
     /// # use indexset::Entry;
@@ -56,6 +57,11 @@ impl<'a, K: Ord + Drop, V: Drop> VacantEntry<'a, K, V> {
     /// }
     /// assert_eq!(rt; stock.get(&"plum"), Some(&2));
     /// ```
+    ///
+    /// # Errors
+    ///
+    /// Fails with `Memory`. A failed call returns the key and the value in the error and changes
+    /// nothing.
     pub fn insert(self, value: V) -> Result<&'a mut V, Refused<(K, V)>>
         ensures* writes_back { sem 𝓛 (entry_lends_ok K.row V.row (Vacant self.entry) result) }
         ensures value { IfOk result (λ r. r.now ≡ value) }

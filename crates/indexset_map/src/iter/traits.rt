@@ -1,4 +1,4 @@
-//! Clones of the iterators over a map, and their texts: the items that remain.
+//! `Clone` and `Debug` of the iterators over a map.
 ghost use Rattle.std.specs.Prelude.{◌≡◌, ⊤};
 
 use super::{IterMap, Keys, Values};
@@ -38,21 +38,21 @@ impl<'a, K, V> Clone for Values<'a, K, V> {
     }
 }
 
-/// The remaining pairs.
+/// Formats the remaining pairs.
 impl<'a, K: fmt::Debug, V: fmt::Debug> fmt::Debug for IterMap<'a, K, V> {
     fn fmt<W: fmt::Write>(&self, f: &mut fmt::Formatter<W>) -> fmt::Result {
         f.debug_list().entries(self.clone().unwrap()).finish()
     }
 }
 
-/// The remaining keys.
+/// Formats the remaining keys.
 impl<'a, K: fmt::Debug, V> fmt::Debug for Keys<'a, K, V> {
     fn fmt<W: fmt::Write>(&self, f: &mut fmt::Formatter<W>) -> fmt::Result {
         f.debug_list().entries(self.clone().unwrap()).finish()
     }
 }
 
-/// The remaining values.
+/// Formats the remaining values.
 impl<'a, K, V: fmt::Debug> fmt::Debug for Values<'a, K, V> {
     fn fmt<W: fmt::Write>(&self, f: &mut fmt::Formatter<W>) -> fmt::Result {
         f.debug_list().entries(self.clone().unwrap()).finish()

@@ -13,11 +13,12 @@ impl<K: Ord + Clone + Drop, V: Eq + Clone + Drop, Node: NodeLike<MultiPair<K, V>
     V,
     Node,
 > {
-    /// Inserts a whole node of pairs in its place among the others. It emits no event and consumes
-    /// no event number; where the number of the next new pair is not above those of the node's
-    /// pairs, it is raised to the one after the greatest of them. A node with a pair that has the
-    /// greatest number fails with `PairNumber`, before all reasons of the set's `attach_node`. A
-    /// failed call returns the node in the error and changes nothing.
+    /// Inserts a node of pairs among the other nodes.
+    ///
+    /// It emits no event and consumes no event number. The number of the next new pair is raised
+    /// above the numbers of the node's pairs, if it is not already.
+    ///
+    /// # Examples
     ///
     /// ```
     /// let mut tags: multimap::BTreeMultiMap<u64, u64, Vec<MultiPair<u64, u64>>> = multimap::BTreeMultiMap::new(alloc);
@@ -27,6 +28,12 @@ impl<K: Ord + Clone + Drop, V: Eq + Clone + Drop, Node: NodeLike<MultiPair<K, V>
     /// tags.attach_multi_node(vec![in alloc; MultiPair::new(5, 100, 7)]?)?;
     /// assert!(rt; tags.node_count() == 2 && tags.last_key_value() == Some((&5, &100)));
     /// ```
+    ///
+    /// # Errors
+    ///
+    /// Fails with `PairNumber` if a pair has the number `u64::MAX`; else as the set's
+    /// `attach_node`, with `Empty`, `TooLarge`, `Unsorted` or `Overlaps`; else with `Memory`. A
+    /// failed call returns the node in the error and changes nothing.
     pub fn attach_multi_node(&mut self, node: Node) -> Result<(), Refused<Node>>
         ensures attached { OnOk result (IsAttached K.cmp self.old self.new (Node.list node)) }
         ensures good { IsOk result → pairs_refusal K.cmp self.old (Node.list node) ≡ None }
@@ -47,7 +54,7 @@ impl<K: Ord + Clone + Drop, V: Eq + Clone + Drop, Node: NodeLike<MultiPair<K, V>
     }
 }
 
-// Returns the least number above those of all pairs, if there is one.
+// Returns the least number above those of all pairs, if any.
 pub(super) fn free_number<K, V>(pairs: &[MultiPair<K, V>]) -> Option<u64>
     ensures { MatchOption result (has_greatest pairs.now ≡ true)
         (λ free. (has_greatest pairs.now ≡ false) × (free ≡ free_number pairs.now)) }

@@ -18,7 +18,9 @@ impl<K: Ord + Clone + Drop, V: Eq + Clone + Drop, Node: NodeLike<MultiPair<K, V>
     V,
     Node,
 > {
-    /// Returns the first key, the least, and the value of its first pair, if any, in constant time.
+    /// Returns the first key, which is the least, and the value of its first pair, if any.
+    ///
+    /// # Examples
     ///
     /// ```
     /// let mut tags: multimap::BTreeMultiMap<u64, u64, Vec<MultiPair<u64, u64>>> = multimap::BTreeMultiMap::new(alloc);
@@ -27,6 +29,10 @@ impl<K: Ord + Clone + Drop, V: Eq + Clone + Drop, Node: NodeLike<MultiPair<K, V>
     /// }
     /// assert!(rt; tags.first_key_value() == Some((&1, &100)));
     /// ```
+    ///
+    /// # Complexity
+    ///
+    /// Takes constant time.
     pub fn first_key_value(&self) -> Option<(&K, &V)>
         ensures pair { option_map (λ p. (p.0.now, p.1.now)) result
             ≡ option_map key_and_value (slice_get (concat self.now.nodes) 0) }
@@ -38,8 +44,9 @@ impl<K: Ord + Clone + Drop, V: Eq + Clone + Drop, Node: NodeLike<MultiPair<K, V>
         Some((&pair.key, &pair.value))
     }
 
-    /// Returns the last key, the greatest, and the value of its last pair, if any, in constant
-    /// time.
+    /// Returns the last key, which is the greatest, and the value of its last pair, if any.
+    ///
+    /// # Examples
     ///
     /// ```
     /// let mut tags: multimap::BTreeMultiMap<u64, u64, Vec<MultiPair<u64, u64>>> = multimap::BTreeMultiMap::new(alloc);
@@ -49,6 +56,10 @@ impl<K: Ord + Clone + Drop, V: Eq + Clone + Drop, Node: NodeLike<MultiPair<K, V>
     /// assert!(rt; tags.first_key_value() == Some((&1, &100)));
     /// assert!(rt; tags.last_key_value() == Some((&2, &101)));
     /// ```
+    ///
+    /// # Complexity
+    ///
+    /// Takes constant time.
     pub fn last_key_value(&self) -> Option<(&K, &V)>
         ensures pair { option_map (λ p. (p.0.now, p.1.now)) result
             ≡ option_map key_and_value (slice_get (concat self.now.nodes)
@@ -61,10 +72,11 @@ impl<K: Ord + Clone + Drop, V: Eq + Clone + Drop, Node: NodeLike<MultiPair<K, V>
         Some((&pair.key, &pair.value))
     }
 
-    /// Removes the first pair of the least key, if any, and returns it with the events, which are
-    /// those of `remove_some_cdc` of that key. It makes no comparison. A node that is left small is
-    /// merged with a small neighbour. Fails with `Numbers` where the events do not fit the counter,
-    /// else with `Memory`. A failed call changes nothing.
+    /// Removes the first pair of the least key and returns it, if any, with the events.
+    ///
+    /// The events are those of `remove_some_cdc` of that key.
+    ///
+    /// # Examples
     ///
     /// ```
     /// let mut tags: multimap::BTreeMultiMap<u64, u64, Vec<MultiPair<u64, u64>>> = multimap::BTreeMultiMap::new(alloc);
@@ -74,6 +86,15 @@ impl<K: Ord + Clone + Drop, V: Eq + Clone + Drop, Node: NodeLike<MultiPair<K, V>
     /// let (removed, events) = tags.pop_first_cdc()?;
     /// assert!(rt; removed == Some((1, 100)) && events.len() == 1);
     /// ```
+    ///
+    /// # Errors
+    ///
+    /// Fails with `Numbers` if the events do not fit the counter, else with `Memory`. A failed call
+    /// changes nothing.
+    ///
+    /// # Complexity
+    ///
+    /// Makes no comparison.
     pub fn pop_first_cdc(
         &mut self,
     ) -> Result<(Option<(K, V)>, Vec<ChangeEvent<MultiPair<K, V>>>), Refusal>
@@ -92,10 +113,12 @@ impl<K: Ord + Clone + Drop, V: Eq + Clone + Drop, Node: NodeLike<MultiPair<K, V>
         Ok((entry_of(pair), events))
     }
 
-    /// Removes the first pair of the least key, if any, and returns it, without a comparison. It
-    /// consumes as many event numbers as `pop_first_cdc`, and fails with `Numbers` where they do
-    /// not fit. It allocates only where it merges two nodes of a type that allocates, and else does
-    /// not fail with `Memory`. A failed call changes nothing.
+    /// Removes the first pair of the least key and returns it, if any.
+    ///
+    /// It consumes as many event numbers as `pop_first_cdc`, and allocates only if it merges two
+    /// nodes of a type that allocates.
+    ///
+    /// # Examples
     ///
     /// ```
     /// let mut tags: multimap::BTreeMultiMap<u64, u64, Vec<MultiPair<u64, u64>>> = multimap::BTreeMultiMap::new(alloc);
@@ -104,6 +127,15 @@ impl<K: Ord + Clone + Drop, V: Eq + Clone + Drop, Node: NodeLike<MultiPair<K, V>
     /// }
     /// assert!(rt; tags.pop_first()? == Some((1, 100)) && tags.pop_first()? == Some((1, 101)));
     /// ```
+    ///
+    /// # Errors
+    ///
+    /// Fails with `Numbers` if the event numbers do not fit the counter, else with `Memory`, only
+    /// if it allocates. A failed call changes nothing.
+    ///
+    /// # Complexity
+    ///
+    /// Makes no comparison.
     pub fn pop_first(&mut self) -> Result<Option<(K, V)>, Refusal>
         ensures answer { IfOk result (λ entry.
             entry ≡ option_map key_and_value (slice_get (concat self.old.nodes) 0)) }
@@ -122,9 +154,11 @@ impl<K: Ord + Clone + Drop, V: Eq + Clone + Drop, Node: NodeLike<MultiPair<K, V>
         Ok(entry_of(pair))
     }
 
-    /// Removes the last pair of the greatest key, if any, and returns it with the events. It makes
-    /// no comparison. A node that is left small is merged with a small neighbour. Fails as
-    /// `pop_first_cdc` does, and then changes nothing.
+    /// Removes the last pair of the greatest key and returns it, if any, with the events.
+    ///
+    /// Its node is merged with a neighbour if the two then hold at most half the node size.
+    ///
+    /// # Examples
     ///
     /// ```
     /// let mut tags: multimap::BTreeMultiMap<u64, u64, Vec<MultiPair<u64, u64>>> = multimap::BTreeMultiMap::new(alloc);
@@ -134,6 +168,15 @@ impl<K: Ord + Clone + Drop, V: Eq + Clone + Drop, Node: NodeLike<MultiPair<K, V>
     /// let (removed, events) = tags.pop_last_cdc()?;
     /// assert!(rt; removed == Some((2, 100)) && events.len() == 1);
     /// ```
+    ///
+    /// # Errors
+    ///
+    /// Fails with `Numbers` if the events do not fit the counter, else with `Memory`. A failed call
+    /// changes nothing.
+    ///
+    /// # Complexity
+    ///
+    /// Makes no comparison.
     pub fn pop_last_cdc(
         &mut self,
     ) -> Result<(Option<(K, V)>, Vec<ChangeEvent<MultiPair<K, V>>>), Refusal>
@@ -152,10 +195,12 @@ impl<K: Ord + Clone + Drop, V: Eq + Clone + Drop, Node: NodeLike<MultiPair<K, V>
         Ok((entry_of(pair), events))
     }
 
-    /// Removes the last pair of the greatest key, if any, and returns it, without a comparison. It
-    /// consumes as many event numbers as `pop_last_cdc`, and fails with `Numbers` where they do not
-    /// fit. It allocates only where it merges two nodes of a type that allocates, and else does not
-    /// fail with `Memory`. A failed call changes nothing.
+    /// Removes the last pair of the greatest key and returns it, if any.
+    ///
+    /// It consumes as many event numbers as `pop_last_cdc`, and allocates only if it merges two
+    /// nodes of a type that allocates.
+    ///
+    /// # Examples
     ///
     /// ```
     /// let mut tags: multimap::BTreeMultiMap<u64, u64, Vec<MultiPair<u64, u64>>> = multimap::BTreeMultiMap::new(alloc);
@@ -164,6 +209,15 @@ impl<K: Ord + Clone + Drop, V: Eq + Clone + Drop, Node: NodeLike<MultiPair<K, V>
     /// }
     /// assert!(rt; tags.pop_last()? == Some((2, 101)) && tags.pop_last()? == Some((2, 100)));
     /// ```
+    ///
+    /// # Errors
+    ///
+    /// Fails with `Numbers` if the event numbers do not fit the counter, else with `Memory`, only
+    /// if it allocates. A failed call changes nothing.
+    ///
+    /// # Complexity
+    ///
+    /// Makes no comparison.
     pub fn pop_last(&mut self) -> Result<Option<(K, V)>, Refusal>
         ensures answer { IfOk result (λ entry. entry ≡ option_map key_and_value
             (slice_get (concat self.old.nodes) (length (concat self.old.nodes) - 1))) }

@@ -1,4 +1,4 @@
-//! Multimaps made of nodes.
+//! Construction of multimaps from nodes.
 ghost use Rattle.std.specs.Prelude.{◌≡◌, ◌≤◌, true, false, map, None, MatchOption, IfOk, OnOk, IfErr};
 ghost use Rattle.std.specs.Option.{unwrap_or};
 ghost use Rattle.indexset_core.specs.Nodes.{concat};
@@ -16,19 +16,30 @@ impl<K: Ord + Clone + Drop, V: Eq + Clone + Drop, Node: NodeLike<MultiPair<K, V>
     V,
     Node,
 > {
-    /// Returns the multimap of these nodes, whose events are numbered from `next`: it continues
-    /// where another stopped. The number of the next new pair is one above the greatest number
-    /// among all pairs, and 0 where there are none. The nodes are taken as they are, no pair is
-    /// copied, and no event number is consumed; each pair's number is read once, neighbouring nodes
-    /// are compared once, and one number for 32 nodes is allocated. Fails with `PairNumber` where
-    /// a pair has the greatest number, before all reasons of the set's `from_nodes`. A failed call
-    /// returns the nodes in the error.
+    /// Returns the multimap of these nodes, with events numbered from `next`.
+    ///
+    /// It continues where another multimap stopped. The next new pair gets the number after the
+    /// greatest of all pairs, or 0 if there are none. The nodes become those of the multimap; no
+    /// pair is copied and no event number is consumed.
+    ///
+    /// # Examples
     ///
     /// ```
     /// let nodes = vec![in alloc; vec![in alloc; MultiPair::new(1, 100, 0), MultiPair::new(1, 101, 4)]?]?;
     /// let tags: multimap::BTreeMultiMap<u64, u64, Vec<MultiPair<u64, u64>>> = multimap::BTreeMultiMap::from_nodes(nodes, 64, 7)?;
     /// assert!(rt; tags.count(&1) == 2 && tags.events_issued() == 7);
     /// ```
+    ///
+    /// # Errors
+    ///
+    /// Fails with `PairNumber` if a pair has the number `u64::MAX`; else as the set's `from_nodes`,
+    /// with `Empty`, `TooLarge`, `Unsorted` or `Overlaps`; else with `Memory`. A failed call
+    /// returns the nodes in the error.
+    ///
+    /// # Complexity
+    ///
+    /// Reads the number of each pair once, compares neighbouring pairs once, and allocates one
+    /// number for every 32 nodes.
     pub fn from_nodes(nodes: Vec<Node>, size: usize, next: u64) -> Result<Self, Refused<Vec<Node>>>
         requires two { 2 ≤ size }
         requires within { size ≤ Node.most }
@@ -57,7 +68,7 @@ impl<K: Ord + Clone + Drop, V: Eq + Clone + Drop, Node: NodeLike<MultiPair<K, V>
     }
 }
 
-// Returns the least number above those of all pairs in the nodes, if there is one.
+// Returns the least number above those of all pairs in the nodes, if any.
 fn free_number_of_nodes<K: Ord + Drop, V: Drop, Node: NodeLike<MultiPair<K, V>>>(
     nodes: &[Node],
 ) -> Option<u64>

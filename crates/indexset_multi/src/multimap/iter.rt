@@ -1,4 +1,4 @@
-//! Iterators over a multimap, from both ends.
+//! Double-ended iterators over a multimap.
 ghost use Rattle.std.specs.Prelude.{◌≡◌, length, IfSome, Some};
 ghost use Rattle.std.specs.Iterator.{UpTo, at_most};
 ghost use Rattle.std.specs.Iterator.SizeHint.{IsWithinCount};
@@ -14,7 +14,7 @@ use indexset_log::set::iter;
 use std::iter::FusedIterator;
 use std::marker::Model;
 
-/// The remaining pairs of a multimap, from both ends.
+/// A double-ended iterator over the pairs of a multimap.
 #[derive(Drop)]
 pub struct Iter<
     'a,
@@ -91,8 +91,9 @@ impl<K: Ord + Clone + Drop, V: Eq + Clone + Drop, Node: NodeLike<MultiPair<K, V>
     V,
     Node,
 > {
-    /// Returns a double-ended iterator over the pairs, in order. A loop over a reference to the
-    /// multimap does so too.
+    /// Returns a double-ended iterator over the pairs, in order.
+    ///
+    /// A loop over a reference to the multimap uses the same iterator.
     ///
     /// ```
     /// let mut tags: multimap::BTreeMultiMap<u64, u64, Vec<MultiPair<u64, u64>>> = multimap::BTreeMultiMap::new(alloc);

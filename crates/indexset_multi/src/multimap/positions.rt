@@ -1,4 +1,4 @@
-//! Positions: how many pairs stand before those of a key, the pair at a position, and its removal.
+//! Positions: the number of pairs before those of a key, the pair at a position, and its removal.
 ghost use Rattle.std.specs.Prelude.{◌≡◌, ◌+◌, ◌<◌, ◌≤◌, [], length, slice_get, true, false, None, MatchOption, IfOk, OnOk, IfErr, OnErr, IsOk};
 ghost use Rattle.std.specs.List.{count_by};
 ghost use Rattle.std.specs.Map.Iter.{ShowsInOrder, ShowsInReverse};
@@ -24,8 +24,11 @@ impl<K: Ord + Clone + Drop, V: Eq + Clone + Drop, Node: NodeLike<MultiPair<K, V>
     V,
     Node,
 > {
-    /// Returns how many pairs have a key below this one, which is the position of its first pair,
-    /// by the comparisons that `get` makes and a sum over the index.
+    /// Returns the number of pairs whose keys are below the key.
+    ///
+    /// If the key is present, that is the position of its first pair.
+    ///
+    /// # Examples
     ///
     /// ```
     /// let mut tags: multimap::BTreeMultiMap<u64, u64, Vec<MultiPair<u64, u64>>> = multimap::BTreeMultiMap::new(alloc);
@@ -35,6 +38,10 @@ impl<K: Ord + Clone + Drop, V: Eq + Clone + Drop, Node: NodeLike<MultiPair<K, V>
     /// assert!(rt; tags.rank(&2) == 2 && tags.count(&1) == 2);
     /// assert!(rt; tags.get_index(1) == Some((&1, &101)));
     /// ```
+    ///
+    /// # Complexity
+    ///
+    /// Makes the comparisons of `get` and a sum over the index.
     pub fn rank<Q: LookupKey<K> + Drop>(&self, key: Q) -> usize
         ensures value { result ≡ count_by (λ p. is_lt (Q.order p.key key))
             (concat self.now.nodes) }
@@ -45,7 +52,9 @@ impl<K: Ord + Clone + Drop, V: Eq + Clone + Drop, Node: NodeLike<MultiPair<K, V>
         self.set.position(self.places_of(&key).0)
     }
 
-    /// Returns the number of pairs of a key, by as few comparisons as `get` makes.
+    /// Returns the number of pairs of a key.
+    ///
+    /// # Examples
     ///
     /// ```
     /// let mut tags: multimap::BTreeMultiMap<u64, u64, Vec<MultiPair<u64, u64>>> = multimap::BTreeMultiMap::new(alloc);
@@ -54,6 +63,10 @@ impl<K: Ord + Clone + Drop, V: Eq + Clone + Drop, Node: NodeLike<MultiPair<K, V>
     /// }
     /// assert!(rt; tags.count(&1) == 2 && tags.count(&3) == 0);
     /// ```
+    ///
+    /// # Complexity
+    ///
+    /// Makes the comparisons of `get`.
     pub fn count<Q: LookupKey<K> + Drop>(&self, key: Q) -> usize
         ensures { result ≡ length (pairs_of Q.order (concat self.now.nodes) key) }
     {
@@ -61,8 +74,9 @@ impl<K: Ord + Clone + Drop, V: Eq + Clone + Drop, Node: NodeLike<MultiPair<K, V>
         self.set.position(to) - self.set.position(from)
     }
 
-    /// Returns the position of the first pair of a key whose value is equal, or `None`. It compares
-    /// keys as `get` does, and then the values of the key's pairs, one by one.
+    /// Returns the position of the first pair of a key with an equal value, if any.
+    ///
+    /// # Examples
     ///
     /// ```
     /// let mut tags: multimap::BTreeMultiMap<u64, u64, Vec<MultiPair<u64, u64>>> = multimap::BTreeMultiMap::new(alloc);
@@ -71,6 +85,10 @@ impl<K: Ord + Clone + Drop, V: Eq + Clone + Drop, Node: NodeLike<MultiPair<K, V>
     /// }
     /// assert!(rt; tags.index_of(&1, &101) == Some(1) && tags.index_of(&1, &102).is_none());
     /// ```
+    ///
+    /// # Complexity
+    ///
+    /// Makes the comparisons of `get`, and then compares the values of the key's pairs one by one.
     pub fn index_of<Q: LookupKey<K> + Drop>(&self, key: Q, value: &V) -> Option<usize>
         ensures { MatchOption result
             (equal_pair Q.order V.eq (concat self.now.nodes) key value.now ≡ None)
@@ -81,7 +99,9 @@ impl<K: Ord + Clone + Drop, V: Eq + Clone + Drop, Node: NodeLike<MultiPair<K, V>
         Some(self.set.position(place))
     }
 
-    /// Returns the pair at a position, or `None` past the end. It makes no comparison.
+    /// Returns the pair at a position, or `None` past the end.
+    ///
+    /// # Examples
     ///
     /// ```
     /// let mut tags: multimap::BTreeMultiMap<u64, u64, Vec<MultiPair<u64, u64>>> = multimap::BTreeMultiMap::new(alloc);
@@ -90,6 +110,10 @@ impl<K: Ord + Clone + Drop, V: Eq + Clone + Drop, Node: NodeLike<MultiPair<K, V>
     /// }
     /// assert!(rt; tags.get_index(2) == Some((&2, &100)) && tags.get_index(3).is_none());
     /// ```
+    ///
+    /// # Complexity
+    ///
+    /// Makes no comparison.
     pub fn get_index(&self, i: usize) -> Option<(&K, &V)>
         ensures { option_map (λ p. (p.0.now, p.1.now)) result
             ≡ option_map key_and_value (slice_get (concat self.now.nodes) i) }
@@ -98,8 +122,11 @@ impl<K: Ord + Clone + Drop, V: Eq + Clone + Drop, Node: NodeLike<MultiPair<K, V>
         Some((&pair.key, &pair.value))
     }
 
-    /// Returns a double-ended iterator over the pairs at the positions within the bounds, clipped
-    /// to the length, in order. It makes no comparison.
+    /// Returns a double-ended iterator over the pairs at a range of positions, in order.
+    ///
+    /// The bounds are clipped to the length.
+    ///
+    /// # Examples
     ///
     /// ```
     /// let mut tags: multimap::BTreeMultiMap<u64, u64, Vec<MultiPair<u64, u64>>> = multimap::BTreeMultiMap::new(alloc);
@@ -109,6 +136,10 @@ impl<K: Ord + Clone + Drop, V: Eq + Clone + Drop, Node: NodeLike<MultiPair<K, V>
     /// let page = tags.range_idx(1..);
     /// assert!(rt; page.eq([(&1, &101), (&2, &100)]));
     /// ```
+    ///
+    /// # Complexity
+    ///
+    /// Makes no comparison.
     pub fn range_idx<R: PositionRange + Drop>(&self, range: R) -> Range<'_, K, V, Node>
         ensures rest { result ≡ entries (in_positions (concat self.now.nodes) (R.start range)
             (R.end range)) }
@@ -120,9 +151,11 @@ impl<K: Ord + Clone + Drop, V: Eq + Clone + Drop, Node: NodeLike<MultiPair<K, V>
         }
     }
 
-    /// Removes the pair at a position, if any, and returns it with the events, without a
-    /// comparison. A node that is left small is merged with a small neighbour. Fails with `Numbers`
-    /// where the events do not fit the counter, else with `Memory`. A failed call changes nothing.
+    /// Removes the pair at a position and returns it, if any, with the events.
+    ///
+    /// Its node is merged with a neighbour if the two then hold at most half the node size.
+    ///
+    /// # Examples
     ///
     /// ```
     /// let mut tags: multimap::BTreeMultiMap<u64, u64, Vec<MultiPair<u64, u64>>> = multimap::BTreeMultiMap::new(alloc);
@@ -132,6 +165,15 @@ impl<K: Ord + Clone + Drop, V: Eq + Clone + Drop, Node: NodeLike<MultiPair<K, V>
     /// let (removed, events) = tags.pop_index_cdc(1)?;
     /// assert!(rt; removed == Some((1, 101)) && events.len() == 1);
     /// ```
+    ///
+    /// # Errors
+    ///
+    /// Fails with `Numbers` if the events do not fit the counter, else with `Memory`. A failed call
+    /// changes nothing.
+    ///
+    /// # Complexity
+    ///
+    /// Makes no comparison.
     pub fn pop_index_cdc(
         &mut self,
         i: usize,
@@ -151,10 +193,12 @@ impl<K: Ord + Clone + Drop, V: Eq + Clone + Drop, Node: NodeLike<MultiPair<K, V>
         self.take_cdc(place)
     }
 
-    /// Removes the pair at a position, if any, and returns it, without a comparison. It consumes as
-    /// many event numbers as `pop_index_cdc`, and fails with `Numbers` where they do not fit. It
-    /// allocates only where it merges two nodes of a type that allocates, and else does not fail
-    /// with `Memory`. A failed call changes nothing.
+    /// Removes the pair at a position and returns it, if any.
+    ///
+    /// It consumes as many event numbers as `pop_index_cdc`, and allocates only if it merges two
+    /// nodes of a type that allocates.
+    ///
+    /// # Examples
     ///
     /// ```
     /// let mut tags: multimap::BTreeMultiMap<u64, u64, Vec<MultiPair<u64, u64>>> = multimap::BTreeMultiMap::new(alloc);
@@ -163,6 +207,15 @@ impl<K: Ord + Clone + Drop, V: Eq + Clone + Drop, Node: NodeLike<MultiPair<K, V>
     /// }
     /// assert!(rt; tags.pop_index(1)? == Some((1, 101)) && tags.pop_index(2)?.is_none());
     /// ```
+    ///
+    /// # Errors
+    ///
+    /// Fails with `Numbers` if the event numbers do not fit the counter, else with `Memory`, only
+    /// if it allocates. A failed call changes nothing.
+    ///
+    /// # Complexity
+    ///
+    /// Makes no comparison.
     pub fn pop_index(&mut self, i: usize) -> Result<Option<(K, V)>, Refusal>
         ensures answer { IfOk result (λ entry.
             entry ≡ option_map key_and_value (slice_get (concat self.old.nodes) i)) }

@@ -18,19 +18,30 @@ impl<K: Ord + Clone + Drop, V: Eq + Clone + Drop, Node: NodeLike<MultiPair<K, V>
     V,
     Node,
 > {
-    /// Inserts a pair, and returns the replaced value, if any, with the events. Where the key has
-    /// pairs of an equal value, the first of them is replaced in its place and keeps its number,
-    /// and its value is returned. Else the pair gets the next number and is the last of its key. It
-    /// makes two searches: that of `get`, whose pairs' values it compares one by one, and one for
-    /// the place. Fails with `Numbers` where the events do not fit, or where a new number is needed
-    /// and none remains, else with `Memory`. A failed call returns key and value in the error and
-    /// changes nothing.
+    /// Inserts a pair and returns the replaced value, if any, with the events.
+    ///
+    /// If the key has pairs with an equal value, the new pair replaces the first of them, at its
+    /// position and with its number. Otherwise the pair gets the next number and becomes the last
+    /// of its key.
+    ///
+    /// # Examples
     ///
     /// ```
     /// let mut tags: multimap::BTreeMultiMap<u64, u64, Vec<MultiPair<u64, u64>>> = multimap::BTreeMultiMap::new(alloc);
     /// let (old, events) = tags.insert_cdc(1, 100)?;
     /// assert!(rt; old.is_none() && events.len() == 1);
     /// ```
+    ///
+    /// # Errors
+    ///
+    /// Fails with `Numbers` if the events do not fit the counter or the pair needs a new number and
+    /// none remains, else with `Memory`. A failed call returns the key and the value in the error
+    /// and changes nothing.
+    ///
+    /// # Complexity
+    ///
+    /// Makes the comparisons of `get`, compares the values of the key's pairs one by one, and makes
+    /// a search for the place.
     pub fn insert_cdc(
         &mut self,
         key: K,
@@ -50,7 +61,7 @@ impl<K: Ord + Clone + Drop, V: Eq + Clone + Drop, Node: NodeLike<MultiPair<K, V>
         ensures events { IfOk result (λ r. MultiPairEvents K.cmp K.is_clone V.is_clone self.old self.new
             (insertion K.cmp V.eq self.old key value) r.1.items) }
     {
-        // The contract of `node_count` says that the pairs ascend, with numbers below the next.
+        // The contract of `node_count` states that the pairs ascend, with numbers below the next.
         let _nodes = self.node_count();
         let (pair, pair_next) = self.pair_for(key, value)?;
         let (old, events) = self.set.put_cdc(pair)?;
@@ -58,8 +69,11 @@ impl<K: Ord + Clone + Drop, V: Eq + Clone + Drop, Node: NodeLike<MultiPair<K, V>
         Ok((value_in(old), events))
     }
 
-    /// Inserts a pair, and returns the replaced value, if any, as `insert_cdc` does; it consumes as
-    /// many event numbers. A failed call returns key and value in the error and changes nothing.
+    /// Inserts a pair and returns the replaced value, if any, as `insert_cdc`.
+    ///
+    /// It consumes as many event numbers as `insert_cdc`.
+    ///
+    /// # Examples
     ///
     /// ```
     /// let mut tags: multimap::BTreeMultiMap<u64, u64, Vec<MultiPair<u64, u64>>> = multimap::BTreeMultiMap::new(alloc);
@@ -68,6 +82,12 @@ impl<K: Ord + Clone + Drop, V: Eq + Clone + Drop, Node: NodeLike<MultiPair<K, V>
     /// }
     /// assert!(rt; tags.get(&1).map(|(_, document)| *document).eq([100, 101]));
     /// ```
+    ///
+    /// # Errors
+    ///
+    /// Fails with `Numbers` if the event numbers do not fit the counter or the pair needs a new
+    /// number and none remains, else with `Memory`. A failed call returns the key and the value in
+    /// the error and changes nothing.
     pub fn insert(&mut self, key: K, value: V) -> Result<Option<V>, Refused<(K, V)>>
         ensures answer { IfOk result (λ old.
             old ≡ option_map (λ p. p.value) (equal_pair K.cmp V.eq
@@ -81,7 +101,7 @@ impl<K: Ord + Clone + Drop, V: Eq + Clone + Drop, Node: NodeLike<MultiPair<K, V>
         ensures changed { OnOk result (MultiChanged K.cmp self.old self.new
             (insertion K.cmp V.eq self.old key value)) }
     {
-        // The contract of `node_count` says that the pairs ascend, with numbers below the next.
+        // The contract of `node_count` states that the pairs ascend, with numbers below the next.
         let _nodes = self.node_count();
         let (pair, pair_next) = self.pair_for(key, value)?;
         let old = self.set.put(pair)?;
@@ -89,17 +109,27 @@ impl<K: Ord + Clone + Drop, V: Eq + Clone + Drop, Node: NodeLike<MultiPair<K, V>
         Ok(value_in(old))
     }
 
-    /// Inserts a pair as the last of its key, whatever values the key has, and returns the events.
-    /// It compares no values, so its cost does not grow with the number of the key's pairs: one
-    /// search for the place. Fails with `Numbers` where the events do not fit or no number remains
-    /// for the pair, else with `Memory`. A failed call returns key and value in the error and
-    /// changes nothing.
+    /// Inserts a pair as the last of its key, and returns the events.
+    ///
+    /// It compares no values, so the key may then have pairs with equal values.
+    ///
+    /// # Examples
     ///
     /// ```
     /// let mut tags: multimap::BTreeMultiMap<u64, u64, Vec<MultiPair<u64, u64>>> = multimap::BTreeMultiMap::new(alloc);
     /// let events = tags.push_cdc(1, 100)?;
     /// assert!(rt; events.len() == 1 && tags.len() == 1);
     /// ```
+    ///
+    /// # Errors
+    ///
+    /// Fails with `Numbers` if the events do not fit the counter or no number remains for the pair,
+    /// else with `Memory`. A failed call returns the key and the value in the error and changes
+    /// nothing.
+    ///
+    /// # Complexity
+    ///
+    /// Makes one search for the place. The cost does not grow with the number of the key's pairs.
     pub fn push_cdc(
         &mut self,
         key: K,
@@ -114,7 +144,7 @@ impl<K: Ord + Clone + Drop, V: Eq + Clone + Drop, Node: NodeLike<MultiPair<K, V>
         ensures events { IfOk result (λ events. MultiPairEvents K.cmp K.is_clone V.is_clone self.old
             self.new (addition K.cmp self.old key value) events.items) }
     {
-        // The contract of `node_count` says that the pairs ascend, with numbers below the next.
+        // The contract of `node_count` states that the pairs ascend, with numbers below the next.
         let _nodes = self.node_count();
         let (pair, pair_next) = self.new_pair(key, value)?;
         let (_, events) = self.set.put_cdc(pair)?;
@@ -122,8 +152,11 @@ impl<K: Ord + Clone + Drop, V: Eq + Clone + Drop, Node: NodeLike<MultiPair<K, V>
         Ok(events)
     }
 
-    /// Inserts a pair as the last of its key, as `push_cdc` does, and consumes as many event
-    /// numbers. A failed call returns key and value in the error and changes nothing.
+    /// Inserts a pair as the last of its key, as `push_cdc`.
+    ///
+    /// It consumes as many event numbers as `push_cdc`.
+    ///
+    /// # Examples
     ///
     /// ```
     /// let mut scores: multimap::BTreeMultiMap<u64, u64, Vec<MultiPair<u64, u64>>> = multimap::BTreeMultiMap::new(alloc);
@@ -132,6 +165,12 @@ impl<K: Ord + Clone + Drop, V: Eq + Clone + Drop, Node: NodeLike<MultiPair<K, V>
     /// }
     /// assert!(rt; scores.get(&1).map(|(_, score)| *score).eq([100, 100]));
     /// ```
+    ///
+    /// # Errors
+    ///
+    /// Fails with `Numbers` if the event numbers do not fit the counter or no number remains for
+    /// the pair, else with `Memory`. A failed call returns the key and the value in the error and
+    /// changes nothing.
     pub fn push(&mut self, key: K, value: V) -> Result<(), Refused<(K, V)>>
         ensures refusal { IfErr result (λ e. e.cause ≡ addition_refusal K.cmp self.old key value) }
         ensures given_back { IfErr result (λ e. e.value ≡ (key, value)) }
@@ -140,7 +179,7 @@ impl<K: Ord + Clone + Drop, V: Eq + Clone + Drop, Node: NodeLike<MultiPair<K, V>
         ensures changed { OnOk result (MultiChanged K.cmp self.old self.new
             (addition K.cmp self.old key value)) }
     {
-        // The contract of `node_count` says that the pairs ascend, with numbers below the next.
+        // The contract of `node_count` states that the pairs ascend, with numbers below the next.
         let _nodes = self.node_count();
         let (pair, pair_next) = self.new_pair(key, value)?;
         self.set.put(pair)?;
@@ -183,7 +222,7 @@ impl<K: Ord + Clone + Drop, V: Eq + Clone + Drop, Node: NodeLike<MultiPair<K, V>
         self.new_pair(key, value)
     }
 
-    // Returns the number of the first pair of the key with an equal value.
+    // Returns the number of the first pair of the key with an equal value, if any.
     pub(super) fn kept_number(&self, key: &K, value: &V) -> Option<u64>
         ensures { result ≡ kept_number K.cmp V.eq (concat self.now.nodes) key.now value.now }
     {
@@ -193,7 +232,7 @@ impl<K: Ord + Clone + Drop, V: Eq + Clone + Drop, Node: NodeLike<MultiPair<K, V>
     }
 }
 
-// Returns the value of a pair, or `None` where there is none.
+// Returns the value of a pair, if any.
 fn value_in<K: Drop, V>(pair: Option<MultiPair<K, V>>) -> Option<V>
     ensures { result ≡ option_map (λ p. p.value) pair }
 {

@@ -23,7 +23,7 @@ use std::iter::FusedIterator;
 use std::marker::Model;
 use std::ops::Bound;
 
-/// The remaining pairs of a part of a multimap, from both ends.
+/// A double-ended iterator over a range of the pairs of a multimap, or over those of a key.
 #[derive(Drop)]
 pub struct Range<
     'a,
@@ -95,7 +95,7 @@ impl<
 impl<'a, K: Ord + Clone + Drop, V: Eq + Clone + Drop, Node: NodeLike<MultiPair<K, V>>> FusedIterator
     for Range<'a, K, V, Node> {}
 
-/// The remaining pairs of a part of a multimap, with their numbers, from both ends.
+/// A double-ended iterator over the pairs of a key, with their numbers.
 #[derive(Drop)]
 pub struct RawRange<
     'a,
@@ -171,16 +171,21 @@ impl<K: Ord + Clone + Drop, V: Eq + Clone + Drop, Node: NodeLike<MultiPair<K, V>
     V,
     Node,
 > {
-    /// Returns a double-ended iterator over the pairs of a key, in the order of their numbers. It
-    /// makes one search for the first and, from there, steps that double: a key with one pair, or
-    /// none, costs at most one comparison more than the two binary searches, and one with `n` pairs
-    /// a few times as many as `n` has bits.
+    /// Returns a double-ended iterator over the pairs of a key, in the order of their numbers.
+    ///
+    /// # Examples
     ///
     /// ```
     /// let mut tags: multimap::BTreeMultiMap<u64, u64, Vec<MultiPair<u64, u64>>> = multimap::BTreeMultiMap::new(alloc);
     /// tags.insert(1, 100)?;
     /// assert!(rt; tags.get(&1).eq([(&1, &100)]) && tags.get(&2).len() == 0);
     /// ```
+    ///
+    /// # Complexity
+    ///
+    /// Makes two binary searches for the first pair, then an exponential search for the last: at
+    /// most one comparison more if the key has at most one pair, and a number that grows with the
+    /// bit length of n if it has n pairs.
     pub fn get<Q: LookupKey<K> + Drop>(&self, key: Q) -> Range<'_, K, V, Node>
         ensures rest { result ≡ entries (pairs_of Q.order (concat self.now.nodes) key) }
         ensures runs { ShowsInOrder (pair_deref {K = K} {V = V}) }
@@ -191,8 +196,9 @@ impl<K: Ord + Clone + Drop, V: Eq + Clone + Drop, Node: NodeLike<MultiPair<K, V>
         }
     }
 
-    /// Returns a double-ended iterator over the pairs of a key with their numbers, by as few
-    /// comparisons as `get` makes.
+    /// Returns a double-ended iterator over the pairs of a key with their numbers, in this order.
+    ///
+    /// # Examples
     ///
     /// ```
     /// let mut tags: multimap::BTreeMultiMap<u64, u64, Vec<MultiPair<u64, u64>>> = multimap::BTreeMultiMap::new(alloc);
@@ -201,6 +207,10 @@ impl<K: Ord + Clone + Drop, V: Eq + Clone + Drop, Node: NodeLike<MultiPair<K, V>
     /// }
     /// assert!(rt; tags.raw_get(&1).eq([(&1, &0, &100), (&1, &1, &101)]));
     /// ```
+    ///
+    /// # Complexity
+    ///
+    /// Makes the comparisons of `get`.
     pub fn raw_get<Q: LookupKey<K> + Drop>(&self, key: Q) -> RawRange<'_, K, V, Node>
         ensures rest { result ≡ pairs_of Q.order (concat self.now.nodes) key }
         ensures runs { ShowsInOrder (number_shown {K = K} {V = V}) }
@@ -212,8 +222,11 @@ impl<K: Ord + Clone + Drop, V: Eq + Clone + Drop, Node: NodeLike<MultiPair<K, V>
     }
 
     /// Returns a double-ended iterator over the pairs whose keys are within the range, in order.
-    /// The start must not be past the end, nor at it where both are excluded (see
-    /// `base::key_range::bounds_are_ordered`). Each bound costs two binary searches.
+    ///
+    /// The start must not be past the end, nor equal to it if both are excluded: see
+    /// `base::key_range::bounds_are_ordered`.
+    ///
+    /// # Examples
     ///
     /// ```
     /// // The pairs of the keys from 10 on that are below 20.
@@ -224,6 +237,10 @@ impl<K: Ord + Clone + Drop, V: Eq + Clone + Drop, Node: NodeLike<MultiPair<K, V>
     /// let teens = tags.range(10..20);
     /// assert!(rt; teens.eq([(&10, &1), (&10, &2)]));
     /// ```
+    ///
+    /// # Complexity
+    ///
+    /// Makes two binary searches for each bound.
     pub fn range<R: KeyRange<K> + Drop>(&self, range: R) -> Range<'_, K, V, Node>
         requires { IsTrue (are_ordered R.Key.cmp (R.start range) (R.end range)) }
         ensures rest { result ≡ entries (pairs_between R.Key.order (concat self.now.nodes)
@@ -260,12 +277,12 @@ impl<K: Ord + Clone + Drop, V: Eq + Clone + Drop, Node: NodeLike<MultiPair<K, V>
             (items_before self.now.nodes result.1) (concat self.now.nodes)
             ≡ pairs_of Q.order (concat self.now.nodes) key.now }
     {
-        // The contract of `node_count` says that the pairs ascend, as a search by key requires.
+        // The contract of `node_count` states that the pairs ascend, as a search by key requires.
         let _nodes = self.set.node_count();
         self.set.places_by(&mut ByKey::new(key))
     }
 
-    // Returns the pairs whose keys satisfy both bounds.
+    // Returns the pairs whose keys are within the bounds.
     fn pairs_between<Q: LookupKey<K>>(
         &self,
         range: (Bound<&Q>, Bound<&Q>),
@@ -276,8 +293,8 @@ impl<K: Ord + Clone + Drop, V: Eq + Clone + Drop, Node: NodeLike<MultiPair<K, V>
             (bound_map (λ k. k.now) range.entry.0) (bound_map (λ k. k.now) range.entry.1) }
         ensures runs { ShowsInOrder (deref {X = MultiPair K V}) }
     {
-        // The contract of `node_count` says that the pairs ascend, so the range is what lies
-        // between the two places.
+        // The contract of `node_count` states that the pairs ascend, so the range lies between two
+        // places.
         let _nodes = self.set.node_count();
         let from = self.set.place_from(range.0.map(ByKey::new));
         let to = self.set.place_to(range.1.map(ByKey::new));

@@ -23,9 +23,11 @@ impl<K: Ord + Clone + Drop, V: Eq + Clone + Drop, Node: NodeLike<MultiPair<K, V>
     V,
     Node,
 > {
-    /// Removes the first pair of a key, if any, and returns it with the events, by one search. A
-    /// node that is left small is merged with a small neighbour. Fails with `Numbers` where the
-    /// events do not fit the counter, else with `Memory`. A failed call changes nothing.
+    /// Removes the first pair of a key and returns it, if any, with the events.
+    ///
+    /// Its node is merged with a neighbour if the two then hold at most half the node size.
+    ///
+    /// # Examples
     ///
     /// ```
     /// let mut tags: multimap::BTreeMultiMap<u64, u64, Vec<MultiPair<u64, u64>>> = multimap::BTreeMultiMap::new(alloc);
@@ -35,6 +37,15 @@ impl<K: Ord + Clone + Drop, V: Eq + Clone + Drop, Node: NodeLike<MultiPair<K, V>
     /// let (removed, events) = tags.remove_some_cdc(&1)?;
     /// assert!(rt; removed == Some((1, 100)) && events.len() == 1);
     /// ```
+    ///
+    /// # Errors
+    ///
+    /// Fails with `Numbers` if the events do not fit the counter, else with `Memory`. A failed call
+    /// changes nothing.
+    ///
+    /// # Complexity
+    ///
+    /// Makes one search.
     pub fn remove_some_cdc<Q: LookupKey<K> + Drop>(
         &mut self,
         key: Q,
@@ -57,10 +68,12 @@ impl<K: Ord + Clone + Drop, V: Eq + Clone + Drop, Node: NodeLike<MultiPair<K, V>
         self.take_cdc(first)
     }
 
-    /// Removes the first pair of a key, if any, and returns it. It consumes as many event numbers
-    /// as `remove_some_cdc`, and fails with `Numbers` where they do not fit. It allocates only
-    /// where it merges two nodes of a type that allocates, and else does not fail with `Memory`. A
-    /// failed call changes nothing.
+    /// Removes the first pair of a key and returns it, if any.
+    ///
+    /// It consumes as many event numbers as `remove_some_cdc`, and allocates only if it merges two
+    /// nodes of a type that allocates.
+    ///
+    /// # Examples
     ///
     /// ```
     /// let mut tags: multimap::BTreeMultiMap<u64, u64, Vec<MultiPair<u64, u64>>> = multimap::BTreeMultiMap::new(alloc);
@@ -69,6 +82,11 @@ impl<K: Ord + Clone + Drop, V: Eq + Clone + Drop, Node: NodeLike<MultiPair<K, V>
     /// }
     /// assert!(rt; tags.remove_some(&1)? == Some((1, 100)) && tags.remove_some(&3)?.is_none());
     /// ```
+    ///
+    /// # Errors
+    ///
+    /// Fails with `Numbers` if the event numbers do not fit the counter, else with `Memory`, only
+    /// if it allocates. A failed call changes nothing.
     pub fn remove_some<Q: LookupKey<K> + Drop>(&mut self, key: Q) -> Result<Option<(K, V)>, Refusal>
         ensures answer { IfOk result (λ entry.
             entry ≡ option_map key_and_value (first_pair Q.order (concat self.old.nodes) key)) }
@@ -90,10 +108,12 @@ impl<K: Ord + Clone + Drop, V: Eq + Clone + Drop, Node: NodeLike<MultiPair<K, V>
         self.take(first)
     }
 
-    /// Removes the first pair of a key whose value is equal, if any, and returns it with the
-    /// events. Other such pairs of the key stay. It compares keys as `get` does, and then the
-    /// values of the key's pairs, one by one. A node that is left small is merged with a small
-    /// neighbour. Fails as `remove_some_cdc` does, and then changes nothing.
+    /// Removes the first pair of a key with an equal value and returns it, if any, with the events.
+    ///
+    /// Other such pairs of the key stay. The pair's node is merged with a neighbour if the two then
+    /// hold at most half the node size.
+    ///
+    /// # Examples
     ///
     /// ```
     /// let mut tags: multimap::BTreeMultiMap<u64, u64, Vec<MultiPair<u64, u64>>> = multimap::BTreeMultiMap::new(alloc);
@@ -103,6 +123,15 @@ impl<K: Ord + Clone + Drop, V: Eq + Clone + Drop, Node: NodeLike<MultiPair<K, V>
     /// let (removed, events) = tags.remove_cdc(&1, &101)?;
     /// assert!(rt; removed == Some((1, 101)) && events.len() == 1);
     /// ```
+    ///
+    /// # Errors
+    ///
+    /// Fails with `Numbers` if the events do not fit the counter, else with `Memory`. A failed call
+    /// changes nothing.
+    ///
+    /// # Complexity
+    ///
+    /// Makes the comparisons of `get`, and then compares the values of the key's pairs one by one.
     pub fn remove_cdc<Q: LookupKey<K> + Drop>(
         &mut self,
         key: Q,
@@ -128,10 +157,12 @@ impl<K: Ord + Clone + Drop, V: Eq + Clone + Drop, Node: NodeLike<MultiPair<K, V>
         self.take_cdc(place)
     }
 
-    /// Removes the first pair of a key whose value is equal, if any, and returns it. It compares,
-    /// and consumes event numbers, as `remove_cdc` does, and fails with `Numbers` where they do not
-    /// fit. It allocates only where it merges two nodes of a type that allocates, and else does not
-    /// fail with `Memory`. A failed call changes nothing.
+    /// Removes the first pair of a key with an equal value and returns it, if any.
+    ///
+    /// It consumes as many event numbers as `remove_cdc`, and allocates only if it merges two nodes
+    /// of a type that allocates.
+    ///
+    /// # Examples
     ///
     /// ```
     /// let mut tags: multimap::BTreeMultiMap<u64, u64, Vec<MultiPair<u64, u64>>> = multimap::BTreeMultiMap::new(alloc);
@@ -139,6 +170,15 @@ impl<K: Ord + Clone + Drop, V: Eq + Clone + Drop, Node: NodeLike<MultiPair<K, V>
     /// let removed = tags.remove(&1, &100)?;
     /// assert!(rt; removed == Some((1, 100)) && !tags.contains_key(&1));
     /// ```
+    ///
+    /// # Errors
+    ///
+    /// Fails with `Numbers` if the event numbers do not fit the counter, else with `Memory`, only
+    /// if it allocates. A failed call changes nothing.
+    ///
+    /// # Complexity
+    ///
+    /// Makes the comparisons of `remove_cdc`.
     pub fn remove<Q: LookupKey<K> + Drop>(
         &mut self,
         key: Q,
@@ -166,7 +206,7 @@ impl<K: Ord + Clone + Drop, V: Eq + Clone + Drop, Node: NodeLike<MultiPair<K, V>
         self.take(place)
     }
 
-    // Returns where the first pair of a key stands.
+    // Returns the place of the first pair of a key, if any.
     pub(super) fn first_place<Q: LookupKey<K>>(&self, key: &Q) -> Option<(usize, usize)>
         ensures place { IsItemPlace self.now.nodes result }
         ensures pair { placed_item self.now.nodes result
@@ -175,7 +215,7 @@ impl<K: Ord + Clone + Drop, V: Eq + Clone + Drop, Node: NodeLike<MultiPair<K, V>
         self.locate(key).ok()
     }
 
-    // Returns where the first pair of a key with an equal value stands.
+    // Returns the place of the first pair of a key with an equal value, if any.
     pub(super) fn equal_place<Q: LookupKey<K>>(&self, key: &Q, value: &V) -> Option<(usize, usize)>
         ensures place { IsItemPlace self.now.nodes result }
         ensures pair { placed_item self.now.nodes result
@@ -186,7 +226,7 @@ impl<K: Ord + Clone + Drop, V: Eq + Clone + Drop, Node: NodeLike<MultiPair<K, V>
         Some(self.set.place_ahead(from, index))
     }
 
-    // Removes the pair at a place, where one is given, and returns it with the events.
+    // Removes the pair at a place, if given, and returns it with the events.
     pub(super) fn take_cdc(
         &mut self,
         place: Option<(usize, usize)>,
@@ -221,7 +261,7 @@ impl<K: Ord + Clone + Drop, V: Eq + Clone + Drop, Node: NodeLike<MultiPair<K, V>
         }
     }
 
-    // Removes the pair at a place, where one is given.
+    // Removes the pair at a place, if given, and returns it.
     pub(super) fn take(&mut self, place: Option<(usize, usize)>) -> Result<Option<(K, V)>, Refusal>
         requires { IsItemPlace self.old.nodes place }
         ensures tree { OnOk result (self.new ≡ after_removal K.cmp self.old
@@ -258,7 +298,7 @@ impl<K: Ord + Clone + Drop, V: Eq + Clone + Drop, Node: NodeLike<MultiPair<K, V>
     }
 }
 
-// Returns how many pairs stand before the first with an equal value.
+// Returns the number of pairs before the first with an equal value, if any.
 fn index_of<K: Ord + Clone + Drop, V: Eq + Clone + Drop, Node: NodeLike<MultiPair<K, V>>>(
     pairs: Range<'_, MultiPair<K, V>, Node>,
     value: &V,
@@ -267,7 +307,7 @@ fn index_of<K: Ord + Clone + Drop, V: Eq + Clone + Drop, Node: NodeLike<MultiPai
         (λ i. (i < length pairs.entry) × (slice_get pairs.entry i
         ≡ find (λ p. V.eq p.value value.now) pairs.entry)) }
 {
-    // The number of pairs fits.
+    // The number of pairs fits a usize.
     let _len = pairs.len();
     let mut rest = pairs;
     let mut index = 0;

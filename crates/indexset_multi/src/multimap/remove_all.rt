@@ -21,9 +21,9 @@ impl<K: Ord + Clone + Drop, V: Eq + Clone + Drop, Node: NodeLike<MultiPair<K, V>
     V,
     Node,
 > {
-    /// Removes all pairs of a key, one by one as `remove_some` does, and returns how many they
-    /// were. Fails where one of these removals does: the pairs before it are removed, and it and
-    /// those after it stay. Where the key has no pair it does not fail.
+    /// Removes all pairs of a key, one by one as `remove_some`, and returns their number.
+    ///
+    /// # Examples
     ///
     /// ```
     /// let mut tags: multimap::BTreeMultiMap<u64, u64, Vec<MultiPair<u64, u64>>> = multimap::BTreeMultiMap::new(alloc);
@@ -32,6 +32,11 @@ impl<K: Ord + Clone + Drop, V: Eq + Clone + Drop, Node: NodeLike<MultiPair<K, V>
     /// }
     /// assert!(rt; tags.remove_all(&1)? == 2 && tags.len() == 1);
     /// ```
+    ///
+    /// # Errors
+    ///
+    /// Fails with `Numbers` or `Memory` if one of the removals does: the pairs before are removed,
+    /// and the other pairs of the key stay. It does not fail if the key has no pairs.
     pub fn remove_all<Q: LookupKey<K> + Drop>(&mut self, key: Q) -> Result<usize, Refusal>
         ensures count { IfOk result (λ n. n ≡ length (pairs_of Q.order
             (concat self.old.nodes) key)) }
@@ -43,7 +48,7 @@ impl<K: Ord + Clone + Drop, V: Eq + Clone + Drop, Node: NodeLike<MultiPair<K, V>
         ensures no_event { pairs_of Q.order (concat self.old.nodes) key ≡ [] → IsOk result }
         ensures removed { AreRemoved K.cmp Q.order self.old self.new key }
     {
-        // What holds of the nodes at first, and that the number of pairs fits.
+        // The invariant of the nodes at first, and that the number of pairs fits a usize.
         self.rule();
         let _len = self.len();
         let mut count = 0;
@@ -53,11 +58,11 @@ impl<K: Ord + Clone + Drop, V: Eq + Clone + Drop, Node: NodeLike<MultiPair<K, V>
         Ok(count)
     }
 
-    /// Removes all pairs of a key, as `remove_all` does, and returns how many they were, and the
-    /// events. Fails where one of these removals does, or where the list of events has no room for
-    /// more, with `Numbers` where too few are left for that removal, else with `Memory`: the pairs
-    /// before it are removed, and their events are returned; it and those after it stay. Where the
-    /// key has no pair it allocates nothing.
+    /// Removes all pairs of a key, as `remove_all`, and returns their number with the events.
+    ///
+    /// It allocates nothing if the key has no pairs.
+    ///
+    /// # Examples
     ///
     /// ```
     /// let mut tags: multimap::BTreeMultiMap<u64, u64, Vec<MultiPair<u64, u64>>> = multimap::BTreeMultiMap::new(alloc);
@@ -67,6 +72,12 @@ impl<K: Ord + Clone + Drop, V: Eq + Clone + Drop, Node: NodeLike<MultiPair<K, V>
     /// let (count, events) = tags.remove_all_cdc(&1)?;
     /// assert!(rt; count == 2 && events.len() == 2);
     /// ```
+    ///
+    /// # Errors
+    ///
+    /// Fails if one of the removals does, or if the list of events cannot grow: with `Numbers` if
+    /// the events of that removal do not fit the counter, else with `Memory`. The pairs before are
+    /// removed, and their events are returned in the error; the other pairs of the key stay.
     pub fn remove_all_cdc<Q: LookupKey<K> + Drop>(
         &mut self,
         key: Q,
@@ -88,7 +99,7 @@ impl<K: Ord + Clone + Drop, V: Eq + Clone + Drop, Node: NodeLike<MultiPair<K, V>
         ensures told_before { IfErr result (λ e. RemovalEvents K.cmp Q.order K.is_clone V.is_clone self.old
             self.new key e.value.items) }
     {
-        // What holds of the nodes at first, and that the number of pairs fits.
+        // The invariant of the nodes at first, and that the number of pairs fits a usize.
         self.rule();
         let _len = self.len();
         let mut count = 0;
@@ -122,8 +133,8 @@ impl<K: Ord + Clone + Drop, V: Eq + Clone + Drop, Node: NodeLike<MultiPair<K, V>
         self.take(place)
     }
 
-    // Removes the first pair of a key, if any, adds the events to others, and returns whether there
-    // was one. A failed call changes nothing.
+    // Removes the first pair of a key, if any, appends the events to others, and returns whether
+    // the key had one. A failed call changes nothing.
     fn remove_next<Q: LookupKey<K>>(
         &mut self,
         key: &Q,
@@ -145,12 +156,12 @@ impl<K: Ord + Clone + Drop, V: Eq + Clone + Drop, Node: NodeLike<MultiPair<K, V>
         ensures kept { OnErr result (events.new.items ≡ events.old.items) }
         ensures unchanged { OnErr result (self.new ≡ self.old) }
     {
-        // What holds of the nodes.
+        // The invariant of the nodes.
         self.rule();
         let Some((node, offset)) = self.first_place(key) else {
             return Ok(false);
         };
-        // There is room for the events before the pair goes.
+        // It reserves room for the events before it removes the pair.
         let Ok(()) = events.reserve(3) else {
             return Err(self.set.removal_refusal(node, offset));
         };

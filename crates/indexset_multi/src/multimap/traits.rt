@@ -1,4 +1,4 @@
-//! The texts of a multimap.
+//! The text forms of a multimap.
 
 use super::BTreeMultiMap;
 use indexset_core::multipair::MultiPair;
@@ -15,8 +15,9 @@ impl<
     }
 }
 
-/// The nodes with their pairs and their numbers, as in `[0:a #0, 0:b #1] [4:c #2]`; nothing where
-/// there is none.
+/// Formats the nodes with their numbered pairs, as in `[0:a #0, 0:b #1] [4:c #2]`.
+///
+/// An empty multimap has the empty text.
 impl<
     K: Ord + Clone + Drop + fmt::Display,
     V: Eq + Clone + Drop + fmt::Display,

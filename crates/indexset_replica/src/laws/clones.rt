@@ -1,5 +1,5 @@
-//! Types whose clones equal their sources by the order, as the law [`super::replay_of_clones`] and
-//! the calls that cite it ask.
+//! Types whose clones equal their sources by the order, which the law [`super::replay_of_clones`]
+//! and the calls that cite it require.
 
 ghost use Rattle.std.specs.Prelude.{◌≡◌};
 ghost use Rattle.indexset_core.specs.MultiPairs.{by_number};
@@ -8,13 +8,13 @@ ghost use Rattle.indexset_core.specs.declared.multipair.MultiPair.{MultiPair};
 ghost use Rattle.indexset_core.specs.declared.pair.Pair.{Pair};
 ghost use Rattle.indexset_replica.specs.Copies.{AreClonesEqual};
 
-/// Texts.
+/// Clones of `String` and `&str` equal their sources.
 pub fn texts()
     ensures string { AreClonesEqual ⟦<String as Ord>⟧.cmp ⟦<String as Clone>⟧.is_clone }
     ensures str { AreClonesEqual ⟦<&'static str as Ord>⟧.cmp ⟦<&'static str as Clone>⟧.is_clone }
 {}
 
-/// Numbers of 64 bits, characters and truth values.
+/// Clones of `u64`, `i64`, `char` and `bool` equal their sources.
 pub fn numbers()
     ensures u64 { AreClonesEqual ⟦<u64 as Ord>⟧.cmp ⟦<u64 as Clone>⟧.is_clone }
     ensures i64 { AreClonesEqual ⟦<i64 as Ord>⟧.cmp ⟦<i64 as Clone>⟧.is_clone }
@@ -22,12 +22,12 @@ pub fn numbers()
     ensures bool { AreClonesEqual ⟦<bool as Ord>⟧.cmp ⟦<bool as Clone>⟧.is_clone }
 {}
 
-/// Types whose clones are identical to their sources, as all numbers and `Text`.
+/// Clones that are identical to their sources equal them, as those of all numbers and of `Text`.
 pub fn identical<T: Ord + Clone>()
     ensures { ((x y : T) → T.is_clone x y → y ≡ x) → AreClonesEqual T.cmp T.is_clone }
 {}
 
-/// Lists, options and boxes of such a type.
+/// Clones of lists, options and boxes equal their sources if those of their items do.
 pub fn holders<T: Ord + Clone>()
     ensures vec { AreClonesEqual T.cmp T.is_clone
         → AreClonesEqual ⟦<Vec<T> as Ord>⟧.cmp ⟦<Vec<T> as Clone>⟧.is_clone }
@@ -37,7 +37,7 @@ pub fn holders<T: Ord + Clone>()
         → AreClonesEqual ⟦<Box<T> as Ord>⟧.cmp ⟦<Box<T> as Clone>⟧.is_clone }
 {}
 
-/// Tuples of such types.
+/// Clones of tuples equal their sources if those of their components do.
 pub fn tuples<A: Ord + Clone, B: Ord + Clone, C: Ord + Clone>()
     ensures two { AreClonesEqual A.cmp A.is_clone → AreClonesEqual B.cmp B.is_clone
         → AreClonesEqual ⟦<(A, B) as Ord>⟧.cmp ⟦<(A, B) as Clone>⟧.is_clone }
@@ -46,7 +46,7 @@ pub fn tuples<A: Ord + Clone, B: Ord + Clone, C: Ord + Clone>()
         → AreClonesEqual ⟦<(A, B, C) as Ord>⟧.cmp ⟦<(A, B, C) as Clone>⟧.is_clone }
 {}
 
-/// Pairs whose keys are of such a type, whatever their values are.
+/// Clones of pairs equal their sources if those of their keys do, for any clones of the values.
 pub fn pairs<K: Ord + Clone, V: Clone>()
     ensures pair { AreClonesEqual K.cmp K.is_clone
         → AreClonesEqual {T = Pair K V} (by_key K.cmp)

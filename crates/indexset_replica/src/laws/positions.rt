@@ -1,4 +1,4 @@
-//! What ranks and positions in a replica are those of.
+//! The ranks and positions that a replica returns.
 
 ghost use Rattle.std.specs.Prelude.{◌≡◌, ◌-◌, ℕ, List, Some, take};
 ghost use Rattle.indexset_core.specs.Nodes.{concat};
@@ -11,7 +11,7 @@ ghost use Rattle.indexset_replica.specs.Replica.{ReplicaState};
 
 use indexset_core::lookup_key::LookupKey;
 
-/// A key has the same rank and the same position among copies as among their sources.
+/// A key has the same rank and the same position in copies of nodes as in their sources.
 pub fn positions_of_copies<T: Ord + Clone, Q: LookupKey<T>>()
     ensures rank { (ns ms : List (List T)) (k : Q) → AreCopies T.cmp T.is_clone ns ms
         → rank Q.order (concat ms) k ≡ rank Q.order (concat ns) k }
@@ -19,8 +19,10 @@ pub fn positions_of_copies<T: Ord + Clone, Q: LookupKey<T>>()
         → index_of Q.order (concat ms) k ≡ index_of Q.order (concat ns) k }
 {}
 
-/// Whatever the commands were and whatever the delivery, the rank and the position that a replica
-/// answers are those in the beginning of the events that it holds (`follow` says which one that is).
+/// A key has the same rank and position in a replica as in the nodes after a prefix of the events.
+///
+/// The replica has copies of these nodes. `follow` states which prefix that is, for any events and
+/// any delivery.
 pub fn positions_in_a_beginning<T: Ord + Clone, Q: LookupKey<T>>()
     ensures rank { (s : ℕ) (ns : List (List T)) (es : List (ChangeEvent T)) (q : ReplicaState T)
         → CopiesPrefix T.cmp T.is_clone s ns es q
@@ -34,7 +36,9 @@ pub fn positions_in_a_beginning<T: Ord + Clone, Q: LookupKey<T>>()
         ≡ index_of Q.order (concat held) k) }
 {}
 
-/// Where all events came, they are those in the nodes that the events lead to: the primary's.
+/// A key has the same rank and position in a replica of all events as in the primary's nodes.
+///
+/// The primary's nodes are those after all events, and the replica has copies of them.
 pub fn positions_where_all_came<T: Ord + Clone, Q: LookupKey<T>>()
     ensures rank { (s : ℕ) (ns after : List (List T)) (es : List (ChangeEvent T))
         (q : ReplicaState T) (k : Q) → CopiesAll T.cmp T.is_clone s ns es q

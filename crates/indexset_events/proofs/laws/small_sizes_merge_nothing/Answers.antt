@@ -11,7 +11,7 @@ filled_at [] each j lt = absurd (omega arith)
 filled_at (n ∷ ns) each zero lt = each.0
 filled_at (n ∷ ns) each (suc j) lt = filled_at ns each.1 j (omega arith)
 
--- two nodes that are not empty hold two items, and one of two or more keeps one
+-- two nodes that are not empty hold at least two items, and a node of two or more keeps one
 none_joined : {T : Type 0} (size : ℕ) (ns : List (List T)) (k i j : ℕ) → size < 4 → Each (λ n. 1 ≤ length n) ns → i < length (node_at ns k) → JoinedAfter size ns k i j → ⊥
 none_joined size ns k i j small filled inside joins =
     let pair : JoinedPair (size / 2) (set ns k (remove (node_at ns k) i)) k j = joins.pair in

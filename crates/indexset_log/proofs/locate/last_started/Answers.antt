@@ -8,7 +8,7 @@ use Rattle.indexset_log.proofs.locate.last_started.Given.{Over}
 use Rattle.indexset_log.proofs.locate.last_started.Goals.{After-next_step-at, In-Some}
 use Rattle.indexset_log.proofs.locate.last_started.Goals as goal
 
--- the node that is read
+-- the node that the code reads
 at : (g : Over) (c : After-next_step-at g) → (c.loop-low.low ≤ c.next_step-at.result) × (c.next_step-at.result < c.loop-low.high)
 at g c =
     let inv = c.loop-low.invariant in

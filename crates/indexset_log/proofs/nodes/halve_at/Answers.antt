@@ -12,7 +12,7 @@ use Rattle.indexset_log.proofs.nodes.halve_at.Given.{Over}
 use Rattle.indexset_log.proofs.nodes.halve_at.Goals.{After-as_slice, After-from_residual-in_err-right}
 use Rattle.indexset_log.proofs.nodes.halve_at.Goals as goal
 
--- a node that is not halved is as before
+-- a node that is not halved is unchanged
 kept : (g : Over) (c : After-from_residual-in_err-right g) → map g.Node.NodeLike.list (set c.reserve.new.self.items c.args.place c.halve.new.self) ≡ map g.Node.NodeLike.list c.args.nodes.now.items
 kept g c =
     let list = g.Node.NodeLike.list in
@@ -24,7 +24,7 @@ returns-in_err-right-clause-unchanged g c = on_err _ (kept g c)
 pub returns-in_err-right-clause-index : goal.returns-in_err-right-clause-index
 returns-in_err-right-clause-index g c = rw (kept g c) (c.reserve_one.ensures.sums ∙ c.requires.index)
 
--- the nodes with the right half in its place
+-- the nodes with the right half inserted
 made : (g : Over) (c : After-as_slice g) → map g.Node.NodeLike.list c.as_slice.result.now ≡ with_halved (map g.Node.NodeLike.list c.args.nodes.now.items) c.args.place
 made g c =
     let list = g.Node.NodeLike.list in

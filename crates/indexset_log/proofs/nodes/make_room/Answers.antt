@@ -5,7 +5,7 @@ use Rattle.indexset_log.proofs.nodes.make_room.Given.{Over}
 use Rattle.indexset_log.proofs.nodes.make_room.Goals.{After-from_residual-in_err-reserve_one, then-is_err+in_ok-reserve_one, else-is_err}
 use Rattle.indexset_log.proofs.nodes.make_room.Goals as goal
 
--- a node that gets no room is as before
+-- a node whose reservation failed is unchanged
 kept : (g : Over) (c : After-from_residual-in_err-reserve_one g) → map g.Node.NodeLike.list (set c.args.nodes.now.items c.args.aim.now.node c.reserve_one.new.self) ≡ map g.Node.NodeLike.list c.args.nodes.now.items
 kept g c =
     let list = g.Node.NodeLike.list in

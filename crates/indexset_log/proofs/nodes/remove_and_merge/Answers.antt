@@ -13,7 +13,7 @@ use Rattle.indexset_log.proofs.nodes.remove_and_merge.Given.{Over}
 use Rattle.indexset_log.proofs.nodes.remove_and_merge.Goals.{After-as_slice, After-from_residual, then-node-left, else-node-left}
 use Rattle.indexset_log.proofs.nodes.remove_and_merge.Goals as goal
 
--- a node that gets no room is as before
+-- a node whose reservation failed is unchanged
 kept : (g : Over) (c : After-from_residual g) → map g.Node.NodeLike.list (set c.args.nodes.now.items c.args.left c.reserve.new.self) ≡ map g.Node.NodeLike.list c.args.nodes.now.items
 kept g c =
     let list = g.Node.NodeLike.list in
@@ -25,7 +25,7 @@ returns-in_err-reserve-clause-unchanged g c = on_err _ (kept g c)
 pub returns-in_err-reserve-clause-index : goal.returns-in_err-reserve-clause-index
 returns-in_err-reserve-clause-index g c = rw (kept g c) c.requires.index
 
--- a node that is not the first is the one after it
+-- a node that is not the first of the two is the second
 one_after : (k j : ℕ) → (k ≡ j) ⊎ (k ≡ j + 1) → (k ≡ j → ⊥) → k ≡ j + 1
 one_after k j (inl same) ne = absurd (ne same)
 one_after k j (inr next) ne = next
@@ -96,7 +96,7 @@ absorb-requires-clause-order g c =
           rw (w.first-is, w.next-is) (subst (IsAscending g.T.Ord.cmp) (sym made) c.requires.order)
     ]
 
--- the two nodes, as they were before
+-- the two nodes before the call
 seen : (g : Over) (c : After-as_slice g) → map g.Node.NodeLike.list c.as_slice.result.now ≡ remove (map g.Node.NodeLike.list c.args.nodes.now.items) (c.args.left + 1)
 seen g c =
     let list = g.Node.NodeLike.list in
@@ -104,7 +104,7 @@ seen g c =
     let same : map list (set items c.args.left c.reserve.new.self) ≡ map list items = map-set_same list items c.args.left c.reserve.new.self c.index_mut-first.result.now (c.in_ok-reserve.ensures.list ∙ ap list c.index_mut-first.ensures.value) in
     rw (c.as_slice.ensures.value, c.remove-next.ensures.items) (map_remove list (set items c.args.left c.reserve.new.self) (c.args.left + 1) ∙ ap (λ l. remove l (c.args.left + 1)) same)
 
--- how many items the second has
+-- the number of items in the second
 next_long : (g : Over) (c : After-as_slice g) → c.len-more.result ≡ length (node_at (map g.Node.NodeLike.list c.args.nodes.now.items) (c.args.left + 1))
 next_long g c =
     let list = g.Node.NodeLike.list in

@@ -1,4 +1,4 @@
--- The map and the run behind it hold what came so far.
+-- The map and the run behind it hold the entries so far.
 use Rattle.std.proofs.Common.{◌≡◌, ◌++◌, map}
 use Rattle.indexset_core.specs.declared.constants.TheConstants.{DEFAULT_INNER_SIZE}
 use Rattle.indexset_core.specs.Order.{IsAscending}

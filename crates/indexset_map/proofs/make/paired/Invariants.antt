@@ -1,4 +1,4 @@
--- The pairs are the entries that came so far.
+-- The pairs are the entries so far.
 use Rattle.std.proofs.Common.{◌≡◌, map}
 use Rattle.indexset_core.specs.Pairs.{entry_of}
 use Rattle.indexset_map.proofs.make.paired.Given as goal

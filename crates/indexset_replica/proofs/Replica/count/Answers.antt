@@ -7,7 +7,7 @@ use Rattle.indexset_replica.proofs.Replica.count.Given.{Over}
 use Rattle.indexset_replica.proofs.Replica.count.Goals.{After-count_before}
 use Rattle.indexset_replica.proofs.Replica.count.Goals as goal
 
--- so many items are below, and so many are not above
+-- how many items are below, and how many are not above
 module _ (g : Over) (c : After-count_before g) where
   abbrev answer : g.row.T.Denot → Ordering
   answer x = g.Q.LookupKey.order x c.args.value

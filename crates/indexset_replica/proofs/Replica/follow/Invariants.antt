@@ -1,4 +1,4 @@
--- The events at the places so far were delivered, one after the other.
+-- The events at the places so far were delivered, in order.
 use Rattle.std.proofs.Common.{take}
 use Rattle.indexset_replica.specs.Delivery.{IsFollowed}
 use Rattle.indexset_replica.proofs.Replica.follow.Given as goal

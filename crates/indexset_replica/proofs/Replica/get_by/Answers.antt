@@ -8,7 +8,7 @@ use Rattle.indexset_core.specs.Places.{located}
 use Rattle.indexset_core.proofs.CallerLemmas.{end_found, end_node, end_offset, gap_found, length-held, node_read}
 use Rattle.indexset_replica.proofs.Replica.get_by.Goals.{After-as_slice-items}
 
--- what the code reads where the search has found an item
+-- the item that the code reads if the search found one
 module _ (g : Over) (c : After-as_slice-items g) where
   same : vec_items c.self.inside.nodes.items ≡ c.args.self.now.nodes
   same = ap (λ t. t.nodes) c.self.view_is

@@ -9,7 +9,7 @@ use Rattle.indexset_replica.proofs.Replica.index_of.Given.{Over}
 use Rattle.indexset_replica.proofs.Replica.index_of.Goals.{After-drop-value}
 use Rattle.indexset_replica.proofs.Replica.index_of.Goals as goal
 
--- where the search ends that has found an item
+-- where the search ends if it found an item
 module _ (g : Over) (c : After-drop-value g) where
   abbrev answer : g.row.T.Denot → Ordering
   answer x = g.Q.LookupKey.order x c.args.value

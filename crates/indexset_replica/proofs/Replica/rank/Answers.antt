@@ -7,7 +7,7 @@ use Rattle.indexset_replica.proofs.Replica.rank.Given.{Over}
 use Rattle.indexset_replica.proofs.Replica.rank.Goals.{After-drop-value}
 use Rattle.indexset_replica.proofs.Replica.rank.Goals as goal
 
--- the items are found in order, and so many of them are below
+-- the items are found in order, and how many of them are below
 module _ (g : Over) (c : After-drop-value g) where
   abbrev answer : g.row.T.Denot → Ordering
   answer x = g.Q.LookupKey.order x c.args.value

@@ -16,7 +16,7 @@ parted g c =
     let law : IsNodeList g.T.Ord.cmp (vec_items c.as_slice-nodes.result.now) = rw c.as_slice-nodes.ensures.value c.self.invariant.nodes in
     parted_by_sought g.met.Q.LookupKey.acts_as_key _ law.ascending
 
--- the two places cut out the range
+-- the range lies between the two places
 cut : (g : Over) (c : After-place_to-to g) → let ns = vec_items c.as_slice-nodes.result.now in let i = items_before ns c.place_from-from.result in let j = items_before ns c.place_to-to.result in (i ≤ j) × (between i j (concat ns) ≡ in_range g.Q.LookupKey.order (concat ns) (bound_map (λ v. v.now) c.args.range.0) (bound_map (λ v. v.now) c.args.range.1))
 cut g c =
     let order = g.Q.LookupKey.order in

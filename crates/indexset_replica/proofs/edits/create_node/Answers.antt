@@ -12,7 +12,7 @@ use Rattle.indexset_replica.proofs.edits.create_node.Given.{Over}
 use Rattle.indexset_replica.proofs.edits.create_node.Goals as goal
 use Rattle.indexset_replica.proofs.edits.create_node.Goals.{After-as_slice-3, Else-not-fits_before}
 
--- what the new node makes of the nodes
+-- the nodes after the insertion of the new node
 created : (g : Over) (c : Else-not-fits_before g) → let ns = map (λ v. v.items) c.args.nodes.now.items in let v = c.args.value.now in IsEdit g.T.Ord.cmp ns (CreateNode v) (insert ns c.first_reaching-place.result (v ∷ []))
 created g c =
     let place = rw c.as_slice.ensures.value at c.first_reaching-place.ensures.place in

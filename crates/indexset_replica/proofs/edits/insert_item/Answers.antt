@@ -15,7 +15,7 @@ use Rattle.indexset_replica.proofs.edits.insert_item.Given.{Over}
 use Rattle.indexset_replica.proofs.edits.insert_item.Goals as goal
 use Rattle.indexset_replica.proofs.edits.insert_item.Goals.{Else-not-fits_at}
 
--- what the insertion makes of the nodes
+-- the nodes after the insertion
 inserted : (g : Over) (c : Else-not-fits_at g) → let ns = map (λ v. v.items) c.args.nodes.now.items in let v = c.args.value.now in let i = c.args.index in IsEdit g.T.Ord.cmp ns (InsertAt c.args.name.now v i) (set ns c.in_ok-place.place (insert c.index.result.now.items i v))
 inserted g c =
     let named = rw c.as_slice.ensures.value at c.in_ok-place.ensures.named in

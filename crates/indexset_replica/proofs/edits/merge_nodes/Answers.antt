@@ -16,7 +16,7 @@ use Rattle.indexset_replica.proofs.edits.merge_nodes.Given.{Over}
 use Rattle.indexset_replica.proofs.edits.merge_nodes.Goals as goal
 use Rattle.indexset_replica.proofs.edits.merge_nodes.Goals.{After-reserve}
 
--- what the joining makes of the nodes
+-- the nodes after the merge
 merged : (g : Over) (c : After-reserve g) → let ns = map (λ v. v.items) c.args.nodes.now.items in IsEdit g.T.Ord.cmp ns (MergeNodes c.args.name.now c.args.next_name.now) (with_merged ns c.in_ok-place.place)
 merged g c =
     let named = rw c.as_slice.ensures.value at c.in_ok-place.ensures.named in

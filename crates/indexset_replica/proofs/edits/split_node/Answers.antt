@@ -13,7 +13,7 @@ use Rattle.indexset_replica.proofs.edits.split_node.Given.{Over}
 use Rattle.indexset_replica.proofs.edits.split_node.Goals as goal
 use Rattle.indexset_replica.proofs.edits.split_node.Goals.{After-as_slice-2, After-reserve, then-split_index-eq0-via-then-split_index-eq0, then-split_index-eq0-via-else-split_index-eq0+then-split_index-len}
 
--- what the split makes of the nodes
+-- the nodes after the split
 split : (g : Over) (c : After-reserve g) → let ns = map (λ v. v.items) c.args.nodes.now.items in let p = c.in_ok-place.place in let k = c.args.split_index in let n = c.index.result.now.items in IsEdit g.T.Ord.cmp ns (SplitNode c.args.name.now k) (splice ns p (p + 1) (take k n ∷ drop k n ∷ []))
 split g c =
     let named = rw c.as_slice.ensures.value at c.in_ok-place.ensures.named in

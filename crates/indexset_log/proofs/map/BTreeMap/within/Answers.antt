@@ -10,7 +10,7 @@ use Rattle.indexset_log.proofs.map.BTreeMap.within.Given.{Over}
 use Rattle.indexset_log.proofs.map.BTreeMap.within.Goals.{After-place_to-to}
 use Rattle.indexset_log.proofs.map.BTreeMap.within.Goals as goal
 
--- the two places cut out the range
+-- the range lies between the two places
 cut : (g : Over) (c : After-place_to-to g) → let i = items_before c.self.inside.set.nodes c.place_from-from.result in let j = items_before c.self.inside.set.nodes c.place_to-to.result in let l = concat c.self.inside.set.nodes in (i ≤ j) × (between i j l ≡ pairs_within g.Q.LookupKey.order l (bound_map (λ k. k.now) c.args.range.0) (bound_map (λ k. k.now) c.args.range.1))
 cut g c =
     let order = g.Q.LookupKey.order in

@@ -12,7 +12,7 @@ use Rattle.indexset_log.proofs.set.BTreeSet.attach_place.Goals as goal
 first : (g : Over) (c : In-Some g) → slice_get (g.Node.NodeLike.list c.args.node.now) 0 ≡ Some c.in-Some.first.now
 first g c = rw (c.as_slice-items.ensures.value ∙ c.iter.ensures) at (sym c.in-Some.ensures.value)
 
--- where it goes, and whether it is refused there
+-- its place, and whether it can be inserted there
 told : (g : Over) (c : After-starts_above g) → (c.nodes_below-place.result ≡ attach_index g.T.Ord.cmp c.args.self.now.nodes (g.Node.NodeLike.list c.args.node.now)) × (attach_refusal g.T.Ord.cmp c.args.self.now.size c.args.self.now.nodes (g.Node.NodeLike.list c.args.node.now) ≡ (if not c.starts_above.result then Some Overlaps else None))
 told g c =
     let t = held g.Node.NodeLike.list c.self.inside.nodes.items c.self.view_is c.self.invariant in

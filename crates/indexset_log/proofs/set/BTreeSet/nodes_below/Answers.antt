@@ -23,7 +23,7 @@ found g c =
     let some : 1 ≤ length c.self.inside.nodes.items = grind (arith, common_steps) in
     (at, omega (arith, some, t.many), omega (arith, at, some, t.many))
 
--- whether the node there reaches up to the item
+-- whether the node there ends at or above the item
 reach : (g : Over) (c : In-Some g) → (f : c.node_by-node.result < length c.self.inside.nodes.items) → reaches g.T.Ord.cmp c.args.value.now (node_at c.args.self.now.nodes c.node_by-node.result) ≡ not (is_lt (g.T.Ord.cmp c.in-Some.last.now c.args.value.now))
 reach g c inside =
     let t = held g.Node.NodeLike.list c.self.inside.nodes.items c.self.view_is c.self.invariant in

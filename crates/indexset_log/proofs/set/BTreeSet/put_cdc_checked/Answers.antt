@@ -4,7 +4,7 @@ use Rattle.indexset_log.proofs.ChangeLemmas.{checked_changed, checked_told, keep
 use Rattle.indexset_log.proofs.TreeViewLemmas.{tree_of}
 use Rattle.indexset_log.proofs.set.BTreeSet.put_cdc_checked.Goals as goal
 
--- an equal item is there
+-- an equal item is present
 pub returns-then-finds_equal : goal.returns-then-finds_equal
 returns-then-finds_equal g c =
     let there = c.if-finds_equal.ensures ∙ c.aim-aim.ensures.present in
@@ -19,7 +19,7 @@ returns-then-finds_equal g c =
       events = tt;
     }
 
--- the item was put in
+-- the item was inserted
 pub returns-in-Ok : goal.returns-in-Ok
 returns-in-Ok g c =
     let rule = tree_of c.aim-aim.ensures.lawful c.aim-aim.ensures.two in

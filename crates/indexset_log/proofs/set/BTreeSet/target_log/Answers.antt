@@ -8,7 +8,7 @@ use Rattle.indexset_log.proofs.set.BTreeSet.target_log.Given.{Over}
 use Rattle.indexset_log.proofs.set.BTreeSet.target_log.Goals.{After-as_slice-items, After-part_of}
 use Rattle.indexset_log.proofs.set.BTreeSet.target_log.Goals as goal
 
--- the node that the item goes into
+-- the node that the item is inserted into
 read : (g : Over) (c : After-as_slice-items g) → c.as_slice-items.result.now ≡ node_at c.args.self.now.nodes c.args.aim.now.node
 read g c =
     let t = held g.Node.NodeLike.list c.self.inside.nodes.items c.self.view_is c.self.invariant in

@@ -11,7 +11,7 @@ use Rattle.indexset_log.proofs.set.BTreeSet.within.Given.{Over}
 use Rattle.indexset_log.proofs.set.BTreeSet.within.Goals.{After-place_to-to}
 use Rattle.indexset_log.proofs.set.BTreeSet.within.Goals as goal
 
--- the two places cut out the range
+-- the range lies between the two places
 cut : (g : Over) (c : After-place_to-to g) → let i = items_before c.args.self.now.nodes c.place_from-from.result in let j = items_before c.args.self.now.nodes c.place_to-to.result in let l = concat c.args.self.now.nodes in (i ≤ j) × (between i j l ≡ in_range g.Q.LookupKey.order l (bound_map (λ v. v.now) c.args.range.0) (bound_map (λ v. v.now) c.args.range.1))
 cut g c =
     let order = g.Q.LookupKey.order in

@@ -10,7 +10,7 @@ use Rattle.indexset_log.proofs.set.remove_range.remove_within.Given.{Over}
 use Rattle.indexset_log.proofs.set.remove_range.remove_within.Goals.{After-retain}
 use Rattle.indexset_log.proofs.set.remove_range.remove_within.Goals as goal
 
--- a turn of the loop
+-- an iteration of the loop
 turn : (g : Over) (c : After-retain g) → Turned (λ (v : Vec g.row.T.Denot Global). v.items) (λ x. not (is_within g.Q.LookupKey.order (bound_map (λ (v : Bor g.row.Q.Denot). v.now) c.args.range.0) (bound_map (λ (v : Bor g.row.Q.Denot). v.now) c.args.range.1) x)) c.args.nodes.now c.loop-node.nodes c.loop-node.node-index c.retain.new.self
 turn g c =
     let at = c.loop-node in

@@ -1,4 +1,4 @@
--- The nodes so far have lost their items within the bounds.
+-- The nodes so far are without their items within the bounds.
 use Rattle.std.proofs.Common.{◌≡◌, ◌++◌, length, map, take, drop}
 use Rattle.std.specs.Range.Bound.{bound_map}
 use Rattle.indexset_core.specs.Nodes.{concat}

@@ -1,4 +1,4 @@
--- What was written is the keys and values that came.
+-- The keys and values so far were written.
 use Rattle.std.proofs.Common.{◌≡◌, ◌++◌}
 use Rattle.std.specs.List.{flat_map, fold}
 use Rattle.indexset_map.proofs.compare.BTreeMapHash.hash.Given as goal

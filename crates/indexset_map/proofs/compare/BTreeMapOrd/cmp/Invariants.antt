@@ -1,4 +1,4 @@
--- What is left compares as the whole does.
+-- The remaining pairs compare as all pairs do.
 use Rattle.std.proofs.Common.{◌≡◌, length}
 use Rattle.std.specs.Cmp.Lexicographic.{slice_cmp}
 use Rattle.std.specs.Ordering.{ordering_then}

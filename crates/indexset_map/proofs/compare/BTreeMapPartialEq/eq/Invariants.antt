@@ -1,4 +1,4 @@
--- What is left is as long on both sides, and is equal as the whole is.
+-- The remaining pairs are equally many on both sides, and are equal if and only if all pairs are.
 use Rattle.std.proofs.Common.{◌≡◌, ◌&&◌, length}
 use Rattle.std.specs.Cmp.Lexicographic.{pointwise}
 use Rattle.indexset_map.proofs.compare.BTreeMapPartialEq.eq.Given as goal

@@ -1,4 +1,6 @@
--- The last pair is borrowed mutably as an `Option`, which the borrow checker does not cover. First `ready` is asked, of the iterator lent again for a lifetime within the old one; then `next_pair_back` lends the pair as it is.
+-- The last pair is borrowed mutably as an `Option`, which the borrow checker does not cover. The
+-- proof calls `ready` on a reborrow of the iterator for a lifetime within the old one; then
+-- `next_pair_back` lends the pair as it is.
 use Rattle.indexset_set.proofs.LentPairs.{proved, leaves, Some-of, none_of, a_type, named, dcons, dnil, Val, vptr, vstruct, vcons, vnil, of_list, inst_fn, SProp, emp, id⊢, sep, wand, apply∗, ftrue, flft, fdead, fres, Lft, GName, Item, ‵, raw, ◌⊛◌, some, later, at_ret, ◌$◌, ◌∵◌, !, qed, by, move, keep, drop, split, split3, join, fsplit, fsplit3, fjoin, pick, use0, use1, use2, use3, feq_l, await, rewrite, stop, addr, lit, of_opd, no_more, and_then, first, branches, skips, exec, returns, returns_within, enter, alloc_all, pass_all, free_all, look_at, get, through, sets, lands_as, env, agg, live, tables, fact, fact_i, ◌⊑◌, Lfts, no, LentAgain, lends_again, comes_back, lft_new, lft_end, lft-common, common, mem-append_left, mem-append_right, full_share, RattleType, owns, types_at, plain, named_lft, RefMutOf, bool, MutRef, ShrRef, MutBor, mut_vals, mut_Tells, nothing, only, peeks, heard, Is, shows, param, bounded, Tuple, lasts, triple_of, calls_at, framed, Stays, stay_dropped, walk_of, Goes-spent_ref, after, is_true, is_false, is_low}
 use Rattle.std.proofs.Common.{◌≡◌, ℕ, ◌-◌, ◌<◌, Bool, [], ◌∷◌, ◌++◌, Option, Some, None, slice_get, if◌then◌else◌, refl, sym, ap, ◌∙◌, lit<, nat_lt}
 use Rattle.std.specs.Option.{option_map}
@@ -49,7 +51,8 @@ next_back_spec 𝓤 𝓛 𝓜 𝓡 wired X Y LX LY o₀ d₀ o₁ d₁ o₂ d₂
     lft_new ! tt (λ α. let ν : Lft = (α ∷ []) ++ κ₁ in let t = (common full_share (Share.left q₁)).0 in let Both = sep 𝓤 (𝓛.A.lft (α ∷ []) full_share) (𝓛.A.lft κ₁ (Share.left q₁)) in
     use2 𝓛 (‵ (flft ν t) ⊛ raw (wand 𝓤 (𝓛.A.lft ν t) Both)) (lft-common 𝓛 (α ∷ []) κ₁ full_share (Share.left q₁)) $ split ! $ move ! (5 ∷ 4 ∷ []) $
     use2 𝓛 (later (some (λ (δ : GName). ‵ (Ref ν (record s { ghost_name = δ })) ⊛ ‵ (LentAgain Row κ ν q s.ghost_name b o δ s.now)))) (lends_again 𝓛 Row (named 0) κ ν q s.ghost_name b o (named 0) s.now) $ await ! tt $ pick ! (λ δ. split ! $
-    -- [the loan; what the lender keeps; the token of ν; what gives it back; the other half of κ₁'s; the rest of the tokens]
+    -- [the loan; what the lender keeps; the token of ν; what gives it back; the other half of κ₁'s;
+    -- the rest of the tokens]
     let x : Rd.Ghost = (((ν, κs.1), (t, (Share.right q₁, qs.1.1)), ((λ a m. mem-append_right (α ∷ []) m), ((λ a m. mem-append_right (α ∷ []) (bounds.1.1.1.0 a m)), ((λ a m. mem-append_right (α ∷ []) (bounds.1.1.1.1.0 a m)), (bounds.1.1.1.0, (bounds.1.1.1.1.0, tt))))), (record s { ghost_name = δ }, tt), (mut_vals s, tt)), tt) in
     nothing ! $ move ! (1 ∷ 0 ∷ []) $ fjoin ! $ move ! (4 ∷ 5 ∷ []) $ join ! $ move ! (3 ∷ 0 ∷ []) $ join ! $ join ! $
     nothing ! $ use0 𝓛 (raw (fact 𝓤 inV)) (fact_i 𝓤 inV (emp 𝓤) lv) $ join ! $ use0 𝓛 (raw (fact 𝓤 inK)) (fact_i 𝓤 inK (emp 𝓤) lk) $ join ! $
@@ -62,7 +65,8 @@ next_back_spec 𝓤 𝓛 𝓜 𝓡 wired X Y LX LY o₀ d₀ o₁ d₁ o₂ d₂
     move ! (2 ∷ []) $ feq_l ! (λ is_has. lands_as ! (ap only is_has) refl (tt, tt) $
     move ! (2 ∷ []) $ pick ! (λ us. split ! $ move ! (1 ∷ []) $ heard ! _ (λ told. fsplit ! $ fsplit ! $
     rewrite ! 0 (λ (m : Row.Denot). ‵ (fres δ (Row.coded.code m))) told.1 refl $
-    -- [the loan's last value; its borrow; nothing; α is over; the other tokens; what the lender keeps]
+    -- [the loan's last value; its borrow; nothing; α is over; the other tokens; what the lender
+    -- keeps]
     move ! (3 ∷ 5 ∷ 0 ∷ []) $ use3 𝓛 (later (‵ (Ref κ s) ⊛ ‵ (flft κ q))) (comes_back 𝓛 Row (named 0) κ ν q s.ghost_name b o δ s.now s.now) $ await ! tt $ split ! $
     -- [self; the token of κ; its borrow; nothing; the other tokens]
     move ! (2 ∷ []) $ drop ! $ move ! (2 ∷ []) $ drop ! $ move ! (1 ∷ 2 ∷ []) $ join ! $ move ! (1 ∷ 0 ∷ []) $

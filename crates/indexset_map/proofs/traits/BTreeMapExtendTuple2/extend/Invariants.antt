@@ -1,4 +1,4 @@
--- The map holds what it held and what came so far.
+-- The map has its old pairs and the entries so far.
 use Rattle.std.proofs.Common.{◌≡◌}
 use Rattle.indexset_map.specs.Contents.{with_all}
 use Rattle.indexset_map.proofs.traits.BTreeMapExtendTuple2.extend.Given as goal

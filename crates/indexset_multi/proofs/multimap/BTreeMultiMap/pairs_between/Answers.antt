@@ -10,7 +10,7 @@ use Rattle.indexset_multi.proofs.multimap.BTreeMultiMap.pairs_between.Given.{Ove
 use Rattle.indexset_multi.proofs.multimap.BTreeMultiMap.pairs_between.Goals.{After-place_to-to}
 use Rattle.indexset_multi.proofs.multimap.BTreeMultiMap.pairs_between.Goals as goal
 
--- the two places cut out the range
+-- the range lies between the two places
 cut : (g : Over) (c : After-place_to-to g) → let s = c.self.inside.set in let i = items_before s.nodes c.place_from-from.result in let j = items_before s.nodes c.place_to-to.result in (i ≤ j) × (between i j (concat s.nodes) ≡ pairs_between g.Q.LookupKey.order (concat s.nodes) (bound_map (λ k. k.now) c.args.range.0) (bound_map (λ k. k.now) c.args.range.1))
 cut g c =
     let order = g.Q.LookupKey.order in

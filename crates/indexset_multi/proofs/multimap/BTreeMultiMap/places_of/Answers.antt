@@ -11,7 +11,7 @@ use Rattle.indexset_multi.proofs.multimap.BTreeMultiMap.places_of.Given.{Over}
 use Rattle.indexset_multi.proofs.multimap.BTreeMultiMap.places_of.Goals.{After-places_by}
 use Rattle.indexset_multi.proofs.multimap.BTreeMultiMap.places_of.Goals as goal
 
--- the two places cut out the pairs of the key
+-- the pairs of the key lie between the two places
 cut : (g : Over) (c : After-places_by g) → let s = c.self.inside.set in let i = items_before s.nodes c.places_by.result.0 in let j = items_before s.nodes c.places_by.result.1 in (i ≤ j) × (between i j (concat s.nodes) ≡ pairs_of g.Q.LookupKey.order (concat s.nodes) c.args.key.now)
 cut g c =
     let order = g.Q.LookupKey.order in

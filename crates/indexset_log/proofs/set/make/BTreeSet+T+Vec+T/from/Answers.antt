@@ -8,7 +8,7 @@ use Rattle.indexset_log.specs.Tree.{fresh}
 use Rattle.indexset_log.proofs.TreeViewLemmas.{front_of_run}
 use Rattle.indexset_log.proofs.set.make.BTreeSet+T+Vec+T.from.Goals as goal
 
--- what came is a front of the list
+-- the items so far are a prefix of the list
 pub returns-clause-numbers : goal.returns-clause-numbers
 returns-clause-numbers g c out =
     let told = c.from_iter.ensures.numbers out in

@@ -1,4 +1,4 @@
--- The tree holds what came so far.
+-- The tree has the items so far.
 use Rattle.std.proofs.Common.{◌≡◌, []}
 use Rattle.std.specs.List.{fold}
 use Rattle.indexset_core.specs.Nodes.{concat}

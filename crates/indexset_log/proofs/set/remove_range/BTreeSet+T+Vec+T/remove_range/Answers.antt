@@ -17,7 +17,7 @@ use Rattle.indexset_log.proofs.set.remove_range.BTreeSet+T+Vec+T.remove_range.Go
 pub remove_within-self-inside-requires : goal.remove_within-self-inside-requires
 remove_within-self-inside-requires g c = rw c.as_mut_slice.ensures.value (omega (arith, c.self.invariant.tree.counted))
 
--- the nodes that are left
+-- the nodes that remain
 left : (g : Over) (c : After-retain g) → map (λ (v : Vec g.row.T.Denot Global). v.items) c.retain.new.self.items ≡ without_range g.R.Key.LookupKey.order (map (λ v. v.items) c.self.inside.nodes.items) (g.R.KeyRange.start c.args.range) (g.R.KeyRange.end c.args.range)
 left g c =
     let asked = c.remove_within-self-inside in
