@@ -1,5 +1,5 @@
-//! Accounts of names. A line `NAME AMOUNT` pays in, a line `FROM TO AMOUNT` moves an amount, and at
-//! the end all balances are printed, by name. A line that is refused is printed with the reason.
+//! Accounts by name. A line `NAME AMOUNT` pays an amount in, and a line `FROM TO AMOUNT` moves it.
+//! At the end all balances are printed by name. A line that is refused is printed with the reason.
 #![tactic(auto)]
 
 ghost use Rattle.std.specs.Prelude.{◌≡◌};
@@ -51,7 +51,7 @@ fn pay_in(rt: &HostRuntime, accounts: &mut Accounts, name: &str, amount: u64) ->
     Ok(())
 }
 
-/// Moves an amount from one account to another. The sum of all balances stays.
+/// Moves an amount from one account to another. The sum of all balances is unchanged.
 fn transfer(accounts: &mut Accounts, from: &str, to: &str, amount: u64) -> Result<()>
     ensures { sum (pair_values accounts.new.pairs) ≡ sum (pair_values accounts.old.pairs) }
 {

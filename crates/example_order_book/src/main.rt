@@ -1,6 +1,6 @@
-//! An order book. A line `sell GOOD PRICE AMOUNT` offers a good, and `buy GOOD PRICE AMOUNT` takes
-//! at most that much of its cheapest offer up to that price, which is printed. At the end all that
-//! is left is printed. A line that is refused is printed with the reason.
+//! An order book. A line `sell GOOD PRICE AMOUNT` offers a good. A line `buy GOOD PRICE AMOUNT`
+//! takes at most this amount of its cheapest offer up to this price, and prints what it took. At
+//! the end the remaining offers are printed. A line that is refused is printed with the reason.
 #![tactic(auto)]
 
 ghost use Rattle.std.specs.Prelude.{◌≡◌, ◌+◌};
@@ -61,11 +61,11 @@ fn buy(rt: &HostRuntime, offers: &mut Offers, good: &str, limit: u64, amount: u6
     Ok(())
 }
 
-/// Takes at most an amount of an offer, which goes where all is taken, and returns how much it was.
+/// Takes at most this amount of an offer, and returns how much it took. An empty offer is removed.
 fn take(offers: &mut Offers, good: &str, price: u64, amount: u64) -> u64
     ensures { result + sum (pair_values offers.new.pairs) ≡ sum (pair_values offers.old.pairs) }
 {
-    let _len = offers.len(); // shows the proof that the offers are in order
+    let _len = offers.len(); // for the proof: the offers are in order
     let offered = offers.get((good, &price)).copied().unwrap_or(0);
     if offered <= amount {
         offers.remove((good, &price));

@@ -1,5 +1,5 @@
 //! A race, entered in one place and read in another. `NAME SECONDS` enters a result, `get NUMBER`
-//! sends the copy an event, in any order, twice or never, `? SECONDS` asks how many were faster.
+//! sends the replica an event, in any order, twice or never, `? SECONDS` asks how many were faster.
 #![tactic(auto)]
 
 ghost use Rattle.std.specs.Prelude.{◌≡◌, ◌==◌, ◌+◌, [], if◌then◌else◌, OnOk, Some, length, min};
@@ -14,10 +14,10 @@ use indexset::cdc::laws;
 use indexset::concurrent::multimap::BTreeMultiMap;
 use indexset::replica::Replica;
 
-/// A time, and who took it.
+/// A time and a name.
 type Entry = MultiPair<u64, Text>;
 
-/// The results, all their events, and a copy, which holds what the first of the events lead to.
+/// The results, all their events, and a replica that has applied a prefix of the events.
 #[derive(Drop)]
 struct Race {
     results: BTreeMultiMap<u64, Text>,
@@ -57,7 +57,7 @@ impl Race {
     fn enter(&mut self, rt: &HostRuntime, name: &str, time: u64) -> Result<()>
         ensures { OnOk result (IsAdded nat_cmp self.old.results self.new.results time name.now) }
     {
-        self.events.reserve(3)?; // With room for its events, none is lost.
+        self.events.reserve(3)?; // With space for its events, none is lost.
         let name = Text::copied(rt.alloc(), name)?;
         let mut told = self.results.push_cdc(time, name)?;
         laws::replay_in_parts::<Entry>();
@@ -67,7 +67,7 @@ impl Race {
         Ok(())
     }
 
-    /// The copy goes on by the event that it awaits, and passes over any other.
+    /// Applies an event to the replica if it is the next one.
     fn send(&mut self, number: usize) -> Result<()>
         ensures { OnOk result (self.new.copy.next ≡ (if number == self.old.copy.next
             then min (number + 1) (length self.old.events.items) else self.old.copy.next)) }

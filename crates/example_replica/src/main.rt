@@ -1,6 +1,6 @@
-//! A map and a copy that follows it. A line `NAME VALUE` sets the value of a name, a line `NAME`
-//! removes the name. The events of the map are printed and applied to the copy, as another process
-//! would that reads them, and at the end the copy is printed.
+//! A map and a replica that follows it. A line `NAME VALUE` sets the value of a name, and a line
+//! `NAME` removes the name. The events of the map are printed, and applied to the replica, as
+//! another process that reads them would do. At the end the replica is printed.
 #![tactic(auto)]
 
 ghost use Rattle.std.specs.Prelude.{◌≡◌, Some, IfOk, OnOk};
@@ -40,7 +40,7 @@ fn keep(rt: &HostRuntime, names: &mut UniqueKey, copy: &mut Replica<Named>) -> R
     Ok(())
 }
 
-/// Obeys a line. The copy then has the nodes of the map again.
+/// Executes a line. The replica then has the nodes of the map.
 fn obey(
     rt: &HostRuntime,
     names: &mut UniqueKey,
@@ -70,7 +70,7 @@ fn change(rt: &HostRuntime, names: &mut UniqueKey, line: &str) -> Result<Vec<Cha
     }
 }
 
-// Prints events, and applies them one after the other.
+// Prints events, and applies them in order.
 fn follow(rt: &HostRuntime, copy: &mut Replica<Named>, events: &[ChangeEvent<Named>]) -> Result<()>
     ensures { OnOk result (replay (by_key (slice_cmp nat_cmp)) copy.old.nodes events.now
         ≡ Some copy.new.nodes) }

@@ -1,5 +1,5 @@
-//! A window of time. A line `SECOND NAME` says that a name was seen, and how many were in the last
-//! minute is printed. At the end those that are still in the window are printed. A line that is
+//! A sliding window of a minute. A line `SECOND NAME` records that a name was seen, and prints how
+//! many were seen in the last minute. At the end those in the window are printed. A line that is
 //! refused is printed with the reason.
 #![tactic(auto)]
 
@@ -10,7 +10,7 @@ use anyhow::{Context, Result, ensure};
 use indexset::BTreeSet;
 use indexset::base::Text;
 
-/// When each name was seen, the oldest first.
+/// When each name was seen, oldest first.
 type Window = BTreeSet<(u64, Text)>;
 
 fn main(rt: HostRuntime) -> Result<()> {
@@ -47,7 +47,7 @@ fn see(rt: &HostRuntime, window: &mut Window, second: u64, name: &str) -> Result
     Ok(())
 }
 
-/// Forgets who was seen before a second, and nobody else.
+/// Removes the names that were seen before a second, and no others.
 fn expire(window: &mut Window, start: u64) -> Result<()>
     ensures { OnOk result (items window.new
         ≡ filter (λ seen. not (nat_lt seen.0 start)) (items window.old)) }

@@ -1,5 +1,5 @@
-//! A leaderboard of names. A line `NAME SCORE` sets the score of a name, a line `? NAME` asks for
-//! its rank, and at the end all are printed, the best first. Equal scores share a rank: 1, 2, 2, 4.
+//! A leaderboard of names. A line `NAME SCORE` sets the score of a name, and a line `? NAME` asks
+//! for its rank. At the end all are printed, best first. Equal scores share a rank: 1, 2, 2, 4.
 #![tactic(auto)]
 
 ghost use Rattle.std.specs.Prelude.{◌≡◌, ◌+◌, nat_lt, count_by};
@@ -13,7 +13,7 @@ use std::cmp::Reverse;
 /// The score of each name.
 type Scores = BTreeMap<Text, u64>;
 
-/// The scores with their names, the best first.
+/// The scores with their names, best first.
 type Board = BTreeSet<(Reverse<u64>, Text)>;
 
 fn main(rt: HostRuntime) -> Result<()> {
@@ -65,7 +65,7 @@ fn enter(
     Ok(())
 }
 
-/// Returns the rank of a score: one more than how many have a better one.
+/// Returns the rank of a score: one more than the number of better scores.
 fn rank(board: &Board, score: u64) -> u128
     ensures { result ≡ count_by (λ entry. nat_lt score entry.0.0) (items board.now) + 1 }
 {

@@ -1,6 +1,6 @@
-//! A secondary index: documents by tag. A line `+ TAG NUMBER` lists a document under a tag, a line
-//! `- TAG NUMBER` removes it, and `? TAG` prints the documents of a tag in the order in which they
-//! were listed. A line that is refused is printed with the reason.
+//! A secondary index: documents by tag. A line `+ TAG NUMBER` adds a document to a tag, and a line
+//! `- TAG NUMBER` removes it. A line `? TAG` prints the documents of a tag in insertion order. A
+//! line that is refused is printed with the reason.
 #![tactic(auto)]
 
 ghost use Rattle.std.specs.Prelude.{◌≡◌, nat_eq, OnOk};
@@ -50,7 +50,7 @@ fn add(rt: &HostRuntime, index: &mut Index, tag: &str, document: u64) -> Result<
     Ok(())
 }
 
-/// Removes a document from a tag, which keeps all others.
+/// Removes a document from a tag. The other documents of the tag are unchanged.
 fn remove(index: &mut Index, tag: &str, document: u64) -> Result<()>
     ensures { OnOk result (pairs_of (slice_cmp nat_cmp) (concat index.new.nodes) tag.now
         ≡ without_first (λ pair. nat_eq pair.value document)

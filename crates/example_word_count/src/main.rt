@@ -1,5 +1,5 @@
-//! Counts the words of its input, which white space parts. Prints each word with how often it came,
-//! in the order of the words, then the three most frequent ones, equally frequent ones in order.
+//! Counts the words of its input, which white space separates. Prints each word with its count, in
+//! the order of the words, and then the three most frequent words, equally frequent ones in order.
 #![tactic(auto)]
 
 ghost use Rattle.std.specs.Prelude.{◌≡◌, ◌+◌, ◌-◌, ◌^◌, min, unwrap_or, OnOk};
@@ -12,10 +12,10 @@ use indexset::base::Text;
 use indexset::{BTreeMap, BTreeSet};
 use std::cmp::Reverse;
 
-/// How often each word came.
+/// The count of each word.
 type Counts = BTreeMap<Text, u64>;
 
-/// The words, the most frequent first.
+/// The words, most frequent first.
 type Frequent = BTreeSet<(Reverse<u64>, Text)>;
 
 fn main(rt: HostRuntime) -> Result<()> {
@@ -34,7 +34,7 @@ fn read(rt: &HostRuntime, counts: &mut Counts) -> Result<()> {
     Ok(())
 }
 
-/// Counts a word once more, up to `u64::MAX`. Only a new word allocates.
+/// Increments the count of a word, up to `u64::MAX`. Only a new word allocates.
 fn count(rt: &HostRuntime, counts: &mut Counts, word: &str) -> Result<()>
     ensures { OnOk result (counts.new.pairs
         ≡ put_value (slice_cmp nat_cmp) counts.old.pairs word.now

@@ -1,4 +1,4 @@
--- How a command to a logged tree ends.
+-- The outcome of a command to a logged tree.
 use Rattle.std.proofs.Common.{◌≡◌, ℕ, ◌+◌, Bool, true, false, cond, List, length, Some, Ordering, refl, sym}
 use Rattle.std.specs.Prelude.{◌||◌}
 use Rattle.std.specs.Option.{unwrap_or}
@@ -11,7 +11,7 @@ use Rattle.indexset_multi.specs.Tree.{MultiTree}
 use Rattle.indexset_bench.specs.LoggedMulti.{MultiState}
 use Rattle.indexset_bench.specs.Told.{nodes_after, tree_after}
 
--- either of two refusals for lack of numbers
+-- either of two ways in which numbers run out
 pub either_lack : (a b : Bool) {X : Type 0} (x y : X) → cond a x (cond b x y) ≡ cond (a || b) x y
 either_lack true b x y = refl
 either_lack false b x y = refl
@@ -19,7 +19,7 @@ either_lack false b x y = refl
 abbrev tree_of : {T : Type 0} → List (List T) → ℕ → ℕ → Tree T
 tree_of ns size next = record { nodes = ns; size = size; next = next }
 
--- the tree is the one that the events lead to
+-- the tree is the result of replaying the events
 pub tree_led : {T : Type 0} (cmp : T → T → Ordering) (t new : Tree T) (es : List (ChangeEventUnassigned T)) → replay cmp t.nodes (numbered_from t.next es) ≡ Some new.nodes → new.size ≡ t.size → new.next ≡ t.next + length es → new ≡ tree_after cmp t es
 tree_led cmp t new es table size next = λ i. tree_of (unwrap_or (sym table i) t.nodes) (size i) (next i)
 

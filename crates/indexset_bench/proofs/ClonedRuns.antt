@@ -1,4 +1,4 @@
--- How a run whose replies may hold clones goes on, command by command.
+-- The state of a run whose replies may hold clones, command by command.
 use Rattle.std.proofs.Common.{◌≡◌, ◌+◌, List, [], ◌∷◌, ◌++◌, length, take, refl, sym, ap, ◌∙◌, subst, append_assoc, length-append}
 use Rattle.std.proofs.Math.Seq.{take-append_seam}
 use Rattle.std.proofs.lemmas.List.Sums.{fold-append}
@@ -6,7 +6,8 @@ use Rattle.std.specs.List.{fold, scan}
 use Rattle.indexset_bench.specs.Replies.{AppendsReply, AreReplies}
 use Rattle.indexset_bench.proofs.CommandRuns.{scan-push}
 
--- the commands so far were answered, by the very replies of the list under the premise, and left this state
+-- the commands so far were answered, with the replies of the definition if the premise holds, and
+-- left this state
 pub record ClonedSoFar {S C R : Type 0} (after : S → C → S) (reply : S → C → R) (IsReply : S → C → R → Type 0) (Premise : Type 0) (s s' : S) (done rest all : List C) (replies : List R) : Type 0 where
   pub given : done ++ rest ≡ all
   pub cloned : AreReplies after IsReply s done replies
@@ -31,7 +32,7 @@ pub none_cloned : {S C R : Type 0} {after : S → C → S} {reply : S → C → 
 none_cloned s rest all replies given none = rw none record { given = given; cloned = tt; told = λ _. refl; held = refl }
 
 module _ {S C R : Type 0} {after : S → C → S} {reply : S → C → R} {IsReply : S → C → R → Type 0} {Premise : Type 0} {s s' : S} {done rest all : List C} {replies : List R} (far : ClonedSoFar after reply IsReply Premise s s' done rest all replies) where
-  -- those commands are the first ones, as many as there are replies
+  -- those commands are the first ones, one for each reply
   answered : take (length replies) all ≡ done
   answered = rw (length-replies after IsReply s done replies far.cloned, ← far.given) (take-append_seam done rest)
 

@@ -1,4 +1,4 @@
--- How a run over a list of commands goes on, command by command, whatever a command does.
+-- The state of a run over a list of commands, command by command, for any effect of a command.
 use Rattle.std.proofs.Common.{◌≡◌, ◌+◌, List, [], ◌∷◌, ◌++◌, length, take, refl, sym, ap, ◌∙◌, append_assoc, length-append}
 use Rattle.std.proofs.Math.Seq.{take-append_seam}
 use Rattle.std.proofs.lemmas.List.Sums.{fold-append}
@@ -20,7 +20,7 @@ module _ {S C R : Type 0} (after : S → C → S) (reply : S → C → R) where
   length-scan s (c ∷ cs) = simp (length-scan (after s c) cs)
 
 module _ {S C R : Type 0} {after : S → C → S} {reply : S → C → R} {s s' : S} {done rest all : List C} {replies : List R} (far : SoFar after reply s s' done rest all replies) where
-  -- those commands are the first ones, as many as there are replies
+  -- those commands are the first ones, one for each reply
   pub first_commands : take (length replies) all ≡ done
   first_commands = rw (far.told, length-scan after reply s done, ← far.given) (take-append_seam done rest)
 

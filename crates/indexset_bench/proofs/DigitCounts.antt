@@ -2,7 +2,7 @@
 use Rattle.std.proofs.Common.{◌≡◌, ℕ, zero, suc, ◌+◌, ◌-◌, ◌/◌, ◌^◌, ◌*◌, ◌<◌, ◌≤◌, ap, ◌∙◌, arith}
 use Rattle.std.proofs.Math.Nat.{pow-suc}
 
--- a number of two digits or more has one digit less without its last
+-- dividing a number of at least two digits by 10 removes one digit
 pub one_digit_less : (a n : ℕ) → 10 ≤ n → n < 10 ^ (a + 1) → (0 < a) × (n / 10 < 10 ^ (a - 1 + 1))
 one_digit_less zero n more small = absurd (omega arith)
 one_digit_less (suc k) n more small =

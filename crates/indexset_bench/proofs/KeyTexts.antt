@@ -1,4 +1,4 @@
--- Texts of keys, two of them and pairs: what is read is what was spelled.
+-- Texts of keys, of two keys and of pairs: reading the text of a value returns that value.
 use Rattle.std.proofs.Common.{Some, ◌≡◌, ◌≢◌, ℕ, List, [], ◌∷◌, ◌++◌, refl, sym, ap, subst, ◌∙◌, arith, append_assoc}
 use Rattle.std.proofs.lemmas.List.Elements.{All-append, All-cons}
 use Rattle.std.specs.Option.{option_and_then, option_map}
@@ -10,7 +10,7 @@ use Rattle.indexset_bench.specs.PairText.{pair_text}
 use Rattle.indexset_bench.specs.Texts.{AreWords, PairFits, Texts, pair_of, two_keys}
 
 module _ {T : Type 0} (texts : Texts T) where
-  -- a byte that is in no text of a key, and is no colon
+  -- a byte that is not a colon and occurs in no text of a key
   pub record IsApart (c : ℕ) : Type 0 where
     pub keys : (x : T) → texts.InRange x → Lacks c (texts.spelling x)
     pub colon : 58 ≢ c
@@ -25,7 +25,7 @@ module _ {T : Type 0} (texts : Texts T) where
       (All-cons (λ x. x ≢ c) 58 (texts.spelling p.value) apart.colon (apart.keys p.value fit.1)))
 
   module _ (words : AreWords texts) where
-    -- neither the end of a line, nor a space, nor a colon
+    -- the text has no line end, no space and no colon
     pub end_lacks : (x : T) → texts.InRange x → Lacks 10 (texts.spelling x)
     end_lacks x fit = lacks_tested 10 (texts.spelling x) (word_parts (texts.spelling x) (words.whole x fit)).0
 

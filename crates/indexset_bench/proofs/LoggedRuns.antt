@@ -1,4 +1,4 @@
--- How a run over a list of commands to a logged tree goes on, command by command.
+-- The state of a run over a list of commands to a logged tree, command by command.
 use Rattle.std.proofs.Common.{◌≡◌, ℕ, ◌+◌, ◌*◌, ◌-◌, ◌≤◌, List, [], ◌∷◌, ◌++◌, length, slice_get, Some, Ordering, refl, ap, sym, ◌∙◌, arith, append_assoc, length-append}
 use Rattle.std.proofs.lemmas.List.{append-nil}
 use Rattle.std.proofs.lemmas.List.Sums.{fold-append}
@@ -16,7 +16,7 @@ use Rattle.indexset_replica.specs.Copies.{AreClonesEqual, LeadsToCopies}
 use Rattle.indexset_replica.proofs.CallerLemmas.{copies_itself, replay_copies}
 use Rattle.indexset_bench.specs.Told.{events_in_turn}
 
--- ---- the events of the table, command by command
+-- ---- the events of the definition, command by command
 
 numbered_from-append : {T : Type 0} (s : ℕ) (a b : List (ChangeEventUnassigned T)) → numbered_from s (a ++ b) ≡ numbered_from s a ++ numbered_from (s + length a) b
 numbered_from-append s [] b = ap (λ n. numbered_from n b) (omega arith)
@@ -29,7 +29,8 @@ module _ {S C E : Type 0} (left : S → C → S) (events : S → C → List E) w
   events_in_turn-push t [] c = append-nil (events t c)
   events_in_turn-push t (d ∷ cs) c = ap (λ l. events t d ++ l) (events_in_turn-push (left t d) cs c) ∙ sym (append_assoc (events t d) (events_in_turn left events (left t d) cs) (events (fold left (left t d) cs) c))
 
--- the events so far are those of the table for the commands so far, with clones of its items, these lead from the nodes before to those now, and the tree is as the commands left it
+-- the events so far are those of the definition for the commands so far, with clones of its items;
+-- replaying them on the nodes before gives the nodes now, and the tree is as the commands left it
 pub record LogSoFar {S C T : Type 0} (cmp : T → T → Ordering) (left : S → C → S) (events : S → C → List (ChangeEventUnassigned T)) (R : T → T → Type 0) (P : Type 0) (t t' : S) (ns now : List (List T)) (from next count : ℕ) (done : List C) (told : List (ChangeEvent T)) : Type 0 where
   pub cloned : AllZip (IsEventClone R) (numbered_from from (events_in_turn left events t done)) told
   pub told_is : P → told ≡ numbered_from from (events_in_turn left events t done)
@@ -75,7 +76,7 @@ module _ {S C T : Type 0} {cmp : T → T → Ordering} {left : S → C → S} {e
   pub told_copies : IsTotalOrder cmp → AreClonesEqual cmp R → LeadsToCopies cmp R ns told now
   told_copies o equal = replay_copies cmp R o equal ns ns now (numbered_from from (events_in_turn left events t done)) told (copies_itself cmp R ns) far.cloned far.replayed
 
-  -- by the first commands, as many as were answered
+  -- for the first commands, one for each reply
   module _ {first : List C} (same : first ≡ done) where
     pub clones_to_first : AllZip (IsEventClone R) (numbered_from from (events_in_turn left events t first)) told
     clones_to_first = rw same far.cloned
@@ -89,7 +90,7 @@ module _ {S C T : Type 0} {cmp : T → T → Ordering} {left : S → C → S} {e
     pub tree_to_first : t' ≡ fold left t first
     tree_to_first = far.left_is ∙ ap (fold left t) (sym same)
 
--- few nodes where neighbours stay apart, and so from none
+-- the bound on the number of nodes, where neighbours stay dense, and so from an empty tree
 module _ {T U : Type 0} (h k : ℕ) (ns : List (List T)) (ms : List (List U)) (kept : IsDense h ns → IsDense k ms) where
   pub few_after : IsDense h ns → (length ms - 1) * (k + 1) ≤ 2 * length (concat ms)
   few_after s = few_nodes k ms (kept s)
@@ -97,7 +98,7 @@ module _ {T U : Type 0} (h k : ℕ) (ns : List (List T)) (ms : List (List U)) (k
   pub few_from_none : ns ≡ [] → (length ms - 1) * (k + 1) ≤ 2 * length (concat ms)
   few_from_none e = few_after (λ j lt. absurd (omega (arith, ap (λ l. length l) e)))
 
--- the command that comes after those that were answered
+-- the command after those that were answered
 pub next_command : {C : Type 0} (done rest all : List C) (c : C) (n : ℕ) → done ++ c ∷ rest ≡ all → n ≡ length done → slice_get all n ≡ Some c
 next_command done rest all c n given count = rw (← given, count) (at_seam done c rest)
   where

@@ -1,4 +1,4 @@
--- `meaning` gives the command that a line spells.
+-- `meaning` is the command that a line spells.
 use Rattle.std.proofs.Common.{take, take-append-drop, Option, None, Some, MatchOption, ◌≡◌, ◌≢◌, ℕ, ◌+◌, ◌*◌, ◌<◌, ◌^◌, true, false, List, [], ◌∷◌, ◌++◌, drop, get_or, length, refl, sym, ap, subst, ◌∙◌, arith}
 use lib.Chars.{codes}
 use Rattle.std.proofs.Math.Seq.{take-append_seam, drop-append_seam}
@@ -32,11 +32,11 @@ test-from_FitsU64 (Rank n) h = lt-ltb n (2 ^ 64) h
 test-from_FitsU64 (At n) h = lt-ltb n (2 ^ 64) h
 test-from_FitsU64 Len h = refl
 
--- the first two bytes tell the words apart
+-- the first two bytes distinguish the words
 key : List ℕ → ℕ
 key line = get_or line 0 0 * 256 + get_or line 1 0
 
--- no two commands are spelled alike
+-- two commands with the same spelling are the same
 spelling_injective : (x y : Command) → FitsU64 x → FitsU64 y → spelling x ≡ spelling y → x ≡ y
 unfolding key
 spelling_injective (Add m) (Add n) p q e = ap Add (decimal_injective m n p q (ap (drop 4) e))
@@ -51,11 +51,11 @@ pub sound : (line : List ℕ) (c : Command) → meaning line ≡ Some c → (lin
 unfolding meaning
 sound line c e = found_spelled spelling fits_u64 FitsU64 FitsU64-from_test test-from_FitsU64 line (candidates line) c e
 
--- the candidates of a number
+-- the commands that have this number
 abbrev each : ℕ → List Command
 each n = Add n ∷ Del n ∷ Has n ∷ Rank n ∷ At n ∷ Len ∷ []
 
--- the command is among those that its spelling may spell
+-- the command is among the candidates of its spelling
 placed : (c : Command) → FitsU64 c → (front : List Command) × (back : List Command) × (candidates (spelling c) ≡ front ++ c ∷ back)
 placed (Add n) h = let v = (decimal_is_IsNumeral n h).1 in ([], _, ap each v)
 placed (Del n) h = let v = (decimal_is_IsNumeral n h).1 in (Add n ∷ [], _, ap each v)
@@ -71,12 +71,12 @@ complete line c e h =
     ap meaning e ∙ ap (find (spells spelling fits_u64 FitsU64 FitsU64-from_test test-from_FitsU64 (spelling c))) place.2
     ∙ spelled_found spelling fits_u64 FitsU64 FitsU64-from_test test-from_FitsU64 spelling_injective c h place.0 place.1
 
--- the command that the line spells, or none where it spells none
+-- the line spells this command, or no command
 abbrev Means : List ℕ → Option Command → Type 0
 Means line (Some command) = (line ≡ spelling command) × FitsU64 command
 Means line None = (command : Command) → FitsU64 command → line ≢ spelling command
 
--- the meaning is the one that a line has
+-- the meaning of a line is unique
 pub meaning_is : (line : List ℕ) (o : Option Command) → Means line o → o ≡ meaning line
 meaning_is line (Some c) h = sym (complete line c h.0 h.1)
 meaning_is line None h = at (meaning line) refl
@@ -87,11 +87,11 @@ meaning_is line None h = at (meaning line) refl
 
 -- ---- a word and a number
 
--- the text is that of the number, or of none
+-- the text is that of the number, or of no number
 abbrev pub IsNumberOf : List ℕ → Option ℕ → Type 0
 IsNumberOf digits o = MatchOption o ((n : ℕ) → n < 2 ^ 64 → digits ≢ decimal n) (λ n. (digits ≡ decimal n) × (n < 2 ^ 64))
 
--- the command's word, with the space behind it
+-- the word of a command, with the space after it
 abbrev pub word : Command → List ℕ
 word (Add n) = codes "add "
 word (Del n) = codes "del "
@@ -109,7 +109,7 @@ number_in (Rank n) = n
 number_in (At n) = n
 number_in Len = 0
 
--- the command with another number
+-- the command with its number replaced
 abbrev with_number : Command → ℕ → Command
 with_number (Add m) n = Add n
 with_number (Del m) n = Del n
@@ -118,7 +118,7 @@ with_number (Rank m) n = Rank n
 with_number (At m) n = At n
 with_number Len n = Len
 
--- a line that begins with a command's word spells a command of that word, or none
+-- a line that begins with the word of a command spells a command with that word, or none
 same_word : (x c : Command) (digits : List ℕ) → word x ++ digits ≡ spelling c → c ≡ with_number x (number_in c)
 unfolding key
 same_word (Add m) (Add n) digits e = refl
@@ -129,7 +129,7 @@ same_word (At m) (At n) digits e = refl
 same_word Len Len digits e = refl
 same_word x c digits e = absurd (omega (arith, ap key e))
 
--- what `strip_prefix` says: the line begins with the word, and the digits are the rest
+-- the result of `strip_prefix`: the line is the word followed by the digits
 abbrev pub IsAfter : List ℕ → List ℕ → List ℕ → Type 0
 IsAfter p line digits = (bytes_eq (take (length p) line) p ≡ true) × (digits ≡ drop (length p) line) × (length digits + length p ≡ length line)
 
@@ -137,7 +137,7 @@ pub is_append : (p line digits : List ℕ) → IsAfter p line digits → line �
 is_append p line digits cut =
     sym (take-append-drop (length p) line) ∙ ap (λ l. l ++ drop (length p) line) ((bytes_eq-Decides (take (length p) line) p).0 cut.0) ∙ ap (λ l. p ++ l) (sym cut.1)
 
--- a word and a number are the command that is made of them
+-- the spelling of the command is its word and its number
 abbrev pub Tells : (ℕ → Command) → Type 0
 Tells make = (line digits : List ℕ) (o : Option ℕ) (meant : Option Command) → IsAfter (word (make 0)) line digits → IsNumberOf digits o → meant ≡ option_map make o → meant ≡ meaning line
 
@@ -187,14 +187,14 @@ no_command line no_add no_del no_has no_rank no_at no_len = meaning_is line None
     none (At n) fit is = no_at (decimal n) is
     none Len fit is = no_len is
 
--- ---- what the code's tests say
+-- ---- the tests of the code
 
 pub no_front : (p line : List ℕ) → bytes_eq (take (length p) line) p ≡ false → (rest : List ℕ) → line ≢ p ++ rest
 no_front p line other rest e =
     let hit : bytes_eq (take (length p) line) p ≡ true = (bytes_eq-Decides (take (length p) line) p).1 (ap (take (length p)) e ∙ take-append_seam p rest) in
     cc
 
--- what `==` says
+-- the result of `==`
 pub same_line : (line word text : List ℕ) → true ≡ bytes_eq line text → text ≡ word → line ≡ word
 same_line line word text same is = (bytes_eq-Decides line text).0 (sym same) ∙ is
 

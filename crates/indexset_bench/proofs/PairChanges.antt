@@ -1,4 +1,4 @@
--- What a line does, by the kind of its command.
+-- The effect of a line, by the kind of its command.
 use Rattle.std.proofs.Common.{Option, None, Some, ◌≡◌, ◌≢◌, ℕ, ◌+◌, ◌==◌, Bool, true, false, cond, List, [], ◌∷◌, ◌++◌, length, Ordering, refl, ap}
 use Rattle.std.specs.Option.{option_map, option_map_or}
 use Rattle.indexset_core.specs.Pairs.{entry_of}
@@ -17,7 +17,7 @@ use Rattle.std.specs.Ordering.{nat_cmp}
 use Rattle.indexset_bench.specs.Texts.{number_texts}
 use Rattle.indexset_bench.specs.Text.{Changes, reply_line, stores, stores_after}
 
--- ---- a put tells an event
+-- ---- a put has an event
 
 append_some : {X : Type 0} (xs ys : List X) → ys ≢ [] → xs ++ ys ≢ []
 append_some [] ys some e = some e

@@ -1,4 +1,4 @@
--- `pair_meaning` gives the command to the map that a line spells.
+-- `pair_meaning` is the command to the map that a line spells.
 use Rattle.std.proofs.Common.{Option, None, Some, ◌≡◌, ◌≢◌, ℕ, ◌==◌, ◌||◌, Bool, true, false, cond, List, ◌∷◌, ◌++◌, get_or, refl, sym, ap, subst, ◌∙◌, true≢false}
 use lib.Chars.{codes}
 use Rattle.std.proofs.lemmas.Slice.Eq.{bytes_eq-Decides}
@@ -64,9 +64,9 @@ module _ {T : Type 0} (texts : Texts T) (words : AreWords texts) where
   pub pair_complete : (line : List ℕ) (c : PairCommand T) → line ≡ pair_spelling texts c → CommandFits texts c → pair_meaning texts line ≡ Some c
   pair_complete line c e fit = ap (pair_meaning texts) e ∙ told c fit
 
--- ---- no word is of both kinds
+-- ---- no word is one of both kinds
 
--- the line begins as a command to the map does
+-- the line begins with a word of a command to the map
 begins_pairs : List ℕ → Bool
 begins_pairs line = let x = get_or line 0 0 in (x == 112 || x == 99) || x == 110
 
@@ -88,7 +88,7 @@ of_numbers Len = refl
 pub apart : {T : Type 0} (texts : Texts T) (c : Command) (d : PairCommand T) → spelling c ≢ pair_spelling texts d
 apart texts c d e = true≢false (sym (without_pair_numbers texts d) ∙ ap begins_pairs (sym e) ∙ of_numbers c)
 
--- a line that is a command to the set is none to the map
+-- a line that is a command to the set is not a command to the map
 pub no_pairs_meant : (line : List ℕ) (c : Command) → meaning line ≡ Some c → pair_meaning number_texts line ≡ None
 no_pairs_meant line c meant =
     elim (pair_meaning number_texts line) as (λ o. pair_meaning number_texts line ≡ o → o ≡ None) [

@@ -1,12 +1,12 @@
--- The command that a line spells is found among those that it may spell.
+-- The command that a line spells is found among the candidates.
 use Rattle.std.proofs.Common.{Option, None, Some, ◌≡◌, ◌≢◌, ℕ, Bool, true, false, cond, ◌&&◌, List, [], ◌∷◌, ◌++◌, refl, sym, ap, ◌∙◌}
 use Rattle.std.specs.List.{find}
 use Rattle.std.specs.Str.{bytes_eq}
 use Rattle.std.proofs.lemmas.Slice.Eq.{bytes_eq-Decides}
 
--- ---- a search for the one that passes
+-- ---- a search for the element that passes a test
 
--- what `find` finds passes the test
+-- the element that `find` returns passes the test
 find_passes : {X : Type 0} (p : X → Bool) (xs : List X) (x : X) → find p xs ≡ Some x → p x ≡ true
 find_passes p [] x found = cc
 find_passes {X} p (y ∷ ys) x found = at (p y) refl (find_passes p ys x) found
@@ -15,7 +15,7 @@ find_passes {X} p (y ∷ ys) x found = at (p y) refl (find_passes p ys x) found
     at true e rest h = ap p (cc) ∙ e
     at false e rest h = rest h
 
--- a member that passes keeps the search from finding nothing
+-- if an element passes, `find` returns one
 find_some : {X : Type 0} (p : X → Bool) (front back : List X) (x : X) → p x ≡ true → find p (front ++ x ∷ back) ≢ None
 find_some p [] back x pass none = let e : cond (p x) (Some x) (find p back) ≡ Some x = ap (λ b. cond b (Some x) (find p back)) pass in cc
 find_some {X} p (y ∷ ys) back x pass none = at (p y) (find_some p ys back x pass) none
@@ -24,7 +24,7 @@ find_some {X} p (y ∷ ys) back x pass none = at (p y) (find_some p ys back x pa
     at true rest h = cc
     at false rest h = rest h
 
--- the one that passes is found
+-- if exactly one element passes, `find` returns it
 find_one : {X : Type 0} (p : X → Bool) (front back : List X) (x : X) → p x ≡ true → ((y : X) → p y ≡ true → y ≡ x) → find p (front ++ x ∷ back) ≡ Some x
 find_one {X} p front back x pass only = at (find p (front ++ x ∷ back)) refl
   where

@@ -1,4 +1,4 @@
--- What a writer holds after a line for each thing.
+-- The contents of a writer after a line for each element.
 use Rattle.std.proofs.Common.{Option, Result, Ok, Err, OnOk, ◌≡◌, ℕ, suc, ◌+◌, ◌<◌, List, [], ◌∷◌, ◌++◌, map, take, get_or, length, refl, sym, ap, subst, ◌∙◌, arith, append_assoc, append-nil}
 use Rattle.std.specs.Io.KnownBytes.{Appends}
 use Rattle.std.specs.List.{join_with_byte}
@@ -6,7 +6,7 @@ use Rattle.std.proofs.KnownBytes.{Appends-trans}
 use Rattle.std.proofs.lemmas.List.{map_push, take_more}
 use Rattle.indexset_bench.specs.PairText.{ended, lines_for}
 
--- what stands before the next thing in a row
+-- the separator before the next element
 abbrev pub lead_after : {X : Type 0} → List X → List ℕ
 lead_after [] = []
 lead_after (x ∷ xs) = 32 ∷ []
@@ -32,18 +32,18 @@ module _ {X : Type 0} (text : X → List ℕ) where
     pub more_lines : (w w1 w2 : Option (List ℕ)) → Appends w w1 (lines_for text (take i xs)) → Appends w1 w2 (ended (text x)) → Appends w w2 (lines_for text (take (i + 1) xs))
     more_lines w w1 w2 far told = subst (Appends w w2) (sym (ap (lines_for text) next ∙ lines-push (take i xs) x)) (Appends-trans w w1 w2 (lines_for text (take i xs)) (ended (text x)) far told)
 
-    -- one more was written behind its lead
+    -- one more was written after its separator
     pub more_joined : (lead : List ℕ) (w w1 w2 : Option (List ℕ)) → lead ≡ lead_after (take i xs) → Appends w w1 (join_with_byte 32 (map text (take i xs))) → Appends w1 w2 (lead ++ text x) → Appends w w2 (join_with_byte 32 (map text (take (i + 1) xs)))
     more_joined lead w w1 w2 led far told =
         let now = subst (λ l. Appends w1 w2 (l ++ text x)) led told in
         subst (Appends w w2) (sym (ap (λ l. join_with_byte 32 (map text l)) next ∙ join-push (take i xs) x)) (Appends-trans w w1 w2 (join_with_byte 32 (map text (take i xs))) (lead_after (take i xs) ++ text x) far now)
 
--- once something stands in a row, a space goes before the next
+-- after the first element, a space precedes each
 pub next_lead : {X : Type 0} (xs : List X) (i : ℕ) → i < length xs → 32 ∷ [] ≡ lead_after (take (i + 1) xs)
 next_lead [] i lt = absurd (omega (arith, lt))
 next_lead (x ∷ xs) i lt = let next : i + 1 ≡ suc i = omega arith in rw next refl
 
--- the same, where the things are read one by one
+-- the same, where the elements are read one by one
 module _ {R X : Type 0} (text : X → List ℕ) (read : R → X) where
   module _ (done : List R) (y : R) where
     pub one_read : (rest rest' all : List X) → map read done ++ rest ≡ all → rest ≡ read y ∷ rest' → map read (done ++ y ∷ []) ++ rest' ≡ all

@@ -1,4 +1,4 @@
--- What a line means.
+-- The meaning of a line as a command to the set.
 use Rattle.std.specs.Prelude.{Option, ℕ, ◌^◌, ◌<◌, Bool, ◌&&◌, nat_lt, List, [], ◌∷◌, ◌++◌, ◌==◌, true, find, codes}
 use Rattle.std.specs.List.{after_first}
 use Rattle.std.specs.Fmt.{decimal}
@@ -7,7 +7,7 @@ use Rattle.std.specs.Str.Parse.{digits_value}
 use Rattle.indexset_bench.specs.declared.command.Command.{Command}
 use Rattle.indexset_bench.specs.declared.command.Command.TheVariants.{Add, Del, Has, Rank, At, Len}
 
--- the line of a command
+-- the line that spells a command
 abbrev pub spelling : Command → List ℕ
 spelling (Add n) = codes "add " ++ decimal n
 spelling (Del n) = codes "del " ++ decimal n
@@ -16,7 +16,7 @@ spelling (Rank n) = codes "rank " ++ decimal n
 spelling (At n) = codes "at " ++ decimal n
 spelling Len = codes "len"
 
--- the command's number is of 64 bits
+-- the number of the command has at most 64 bits
 abbrev pub FitsU64 : Command → Type 0
 FitsU64 (Add n) = n < 2 ^ 64
 FitsU64 (Del n) = n < 2 ^ 64
@@ -25,7 +25,7 @@ FitsU64 (Rank n) = n < 2 ^ 64
 FitsU64 (At n) = n < 2 ^ 64
 FitsU64 Len = Unit {0}
 
--- the test of it
+-- the test for `FitsU64`
 abbrev pub fits_u64 : Command → Bool
 fits_u64 (Add n) = nat_lt n (2 ^ 64)
 fits_u64 (Del n) = nat_lt n (2 ^ 64)
@@ -34,12 +34,12 @@ fits_u64 (Rank n) = nat_lt n (2 ^ 64)
 fits_u64 (At n) = nat_lt n (2 ^ 64)
 fits_u64 Len = true
 
--- every command that the line may spell
+-- the commands that the line could spell
 abbrev pub candidates : List ℕ → List Command
 candidates line =
     let n = digits_value 10 (after_first (λ x. x == 32) line) in
     Add n ∷ Del n ∷ Has n ∷ Rank n ∷ At n ∷ Len ∷ []
 
--- the one of them that it does spell
+-- the command that the line spells, if any
 unfoldable pub meaning : List ℕ → Option Command
 meaning line = find (λ c. fits_u64 c && bytes_eq line (spelling c)) (candidates line)

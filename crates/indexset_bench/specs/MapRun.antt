@@ -1,4 +1,4 @@
--- Lists of commands to a map, by its pairs in the order of their keys.
+-- Lists of commands to a map, defined on its pairs in key order.
 use Rattle.std.specs.Prelude.{◌≡◌, ◌-◌, Option, None, Some, List, [], length, take, drop, slice_get}
 use Rattle.std.specs.List.{fold, scan}
 use Rattle.std.specs.Option.{option_map}
@@ -11,12 +11,12 @@ use Rattle.indexset_bench.specs.declared.map_run.MapReply.{MapReply}
 use Rattle.indexset_bench.specs.declared.map_run.MapReply.TheVariants.{Value, Entry, Flag, Count, Done}
 
 module _ {K V : Type 0} where
-  -- a clone of the value, if any
+  -- the reply is a clone of the value, if any
   abbrev pub IsValueClone : (V → V → Type 0) → Option V → MapReply K V → Type 0
   IsValueClone D None r = r ≡ Value None
   IsValueClone D (Some w) r = (copy : V) × (r ≡ Value (Some copy)) × D w copy
 
-  -- clones of the key and the value of the pair, if any
+  -- the reply is clones of the key and the value of the pair, if any
   abbrev pub IsEntryClone : (K → K → Type 0) → (V → V → Type 0) → Option (Pair K V) → MapReply K V → Type 0
   IsEntryClone C D None r = r ≡ Entry None
   IsEntryClone C D (Some p) r = (k : K) × (w : V) × (r ≡ Entry (Some (k, w))) × C p.key k × D p.value w
@@ -36,13 +36,13 @@ module _ {K V : Type 0} (cmp : K → K → Ordering) where
   map_reply l Len = Count (length l)
   map_reply l Clear = Done
 
-  -- the same, with clones of what stays in the map
+  -- the reply to a command, with clones of what stays in the map
   abbrev pub IsMapReply : (K → K → Type 0) → (V → V → Type 0) → List (Pair K V) → MapCommand K V → MapReply K V → Type 0
   IsMapReply C D l (Get k) r = IsValueClone D (value_of cmp l k) r
   IsMapReply C D l (GetIndex i) r = IsEntryClone C D (slice_get l i) r
   IsMapReply C D l command r = r ≡ map_reply l command
 
-  -- the pairs of the map after it
+  -- the pairs of the map after a command
   abbrev pub map_after : List (Pair K V) → MapCommand K V → List (Pair K V)
   map_after l (Insert k v) = put_value cmp l k v
   map_after l (Get k) = l
@@ -60,6 +60,6 @@ module _ {K V : Type 0} (cmp : K → K → Ordering) where
   abbrev pub map_replies : List (Pair K V) → List (MapCommand K V) → List (MapReply K V)
   map_replies l commands = scan map_after map_reply l commands
 
-  -- the pairs of the map after all of them
+  -- the pairs of the map after all commands
   abbrev pub map_after_all : List (Pair K V) → List (MapCommand K V) → List (Pair K V)
   map_after_all l commands = fold map_after l commands

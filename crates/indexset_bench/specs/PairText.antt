@@ -1,4 +1,4 @@
--- How pairs, events and nodes are written, by the texts of keys and values.
+-- The texts of pairs, events and nodes, from the texts of keys and values.
 use Rattle.std.specs.Prelude.{ℕ, List, [], ◌∷◌, ◌++◌, map, codes}
 use Rattle.std.specs.List.{concat, join_with_byte}
 use Rattle.std.specs.Fmt.{decimal}
@@ -8,11 +8,11 @@ use Rattle.indexset_events.specs.declared.change.ChangeEvent.TheVariants.{Insert
 use Rattle.indexset_events.specs.declared.change.Id.{Id}
 use Rattle.indexset_bench.specs.Texts.{Texts}
 
--- a text and a byte 10
+-- a text followed by a byte 10
 abbrev pub ended : List ℕ → List ℕ
 ended text = text ++ 10 ∷ []
 
--- one line for each thing
+-- one line for each element
 abbrev pub lines_for : {X : Type 0} → (X → List ℕ) → List X → List ℕ
 lines_for text xs = concat (map (λ x. ended (text x)) xs)
 
@@ -20,7 +20,7 @@ module _ {T : Type 0} (texts : Texts T) where
   abbrev pub pair_text : Pair T T → List ℕ
   pair_text p = texts.spelling p.key ++ codes ":" ++ texts.spelling p.value
 
-  -- the number of an event, its word, and the pair that names its node
+  -- the first fields of an event: its number, its word, and the maximum of its node
   abbrev pub event_head : Id → List ℕ → Pair T T → List ℕ
   event_head id word max = decimal id.0 ++ word ++ pair_text max
 
@@ -32,6 +32,6 @@ module _ {T : Type 0} (texts : Texts T) where
   event_text (SplitNode id max k) = event_head id (codes " split ") max ++ codes " " ++ decimal k
   event_text (MergeNodes id max next) = event_head id (codes " merge ") max ++ codes " " ++ pair_text next
 
-  -- the pairs of a node, parted by one space
+  -- the pairs of a node, separated by spaces
   abbrev pub node_text : List (Pair T T) → List ℕ
   node_text n = join_with_byte 32 (map pair_text n)

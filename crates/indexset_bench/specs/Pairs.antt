@@ -1,4 +1,4 @@
--- What a command does to the map, told by its events, and what is written to it.
+-- Commands to the map: their events, and the output for each.
 use Rattle.std.specs.Prelude.{ℕ, if◌then◌else◌, List, [], ◌++◌, Option, None, Some, codes}
 use Rattle.std.specs.Fmt.{decimal}
 use Rattle.std.specs.Option.{option_map_or}
@@ -22,7 +22,7 @@ use Rattle.indexset_bench.specs.Reply.{reply_text}
 use Rattle.indexset_bench.specs.Texts.{Texts}
 use Rattle.indexset_bench.specs.Told.{tree_after}
 
--- the map's nodes, their greatest size, and the number of the next event
+-- the nodes of a map, the maximum node size, and the number of the next event
 abbrev pub PairTree : Type 0 → Type 0
 PairTree T = Tree (Pair T T)
 
@@ -33,15 +33,15 @@ module _ {T : Type 0} (cmp : T → T → Ordering) where
   pair_events t (Cut k) = key_removal_events cmp t.size t.nodes k
   pair_events t Nodes = []
 
-  -- the same, numbered on
+  -- the events of a command, with their numbers
   abbrev pub told_events : PairTree T → PairCommand T → List (ChangeEvent (Pair T T))
   told_events t c = numbered_from t.next (pair_events t c)
 
-  -- the nodes that the events lead to, and the number after theirs
+  -- the map after a command: its events are replayed, and their numbers consumed
   abbrev pub pairs_after : PairTree T → PairCommand T → PairTree T
   pairs_after t c = tree_after (by_key cmp) t (pair_events t c)
 
-  -- the reply to a command that changes the map: the value that was there, where there was one
+  -- the reply to a command that changes the map: the old value, if there was one
   abbrev pub change_reply : PairTree T → PairCommand T → Reply T
   change_reply t (Put k v) = option_map_or OldValue (value_of cmp (concat t.nodes) k) New
   change_reply t (Cut k) = option_map_or GoneValue (value_of cmp (concat t.nodes) k) Nothing
@@ -51,13 +51,13 @@ module _ {T : Type 0} (cmp : T → T → Ordering) where
 abbrev pub reply_ended : {T : Type 0} → Texts T → Reply T → List ℕ
 reply_ended texts reply = ended (reply_text texts reply)
 
--- the number that a caller gave the command, where it gave one, stands before the reply
+-- the prefix of the reply to a command that has a number
 abbrev pub echo_text : Option ℕ → List ℕ
 echo_text None = []
 echo_text (Some n) = codes "#" ++ decimal n ++ codes " "
 
 module _ {T : Type 0} (cmp : T → T → Ordering) (texts : Texts T) where
-  -- the lines of the reply: those of a change and of its events, or one for each node
+  -- the output for a command: the reply and the events as lines, or one line for each node
   abbrev pub pair_reply : PairTree T → PairCommand T → List ℕ
   pair_reply t (Put k v) = reply_ended texts (change_reply cmp t (Put k v)) ++ lines_for (event_text texts) (told_events cmp t (Put k v))
   pair_reply t (Cut k) = reply_ended texts (change_reply cmp t (Cut k)) ++ lines_for (event_text texts) (told_events cmp t (Cut k))

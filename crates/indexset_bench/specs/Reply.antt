@@ -1,4 +1,4 @@
--- What a command does to the set, an ascending list, and the reply to it.
+-- Commands to the set, defined on an ascending list, and their replies.
 use Rattle.std.specs.Prelude.{Option, ◌≡◌, false, ℕ, ◌++◌, if◌then◌else◌, List, length, None, Some, codes, slice_get}
 use Rattle.std.specs.Ordering.{nat_cmp}
 use Rattle.std.specs.Fmt.{decimal}
@@ -9,12 +9,12 @@ use Rattle.indexset_bench.specs.declared.command.Command.TheVariants.{Add, Del, 
 use Rattle.indexset_bench.specs.declared.reply.Reply.{Reply}
 use Rattle.indexset_bench.specs.declared.reply.Reply.TheVariants.{New, Old, OldValue, Gone, GoneValue, Yes, No, Count, Item, Nothing, Empty, Bad}
 
--- the element, if any
+-- the element as a reply, if any
 abbrev pub item_reply : Option ℕ → Reply ℕ
 item_reply None = Nothing
 item_reply (Some n) = Item n
 
--- the reply to a line of this meaning
+-- the reply to a line that has this meaning
 abbrev pub reply_to : List ℕ → Option Command → Reply ℕ
 reply_to s (Some (Add n)) = if has_equal nat_cmp s n then Old else New
 reply_to s (Some (Del n)) = if has_equal nat_cmp s n then Gone else Nothing
@@ -24,7 +24,7 @@ reply_to s (Some (At i)) = item_reply (slice_get s i)
 reply_to s (Some Len) = Count (length s)
 reply_to s None = Bad
 
--- what the set holds after it
+-- the elements of the set after a line that has this meaning
 abbrev pub contents_after : List ℕ → Option Command → List ℕ
 contents_after s (Some (Add n)) = keep nat_cmp s n
 contents_after s (Some (Del n)) = without nat_cmp s n
@@ -34,13 +34,13 @@ contents_after s (Some (At i)) = s
 contents_after s (Some Len) = s
 contents_after s None = s
 
--- the command inserts a number that is absent
+-- the command inserts an absent number
 abbrev pub AddsNew : List ℕ → Option Command → Type 0
 AddsNew s (Some (Add n)) = has_equal nat_cmp s n ≡ false
 AddsNew s other = ⊥
 
 module _ {T : Type 0} (texts : Texts T) where
-  -- how a reply is written
+  -- the text of a reply
   abbrev pub reply_text : Reply T → List ℕ
   reply_text New = codes "new"
   reply_text Old = codes "old"

@@ -1,4 +1,4 @@
--- Lists of commands to a set, by its elements in order.
+-- Lists of commands to a set, defined on its elements in order.
 use Rattle.std.specs.Prelude.{◌≡◌, ◌-◌, Option, None, Some, List, [], length, take, drop, slice_get, not}
 use Rattle.std.specs.List.{fold, scan}
 use Rattle.std.specs.declared.cmp.Ordering.{Ordering}
@@ -8,7 +8,7 @@ use Rattle.indexset_bench.specs.declared.set_run.SetCommand.TheVariants.{Insert,
 use Rattle.indexset_bench.specs.declared.set_run.SetReply.{SetReply}
 use Rattle.indexset_bench.specs.declared.set_run.SetReply.TheVariants.{Flag, Item, Count, Done}
 
--- a clone of the element, if any
+-- the reply is a clone of the element, if any
 abbrev pub IsItemClone : {T : Type 0} → (T → T → Type 0) → Option T → SetReply T → Type 0
 IsItemClone C None r = r ≡ Item None
 IsItemClone {T} C (Some x) r = (y : T) × (r ≡ Item (Some y)) × C x y
@@ -32,7 +32,7 @@ module _ {T : Type 0} (cmp : T → T → Ordering) where
   set_reply l Len = Count (length l)
   set_reply l Clear = Done
 
-  -- the same, with a clone of an element that stays in the set
+  -- the reply to a command, with a clone of an element that stays in the set
   abbrev pub IsSetReply : (T → T → Type 0) → List T → SetCommand T → SetReply T → Type 0
   IsSetReply C l (Get v) r = IsItemClone C (equal_element cmp l v) r
   IsSetReply C l (LowerBound v) r = IsItemClone C (lower_element cmp l v) r
@@ -41,7 +41,7 @@ module _ {T : Type 0} (cmp : T → T → Ordering) where
   IsSetReply C l Last r = IsItemClone C (slice_get l (length l - 1)) r
   IsSetReply C l command r = r ≡ set_reply l command
 
-  -- what the set holds after it
+  -- the elements of the set after a command
   abbrev pub set_after : List T → SetCommand T → List T
   set_after l (Insert v) = keep cmp l v
   set_after l (Remove v) = without cmp l v
@@ -63,6 +63,6 @@ module _ {T : Type 0} (cmp : T → T → Ordering) where
   abbrev pub set_replies : List T → List (SetCommand T) → List (SetReply T)
   set_replies l commands = scan set_after set_reply l commands
 
-  -- what the set holds after all of them
+  -- the elements of the set after all commands
   abbrev pub set_after_all : List T → List (SetCommand T) → List T
   set_after_all l commands = fold set_after l commands

@@ -1,4 +1,4 @@
-//! The commands, and what a line says.
+//! The commands to the set, and the meaning of a line.
 
 ghost use Rattle.std.specs.Prelude.{◌≡◌};
 ghost use Rattle.indexset_bench.specs.Command.{meaning};
@@ -10,19 +10,19 @@ pub use indexset_events::parts::number;
 pub enum Command {
     /// Inserts the number.
     Add(u64),
-    /// Takes the number out.
+    /// Removes the number.
     Del(u64),
     /// Returns whether the number is present.
     Has(u64),
-    /// Returns how many numbers are below this one.
+    /// Returns how many numbers are less than this one.
     Rank(u64),
-    /// Returns the number at a position.
+    /// Returns the number at this position.
     At(u64),
     /// Returns how many numbers there are.
     Len,
 }
 
-/// Returns the command that the line spells, if it spells one.
+/// Returns the command that the line spells, or `None` if it spells none.
 pub fn parse(line: &[u8]) -> Option<Command>
     ensures { result ≡ meaning line.now }
 {

@@ -4,8 +4,8 @@ use indexset_core::refusal::Refusal;
 /// The replies to a list of commands.
 #[derive(Debug, Drop)]
 pub struct Run<R> {
-    /// The replies, in order, to the commands before the failed one, or to all of them.
+    /// The replies in order, up to the first command that failed.
     pub replies: Vec<R>,
-    /// Why the run ended before its commands did, if it did.
+    /// The error of the command that failed, if one did.
     pub refused: Option<Refusal>,
 }

@@ -3,8 +3,9 @@
 ghost use Rattle.std.specs.Prelude.{◌≡◌, ◌<◌, drop};
 ghost use Rattle.std.specs.Fmt.{decimal};
 
-/// Writes the decimal digits of a number to the end of the buffer, and returns the index of the
-/// first.
+/// Writes the decimal digits of a number to the end of the buffer.
+///
+/// Returns the index of the first digit.
 pub(crate) fn fill_decimal(number: u64, buffer: &mut [u8; 20]) -> usize
     ensures within { result < 20 }
     ensures digits { drop result buffer.new ≡ decimal number }

@@ -1,4 +1,4 @@
-//! Keys and values that may stand in lines.
+//! Keys and values that have a text.
 
 ghost use Rattle.std.specs.Prelude.{◌≡◌, Bool, false, IfErr, IfOk, IsOk, OnOk, Some, refl};
 ghost use Rattle.std.specs.Io.KnownBytes.{Appends};
@@ -12,20 +12,28 @@ use std::alloc::{AllocError, Global};
 use std::fmt;
 use std::io::Write;
 
-/// A type of keys and values, each of which has one text: the bytes that `{}` writes.
+/// A type of keys and values. Each value has one text, the bytes that `{}` writes.
 pub trait Key: Ord + Clone + fmt::Display + Drop {
-    /// The texts of the values, and how they are read.
+    /// The text of each value, and the value of each text.
     ghost texts: { Texts Self };
 
-    /// Whether a value asks for memory when it is read.
+    /// Whether reading a value allocates.
     ghost allocates: { Bool };
 
-    /// Returns the value of which this is the text, or `None` where it is that of no value.
+    /// Returns the value that has this text, or `None` if no value has it.
+    ///
+    /// # Errors
+    ///
+    /// `AllocError` if memory runs out.
     fn read_key(alloc: Global, text: &[u8]) -> Result<Option<Self>, AllocError>
         ensures value { IfOk result (λ value. value ≡ texts.reading text.now) }
         ensures never { allocates ≡ false → IsOk result };
 
-    /// Writes the text, as `{}` does.
+    /// Writes the text of the value, as `{}` does.
+    ///
+    /// # Errors
+    ///
+    /// [`RunFault::Write`].
     fn write_text<W: Write>(&self, writer: &mut W) -> Result<(), RunFault>
         ensures told { OnOk result (Appends (W.contents writer.old) (W.contents writer.new)
             (texts.spelling self.now)) }
@@ -34,10 +42,10 @@ pub trait Key: Ord + Clone + fmt::Display + Drop {
     /// `{}` writes the text.
     ghost shown: { (x : Self) → Self.output x ≡ Some (texts.spelling x) };
 
-    /// The texts are words, and are read as what they are written of.
+    /// The texts are words, and reading the text of a value returns that value.
     ghost words: { AreWords texts };
 
-    /// A clone is the identical value.
+    /// A clone is identical to its source.
     ghost identical: { (x y : Self) → Self.is_clone x y → y ≡ x };
 }
 
@@ -61,7 +69,7 @@ impl Key for u64 {
     }
 }
 
-/// Returns the key of which this is the text, or `None` where it is that of no key.
+/// Returns the value that has this text, or `None` if no value has it.
 pub fn read_key<T: Key>(alloc: Global, text: &[u8]) -> Result<Option<T>, RunFault>
     ensures value { IfOk result (λ value. value ≡ T.texts.reading text.now) }
     ensures fault { IfErr result (λ fault. fault ≡ RunFault.Memory) }
@@ -70,7 +78,7 @@ pub fn read_key<T: Key>(alloc: Global, text: &[u8]) -> Result<Option<T>, RunFaul
     T::read_key(alloc, text).map_err(|_| RunFault::Memory)
 }
 
-/// Returns the two keys of which this is the text, with a space between them.
+/// Returns the two keys of a text that separates them with a space.
 pub fn read_two_keys<T: Key>(alloc: Global, text: &[u8]) -> Result<Option<(T, T)>, RunFault>
     ensures keys { IfOk result (λ keys. keys ≡ two_keys T.texts text.now) }
     ensures fault { IfErr result (λ fault. fault ≡ RunFault.Memory) }
@@ -88,7 +96,7 @@ pub fn read_two_keys<T: Key>(alloc: Global, text: &[u8]) -> Result<Option<(T, T)
     Ok(Some((first, second)))
 }
 
-/// Returns the pair of which this is the text, with a colon between the key and the value.
+/// Returns the pair of a text that separates the key and the value with a colon.
 pub fn read_pair<T: Key>(alloc: Global, text: &[u8]) -> Result<Option<Pair<T, T>>, RunFault>
     ensures pair { IfOk result (λ pair. pair ≡ pair_of T.texts text.now) }
     ensures fault { IfErr result (λ fault. fault ≡ RunFault.Memory) }

@@ -1,4 +1,4 @@
-//! What the definitions of the text say, whatever the code.
+//! Theorems on the definitions of the text.
 
 ghost use Rattle.std.specs.Prelude.{◌≡◌, ◌≢◌, ℕ, List, [], ◌∷◌, ◌++◌, ◌↔◌, ◌<◌, length, Some};
 ghost use Rattle.indexset_bench.specs.declared.command.Command.{Command};
@@ -9,7 +9,7 @@ ghost use Rattle.indexset_lines.specs.Lines.{HasNoEnd, lines_of};
 
 use crate::key::Key;
 
-/// A line means the command of which it is the spelling, and no other line means one.
+/// A line means a command if and only if it is the spelling of that command.
 pub fn meaning_is_spelling()
     ensures spelled { (line : List ℕ) (command : Command) → FitsU64 command
         → (meaning line ≡ Some command) ↔ (line ≡ spelling command) }
@@ -17,7 +17,9 @@ pub fn meaning_is_spelling()
         → meaning line ≡ Some command → FitsU64 command }
 {}
 
-/// The same of the commands to the map. No command to the set is spelled as one to the map.
+/// A line means a command to the map if and only if it is the spelling of that command.
+///
+/// No line means both a command to the set and a command to the map.
 pub fn pair_meaning_is_spelling<T: Key>()
     ensures spelled { (line : List ℕ) (command : PairCommand T) → CommandFits T.texts command
         → (pair_meaning T.texts line ≡ Some command) ↔ (line ≡ pair_spelling T.texts command) }
@@ -27,7 +29,7 @@ pub fn pair_meaning_is_spelling<T: Key>()
         → spelling command ≢ pair_spelling T.texts without_pair_numbers }
 {}
 
-/// An input is cut after each byte 10, and a last part without one is a line unless it is empty.
+/// A byte 10 ends a line. The bytes after the last byte 10 are a line unless there are none.
 pub fn lines_are_parts()
     ensures none { lines_of [] ≡ [] }
     ensures ended { (line rest : List ℕ) → HasNoEnd line

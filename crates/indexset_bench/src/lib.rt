@@ -1,11 +1,10 @@
-//! Lists of commands to the collections, and a program over lines.
+//! Lists of commands to the collections, and a program that answers lines.
 //!
-//! [`set_run::run_set`], [`map_run::run_map`] and [`logged_run::run_logged`] carry out a list of
-//! commands and return the replies, the last the events too; [`logged::Logged`] is what a run needs
-//! of a logged tree. [`run`] writes the reply to each line of a reader, as `indexset_lines` has
-//! them answered: `command` and `pair_command` say what a line means, `perform` and `pairs` carry
-//! it out, `write` writes. The text that it writes is defined in `specs/Text.antt`, and [`laws`]
-//! says what the definitions mean.
+//! [`set_run::run_set`], [`map_run::run_map`] and [`logged_run::run_logged`] execute a list of
+//! commands and return the replies. `run_logged` also returns the events. [`logged::Logged`] is the
+//! trait of the logged trees. [`run`] writes the reply to each line of a reader: `command` and
+//! `pair_command` parse lines, `perform` and `pairs` execute commands, `write` writes replies.
+//! `specs/Text.antt` defines the output. [`laws`] has theorems on the definitions.
 #![tactic(auto)]
 
 pub mod command;

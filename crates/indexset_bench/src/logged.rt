@@ -1,4 +1,4 @@
-//! Logged trees, as a list of commands uses them.
+//! The trait of the logged trees, for lists of commands.
 ghost use Rattle.std.specs.Prelude.{◌≡◌, ◌+◌, ◌/◌, ◌≤◌, ℕ, List, Bool, false, Some, IfOk, OnOk, IfErr, OnErr, if◌then◌else◌, length};
 ghost use Rattle.std.specs.List.{AllZip};
 ghost use Rattle.indexset_events.specs.Clones.{IsEventClone};
@@ -15,20 +15,20 @@ use indexset_events::change::ChangeEvent;
 
 /// A tree that returns its changes as events.
 pub trait Logged {
-    /// What its nodes hold.
+    /// The type of the items.
     type Item: Ord + Drop;
-    /// A command to it.
+    /// The type of the commands.
     type Command: Drop;
-    /// What it answers.
+    /// The type of the replies.
     type Reply: Drop;
 
-    /// The state that a command reads and changes, whatever the nodes are.
+    /// What replies depend on: the contents without the division into nodes.
     ghost State: { Type 0 };
 
-    /// Its nodes.
+    /// The nodes.
     ghost nodes: { Self → List (List Self.Item) };
 
-    /// How many items a node holds at most.
+    /// The maximum number of items in a node.
     ghost size: { Self → ℕ };
 
     /// The number of the next event.
@@ -36,7 +36,7 @@ pub trait Logged {
 
     ghost state: { Self → Self.State };
 
-    /// The reply to a command, and the state after it.
+    /// The reply to a command.
     ghost reply: { Self.State → Self.Command → Self.Reply };
 
     ghost after: { Self.State → Self.Command → Self.State };
@@ -44,20 +44,23 @@ pub trait Logged {
     /// The events of a command, without numbers.
     ghost events: { Self → Self.Command → List (ChangeEventUnassigned Self.Item) };
 
-    /// The tree that a command leaves.
+    /// The tree after a command.
     ghost left: { Self → Self.Command → Self };
 
-    /// Too few numbers remain for a command.
+    /// Whether too few numbers remain for a command.
     ghost lacks_numbers: { Self → Self.Command → Bool };
 
-    /// Clones of what it holds and is given are identical to their sources.
+    /// Clones of the items and of the arguments are identical to their sources.
     ghost clones: { Type 0 };
 
-    /// The second item is a clone of the first.
+    /// Whether the second item is a clone of the first.
     ghost cloned: { Self.Item → Self.Item → Type 0 };
 
-    /// Carries out a command, and returns the reply to it and the events. Fails with `Numbers`
-    /// where too few numbers remain, and with `Memory`; a failed command changes nothing.
+    /// Executes a command, and returns the reply and the events.
+    ///
+    /// # Errors
+    ///
+    /// `Memory`, or `Numbers` if too few numbers remain. A failed command changes nothing.
     fn act(
         &mut self,
         command: Self::Command,

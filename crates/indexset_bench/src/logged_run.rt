@@ -1,4 +1,4 @@
-//! Lists of commands to a logged tree, the reply to each, and the events of all.
+//! Lists of commands to a logged tree, their replies and their events.
 ghost use Rattle.std.specs.Prelude.{◌≡◌, ◌≢◌, ◌+◌, ◌-◌, ◌*◌, ◌/◌, ◌≤◌, ◌<◌, ◌++◌, ◌∷◌, [], true, Some, OnOk, IfErr, OnErr, IfSome, OnSome, IfNone, IsSomeAnd, length, take, slice_get};
 ghost use Rattle.std.specs.List.{AllZip, AppendsClones, fold, scan};
 ghost use Rattle.indexset_bench.specs.Told.{events_in_turn};
@@ -13,23 +13,23 @@ use indexset_core::refusal::Refusal;
 use indexset_events::change::ChangeEvent;
 use std::alloc::Global;
 
-/// The replies to a list of commands, and the events of its changes.
+/// The replies to a list of commands, and the events.
 #[derive(Drop)]
 pub struct LogRun<L: Logged> {
-    /// The replies, in order, to the commands before the failed one, or to all of them.
+    /// The replies in order, up to the first command that failed.
     pub replies: Vec<L::Reply>,
     /// The events of these commands, in order.
     pub events: Vec<ChangeEvent<L::Item>>,
-    /// Why the run ended before its commands did, if it did.
+    /// The error of the command that failed, if one did.
     pub refused: Option<Refusal>,
 }
 
-/// Carries out the commands in order, and stops at the first that fails: then the replies and the
-/// events are those of the commands before it, and the tree is as they left it.
+/// Executes the commands in order, and stops at the first that fails.
 ///
-/// Room for a reply and for three events is reserved before a command acts.
+/// Returns the replies and the events of the commands before that one; the tree is in the state
+/// that they left. Space for a reply and for three events is reserved before each command.
 pub fn run_logged<L: Logged>(alloc: Global, tree: &mut L, commands: Vec<L::Command>) -> LogRun<L>
-    // The events are those of the table, with clones of its items, and are numbered without a gap.
+    // The events are those of the definition, with clones of its items, numbered without a gap.
     ensures clones { AllZip (IsEventClone L.cloned)
         (numbered_from (L.next tree.old) (events_in_turn L.left L.events tree.old
         (take (length result.replies.items) commands.items))) result.events.items }
@@ -37,10 +37,11 @@ pub fn run_logged<L: Logged>(alloc: Global, tree: &mut L, commands: Vec<L::Comma
         (numbered_from (L.next tree.old) (events_in_turn L.left L.events tree.old
         (take (length result.replies.items) commands.items))) ≡ Some (L.nodes tree.new) }
 
-    // Where clones are identical, they lead from the nodes before the run to those after it.
+    // If clones are identical to their sources, replaying the events on the nodes before the run
+    // gives the nodes after it.
     ensures replay { L.clones → replay L.Item.Ord.cmp (L.nodes tree.old) result.events.items
         ≡ Some (L.nodes tree.new) }
-    // Where clones equal their sources, they lead to copies of the nodes after it.
+    // If clones equal their sources, replaying them gives copies of the nodes after the run.
     ensures replay_of_clones { AreClonesEqual L.Item.Ord.cmp L.cloned
         → LeadsToCopies L.Item.Ord.cmp L.cloned (L.nodes tree.old) result.events.items
         (L.nodes tree.new) }
@@ -51,7 +52,7 @@ pub fn run_logged<L: Logged>(alloc: Global, tree: &mut L, commands: Vec<L::Comma
     ensures next { L.next tree.new ≡ L.next tree.old + length result.events.items }
     ensures at_most_three_events { length result.events.items ≤ 3 * length result.replies.items }
 
-    // The commands with a reply are the first ones, as many as there are replies.
+    // The replies are those to the first commands, one each.
     ensures replies { result.replies.items ≡ scan L.after L.reply (L.state tree.old)
         (take (length result.replies.items) commands.items) }
     ensures state { L.state tree.new ≡ fold L.after (L.state tree.old)
@@ -67,8 +68,8 @@ pub fn run_logged<L: Logged>(alloc: Global, tree: &mut L, commands: Vec<L::Comma
         (λ command. L.lacks_numbers tree.new command ≡ true)) }
     ensures size { L.size tree.new ≡ L.size tree.old }
 
-    // Few nodes: neighbours that held more than half the node size together still do, whether it
-    // failed or not.
+    // The number of nodes stays O(n / node size): if each two neighbours held more than half the
+    // node size together, they still do, also after a failure.
     ensures dense { IsDense (L.size tree.old / 2) (L.nodes tree.old)
         → IsDense (L.size tree.new / 2) (L.nodes tree.new) }
     ensures few_nodes { IsDense (L.size tree.old / 2) (L.nodes tree.old)
@@ -96,8 +97,7 @@ pub fn run_logged<L: Logged>(alloc: Global, tree: &mut L, commands: Vec<L::Comma
     }
 }
 
-/// Carries out a command, and adds the reply and the events to those before them. A failed one
-/// changes nothing.
+/// Executes a command, and appends its reply and its events. A failed command changes nothing.
 fn answer<L: Logged>(
     tree: &mut L,
     replies: &mut Vec<L::Reply>,

@@ -1,4 +1,4 @@
-//! Lists of commands to a map, and the reply to each.
+//! Lists of commands to a map, and their replies.
 
 ghost use Rattle.std.specs.Prelude.{◌≡◌, ◌<◌, ◌++◌, [], ◌∷◌, IfOk, OnOk, IfErr, OnErr, IfSome, OnSome, IfNone, length, take};
 ghost use Rattle.indexset_bench.specs.Replies.{AppendsReply, AreReplies};
@@ -9,60 +9,59 @@ use indexset_core::refusal::Refusal;
 use indexset_map::BTreeMap;
 use std::alloc::Global;
 
-/// A command to a map. The reply is a `Value`, an `Entry`, a `Flag`, a `Count` or `Done`, as said
-/// at each.
+/// A command to a map. The reply to each is a `Value`, an `Entry`, a `Flag`, a `Count` or `Done`.
 #[derive(Debug, Drop)]
 pub enum MapCommand<K, V> {
-    /// Makes the value that of the key: a `Value`, the old one.
+    /// Sets the value of the key. `Value`: the old value.
     Insert(K, V),
-    /// Returns the value of the key: a `Value`.
+    /// Returns the value of the key. `Value`: that value.
     Get(K),
-    /// Takes the pair of the key out: a `Value`, that of the pair.
+    /// Removes the pair of the key. `Value`: the value of the pair.
     Remove(K),
-    /// Returns the pair at the position: an `Entry`.
+    /// Returns the pair at the position. `Entry`: that pair.
     GetIndex(usize),
-    /// Takes the pair of the key out: an `Entry`, that pair.
+    /// Removes the pair of the key. `Entry`: that pair.
     RemoveEntry(K),
-    /// Takes the pair of the least key out: an `Entry`, that pair.
+    /// Removes the pair of the least key. `Entry`: that pair.
     PopFirst,
-    /// Takes the pair of the greatest key out: an `Entry`, that pair.
+    /// Removes the pair of the greatest key. `Entry`: that pair.
     PopLast,
-    /// Returns whether the key is present: a `Flag`.
+    /// Returns whether the key is present. `Flag`.
     ContainsKey(K),
-    /// Returns how many keys are below the key: a `Count`.
+    /// Returns how many keys are less than the key. `Count`.
     Rank(K),
-    /// Returns the number of pairs: a `Count`.
+    /// Returns the number of pairs. `Count`.
     Len,
-    /// Removes all pairs: `Done`.
+    /// Removes all pairs. `Done`.
     Clear,
 }
 
 /// The reply to a command.
 #[derive(Debug, PartialEq, Drop)]
 pub enum MapReply<K, V> {
-    /// The value, where there is one; a clone of it where it stays in the map.
+    /// The value, if any; a clone of it if it stays in the map.
     Value(Option<V>),
-    /// The key and the value, where there are such; clones where they stay in the map.
+    /// The key and the value, if any; clones if they stay in the map.
     Entry(Option<(K, V)>),
-    /// Whether it is so.
+    /// The answer to the question.
     Flag(bool),
-    /// How many there are.
+    /// The count.
     Count(usize),
-    /// It was done.
+    /// The command was executed.
     Done,
 }
 
-/// Carries out the commands in order, and stops at the first that fails: then the replies are those
-/// to the commands before it, and the map is as they left it.
+/// Executes the commands in order, and stops at the first that fails.
 ///
-/// Room for a reply is reserved before its command acts. Keys and values that stay in the map are
-/// cloned into their replies.
+/// Returns the replies to the commands before that one; the map is in the state that they left.
+/// Space for a reply is reserved before each command. Keys and values that stay in the map are
+/// cloned into the replies.
 pub fn run_map<K: Ord + Clone + Drop, V: Clone + Drop>(
     alloc: Global,
     map: &mut BTreeMap<K, V>,
     commands: Vec<MapCommand<K, V>>,
 ) -> Run<MapReply<K, V>>
-    // The commands with a reply are the first ones, as many as there are replies.
+    // The replies are those to the first commands, one each.
     ensures cloned { AreReplies (map_after K.cmp) (IsMapReply K.cmp K.is_clone V.is_clone)
         map.old.pairs
         (take (length result.replies.items) commands.items) result.replies.items }
@@ -93,7 +92,7 @@ pub fn run_map<K: Ord + Clone + Drop, V: Clone + Drop>(
     }
 }
 
-/// Carries out a command and adds the reply to those before it. A failed one changes nothing.
+/// Executes a command, and appends its reply. A failed command changes nothing.
 fn answer<K: Ord + Clone + Drop, V: Clone + Drop>(
     map: &mut BTreeMap<K, V>,
     replies: &mut Vec<MapReply<K, V>>,
@@ -117,7 +116,7 @@ fn answer<K: Ord + Clone + Drop, V: Clone + Drop>(
     Ok(())
 }
 
-/// Carries out a command, and returns the reply to it. A failed one changes nothing.
+/// Executes a command, and returns its reply. A failed command changes nothing.
 fn act<K: Ord + Clone + Drop, V: Clone + Drop>(
     map: &mut BTreeMap<K, V>,
     command: MapCommand<K, V>,

@@ -1,4 +1,4 @@
-//! The commands to the map, and what a line says.
+//! The commands to the map, and the meaning of a line.
 
 ghost use Rattle.std.specs.Prelude.{◌≡◌, false, IfErr, IfOk, IsOk};
 ghost use Rattle.indexset_bench.specs.PairCommand.{pair_meaning, word_command};
@@ -13,13 +13,13 @@ use std::alloc::Global;
 pub enum PairCommand<T> {
     /// Inserts a key and a value, or replaces the pair of that key.
     Put(T, T),
-    /// Takes the pair of the key out.
+    /// Removes the pair of the key.
     Cut(T),
     /// Returns the nodes.
     Nodes,
 }
 
-/// Returns the command to the map that the line spells, if it spells one.
+/// Returns the command to the map that the line spells, or `None` if it spells none.
 #[tactic(auto, unfolding(crate::specs::PairCommand::pair_meaning))]
 pub fn parse_pairs<T: Key>(alloc: Global, line: &[u8]) -> Result<Option<PairCommand<T>>, RunFault>
     ensures command { IfOk result (λ command. command ≡ pair_meaning T.texts line.now) }
@@ -38,7 +38,7 @@ pub fn parse_pairs<T: Key>(alloc: Global, line: &[u8]) -> Result<Option<PairComm
     }
 }
 
-/// Returns the command of a word and what stands behind it.
+/// Returns the command that has this word and these arguments.
 fn parse_word<T: Key>(
     alloc: Global,
     word: &[u8],

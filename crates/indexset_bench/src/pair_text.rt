@@ -9,7 +9,7 @@ use indexset_core::pair::Pair;
 use indexset_events::change::ChangeEvent;
 use std::fmt;
 
-/// A pair, as it is written.
+/// Displays a pair as it is written in a line.
 #[derive(Clone, Copy)]
 pub struct PairText<'a, T>(pub &'a Pair<T, T>);
 
@@ -22,7 +22,7 @@ impl<T: Key> fmt::Display for PairText<'_, T> {
     }
 }
 
-/// A key and its value, as they are written.
+/// Displays a key and its value as a pair is written.
 #[derive(Clone, Copy)]
 pub struct EntryText<'a, T>(pub &'a T, pub &'a T);
 
@@ -35,7 +35,7 @@ impl<T: Key> fmt::Display for EntryText<'_, T> {
     }
 }
 
-/// An event, as it is written.
+/// Displays an event as it is written in a line.
 #[derive(Clone, Copy)]
 pub struct EventText<'a, T>(pub &'a ChangeEvent<Pair<T, T>>);
 

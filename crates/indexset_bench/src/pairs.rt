@@ -1,4 +1,4 @@
-//! What a line does to the map, and the reply and the events that are written to it, or the nodes.
+//! Commands to the map: what each changes, its reply and its events.
 
 ghost use Rattle.std.specs.Prelude.{◌≡◌, ◌≢◌, ◌+◌, ◌++◌, ◌<◌, [], length, Err, OnOk};
 ghost use Rattle.std.specs.Option.{option_map_or};
@@ -15,11 +15,14 @@ use indexset_lines::RunFault;
 use indexset_log::map::BTreeMap;
 use std::io::Write;
 
-/// A map of keys to values of the same type, which returns its changes as events.
+/// A map of keys to values of the same type that returns its changes as events.
 pub type Pairs<T> = BTreeMap<T, T, Vec<Pair<T, T>>>;
 
-/// Carries out a line's command to the map, and writes the reply to it, behind the number that the
-/// caller gave the command. A failed call changes nothing, and nothing is written.
+/// Executes a command to the map, and writes its reply after the command number, if it has one.
+///
+/// # Errors
+///
+/// `Memory`, or `Numbers` if too few event numbers remain: nothing is written. `Write`.
 pub fn answer_pairs<T: Key, W: Write>(
     writer: &mut W,
     echo: Option<u64>,

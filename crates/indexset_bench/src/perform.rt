@@ -1,4 +1,4 @@
-//! What a command does to the set, and the reply to it.
+//! Commands to the set: what each changes, and its reply.
 ghost use Rattle.std.specs.Prelude.{◌≡◌, Some, IfOk, OnOk, IfErr, OnErr};
 ghost use Rattle.indexset_spine.specs.NodeList.{items};
 ghost use Rattle.indexset_bench.specs.Reply.{AddsNew, reply_to, contents_after};
@@ -8,7 +8,11 @@ use crate::reply::Reply;
 use indexset_core::refusal::Refusal;
 use indexset_set::BTreeSet;
 
-/// Carries out a command, and returns the reply to it. A failed call changes nothing.
+/// Executes a command, and returns its reply.
+///
+/// # Errors
+///
+/// `Memory`. A failed call changes nothing.
 pub fn perform(set: &mut BTreeSet<u64>, command: Command) -> Result<Reply<u64>, Refusal>
     ensures reply { IfOk result (λ reply. reply ≡ reply_to (items set.old) (Some command)) }
     ensures ok { OnOk result (items set.new ≡ contents_after (items set.old) (Some command)) }

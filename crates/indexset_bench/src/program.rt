@@ -1,4 +1,4 @@
-//! The run over a reader and a writer.
+//! A run over a reader and a writer.
 
 ghost use Rattle.std.specs.Prelude.{◌≡◌, ◌≢◌, ◌⊎◌, ◌<◌, [], Some, Err, OnOk, IfErr, IfSome, OnSome};
 ghost use Rattle.std.below.core.specs.declared.int.u64.TheConstants.{MAX};
@@ -24,39 +24,43 @@ use indexset_set::BTreeSet;
 use std::alloc::Global;
 use std::io::{BufRead, Write};
 
-/// Writes the reply to each line of the reader to the writer, over a set and a map that start
-/// empty. The writer is flushed where the reader's buffer is empty, so that each reply is out
-/// before the next read.
+/// Writes the reply to each line of the reader, over a set and a map that start empty.
 ///
-/// A fault ends the run at once, and the first fault is returned. A line past the first 2^64 - 1 is
-/// a fault of the reader. After a failed write nothing is said of what was written.
+/// The writer is flushed when the reader's buffer is empty, so a reply is written before the run
+/// waits for the next line.
+///
+/// # Errors
+///
+/// The first fault, which ends the run. A run that reads more than 2^64 - 1 lines fails with
+/// `Read`. After `Write` it is not specified what was written.
 pub fn run<R: BufRead, W: Write>(
     alloc: Global,
     reader: &mut R,
     writer: &mut W,
 ) -> Result<(), RunFault>
-    // Of a reader whose bytes are known, all was read, and its text was written.
+    // If the bytes of the reader are known, all were read, and their replies were written.
     ensures all_read { OnOk result (OnSome (R.remaining reader.old)
         (R.remaining reader.new ≡ Some [])) }
     ensures all_answered { OnOk result (IfSome (R.remaining reader.old) (λ input.
         Appends (W.contents writer.old) (W.contents writer.new) (text_of input))) }
 
-    // The same of any reader, for the bytes that it gave.
+    // For any reader, the bytes that it returned have their replies.
     ensures given_answered { OnOk result (AnswersAll
         (R.remaining reader.old) (R.remaining reader.new)
         (W.contents writer.old) (W.contents writer.new)) }
 
-    // The whole lines that the reader gave before it failed have their replies.
+    // The whole lines that the reader returned before it failed have their replies.
     ensures read_failed { result ≡ Err RunFault.Read → AnswersWholeLines HasNoEnd
         (R.remaining reader.old) (R.remaining reader.new)
         (W.contents writer.old) (W.contents writer.new) }
 
-    // The lines before the failed one have their replies; some or all of it was read.
+    // The lines before the failed line have their replies; a part of that line or all of it was
+    // read.
     ensures memory_refused { result ≡ Err RunFault.Memory → AnswersWholeLines IsLinePart
         (R.remaining reader.old) (R.remaining reader.new)
         (W.contents writer.old) (W.contents writer.new) }
 
-    // The same, and the events of the failed line did not fit.
+    // The same, and the events of the failed line need more numbers than remain.
     ensures numbers_refused { result ≡ Err RunFault.Numbers → LacksNumbers
         (R.remaining reader.old) (R.remaining reader.new)
         (W.contents writer.old) (W.contents writer.new) }
@@ -66,7 +70,7 @@ pub fn run<R: BufRead, W: Write>(
     answered.and(flushed)
 }
 
-/// What a run holds: the numbers of the set, and the map.
+/// The state of a run: the numbers of the set, and the map.
 #[derive(Drop)]
 struct Holding {
     set: BTreeSet<u64>,
@@ -100,7 +104,7 @@ impl Answers for Holding {
     }
 }
 
-/// Writes the reply to each line, and leaves the writer to be flushed at the end.
+/// Writes the reply to each line, without flushing the writer at the end.
 fn answer_all<R: BufRead, W: Write>(
     alloc: Global,
     reader: &mut R,
@@ -130,7 +134,7 @@ fn answer_all<R: BufRead, W: Write>(
     )
 }
 
-/// Writes the reply to one line. Where it fails, nothing is written.
+/// Writes the reply to one line. On `Memory` or `Numbers` nothing is written.
 fn answer_line<W: Write>(
     alloc: Global,
     writer: &mut W,
@@ -161,7 +165,7 @@ fn answer_line<W: Write>(
     }
 }
 
-/// Writes the reply to a command to the set. Where memory runs out, nothing is written.
+/// Writes the reply to a command to the set. On `Memory` nothing is written.
 fn answer_numbers<W: Write>(
     writer: &mut W,
     set: &mut BTreeSet<u64>,

@@ -1,4 +1,4 @@
-//! Lists of commands to a set, and the reply to each.
+//! Lists of commands to a set, and their replies.
 
 ghost use Rattle.std.specs.Prelude.{◌≡◌, ◌<◌, ◌++◌, [], ◌∷◌, IfOk, OnOk, IfErr, OnErr, IfSome, OnSome, IfNone, length, take};
 ghost use Rattle.indexset_spine.specs.NodeList.{items};
@@ -10,65 +10,65 @@ use indexset_core::refusal::Refusal;
 use indexset_set::BTreeSet;
 use std::alloc::Global;
 
-/// A command to a set. The reply is a `Flag`, an `Item`, a `Count` or `Done`, as said at each.
+/// A command to a set. The reply to each is a `Flag`, an `Item`, a `Count` or `Done`.
 #[derive(Debug, Drop)]
 pub enum SetCommand<T> {
-    /// Inserts the value, unless an equal element is present: a `Flag`, whether it was inserted.
+    /// Inserts the value unless an equal element is present. `Flag`: whether it was inserted.
     Insert(T),
-    /// Takes the element equal to the value out: a `Flag`, whether it was there.
+    /// Removes the element equal to the value. `Flag`: whether it was present.
     Remove(T),
-    /// Returns whether an element equal to the value is present: a `Flag`.
+    /// Returns whether an element equal to the value is present. `Flag`.
     Contains(T),
-    /// Replaces the element equal to the value, or inserts it: an `Item`, the old element.
+    /// Replaces the element equal to the value, or inserts the value. `Item`: the old element.
     Replace(T),
-    /// Takes the element equal to the value out: an `Item`, that element.
+    /// Removes the element equal to the value. `Item`: that element.
     Take(T),
-    /// Returns the element equal to the value: an `Item`.
+    /// Returns the element equal to the value. `Item`: that element.
     Get(T),
-    /// Returns the first element that is not below the value: an `Item`.
+    /// Returns the first element that is not less than the value. `Item`: that element.
     LowerBound(T),
-    /// Returns the element at the position: an `Item`.
+    /// Returns the element at the position. `Item`: that element.
     GetIndex(usize),
-    /// Returns the least element: an `Item`.
+    /// Returns the least element. `Item`: that element.
     First,
-    /// Returns the greatest element: an `Item`.
+    /// Returns the greatest element. `Item`: that element.
     Last,
-    /// Takes the least element out: an `Item`, that element.
+    /// Removes the least element. `Item`: that element.
     PopFirst,
-    /// Takes the greatest element out: an `Item`, that element.
+    /// Removes the greatest element. `Item`: that element.
     PopLast,
-    /// Returns how many elements are below the value: a `Count`.
+    /// Returns how many elements are less than the value. `Count`.
     Rank(T),
-    /// Returns the number of elements: a `Count`.
+    /// Returns the number of elements. `Count`.
     Len,
-    /// Removes all elements: `Done`.
+    /// Removes all elements. `Done`.
     Clear,
 }
 
 /// The reply to a command.
 #[derive(Debug, PartialEq, Drop)]
 pub enum SetReply<T> {
-    /// Whether it is so.
+    /// The answer to the question.
     Flag(bool),
-    /// The element, where there is one; a clone of it where it stays in the set.
+    /// The element, if any; a clone of it if it stays in the set.
     Item(Option<T>),
-    /// How many there are.
+    /// The count.
     Count(usize),
-    /// It was done.
+    /// The command was executed.
     Done,
 }
 
-/// Carries out the commands in order, and stops at the first that fails: then the replies are those
-/// to the commands before it, and the set is as they left it.
+/// Executes the commands in order, and stops at the first that fails.
 ///
-/// Room for a reply is reserved before its command acts. Elements that stay in the set are cloned
-/// into their replies.
+/// Returns the replies to the commands before that one; the set is in the state that they left.
+/// Space for a reply is reserved before each command. Elements that stay in the set are cloned into
+/// the replies.
 pub fn run_set<T: Ord + Clone + Drop>(
     alloc: Global,
     set: &mut BTreeSet<T>,
     commands: Vec<SetCommand<T>>,
 ) -> Run<SetReply<T>>
-    // The commands with a reply are the first ones, as many as there are replies.
+    // The replies are those to the first commands, one each.
     ensures cloned { AreReplies (set_after T.cmp) (IsSetReply T.cmp T.is_clone) (items set.old)
         (take (length result.replies.items) commands.items) result.replies.items }
     ensures replies { ((x y : T) → T.is_clone x y → y ≡ x)
@@ -98,7 +98,7 @@ pub fn run_set<T: Ord + Clone + Drop>(
     }
 }
 
-/// Carries out a command and adds the reply to those before it. A failed one changes nothing.
+/// Executes a command, and appends its reply. A failed command changes nothing.
 fn answer<T: Ord + Clone + Drop>(
     set: &mut BTreeSet<T>,
     replies: &mut Vec<SetReply<T>>,
@@ -120,7 +120,7 @@ fn answer<T: Ord + Clone + Drop>(
     Ok(())
 }
 
-/// Carries out a command, and returns the reply to it. A failed one changes nothing.
+/// Executes a command, and returns its reply. A failed command changes nothing.
 fn act<T: Ord + Clone + Drop>(
     set: &mut BTreeSet<T>,
     command: SetCommand<T>,

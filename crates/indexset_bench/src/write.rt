@@ -1,4 +1,4 @@
-//! What is written: lines of a reply, of events and of nodes.
+//! Output: lines of replies, of events and of nodes.
 
 ghost use Rattle.std.specs.Prelude.{◌≡◌, ◌++◌, OnOk, IfErr, codes};
 ghost use Rattle.std.specs.Fmt.{decimal};
@@ -61,7 +61,7 @@ pub fn write_line<T: Key, W: Write>(writer: &mut W, reply: Reply<T>) -> Result<(
     }
 }
 
-/// Writes the number that a caller gave a command, where it gave one, as `#17` and a space.
+/// Writes the number of a command, if it has one, as `#17` and a space.
 pub fn write_echo<W: Write>(writer: &mut W, echo: Option<u64>) -> Result<(), RunFault>
     ensures told { OnOk result (Appends (W.contents writer.old) (W.contents writer.new)
         (echo_text echo)) }
@@ -73,7 +73,7 @@ pub fn write_echo<W: Write>(writer: &mut W, echo: Option<u64>) -> Result<(), Run
     }
 }
 
-/// Writes the reply to a command behind its number, and each event as a line.
+/// Writes the command number and the reply, and each event as a line.
 pub(crate) fn write_change<T: Key, W: Write>(
     writer: &mut W,
     echo: Option<u64>,
@@ -89,7 +89,7 @@ pub(crate) fn write_change<T: Key, W: Write>(
     write_events(writer, events)
 }
 
-/// Writes an event of an item that comes to its place or leaves it as a line, by its parts.
+/// Writes an insert or remove event as a line, from its fields.
 fn write_placed<T: Key, W: Write>(
     writer: &mut W,
     id: Id,
@@ -113,8 +113,9 @@ fn write_placed<T: Key, W: Write>(
     write_bytes(writer, b"\n".as_slice())
 }
 
-/// Writes an event as a line. The two kinds that most changes tell are written part by part, which
-/// is quicker than by a format.
+/// Writes an event as a line.
+///
+/// The two most frequent kinds are written field by field, which is faster than a format string.
 fn write_event<T: Key, W: Write>(
     writer: &mut W,
     event: &ChangeEvent<Pair<T, T>>,
@@ -176,7 +177,7 @@ pub fn write_nodes<T: Key, W: Write>(writer: &mut W, pairs: &Pairs<T>) -> Result
     Ok(())
 }
 
-/// Writes a node as a line: its pairs, separated by one space.
+/// Writes a node as a line: its pairs, separated by spaces.
 pub fn write_node<T: Key, W: Write>(writer: &mut W, node: &[Pair<T, T>]) -> Result<(), RunFault>
     ensures told { OnOk result (Appends (W.contents writer.old) (W.contents writer.new)
         (ended (node_text T.texts node.now))) }

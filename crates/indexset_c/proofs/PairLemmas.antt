@@ -1,4 +1,4 @@
--- What is known of a key by whether it has a value.
+-- A key that has a value, and a key that has none.
 use Rattle.std.proofs.Common.{◌≡◌, ℕ, List, Option, Some, None, Ordering, is_some, false, if◌then◌else◌, refl, sym, ap, ◌∙◌}
 use Rattle.std.specs.Option.{option_map}
 use Rattle.std.specs.Ordering.{is_eq}
@@ -13,14 +13,14 @@ module _ {K V Q : Type 0} (cmp : K → Q → Ordering) (l : List (Pair K V)) (k 
   is_some-mapped f None = refl
   is_some-mapped f (Some x) = refl
 
-  -- a key with a value is there
+  -- a key that has a value is present
   pub value_there : is_some (value_of cmp l k) ≡ has_key cmp l k
   value_there = is_some-mapped (λ p. p.value) (pair_of cmp l k) ∙ is_some-find (λ p. is_eq (cmp p.key k)) l
 
   pub no_value_no_key : value_of cmp l k ≡ None → has_key cmp l k ≡ false
   no_value_no_key h = sym value_there ∙ ap is_some h
 
--- the map without a key that has no value is the map
+-- removing an absent key does not change the map
 pub absent_entry : {Q : Type 0} (order : ℕ → Q → Ordering) (m : Contents ℕ ℕ) (k : Q) → value_of order m.pairs k ≡ None → without_entry order m k ≡ m
 absent_entry order m k h =
     let none = no_value_no_key order m.pairs k h in

@@ -1,4 +1,4 @@
--- What a status is not, and what it tells of a refusal.
+-- Statuses that differ, and the status of a refusal.
 use Rattle.std.proofs.Common.{◌≡◌, ◌≢◌, ℕ, ◌+◌, ◌<◌, ◌≤◌, Bool, true, false, eqb, ltb, nat_lt, refl, sym, ◌∙◌, arith}
 use Rattle.std.proofs.lemmas.Bool.{eqb-false, eqb-true, ltb-true}
 use Rattle.std.proofs.Math.Logic.{◌⊎◌, inl, inr}
@@ -9,7 +9,7 @@ use Rattle.std.below.core.specs.declared.int.u64.TheConstants.{MAX}
 use Rattle.indexset_log.specs.Tree.{refusal_for}
 use Rattle.indexset_ffi.specs.declared.status.TheConstants.{NO, YES, MEMORY, NONE, HELD, NUMBERS, UNFIT}
 
--- a status that is one number is no other
+-- a status is only one number
 pub not_at : {P : Type 0} (s m n : ℕ) → s ≡ m → eqb m n ≡ false → s ≡ n → P
 not_at s m n is other at = absurd (eqb-false m n other (sym is ∙ at))
 
@@ -19,7 +19,7 @@ not_most s m n is other at = let over : n < m = ltb-true n m other in absurd (om
 pub not_least : {P : Type 0} (s m n : ℕ) → s ≡ m → ltb m n ≡ true → n ≤ s → P
 not_least s m n is other at = let under : m < n = ltb-true m n other in absurd (omega (arith, is, under, at))
 
--- the status of a refusal that is for memory or numbers
+-- the status of the refusal `Memory` or `Numbers`
 pub record IsRefused (s : ℕ) (cause : Refusal) : Type 0 where
   pub memory : s ≡ MEMORY → cause ≡ refusals.Memory
   pub numbers : s ≡ NUMBERS → cause ≡ refusals.Numbers
@@ -42,7 +42,7 @@ for_events next n = either (nat_lt MAX (next + n)) where
   either true = inr refl
   either false = inl refl
 
--- the status of a refusal that is for memory, or else as it is said
+-- the status of the refusal `Memory`, or of the stated refusal
 pub record IsToldOr (s : ℕ) (cause why : Refusal) : Type 0 where
   pub refused : IsRefused s cause
   pub numbers : s ≡ NUMBERS → why ≡ refusals.Numbers
@@ -62,7 +62,7 @@ is_told_or s t cause why is other one memory numbers = decide (eqb t MEMORY) ref
       record { refused = is_refused s t cause cause is refl (inl (memory.0 at)) memory numbers; numbers = λ h. not_at s MEMORY NUMBERS (is ∙ at) refl h }
   decide false e = else_why one e
 
--- what such a status is not
+-- numbers that such a status differs from
 module _ (s : ℕ) (cause : Refusal) (r : IsRefused s cause) where
   pub refused_not_yes : {P : Type 0} → s ≡ YES → P
   refused_not_yes h = let least = r.least in absurd (omega (arith, least, h))

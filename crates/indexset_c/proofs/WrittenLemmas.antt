@@ -1,10 +1,10 @@
--- What a call writes where a handle leads to nothing.
+-- The output of calls with an empty handle.
 use Rattle.std.proofs.Common.{◌≡◌, ℕ, List, [], ◌∷◌, length, map, replicate, refl, ap}
 use Rattle.std.specs.Ordering.{nat_cmp}
 use Rattle.indexset_core.specs.Order.{rank}
 use Rattle.indexset_ffi.specs.Elements.{value_or}
 
--- each key has rank 0, and none a value
+-- each key has rank 0, and no key has a value
 pub no_ranks : (keys : List ℕ) → replicate (length keys) 0 ≡ map (rank nat_cmp []) keys
 no_ranks [] = refl
 no_ranks (k ∷ ks) = ap (λ l. 0 ∷ l) (no_ranks ks)

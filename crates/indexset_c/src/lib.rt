@@ -1,8 +1,8 @@
 //! The collections for C: a static library whose header is `bindings/c/include/indexset.h`.
 //!
-//! C holds a handle, which leads to a collection on the heap or to none. Each call takes a handle
-//! by its address; where there is no collection, it reads as an empty one and refuses to grow. No
-//! call aborts: one that can fail returns a status of [`indexset_ffi::status`].
+//! C has a handle, which has a collection on the heap or is empty. Each call takes the address of a
+//! handle. An empty handle reads as an empty collection, and an insertion into it fails. No call
+//! aborts: a call that can fail returns a status of [`indexset_ffi::status`].
 #![tactic(auto)]
 
 ghost use Rattle.std.specs.Prelude.{◌≡◌};
@@ -46,10 +46,10 @@ mod text_log_positions;
 mod text_positions;
 mod text_ranges;
 
-/// This library's version: the major number times 65536, the minor one times 256, and the patch.
+/// The version of the library: major * 65536 + minor * 256 + patch.
 pub const VERSION: u32 = 512;
 
-/// Returns this library's version.
+/// Returns the version of the library.
 #[unsafe(no_mangle)]
 pub extern "C" fn indexset_version() -> u32
     ensures { result ≡ VERSION }

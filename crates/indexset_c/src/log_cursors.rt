@@ -1,4 +1,4 @@
-//! Calls of a logged map that walk it by a cursor.
+//! Cursors of a logged map.
 ghost use Rattle.std.specs.Prelude.{◌≡◌, ◌+◌, length, min};
 ghost use Rattle.std.specs.Ordering.{nat_cmp};
 ghost use Rattle.indexset_core.specs.Nodes.{node_lengths};
@@ -12,7 +12,7 @@ use indexset_ffi::log_handle::LogHandle;
 use indexset_ffi::next::next_pairs;
 use std::alloc::Global;
 
-/// Moves a cursor to a position, counted from 0, or to the end where there is none.
+/// Moves a cursor to a position, counted from 0, or to the end if the position is past it.
 #[unsafe(no_mangle)]
 pub extern "C" fn indexset_log_cursor_at(
     alloc: Global,
@@ -32,8 +32,7 @@ pub extern "C" fn indexset_log_cursor_at(
     log.put(held);
 }
 
-/// Moves a cursor to the first pair whose key is not below `from`, or to the end where there is
-/// none.
+/// Moves a cursor to the first pair whose key is at least `from`, or to the end if there is none.
 #[unsafe(no_mangle)]
 pub extern "C" fn indexset_log_cursor_from(
     alloc: Global,
@@ -53,8 +52,9 @@ pub extern "C" fn indexset_log_cursor_from(
     log.put(held);
 }
 
-/// Writes the pairs from a cursor on, in order and as far as there is room, and moves the cursor
-/// past them. Returns how many it wrote.
+/// Writes as many pairs from a cursor on as fit, in order, and moves the cursor past them.
+///
+/// Returns how many it wrote.
 #[unsafe(no_mangle)]
 pub extern "C" fn indexset_log_cursor_next(
     alloc: Global,

@@ -1,4 +1,4 @@
-//! Calls that change a logged map and tell the changes.
+//! Changes of a logged map, which return their events.
 ghost use Rattle.std.specs.Prelude.{◌≡◌, ◌≢◌, ◌+◌, ◌<◌, ◌≤◌, ◌↔◌, length, IfSome, None, Some};
 ghost use Rattle.std.specs.Ordering.{nat_cmp};
 ghost use Rattle.indexset_core.specs.Pairs.{by_key, pair, value_of, without_key};
@@ -19,8 +19,14 @@ use indexset_ffi::status::{HELD, MEMORY, NO, NONE, UNFIT, YES, of_refusal};
 use indexset_ffi::write::write;
 use std::alloc::Global;
 
-/// Makes a value that of a key, and writes the changes and how many they are. Where the key is
-/// there, the value before is written. Fewer than three places for changes are refused.
+/// Inserts a pair, or replaces the value of a present key, and writes the events and their number.
+///
+/// Returns `YES` for a new key. For a present key it writes the old value, and returns `NO`.
+///
+/// # Errors
+///
+/// `UNFIT` if there is space for fewer than three events, `NONE` if the handle is empty, `MEMORY`
+/// or `NUMBERS`. A failed call changes nothing, and writes 0 as the number of events.
 #[unsafe(no_mangle)]
 pub extern "C" fn indexset_log_insert(
     alloc: Global,
@@ -76,8 +82,14 @@ pub extern "C" fn indexset_log_insert(
     status
 }
 
-/// Removes a key and writes its value, the changes and how many they are. Fewer than three places
-/// for changes are refused.
+/// Removes a key, and writes its value, the events and their number.
+///
+/// Returns `NO` if the key is absent.
+///
+/// # Errors
+///
+/// `UNFIT` if there is space for fewer than three events, `MEMORY` or `NUMBERS`. A failed call
+/// changes nothing, and writes 0 as the number of events.
 #[unsafe(no_mangle)]
 #[tactic(auto, unfolding(indexset_core::specs::Order::unequal))]
 pub extern "C" fn indexset_log_remove(

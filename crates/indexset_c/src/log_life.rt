@@ -1,4 +1,4 @@
-//! Calls that make and free a logged map, and tell its length and its next number.
+//! Creation and release of a logged map, its length and its next event number.
 ghost use Rattle.std.specs.Prelude.{◌≡◌, ◌≢◌, ◌<◌, ◌↔◌, [], Some, None, false, true, length, is_some, option_map};
 ghost use Rattle.std.specs.Option.{option_map_or};
 ghost use Rattle.indexset_ffi.specs.Elements.{logged_pairs};
@@ -10,8 +10,12 @@ use indexset_log::map::BTreeMap;
 use std::alloc::Global;
 use std::mem::swap;
 
-/// Makes an empty map, whose nodes hold at most `size` pairs and whose first change has the number
-/// `next`. A handle that leads to a map is refused, and a size below 2.
+/// Makes an empty map with at most `size` pairs in a node, whose first event has the number `next`.
+///
+/// # Errors
+///
+/// `HELD` if the handle is not empty, `UNFIT` if `size` is less than 2, or `MEMORY`. A failed call
+/// changes nothing.
 #[unsafe(no_mangle)]
 pub extern "C" fn indexset_log_new(
     alloc: Global,
@@ -42,7 +46,7 @@ pub extern "C" fn indexset_log_new(
     }
 }
 
-/// Frees a map, and leaves its handle with none.
+/// Frees a map, and leaves its handle empty.
 #[unsafe(no_mangle)]
 pub extern "C" fn indexset_log_free(alloc: Global, log: &mut LogHandle)
     ensures { log.new.slot.value ≡ None }
@@ -50,7 +54,11 @@ pub extern "C" fn indexset_log_free(alloc: Global, log: &mut LogHandle)
     drop(log.take(alloc));
 }
 
-/// Makes an empty map, as `indexset_log_new` does, under a handle on the heap.
+/// Makes a handle on the heap with an empty map, as `indexset_log_new` does.
+///
+/// # Errors
+///
+/// `UNFIT` if `size` is less than 2, or `MEMORY`. A failed call changes nothing.
 #[unsafe(no_mangle)]
 pub extern "C" fn indexset_log_create(
     alloc: Global,
@@ -77,7 +85,7 @@ pub extern "C" fn indexset_log_create(
     status
 }
 
-/// Frees a handle on the heap, and what it leads to.
+/// Frees a handle on the heap and its collection.
 #[unsafe(no_mangle)]
 pub extern "C" fn indexset_log_destroy(alloc: Global, log: &mut LogOwner)
     requires { is_some log.old.value ≡ true }
@@ -87,8 +95,9 @@ pub extern "C" fn indexset_log_destroy(alloc: Global, log: &mut LogOwner)
     indexset_log_free(alloc, &mut *handle);
 }
 
-/// Moves a logged map to the handle `to`, whose own is freed, and leaves the handle `from` with
-/// none.
+/// Moves a logged map from the handle `from` to `to`, and leaves `from` empty.
+///
+/// A map that `to` had is freed.
 #[unsafe(no_mangle)]
 pub extern "C" fn indexset_log_move(alloc: Global, to: &mut LogHandle, from: &mut LogHandle)
     ensures moved { to.new.slot.value ≡ from.old.slot.value }
@@ -98,7 +107,7 @@ pub extern "C" fn indexset_log_move(alloc: Global, to: &mut LogHandle, from: &mu
     swap(to, from);
 }
 
-/// Swaps what two handles lead to.
+/// Swaps the collections of two handles.
 #[unsafe(no_mangle)]
 pub extern "C" fn indexset_log_swap(one: &mut LogHandle, other: &mut LogHandle)
     ensures one { one.new.slot.value ≡ other.old.slot.value }
@@ -107,7 +116,7 @@ pub extern "C" fn indexset_log_swap(one: &mut LogHandle, other: &mut LogHandle)
     swap(one, other);
 }
 
-/// Returns how many pairs there are.
+/// Returns the number of pairs.
 #[unsafe(no_mangle)]
 pub extern "C" fn indexset_log_len(alloc: Global, log: &mut LogHandle) -> usize
     ensures value { result ≡ length (logged_pairs log.old.slot.value) }
@@ -121,7 +130,7 @@ pub extern "C" fn indexset_log_len(alloc: Global, log: &mut LogHandle) -> usize
     len
 }
 
-/// Returns the number of the next change.
+/// Returns the number of the next event.
 #[unsafe(no_mangle)]
 pub extern "C" fn indexset_log_next(alloc: Global, log: &mut LogHandle) -> u64
     ensures value { result ≡ option_map_or (λ m. m.next) log.old.slot.value 0 }

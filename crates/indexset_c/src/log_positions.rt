@@ -1,4 +1,4 @@
-//! Calls of a logged map that go by a position.
+//! Positions in a logged map.
 ghost use Rattle.std.specs.Prelude.{◌≡◌, Some, None, true, false, drop, length, min};
 ghost use Rattle.std.specs.Ordering.{nat_cmp};
 ghost use Rattle.indexset_core.specs.Pairs.{key_rank, pair_keys, pair_values};
@@ -10,7 +10,7 @@ use indexset_ffi::write::write_pair;
 use std::alloc::Global;
 use std::ops::Bound;
 
-/// Returns how many pairs have keys below a key.
+/// Returns how many pairs have a key that is less than this one.
 #[unsafe(no_mangle)]
 pub extern "C" fn indexset_log_rank(alloc: Global, log: &mut LogHandle, key: u64) -> usize
     ensures value { result ≡ key_rank nat_cmp (logged_pairs log.old.slot.value) key }
@@ -24,7 +24,7 @@ pub extern "C" fn indexset_log_rank(alloc: Global, log: &mut LogHandle, key: u64
     below
 }
 
-/// Writes the pair at a position, counted from 0, where there is one.
+/// Writes the pair at a position, counted from 0. Returns `false` if the position is past the end.
 #[unsafe(no_mangle)]
 pub extern "C" fn indexset_log_at(
     alloc: Global,
@@ -51,8 +51,7 @@ pub extern "C" fn indexset_log_at(
     write_pair(found, key, value)
 }
 
-/// Writes the pairs from a position on, in order and as far as there is room. Returns how many it
-/// wrote.
+/// Writes as many pairs from a position on as fit, in order. Returns how many it wrote.
 #[unsafe(no_mangle)]
 pub extern "C" fn indexset_log_range_by_position(
     alloc: Global,

@@ -1,4 +1,4 @@
-//! Calls that read a logged map.
+//! Look-ups in a logged map.
 ghost use Rattle.std.specs.Prelude.{◌≡◌, ◌<◌, ◌≤◌, None, Some, false, true, length, min};
 ghost use Rattle.std.specs.Ordering.{nat_cmp};
 ghost use Rattle.std.specs.declared.ops.Bound.TheVariants.{Included};
@@ -12,7 +12,7 @@ use indexset_ffi::write::write;
 use std::alloc::Global;
 use std::ops::Bound;
 
-/// Writes the value of a key, where there is one.
+/// Writes the value of a key. Returns `false` if the key is absent.
 #[unsafe(no_mangle)]
 pub extern "C" fn indexset_log_get(
     alloc: Global,
@@ -38,7 +38,7 @@ pub extern "C" fn indexset_log_get(
     write(found, out)
 }
 
-/// Tells whether a key is there.
+/// Returns whether a key is present.
 #[unsafe(no_mangle)]
 pub extern "C" fn indexset_log_contains(alloc: Global, log: &mut LogHandle, key: u64) -> bool
     ensures value { result ≡ has_key nat_cmp (logged_pairs log.old.slot.value) key }
@@ -52,7 +52,7 @@ pub extern "C" fn indexset_log_contains(alloc: Global, log: &mut LogHandle, key:
     found
 }
 
-/// Returns how many nodes there are.
+/// Returns the number of nodes.
 #[unsafe(no_mangle)]
 pub extern "C" fn indexset_log_node_count(alloc: Global, log: &mut LogHandle) -> usize
     ensures value { result ≡ length (logged_nodes log.old.slot.value) }
@@ -66,8 +66,9 @@ pub extern "C" fn indexset_log_node_count(alloc: Global, log: &mut LogHandle) ->
     count
 }
 
-/// Writes how many pairs each node has, in order and as far as there is room. Returns how many it
-/// wrote.
+/// Writes the number of pairs of each node, for as many nodes as fit, in order.
+///
+/// Returns how many it wrote.
 #[unsafe(no_mangle)]
 pub extern "C" fn indexset_log_node_lengths(
     alloc: Global,
@@ -87,8 +88,9 @@ pub extern "C" fn indexset_log_node_lengths(
     count
 }
 
-/// Writes the pairs of the keys from `low` to `high`, both included, in order and as far as there
-/// is room. Returns how many it wrote.
+/// Writes as many pairs with keys from `low` to `high`, both included, as fit, in order.
+///
+/// Returns how many it wrote.
 #[unsafe(no_mangle)]
 pub extern "C" fn indexset_log_range(
     alloc: Global,

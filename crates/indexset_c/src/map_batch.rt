@@ -1,4 +1,4 @@
-//! Calls of a map that take many keys at once.
+//! Calls of a map that take many keys.
 ghost use Rattle.std.specs.Prelude.{◌≡◌, ◌≢◌, ◌<◌, ◌≤◌, ◌↔◌, None, length, map, min, take, is_some};
 ghost use Rattle.indexset_ffi.specs.Elements.{pairs, put_all, value_or, written};
 
@@ -8,8 +8,13 @@ use indexset_ffi::status::{MEMORY, NO, NONE, YES};
 use indexset_ffi::write::write_same;
 use std::alloc::Global;
 
-/// Makes each value that of its key, first to last and as far as there are both. Writes how many
-/// were taken: all, or those before the one at which memory ran out.
+/// Inserts a pair for each key and value, or replaces the value of a present key, in order.
+///
+/// It takes as many pairs as the shorter slice has, and writes how many were taken.
+///
+/// # Errors
+///
+/// `MEMORY`: the pairs before the one that failed were taken. `NONE` if the handle is empty.
 #[unsafe(no_mangle)]
 #[tactic(auto, unfolding(indexset_ffi::specs::Elements::put_all))]
 pub extern "C" fn indexset_map_insert_all(
@@ -41,7 +46,8 @@ pub extern "C" fn indexset_map_insert_all(
     }
 }
 
-/// Writes the value of each key, or `absent` where the key is not there, as far as there is room.
+/// Writes the value of each key, or `absent` for an absent key, for as many keys as fit.
+///
 /// Returns how many it wrote.
 #[unsafe(no_mangle)]
 #[tactic(auto, using(crate::proofs::WrittenLemmas::no_values))]

@@ -1,4 +1,4 @@
-//! Calls of a map that go by a key.
+//! Keys of a map.
 ghost use Rattle.std.specs.Prelude.{◌≡◌, ◌≢◌, ◌≤◌, ◌↔◌, Some, None, true, false, is_some};
 ghost use Rattle.std.specs.Ordering.{nat_cmp};
 ghost use Rattle.indexset_core.specs.Pairs.{has_key, key_rank, put_value, value_of, without_key};
@@ -10,7 +10,14 @@ use indexset_ffi::status::{MEMORY, NO, NONE, YES};
 use indexset_ffi::write::write;
 use std::alloc::Global;
 
-/// Inserts a pair, or replaces the value of a present key and writes the old one.
+/// Inserts a pair, or replaces the value of a present key.
+///
+/// Returns `YES` for a new key. For a present key it writes the old value, and returns `NO`.
+///
+/// # Errors
+///
+/// `MEMORY`, or `NONE` if the handle is empty. A failed call changes nothing. A present key needs
+/// no memory.
 #[unsafe(no_mangle)]
 #[tactic(auto, using(crate::proofs::PairLemmas::no_value_no_key))]
 pub extern "C" fn indexset_map_insert(
@@ -46,8 +53,14 @@ pub extern "C" fn indexset_map_insert(
     status
 }
 
-/// Inserts a pair, or replaces the value of a present key and writes the old one, and writes the
-/// rank of the key: where its pair stands then.
+/// Inserts a pair, or replaces the value of a present key, and writes the position of the pair.
+///
+/// Returns `YES` for a new key. For a present key it writes the old value, and returns `NO`.
+///
+/// # Errors
+///
+/// `MEMORY`, or `NONE` if the handle is empty. A failed call changes nothing. A present key needs
+/// no memory.
 #[unsafe(no_mangle)]
 #[tactic(auto, using(crate::proofs::PairLemmas::no_value_no_key))]
 pub extern "C" fn indexset_map_insert_ranked(
@@ -79,7 +92,7 @@ pub extern "C" fn indexset_map_insert_ranked(
     status
 }
 
-/// Writes the value of a key, where there is one.
+/// Writes the value of a key. Returns `false` if the key is absent.
 #[unsafe(no_mangle)]
 pub extern "C" fn indexset_map_get(
     alloc: Global,
@@ -100,7 +113,7 @@ pub extern "C" fn indexset_map_get(
     write(found, out)
 }
 
-/// Removes a key and writes its value, where there is one.
+/// Removes a key, and writes its value. Returns `false` if the key is absent.
 #[unsafe(no_mangle)]
 #[tactic(auto, unfolding(indexset_core::specs::Order::unequal))]
 pub extern "C" fn indexset_map_remove(
@@ -138,7 +151,7 @@ pub extern "C" fn indexset_map_contains(alloc: Global, map: &mut MapHandle, key:
     found
 }
 
-/// Returns how many keys are below a key.
+/// Returns how many keys are less than this one.
 #[unsafe(no_mangle)]
 pub extern "C" fn indexset_map_rank(alloc: Global, map: &mut MapHandle, key: u64) -> usize
     ensures value { result ≡ key_rank nat_cmp (pairs map.old.slot.value) key }
@@ -152,7 +165,7 @@ pub extern "C" fn indexset_map_rank(alloc: Global, map: &mut MapHandle, key: u64
     below
 }
 
-/// Returns how many keys are not above a key.
+/// Returns how many keys are at most this one.
 #[unsafe(no_mangle)]
 pub extern "C" fn indexset_map_count_up_to(alloc: Global, map: &mut MapHandle, key: u64) -> usize
     ensures value { result ≡ key_count_up_to nat_cmp (pairs map.old.slot.value) key }

@@ -1,4 +1,4 @@
-//! Calls that make, empty, clone and free a map, and return its length.
+//! Creation and release of a map, its clone and its length.
 ghost use Rattle.std.specs.Prelude.{◌≡◌, ◌≢◌, ◌↔◌, [], Some, None, true, length, is_some, IfSome, option_map};
 ghost use Rattle.indexset_core.specs.declared.constants.TheConstants.{DEFAULT_INNER_SIZE};
 ghost use Rattle.indexset_map.specs.Contents.{no_pairs};
@@ -11,7 +11,11 @@ use indexset_map::BTreeMap;
 use std::alloc::Global;
 use std::mem::swap;
 
-/// Makes an empty map. Fails where the handle leads to a map.
+/// Makes an empty map.
+///
+/// # Errors
+///
+/// `HELD` if the handle is not empty, or `MEMORY`. A failed call changes nothing.
 #[unsafe(no_mangle)]
 pub extern "C" fn indexset_map_new(alloc: Global, map: &mut MapHandle) -> u32
     ensures empty { result ≡ YES → pairs map.new.slot.value ≡ [] }
@@ -36,7 +40,12 @@ pub extern "C" fn indexset_map_new(alloc: Global, map: &mut MapHandle) -> u32
     }
 }
 
-/// Makes a clone of a map, under a second handle. Fails where the handle leads to a map.
+/// Makes a clone of a map in the handle `to`.
+///
+/// # Errors
+///
+/// `NONE` if the first handle is empty, `HELD` if `to` is not empty, or `MEMORY`. A failed call
+/// changes nothing.
 #[unsafe(no_mangle)]
 pub extern "C" fn indexset_map_clone(alloc: Global, map: &mut MapHandle, to: &mut MapHandle) -> u32
     ensures ok { result ≡ YES → to.new.slot.value ≡ map.old.slot.value }
@@ -69,7 +78,7 @@ pub extern "C" fn indexset_map_clone(alloc: Global, map: &mut MapHandle, to: &mu
     }
 }
 
-/// Frees a map, and leaves its handle with none.
+/// Frees a map, and leaves its handle empty.
 #[unsafe(no_mangle)]
 pub extern "C" fn indexset_map_free(alloc: Global, map: &mut MapHandle)
     ensures { map.new.slot.value ≡ None }
@@ -77,7 +86,11 @@ pub extern "C" fn indexset_map_free(alloc: Global, map: &mut MapHandle)
     drop(map.take(alloc));
 }
 
-/// Makes an empty map under a handle on the heap.
+/// Makes a handle on the heap with an empty map.
+///
+/// # Errors
+///
+/// `MEMORY`. A failed call changes nothing.
 #[unsafe(no_mangle)]
 pub extern "C" fn indexset_map_create(alloc: Global, map: &mut MapOwner) -> u32
     ensures made { result ≡ YES → option_map (λ h. h.slot.value) map.new.value
@@ -95,7 +108,7 @@ pub extern "C" fn indexset_map_create(alloc: Global, map: &mut MapOwner) -> u32
     status
 }
 
-/// Frees a handle on the heap, and what it leads to.
+/// Frees a handle on the heap and its collection.
 #[unsafe(no_mangle)]
 pub extern "C" fn indexset_map_destroy(alloc: Global, map: &mut MapOwner)
     requires { is_some map.old.value ≡ true }
@@ -105,7 +118,9 @@ pub extern "C" fn indexset_map_destroy(alloc: Global, map: &mut MapOwner)
     indexset_map_free(alloc, &mut *handle);
 }
 
-/// Moves a map to the handle `to`, whose own is freed, and leaves the handle `from` with none.
+/// Moves a map from the handle `from` to `to`, and leaves `from` empty.
+///
+/// A map that `to` had is freed.
 #[unsafe(no_mangle)]
 pub extern "C" fn indexset_map_move(alloc: Global, to: &mut MapHandle, from: &mut MapHandle)
     ensures moved { to.new.slot.value ≡ from.old.slot.value }
@@ -115,7 +130,7 @@ pub extern "C" fn indexset_map_move(alloc: Global, to: &mut MapHandle, from: &mu
     swap(to, from);
 }
 
-/// Swaps what two handles lead to.
+/// Swaps the collections of two handles.
 #[unsafe(no_mangle)]
 pub extern "C" fn indexset_map_swap(one: &mut MapHandle, other: &mut MapHandle)
     ensures one { one.new.slot.value ≡ other.old.slot.value }
@@ -138,7 +153,7 @@ pub extern "C" fn indexset_map_clear(alloc: Global, map: &mut MapHandle)
     map.put(held);
 }
 
-/// Returns how many pairs there are.
+/// Returns the number of pairs.
 #[unsafe(no_mangle)]
 pub extern "C" fn indexset_map_len(alloc: Global, map: &mut MapHandle) -> usize
     ensures value { result ≡ length (pairs map.old.slot.value) }

@@ -1,4 +1,4 @@
-//! Calls of a map that go by a position, and those at its two ends.
+//! Positions in a map, bounds and ends.
 ghost use Rattle.std.specs.Prelude.{◌≡◌, ◌-◌, Some, None, true, false, drop, length, remove, take, is_some};
 ghost use Rattle.std.specs.Ordering.{nat_cmp};
 ghost use Rattle.std.specs.declared.ops.Bound.TheVariants.{Included, Excluded, Unbounded};
@@ -10,7 +10,7 @@ use indexset_ffi::map_handle::MapHandle;
 use indexset_ffi::write::write_pair;
 use std::alloc::Global;
 
-/// Writes the pair at a position, counted from 0, where there is one.
+/// Writes the pair at a position, counted from 0. Returns `false` if the position is past the end.
 #[unsafe(no_mangle)]
 pub extern "C" fn indexset_map_at(
     alloc: Global,
@@ -37,7 +37,7 @@ pub extern "C" fn indexset_map_at(
     write_pair(found, key, value)
 }
 
-/// Writes the pair of the first key that is not below `from`, where there is one.
+/// Writes the pair of the first key that is at least `from`. Returns `false` if there is none.
 #[unsafe(no_mangle)]
 pub extern "C" fn indexset_map_lower_bound(
     alloc: Global,
@@ -63,7 +63,7 @@ pub extern "C" fn indexset_map_lower_bound(
     write_pair(found, key, value)
 }
 
-/// Writes the pair of the first key that is above `from`, where there is one.
+/// Writes the pair of the first key that is greater than `from`. Returns `false` if there is none.
 #[unsafe(no_mangle)]
 pub extern "C" fn indexset_map_upper_bound(
     alloc: Global,
@@ -89,7 +89,9 @@ pub extern "C" fn indexset_map_upper_bound(
     write_pair(found, key, value)
 }
 
-/// Removes the pair at a position, counted from 0, and writes it, where there is one.
+/// Removes the pair at a position, counted from 0, and writes it.
+///
+/// Returns `false` if the position is past the end.
 #[unsafe(no_mangle)]
 pub extern "C" fn indexset_map_remove_at(
     alloc: Global,
@@ -115,7 +117,7 @@ pub extern "C" fn indexset_map_remove_at(
     write_pair(found, key, value)
 }
 
-/// Writes the pair of the least key, where there is one.
+/// Writes the pair of the least key. Returns `false` if there is none.
 #[unsafe(no_mangle)]
 pub extern "C" fn indexset_map_first(
     alloc: Global,
@@ -133,7 +135,7 @@ pub extern "C" fn indexset_map_first(
     indexset_map_at(alloc, map, 0, key, value)
 }
 
-/// Writes the pair of the greatest key, where there is one.
+/// Writes the pair of the greatest key. Returns `false` if there is none.
 #[unsafe(no_mangle)]
 pub extern "C" fn indexset_map_last(
     alloc: Global,
@@ -160,7 +162,7 @@ pub extern "C" fn indexset_map_last(
     write_pair(found, key, value)
 }
 
-/// Removes the pair of the least key and writes it, where there is one.
+/// Removes the pair of the least key, and writes it. Returns `false` if there is none.
 #[unsafe(no_mangle)]
 pub extern "C" fn indexset_map_pop_first(
     alloc: Global,
@@ -185,7 +187,7 @@ pub extern "C" fn indexset_map_pop_first(
     write_pair(found, key, value)
 }
 
-/// Removes the pair of the greatest key and writes it, where there is one.
+/// Removes the pair of the greatest key, and writes it. Returns `false` if there is none.
 #[unsafe(no_mangle)]
 pub extern "C" fn indexset_map_pop_last(
     alloc: Global,

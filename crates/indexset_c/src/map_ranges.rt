@@ -1,4 +1,4 @@
-//! Calls of a map that write a part of it into a caller's slices.
+//! Ranges of a map.
 ghost use Rattle.std.specs.Prelude.{◌≡◌, ◌≤◌, ◌<◌, drop, length, min};
 ghost use Rattle.std.specs.Ordering.{nat_cmp};
 ghost use Rattle.std.specs.declared.ops.Bound.TheVariants.{Included};
@@ -10,8 +10,9 @@ use indexset_ffi::map_handle::MapHandle;
 use std::alloc::Global;
 use std::ops::Bound;
 
-/// Writes the pairs of the keys from `low` to `high`, both included, in order and as far as there
-/// is room. Returns how many it wrote.
+/// Writes as many pairs with keys from `low` to `high`, both included, as fit, in order.
+///
+/// Returns how many it wrote.
 #[unsafe(no_mangle)]
 pub extern "C" fn indexset_map_range_by_key(
     alloc: Global,
@@ -47,8 +48,7 @@ pub extern "C" fn indexset_map_range_by_key(
     count
 }
 
-/// Writes the pairs from a position on, in order and as far as there is room. Returns how many it
-/// wrote.
+/// Writes as many pairs from a position on as fit, in order. Returns how many it wrote.
 #[unsafe(no_mangle)]
 pub extern "C" fn indexset_map_range_by_position(
     alloc: Global,

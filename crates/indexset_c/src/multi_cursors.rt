@@ -1,4 +1,4 @@
-//! Calls of a multimap that walk it by a cursor.
+//! Cursors of a multimap.
 ghost use Rattle.std.specs.Prelude.{◌≡◌, ◌+◌, length, map, min};
 ghost use Rattle.std.specs.List.{count_by};
 ghost use Rattle.std.specs.Ordering.{is_lt, nat_cmp};
@@ -11,7 +11,7 @@ use indexset_ffi::multi_handle::MultiHandle;
 use indexset_ffi::next::next_pairs;
 use std::alloc::Global;
 
-/// Moves a cursor to a position, counted from 0, or to the end where there is none.
+/// Moves a cursor to a position, counted from 0, or to the end if the position is past it.
 #[unsafe(no_mangle)]
 pub extern "C" fn indexset_multi_cursor_at(
     alloc: Global,
@@ -31,8 +31,7 @@ pub extern "C" fn indexset_multi_cursor_at(
     multi.put(held);
 }
 
-/// Moves a cursor to the first pair whose key is not below `from`, or to the end where there is
-/// none.
+/// Moves a cursor to the first pair whose key is at least `from`, or to the end if there is none.
 #[unsafe(no_mangle)]
 pub extern "C" fn indexset_multi_cursor_from(
     alloc: Global,
@@ -52,8 +51,9 @@ pub extern "C" fn indexset_multi_cursor_from(
     multi.put(held);
 }
 
-/// Writes the pairs from a cursor on, in order and as far as there is room, and moves the cursor
-/// past them. Returns how many it wrote.
+/// Writes as many pairs from a cursor on as fit, in order, and moves the cursor past them.
+///
+/// Returns how many it wrote.
 #[unsafe(no_mangle)]
 pub extern "C" fn indexset_multi_cursor_next(
     alloc: Global,

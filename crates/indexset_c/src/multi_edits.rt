@@ -1,4 +1,4 @@
-//! Calls that change a multimap.
+//! Changes of a multimap.
 ghost use Rattle.std.specs.Prelude.{◌≡◌, ◌≢◌, ◌≤◌, ◌↔◌, ◌∷◌, ◌++◌, [], drop, length, ℕ, false, true, is_some, IfSome, nat_eq, None, Some};
 ghost use Rattle.std.specs.Ordering.{is_eq, nat_cmp};
 ghost use Rattle.std.specs.Option.{option_map};
@@ -17,7 +17,13 @@ use indexset_ffi::multi_handle::MultiHandle;
 use indexset_ffi::status::{HELD, NO, NONE, NUMBERS, YES, of_refusal};
 use std::alloc::Global;
 
-/// Adds a value to those of a key, as the last. A value that the key has stays.
+/// Adds a value as the last of a key, unless the key has it.
+///
+/// Returns `NO` if the key has it.
+///
+/// # Errors
+///
+/// `NONE` if the handle is empty, `MEMORY` or `NUMBERS`. A failed call changes nothing.
 #[unsafe(no_mangle)]
 pub extern "C" fn indexset_multi_insert(
     alloc: Global,
@@ -58,7 +64,11 @@ pub extern "C" fn indexset_multi_insert(
     status
 }
 
-/// Adds a value to those of a key, as the last, whether the key has it or not: it compares no values.
+/// Adds a value as the last of a key, without comparing values.
+///
+/// # Errors
+///
+/// `NONE` if the handle is empty, `MEMORY` or `NUMBERS`. A failed call changes nothing.
 #[unsafe(no_mangle)]
 pub extern "C" fn indexset_multi_push(
     alloc: Global,
@@ -91,6 +101,12 @@ pub extern "C" fn indexset_multi_push(
 }
 
 /// Removes a value of a key.
+///
+/// Returns `NO` if the key does not have it.
+///
+/// # Errors
+///
+/// `MEMORY` or `NUMBERS`. A failed call changes nothing.
 #[unsafe(no_mangle)]
 pub extern "C" fn indexset_multi_remove(
     alloc: Global,
@@ -129,7 +145,13 @@ pub extern "C" fn indexset_multi_remove(
     status
 }
 
-/// Removes the first value of a key and writes it, where there is one.
+/// Removes the first value of a key, and writes it.
+///
+/// Returns `NO` if the key has none.
+///
+/// # Errors
+///
+/// `MEMORY` or `NUMBERS`. A failed call changes nothing.
 #[unsafe(no_mangle)]
 pub extern "C" fn indexset_multi_remove_first(
     alloc: Global,

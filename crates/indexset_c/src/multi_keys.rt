@@ -1,4 +1,4 @@
-//! Calls of a multimap that look for a key, or for a key with a value.
+//! Look-ups of keys and of pairs in a multimap.
 ghost use Rattle.std.specs.Prelude.{◌≡◌, is_some, length, min, nat_eq};
 ghost use Rattle.std.specs.Ordering.{nat_cmp};
 ghost use Rattle.indexset_multi.specs.Keys.{equal_pair, has_pair_of};
@@ -8,7 +8,7 @@ use indexset_ffi::multi_calls::{has_pair, write_values};
 use indexset_ffi::multi_handle::MultiHandle;
 use std::alloc::Global;
 
-/// Tells whether a key has a value.
+/// Returns whether a key has this value.
 #[unsafe(no_mangle)]
 pub extern "C" fn indexset_multi_contains(
     alloc: Global,
@@ -28,7 +28,7 @@ pub extern "C" fn indexset_multi_contains(
     found
 }
 
-/// Tells whether a key is there.
+/// Returns whether a key is present.
 #[unsafe(no_mangle)]
 pub extern "C" fn indexset_multi_contains_key(
     alloc: Global,
@@ -46,7 +46,7 @@ pub extern "C" fn indexset_multi_contains_key(
     found
 }
 
-/// Returns how many values a key has.
+/// Returns the number of values of a key.
 #[unsafe(no_mangle)]
 pub extern "C" fn indexset_multi_count(alloc: Global, multi: &mut MultiHandle, key: u64) -> usize
     ensures value { result ≡ length (values_of (numbered_pairs multi.old.slot.value) key) }
@@ -60,8 +60,7 @@ pub extern "C" fn indexset_multi_count(alloc: Global, multi: &mut MultiHandle, k
     count
 }
 
-/// Writes the values of a key in the order in which they came, as far as there is room. Returns how
-/// many it wrote.
+/// Writes as many values of a key as fit, in insertion order. Returns how many it wrote.
 #[unsafe(no_mangle)]
 pub extern "C" fn indexset_multi_get(
     alloc: Global,

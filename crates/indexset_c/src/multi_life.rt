@@ -1,4 +1,4 @@
-//! Calls that make, empty and free a multimap, and tell its length.
+//! Creation and release of a multimap, and its length.
 ghost use Rattle.std.specs.Prelude.{◌≡◌, ◌≢◌, ◌↔◌, [], Some, None, true, length, is_some, option_map};
 ghost use Rattle.indexset_ffi.specs.Elements.{fresh_multi, numbered_pairs};
 
@@ -9,7 +9,11 @@ use indexset_multi::multimap::BTreeMultiMap;
 use std::alloc::Global;
 use std::mem::swap;
 
-/// Makes an empty multimap. A handle that leads to a multimap is refused.
+/// Makes an empty multimap.
+///
+/// # Errors
+///
+/// `HELD` if the handle is not empty, or `MEMORY`. A failed call changes nothing.
 #[unsafe(no_mangle)]
 pub extern "C" fn indexset_multi_new(alloc: Global, multi: &mut MultiHandle) -> u32
     ensures empty { result ≡ YES → numbered_pairs multi.new.slot.value ≡ [] }
@@ -31,7 +35,7 @@ pub extern "C" fn indexset_multi_new(alloc: Global, multi: &mut MultiHandle) -> 
     }
 }
 
-/// Frees a multimap, and leaves its handle with none.
+/// Frees a multimap, and leaves its handle empty.
 #[unsafe(no_mangle)]
 pub extern "C" fn indexset_multi_free(alloc: Global, multi: &mut MultiHandle)
     ensures { multi.new.slot.value ≡ None }
@@ -39,7 +43,11 @@ pub extern "C" fn indexset_multi_free(alloc: Global, multi: &mut MultiHandle)
     drop(multi.take(alloc));
 }
 
-/// Makes an empty multimap under a handle on the heap.
+/// Makes a handle on the heap with an empty multimap.
+///
+/// # Errors
+///
+/// `MEMORY`. A failed call changes nothing.
 #[unsafe(no_mangle)]
 pub extern "C" fn indexset_multi_create(alloc: Global, multi: &mut MultiOwner) -> u32
     ensures made { result ≡ YES → option_map (λ h. h.slot.value) multi.new.value
@@ -57,7 +65,7 @@ pub extern "C" fn indexset_multi_create(alloc: Global, multi: &mut MultiOwner) -
     status
 }
 
-/// Frees a handle on the heap, and what it leads to.
+/// Frees a handle on the heap and its collection.
 #[unsafe(no_mangle)]
 pub extern "C" fn indexset_multi_destroy(alloc: Global, multi: &mut MultiOwner)
     requires { is_some multi.old.value ≡ true }
@@ -67,7 +75,9 @@ pub extern "C" fn indexset_multi_destroy(alloc: Global, multi: &mut MultiOwner)
     indexset_multi_free(alloc, &mut *handle);
 }
 
-/// Moves a multimap to the handle `to`, whose own is freed, and leaves the handle `from` with none.
+/// Moves a multimap from the handle `from` to `to`, and leaves `from` empty.
+///
+/// A multimap that `to` had is freed.
 #[unsafe(no_mangle)]
 pub extern "C" fn indexset_multi_move(alloc: Global, to: &mut MultiHandle, from: &mut MultiHandle)
     ensures moved { to.new.slot.value ≡ from.old.slot.value }
@@ -77,7 +87,7 @@ pub extern "C" fn indexset_multi_move(alloc: Global, to: &mut MultiHandle, from:
     swap(to, from);
 }
 
-/// Swaps what two handles lead to.
+/// Swaps the collections of two handles.
 #[unsafe(no_mangle)]
 pub extern "C" fn indexset_multi_swap(one: &mut MultiHandle, other: &mut MultiHandle)
     ensures one { one.new.slot.value ≡ other.old.slot.value }
@@ -100,7 +110,7 @@ pub extern "C" fn indexset_multi_clear(alloc: Global, multi: &mut MultiHandle)
     multi.put(held);
 }
 
-/// Returns how many pairs there are.
+/// Returns the number of pairs.
 #[unsafe(no_mangle)]
 pub extern "C" fn indexset_multi_len(alloc: Global, multi: &mut MultiHandle) -> usize
     ensures value { result ≡ length (numbered_pairs multi.old.slot.value) }

@@ -1,4 +1,4 @@
-//! Calls of a multimap that write its pairs.
+//! Ends and ranges of a multimap.
 ghost use Rattle.std.specs.Prelude.{◌≡◌, ◌-◌, ◌<◌, ◌≤◌, [], Some, None, true, false, length, min};
 ghost use Rattle.std.specs.Ordering.{nat_cmp};
 ghost use Rattle.std.specs.declared.ops.Bound.TheVariants.{Included};
@@ -12,7 +12,7 @@ use indexset_ffi::write::write_pair;
 use std::alloc::Global;
 use std::ops::Bound;
 
-/// Writes the first pair, where there is one: the least key, with the first of its values.
+/// Writes the first pair: the least key and its first value. Returns `false` if there is none.
 #[unsafe(no_mangle)]
 pub extern "C" fn indexset_multi_first(
     alloc: Global,
@@ -39,7 +39,7 @@ pub extern "C" fn indexset_multi_first(
     write_pair(found, key, value)
 }
 
-/// Writes the last pair, where there is one: the greatest key, with the last of its values.
+/// Writes the last pair: the greatest key and its last value. Returns `false` if there is none.
 #[unsafe(no_mangle)]
 pub extern "C" fn indexset_multi_last(
     alloc: Global,
@@ -65,8 +65,9 @@ pub extern "C" fn indexset_multi_last(
     write_pair(found, key, value)
 }
 
-/// Writes the pairs of the keys from `low` to `high`, both included, in order and as far as there
-/// is room. Returns how many it wrote.
+/// Writes as many pairs with keys from `low` to `high`, both included, as fit, in order.
+///
+/// Returns how many it wrote.
 #[unsafe(no_mangle)]
 pub extern "C" fn indexset_multi_range(
     alloc: Global,

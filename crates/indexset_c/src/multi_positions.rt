@@ -1,4 +1,4 @@
-//! Calls of a multimap that go by a position.
+//! Positions in a multimap.
 ghost use Rattle.std.specs.Prelude.{◌≡◌, ◌≢◌, ◌≤◌, ◌↔◌, IfSome, Some, None, true, false, drop, length, min, slice_get};
 ghost use Rattle.std.specs.List.{count_by};
 ghost use Rattle.std.specs.Option.{option_map};
@@ -18,7 +18,7 @@ use indexset_ffi::write::write_pair;
 use std::alloc::Global;
 use std::ops::Bound;
 
-/// Returns how many pairs have keys below a key.
+/// Returns how many pairs have a key that is less than this one.
 #[unsafe(no_mangle)]
 pub extern "C" fn indexset_multi_rank(alloc: Global, multi: &mut MultiHandle, key: u64) -> usize
     ensures value { result ≡ count_by (λ p. is_lt (nat_cmp p.key key))
@@ -33,7 +33,7 @@ pub extern "C" fn indexset_multi_rank(alloc: Global, multi: &mut MultiHandle, ke
     below
 }
 
-/// Writes the pair at a position, counted from 0, where there is one.
+/// Writes the pair at a position, counted from 0. Returns `false` if the position is past the end.
 #[unsafe(no_mangle)]
 pub extern "C" fn indexset_multi_at(
     alloc: Global,
@@ -61,7 +61,7 @@ pub extern "C" fn indexset_multi_at(
     write_pair(found, key, value)
 }
 
-/// Writes the pairs from a position on, in order and as far as there is room. Returns how many it wrote.
+/// Writes as many pairs from a position on as fit, in order. Returns how many it wrote.
 #[unsafe(no_mangle)]
 pub extern "C" fn indexset_multi_range_by_position(
     alloc: Global,
@@ -87,7 +87,13 @@ pub extern "C" fn indexset_multi_range_by_position(
     count
 }
 
-/// Removes the pair at a position, counted from 0, and writes it, where there is one.
+/// Removes the pair at a position, counted from 0, and writes it.
+///
+/// Returns `NO` if the position is past the end.
+///
+/// # Errors
+///
+/// `MEMORY` or `NUMBERS`. A failed call changes nothing.
 #[unsafe(no_mangle)]
 pub extern "C" fn indexset_multi_remove_at(
     alloc: Global,

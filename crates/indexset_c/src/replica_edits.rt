@@ -1,4 +1,4 @@
-//! Calls that make the changes of a logged map in a replica.
+//! Application of events to a replica.
 ghost use Rattle.std.specs.Prelude.{◌≡◌, ◌≢◌, ◌<◌, ◌≤◌, ◌↔◌, length, take, unwrap_or, IfSome, None, Some, slice_get};
 ghost use Rattle.indexset_ffi.specs.Replicas.{applied, applied_all, refused};
 
@@ -8,7 +8,14 @@ use indexset_ffi::replica_handle::ReplicaHandle;
 use indexset_ffi::status::{MEMORY, NO, NONE, YES};
 use std::alloc::Global;
 
-/// Makes a change of a logged map, where it is the one that is awaited and fits the nodes.
+/// Applies an event of a logged map.
+///
+/// Returns `NO` for an event that came before, without applying it.
+///
+/// # Errors
+///
+/// `MEMORY`, `NONE` if the handle is empty, or the status of the refusal: the event is not the
+/// awaited one, or does not fit the nodes. A failed call changes nothing.
 #[unsafe(no_mangle)]
 pub extern "C" fn indexset_replica_apply(
     alloc: Global,
@@ -32,8 +39,14 @@ pub extern "C" fn indexset_replica_apply(
     status
 }
 
-/// Makes changes of a logged map, first to last, and passes over each that came before. Writes how
-/// many were taken: all, or those before the first that is refused.
+/// Applies events of a logged map in order, ignoring each that came before.
+///
+/// Writes how many events were taken.
+///
+/// # Errors
+///
+/// The status of the first event that fails, as `indexset_replica_apply` returns it; the events
+/// before it were taken. `NONE` if the handle is empty.
 #[unsafe(no_mangle)]
 pub extern "C" fn indexset_replica_apply_all(
     alloc: Global,

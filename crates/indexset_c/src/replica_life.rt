@@ -1,5 +1,4 @@
-//! Calls that make and free a replica, and return its length, its node count and the number that it
-//! awaits.
+//! Creation and release of a replica, its length, its node count and the awaited event number.
 ghost use Rattle.std.specs.Prelude.{◌≡◌, ◌≢◌, ◌↔◌, [], Some, None, length, is_some, option_map, true};
 ghost use Rattle.std.specs.Option.{option_map_or};
 ghost use Rattle.indexset_ffi.specs.Replicas.{copied_nodes, copied_pairs, replica_of};
@@ -13,8 +12,11 @@ use indexset_replica::Replica;
 use std::alloc::Global;
 use std::mem::swap;
 
-/// Makes a replica without nodes, which awaits the change of the number `next`. Fails where the
-/// handle leads to a replica.
+/// Makes an empty replica that awaits the event with the number `next`.
+///
+/// # Errors
+///
+/// `HELD` if the handle is not empty, or `MEMORY`. A failed call changes nothing.
 #[unsafe(no_mangle)]
 pub extern "C" fn indexset_replica_new(alloc: Global, replica: &mut ReplicaHandle, next: u64) -> u32
     ensures made { result ≡ YES → replica.new.slot.value
@@ -36,8 +38,14 @@ pub extern "C" fn indexset_replica_new(alloc: Global, replica: &mut ReplicaHandl
     }
 }
 
-/// Makes a replica of a logged map, which has its nodes and awaits its next change. Fails where the
-/// handle leads to a replica. The logged map stays as it is.
+/// Makes a replica that has the nodes of a logged map and awaits its next event.
+///
+/// The logged map is unchanged.
+///
+/// # Errors
+///
+/// `NONE` if the handle of the logged map is empty, `HELD` if that of the replica is not, or
+/// `MEMORY`. A failed call changes nothing.
 #[unsafe(no_mangle)]
 pub extern "C" fn indexset_replica_from_log(
     alloc: Global,
@@ -75,7 +83,7 @@ pub extern "C" fn indexset_replica_from_log(
     }
 }
 
-/// Frees a replica, and leaves its handle with none.
+/// Frees a replica, and leaves its handle empty.
 #[unsafe(no_mangle)]
 pub extern "C" fn indexset_replica_free(alloc: Global, replica: &mut ReplicaHandle)
     ensures { replica.new.slot.value ≡ None }
@@ -83,7 +91,11 @@ pub extern "C" fn indexset_replica_free(alloc: Global, replica: &mut ReplicaHand
     drop(replica.take(alloc));
 }
 
-/// Makes a replica without nodes, as `indexset_replica_new` does, under a handle on the heap.
+/// Makes a handle on the heap with an empty replica, as `indexset_replica_new` does.
+///
+/// # Errors
+///
+/// `MEMORY`. A failed call changes nothing.
 #[unsafe(no_mangle)]
 pub extern "C" fn indexset_replica_create(
     alloc: Global,
@@ -105,7 +117,7 @@ pub extern "C" fn indexset_replica_create(
     status
 }
 
-/// Frees a handle on the heap, and what it leads to.
+/// Frees a handle on the heap and its collection.
 #[unsafe(no_mangle)]
 pub extern "C" fn indexset_replica_destroy(alloc: Global, replica: &mut ReplicaOwner)
     requires { is_some replica.old.value ≡ true }
@@ -115,7 +127,9 @@ pub extern "C" fn indexset_replica_destroy(alloc: Global, replica: &mut ReplicaO
     indexset_replica_free(alloc, &mut *handle);
 }
 
-/// Moves a replica to the handle `to`, whose own is freed, and leaves the handle `from` with none.
+/// Moves a replica from the handle `from` to `to`, and leaves `from` empty.
+///
+/// A replica that `to` had is freed.
 #[unsafe(no_mangle)]
 pub extern "C" fn indexset_replica_move(
     alloc: Global,
@@ -129,7 +143,7 @@ pub extern "C" fn indexset_replica_move(
     swap(to, from);
 }
 
-/// Swaps what two handles lead to.
+/// Swaps the collections of two handles.
 #[unsafe(no_mangle)]
 pub extern "C" fn indexset_replica_swap(one: &mut ReplicaHandle, other: &mut ReplicaHandle)
     ensures one { one.new.slot.value ≡ other.old.slot.value }
@@ -138,7 +152,7 @@ pub extern "C" fn indexset_replica_swap(one: &mut ReplicaHandle, other: &mut Rep
     swap(one, other);
 }
 
-/// Returns how many pairs there are, in constant time.
+/// Returns the number of pairs, in constant time.
 #[unsafe(no_mangle)]
 pub extern "C" fn indexset_replica_len(alloc: Global, replica: &mut ReplicaHandle) -> usize
     ensures value { result ≡ length (copied_pairs replica.old.slot.value) }
@@ -152,7 +166,7 @@ pub extern "C" fn indexset_replica_len(alloc: Global, replica: &mut ReplicaHandl
     len
 }
 
-/// Returns how many nodes there are.
+/// Returns the number of nodes.
 #[unsafe(no_mangle)]
 pub extern "C" fn indexset_replica_node_count(alloc: Global, replica: &mut ReplicaHandle) -> usize
     ensures value { result ≡ length (copied_nodes replica.old.slot.value) }
@@ -166,7 +180,7 @@ pub extern "C" fn indexset_replica_node_count(alloc: Global, replica: &mut Repli
     count
 }
 
-/// Returns the number of the change that is awaited.
+/// Returns the number of the awaited event.
 #[unsafe(no_mangle)]
 pub extern "C" fn indexset_replica_next(alloc: Global, replica: &mut ReplicaHandle) -> u64
     ensures value { result ≡ option_map_or (λ r. r.next) replica.old.slot.value 0 }

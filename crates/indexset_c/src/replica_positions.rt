@@ -1,4 +1,4 @@
-//! Calls of a replica that go by a position.
+//! Positions in a replica.
 ghost use Rattle.std.specs.Prelude.{◌≡◌, Some, None, true, false, drop, length, min};
 ghost use Rattle.std.specs.Ordering.{nat_cmp};
 ghost use Rattle.indexset_core.specs.Pairs.{key_rank, pair_keys, pair_values};
@@ -11,7 +11,7 @@ use indexset_ffi::write::write_pair;
 use std::alloc::Global;
 use std::ops::Bound;
 
-/// Returns how many pairs have keys below a key.
+/// Returns how many pairs have a key that is less than this one.
 #[unsafe(no_mangle)]
 pub extern "C" fn indexset_replica_rank(
     alloc: Global,
@@ -29,7 +29,7 @@ pub extern "C" fn indexset_replica_rank(
     below
 }
 
-/// Writes the pair at a position, counted from 0, where there is one.
+/// Writes the pair at a position, counted from 0. Returns `false` if the position is past the end.
 #[unsafe(no_mangle)]
 pub extern "C" fn indexset_replica_at(
     alloc: Global,
@@ -57,7 +57,7 @@ pub extern "C" fn indexset_replica_at(
     write_pair(found, key, value)
 }
 
-/// Writes the pairs from a position on, in order and as far as there is room. Returns how many it wrote.
+/// Writes as many pairs from a position on as fit, in order. Returns how many it wrote.
 #[unsafe(no_mangle)]
 pub extern "C" fn indexset_replica_range_by_position(
     alloc: Global,

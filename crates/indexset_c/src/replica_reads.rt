@@ -1,4 +1,4 @@
-//! Calls that read a replica.
+//! Look-ups in a replica.
 ghost use Rattle.std.specs.Prelude.{◌≡◌, ◌<◌, ◌≤◌, ◌-◌, None, Some, false, true, length, min};
 ghost use Rattle.std.specs.Ordering.{nat_cmp};
 ghost use Rattle.std.specs.declared.ops.Bound.TheVariants.{Included};
@@ -13,7 +13,7 @@ use indexset_ffi::write::{write, write_pair};
 use std::alloc::Global;
 use std::ops::Bound;
 
-/// Writes the value of a key, where there is one.
+/// Writes the value of a key. Returns `false` if the key is absent.
 #[unsafe(no_mangle)]
 pub extern "C" fn indexset_replica_get(
     alloc: Global,
@@ -39,7 +39,7 @@ pub extern "C" fn indexset_replica_get(
     write(found, out)
 }
 
-/// Returns whether a key is there.
+/// Returns whether a key is present.
 #[unsafe(no_mangle)]
 pub extern "C" fn indexset_replica_contains(
     alloc: Global,
@@ -57,7 +57,7 @@ pub extern "C" fn indexset_replica_contains(
     found
 }
 
-/// Writes the pair of the least key, where there is one.
+/// Writes the pair of the least key. Returns `false` if there is none.
 #[unsafe(no_mangle)]
 pub extern "C" fn indexset_replica_first(
     alloc: Global,
@@ -83,7 +83,7 @@ pub extern "C" fn indexset_replica_first(
     write_pair(found, key, value)
 }
 
-/// Writes the pair of the greatest key, where there is one.
+/// Writes the pair of the greatest key. Returns `false` if there is none.
 #[unsafe(no_mangle)]
 pub extern "C" fn indexset_replica_last(
     alloc: Global,
@@ -110,8 +110,9 @@ pub extern "C" fn indexset_replica_last(
     write_pair(found, key, value)
 }
 
-/// Writes how many pairs each node has, in order and as far as there is room. Returns how many it
-/// wrote.
+/// Writes the number of pairs of each node, for as many nodes as fit, in order.
+///
+/// Returns how many it wrote.
 #[unsafe(no_mangle)]
 pub extern "C" fn indexset_replica_node_lengths(
     alloc: Global,
@@ -131,8 +132,9 @@ pub extern "C" fn indexset_replica_node_lengths(
     count
 }
 
-/// Writes the pairs of the keys from `low` to `high`, both included, in order and as far as there
-/// is room. Returns how many it wrote.
+/// Writes as many pairs with keys from `low` to `high`, both included, as fit, in order.
+///
+/// Returns how many it wrote.
 #[unsafe(no_mangle)]
 pub extern "C" fn indexset_replica_range(
     alloc: Global,

@@ -1,4 +1,4 @@
-//! Calls of a set that take many keys at once.
+//! Calls of a set that take many keys.
 ghost use Rattle.std.specs.Prelude.{◌≡◌, ◌≢◌, ◌<◌, ◌≤◌, ◌↔◌, None, false, length, map, min, slice_index_or, take, is_some};
 ghost use Rattle.std.specs.List.{AllWithin, fold};
 ghost use Rattle.std.specs.Ordering.{nat_cmp};
@@ -11,8 +11,11 @@ use indexset_ffi::status::{MEMORY, NO, NONE, YES};
 use indexset_ffi::write::write_same;
 use std::alloc::Global;
 
-/// Adds each key, first to last. Writes how many were taken: all, or those before the one at which
-/// memory ran out.
+/// Inserts each key in order, and writes how many were taken.
+///
+/// # Errors
+///
+/// `MEMORY`: the keys before the one that failed were taken. `NONE` if the handle is empty.
 #[unsafe(no_mangle)]
 pub extern "C" fn indexset_set_insert_all(
     alloc: Global,
@@ -40,7 +43,7 @@ pub extern "C" fn indexset_set_insert_all(
     if *taken == keys.len() { YES } else { MEMORY }
 }
 
-/// Writes the rank of each key, as far as there is room. Returns how many it wrote.
+/// Writes the rank of each key, for as many keys as fit. Returns how many it wrote.
 #[unsafe(no_mangle)]
 #[tactic(auto, using(crate::proofs::WrittenLemmas::no_ranks))]
 pub extern "C" fn indexset_set_ranks(
@@ -62,8 +65,9 @@ pub extern "C" fn indexset_set_ranks(
     count
 }
 
-/// Writes the element at each position, as far as there is room and up to the first position that
-/// has none. Returns how many it wrote.
+/// Writes the element at each position, for as many positions as fit.
+///
+/// Stops at the first position that is past the end. Returns how many it wrote.
 #[unsafe(no_mangle)]
 pub extern "C" fn indexset_set_at_all(
     alloc: Global,

@@ -1,4 +1,4 @@
-//! Calls of a set that walk it by a cursor.
+//! Cursors of a set.
 ghost use Rattle.std.specs.Prelude.{◌≡◌, ◌+◌, length, min};
 ghost use Rattle.std.specs.Ordering.{nat_cmp};
 ghost use Rattle.indexset_core.specs.Order.{rank};
@@ -11,7 +11,7 @@ use indexset_ffi::set_calls::{cursor_at, cursor_from};
 use indexset_ffi::set_handle::SetHandle;
 use std::alloc::Global;
 
-/// Moves a cursor to a position, counted from 0, or to the end where there is none.
+/// Moves a cursor to a position, counted from 0, or to the end if the position is past it.
 #[unsafe(no_mangle)]
 pub extern "C" fn indexset_set_cursor_at(
     alloc: Global,
@@ -31,7 +31,7 @@ pub extern "C" fn indexset_set_cursor_at(
     set.put(held);
 }
 
-/// Moves a cursor to the first element that is not below a key, or to the end where there is none.
+/// Moves a cursor to the first element that is at least this key, or to the end if there is none.
 #[unsafe(no_mangle)]
 pub extern "C" fn indexset_set_cursor_from(
     alloc: Global,
@@ -51,8 +51,9 @@ pub extern "C" fn indexset_set_cursor_from(
     set.put(held);
 }
 
-/// Writes the elements from a cursor on, in order and as far as there is room, and moves the cursor
-/// past them. Returns how many it wrote.
+/// Writes as many elements from a cursor on as fit, in order, and moves the cursor past them.
+///
+/// Returns how many it wrote.
 #[unsafe(no_mangle)]
 pub extern "C" fn indexset_set_cursor_next(
     alloc: Global,

@@ -1,4 +1,4 @@
-//! Calls of a set that go by a key.
+//! Keys of a set.
 ghost use Rattle.std.specs.Prelude.{◌≡◌, ◌≢◌, ◌≤◌, ◌↔◌, Some, None, true, false, is_some};
 ghost use Rattle.std.specs.Ordering.{nat_cmp};
 ghost use Rattle.indexset_core.specs.Order as order;
@@ -12,7 +12,12 @@ use indexset_ffi::status::{MEMORY, NO, NONE, YES};
 use indexset_ffi::write::write;
 use std::alloc::Global;
 
-/// Inserts a key. A present one stays.
+/// Inserts a key. Returns `NO` if it is present.
+///
+/// # Errors
+///
+/// `MEMORY`, or `NONE` if the handle is empty. A failed call changes nothing. A present key needs
+/// no memory.
 #[unsafe(no_mangle)]
 pub extern "C" fn indexset_set_insert(alloc: Global, set: &mut SetHandle, key: u64) -> u32
     ensures added { result ≡ YES → has_equal nat_cmp (elements set.old.slot.value) key ≡ false }
@@ -36,7 +41,12 @@ pub extern "C" fn indexset_set_insert(alloc: Global, set: &mut SetHandle, key: u
     status
 }
 
-/// Inserts a key, and writes its rank: where it stands then. A present one stays.
+/// Inserts a key, and writes its position. Returns `NO` if it is present.
+///
+/// # Errors
+///
+/// `MEMORY`, or `NONE` if the handle is empty. A failed call changes nothing. A present key needs
+/// no memory.
 #[unsafe(no_mangle)]
 pub extern "C" fn indexset_set_insert_ranked(
     alloc: Global,
@@ -94,7 +104,7 @@ pub extern "C" fn indexset_set_contains(alloc: Global, set: &mut SetHandle, key:
     found
 }
 
-/// Returns how many elements are below a key.
+/// Returns how many elements are less than this key.
 #[unsafe(no_mangle)]
 pub extern "C" fn indexset_set_rank(alloc: Global, set: &mut SetHandle, key: u64) -> usize
     ensures value { result ≡ rank nat_cmp (elements set.old.slot.value) key }
@@ -108,7 +118,7 @@ pub extern "C" fn indexset_set_rank(alloc: Global, set: &mut SetHandle, key: u64
     below
 }
 
-/// Writes the first element that is not below a key, where there is one.
+/// Writes the first element that is at least this key. Returns `false` if there is none.
 #[unsafe(no_mangle)]
 pub extern "C" fn indexset_set_lower_bound(
     alloc: Global,
@@ -131,7 +141,7 @@ pub extern "C" fn indexset_set_lower_bound(
     write(found, out)
 }
 
-/// Writes the first element that is above a key, where there is one.
+/// Writes the first element that is greater than this key. Returns `false` if there is none.
 #[unsafe(no_mangle)]
 pub extern "C" fn indexset_set_upper_bound(
     alloc: Global,
@@ -154,7 +164,7 @@ pub extern "C" fn indexset_set_upper_bound(
     write(found, out)
 }
 
-/// Returns how many elements are not above a key.
+/// Returns how many elements are at most this key.
 #[unsafe(no_mangle)]
 pub extern "C" fn indexset_set_count_up_to(alloc: Global, set: &mut SetHandle, key: u64) -> usize
     ensures value { result ≡ count_up_to nat_cmp (elements set.old.slot.value) key }

@@ -1,4 +1,4 @@
-//! Calls that make, empty, clone and free a set, and return its length.
+//! Creation and release of a set, its clone and its length.
 ghost use Rattle.std.specs.Prelude.{◌≡◌, ◌≢◌, ◌↔◌, [], Some, None, true, length, is_some, IfSome, ◌∷◌, option_map};
 ghost use Rattle.indexset_core.specs.declared.constants.TheConstants.{DEFAULT_INNER_SIZE};
 ghost use Rattle.indexset_spine.specs.NodeList.{node_list};
@@ -11,7 +11,11 @@ use indexset_set::BTreeSet;
 use std::alloc::Global;
 use std::mem::swap;
 
-/// Makes an empty set. Fails where the handle leads to a set.
+/// Makes an empty set.
+///
+/// # Errors
+///
+/// `HELD` if the handle is not empty, or `MEMORY`. A failed call changes nothing.
 #[unsafe(no_mangle)]
 pub extern "C" fn indexset_set_new(alloc: Global, set: &mut SetHandle) -> u32
     ensures empty { result ≡ YES → elements set.new.slot.value ≡ [] }
@@ -36,7 +40,12 @@ pub extern "C" fn indexset_set_new(alloc: Global, set: &mut SetHandle) -> u32
     }
 }
 
-/// Makes a clone of a set, under a second handle. Fails where the handle leads to a set.
+/// Makes a clone of a set in the handle `to`.
+///
+/// # Errors
+///
+/// `NONE` if the first handle is empty, `HELD` if `to` is not empty, or `MEMORY`. A failed call
+/// changes nothing.
 #[unsafe(no_mangle)]
 pub extern "C" fn indexset_set_clone(alloc: Global, set: &mut SetHandle, to: &mut SetHandle) -> u32
     ensures ok { result ≡ YES → to.new.slot.value ≡ set.old.slot.value }
@@ -69,7 +78,7 @@ pub extern "C" fn indexset_set_clone(alloc: Global, set: &mut SetHandle, to: &mu
     }
 }
 
-/// Frees a set, and leaves its handle with none.
+/// Frees a set, and leaves its handle empty.
 #[unsafe(no_mangle)]
 pub extern "C" fn indexset_set_free(alloc: Global, set: &mut SetHandle)
     ensures { set.new.slot.value ≡ None }
@@ -77,7 +86,11 @@ pub extern "C" fn indexset_set_free(alloc: Global, set: &mut SetHandle)
     drop(set.take(alloc));
 }
 
-/// Makes an empty set under a handle on the heap.
+/// Makes a handle on the heap with an empty set.
+///
+/// # Errors
+///
+/// `MEMORY`. A failed call changes nothing.
 #[unsafe(no_mangle)]
 pub extern "C" fn indexset_set_create(alloc: Global, set: &mut SetOwner) -> u32
     ensures made { result ≡ YES → option_map (λ h. h.slot.value) set.new.value
@@ -95,7 +108,7 @@ pub extern "C" fn indexset_set_create(alloc: Global, set: &mut SetOwner) -> u32
     status
 }
 
-/// Frees a handle on the heap, and what it leads to.
+/// Frees a handle on the heap and its collection.
 #[unsafe(no_mangle)]
 pub extern "C" fn indexset_set_destroy(alloc: Global, set: &mut SetOwner)
     requires { is_some set.old.value ≡ true }
@@ -105,7 +118,9 @@ pub extern "C" fn indexset_set_destroy(alloc: Global, set: &mut SetOwner)
     indexset_set_free(alloc, &mut *handle);
 }
 
-/// Moves a set to the handle `to`, whose own is freed, and leaves the handle `from` with none.
+/// Moves a set from the handle `from` to `to`, and leaves `from` empty.
+///
+/// A set that `to` had is freed.
 #[unsafe(no_mangle)]
 pub extern "C" fn indexset_set_move(alloc: Global, to: &mut SetHandle, from: &mut SetHandle)
     ensures moved { to.new.slot.value ≡ from.old.slot.value }
@@ -115,7 +130,7 @@ pub extern "C" fn indexset_set_move(alloc: Global, to: &mut SetHandle, from: &mu
     swap(to, from);
 }
 
-/// Swaps what two handles lead to.
+/// Swaps the collections of two handles.
 #[unsafe(no_mangle)]
 pub extern "C" fn indexset_set_swap(one: &mut SetHandle, other: &mut SetHandle)
     ensures one { one.new.slot.value ≡ other.old.slot.value }
@@ -139,7 +154,7 @@ pub extern "C" fn indexset_set_clear(alloc: Global, set: &mut SetHandle)
     set.put(held);
 }
 
-/// Returns how many elements there are.
+/// Returns the number of elements.
 #[unsafe(no_mangle)]
 pub extern "C" fn indexset_set_len(alloc: Global, set: &mut SetHandle) -> usize
     ensures value { result ≡ length (elements set.old.slot.value) }

@@ -1,4 +1,4 @@
-//! Calls of a set that go by a position, and those at its two ends.
+//! Positions in a set, and its ends.
 ghost use Rattle.std.specs.Prelude.{◌≡◌, ◌-◌, Some, None, true, false, drop, length, remove, slice_get, take, is_some};
 ghost use Rattle.indexset_ffi.specs.Elements.{elements};
 
@@ -7,7 +7,8 @@ use indexset_ffi::set_handle::SetHandle;
 use indexset_ffi::write::write;
 use std::alloc::Global;
 
-/// Writes the element at a position, counted from 0, where there is one.
+/// Writes the element at a position, counted from 0. Returns `false` if the position is past the
+/// end.
 #[unsafe(no_mangle)]
 pub extern "C" fn indexset_set_at(
     alloc: Global,
@@ -29,7 +30,9 @@ pub extern "C" fn indexset_set_at(
     write(found, out)
 }
 
-/// Removes the element at a position, counted from 0, and writes it, where there is one.
+/// Removes the element at a position, counted from 0, and writes it.
+///
+/// Returns `false` if the position is past the end.
 #[unsafe(no_mangle)]
 pub extern "C" fn indexset_set_remove_at(
     alloc: Global,
@@ -53,7 +56,7 @@ pub extern "C" fn indexset_set_remove_at(
     write(found, out)
 }
 
-/// Writes the least element, where there is one.
+/// Writes the least element. Returns `false` if there is none.
 #[unsafe(no_mangle)]
 pub extern "C" fn indexset_set_first(alloc: Global, set: &mut SetHandle, out: &mut u64) -> bool
     ensures found { result ≡ true → slice_get (elements set.old.slot.value) 0 ≡ Some out.new }
@@ -69,7 +72,7 @@ pub extern "C" fn indexset_set_first(alloc: Global, set: &mut SetHandle, out: &m
     write(found, out)
 }
 
-/// Writes the greatest element, where there is one.
+/// Writes the greatest element. Returns `false` if there is none.
 #[unsafe(no_mangle)]
 pub extern "C" fn indexset_set_last(alloc: Global, set: &mut SetHandle, out: &mut u64) -> bool
     ensures found { result ≡ true → slice_get (elements set.old.slot.value)
@@ -86,7 +89,7 @@ pub extern "C" fn indexset_set_last(alloc: Global, set: &mut SetHandle, out: &mu
     write(found, out)
 }
 
-/// Removes the least element and writes it, where there is one.
+/// Removes the least element, and writes it. Returns `false` if there is none.
 #[unsafe(no_mangle)]
 pub extern "C" fn indexset_set_pop_first(alloc: Global, set: &mut SetHandle, out: &mut u64) -> bool
     ensures found { result ≡ true → slice_get (elements set.old.slot.value) 0 ≡ Some out.new }
@@ -104,7 +107,7 @@ pub extern "C" fn indexset_set_pop_first(alloc: Global, set: &mut SetHandle, out
     write(found, out)
 }
 
-/// Removes the greatest element and writes it, where there is one.
+/// Removes the greatest element, and writes it. Returns `false` if there is none.
 #[unsafe(no_mangle)]
 pub extern "C" fn indexset_set_pop_last(alloc: Global, set: &mut SetHandle, out: &mut u64) -> bool
     ensures found { result ≡ true → slice_get (elements set.old.slot.value)

@@ -1,4 +1,4 @@
-//! Calls of a set that write a part of it into a caller's slice.
+//! Ranges of a set.
 ghost use Rattle.std.specs.Prelude.{◌≡◌, ◌≤◌, ◌<◌, drop, length, min, take};
 ghost use Rattle.std.specs.Ordering.{nat_cmp};
 ghost use Rattle.std.specs.declared.ops.Bound.TheVariants.{Included};
@@ -10,7 +10,8 @@ use indexset_ffi::set_handle::SetHandle;
 use std::alloc::Global;
 use std::ops::Bound;
 
-/// Writes the elements from `low` to `high`, both included, in order and as far as there is room.
+/// Writes as many elements from `low` to `high`, both included, as fit, in order.
+///
 /// Returns how many it wrote.
 #[unsafe(no_mangle)]
 pub extern "C" fn indexset_set_range_by_key(
@@ -44,8 +45,7 @@ pub extern "C" fn indexset_set_range_by_key(
     count
 }
 
-/// Writes the elements from a position on, in order and as far as there is room. Returns how many
-/// it wrote.
+/// Writes as many elements from a position on as fit, in order. Returns how many it wrote.
 #[unsafe(no_mangle)]
 pub extern "C" fn indexset_set_range_by_position(
     alloc: Global,

@@ -1,4 +1,4 @@
-//! Calls of a map from byte strings that walk it by a cursor.
+//! Cursors of a map from byte strings.
 ghost use Rattle.std.specs.Prelude.{◌≡◌, ◌+◌, length, min, take};
 ghost use Rattle.std.specs.Cmp.Lexicographic.{slice_cmp};
 ghost use Rattle.std.specs.Ordering.{nat_cmp};
@@ -14,7 +14,7 @@ use indexset_ffi::text_find::{cursor_at, cursor_from};
 use indexset_ffi::text_handle::TextHandle;
 use std::alloc::Global;
 
-/// Moves a cursor to a position, counted from 0, or to the end where there is none.
+/// Moves a cursor to a position, counted from 0, or to the end if the position is past it.
 #[unsafe(no_mangle)]
 pub extern "C" fn indexset_text_map_cursor_at(
     alloc: Global,
@@ -34,8 +34,7 @@ pub extern "C" fn indexset_text_map_cursor_at(
     map.put(held);
 }
 
-/// Moves a cursor to the first pair whose key is not below `from`, or to the end where there is
-/// none.
+/// Moves a cursor to the first pair whose key is at least `from`, or to the end if there is none.
 #[unsafe(no_mangle)]
 pub extern "C" fn indexset_text_map_cursor_from(
     alloc: Global,
@@ -55,9 +54,10 @@ pub extern "C" fn indexset_text_map_cursor_from(
     map.put(held);
 }
 
-/// Writes the lengths of the keys and the values of the pairs from a cursor on, in order and as far
-/// as there is room, and the bytes of these keys, one key behind another and as far as there is
-/// room. Moves the cursor past the pairs, and returns how many they are.
+/// Writes as many pairs from a cursor on as fit, in order, and moves the cursor past them.
+///
+/// A pair is the length of its key and its value. The bytes of these keys are written one after
+/// another, as many as fit. Returns how many pairs it wrote.
 #[unsafe(no_mangle)]
 pub extern "C" fn indexset_text_map_cursor_next(
     alloc: Global,

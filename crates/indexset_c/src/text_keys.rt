@@ -1,4 +1,4 @@
-//! Calls of a map from byte strings that go by a key.
+//! Keys of a map from byte strings.
 ghost use Rattle.std.specs.Prelude.{◌≡◌, ◌≢◌, ◌≤◌, ◌↔◌, Some, None, true, false, is_some};
 ghost use Rattle.std.specs.Cmp.Lexicographic.{slice_cmp};
 ghost use Rattle.std.specs.Ordering.{nat_cmp};
@@ -13,8 +13,14 @@ use indexset_ffi::text_handle::TextHandle;
 use indexset_ffi::write::write;
 use std::alloc::Global;
 
-/// Inserts a pair, or replaces the value of a present key and writes the old one. The bytes of a
-/// new key are copied.
+/// Inserts a pair, or replaces the value of a present key. The bytes of a new key are copied.
+///
+/// Returns `YES` for a new key. For a present key it writes the old value, and returns `NO`.
+///
+/// # Errors
+///
+/// `MEMORY`, or `NONE` if the handle is empty. A failed call changes nothing. A present key needs
+/// no memory.
 #[unsafe(no_mangle)]
 #[tactic(auto, using(crate::proofs::PairLemmas::no_value_no_key))]
 pub extern "C" fn indexset_text_map_insert(
@@ -52,8 +58,14 @@ pub extern "C" fn indexset_text_map_insert(
     status
 }
 
-/// Inserts a pair, or replaces the value of a present key and writes the old one, and writes the
-/// rank of the key: where its pair stands then.
+/// Inserts a pair, or replaces the value of a present key, and writes the position of the pair.
+///
+/// Returns `YES` for a new key. For a present key it writes the old value, and returns `NO`.
+///
+/// # Errors
+///
+/// `MEMORY`, or `NONE` if the handle is empty. A failed call changes nothing. A present key needs
+/// no memory.
 #[unsafe(no_mangle)]
 pub extern "C" fn indexset_text_map_insert_ranked(
     alloc: Global,
@@ -87,7 +99,7 @@ pub extern "C" fn indexset_text_map_insert_ranked(
     status
 }
 
-/// Writes the value of a key, where there is one.
+/// Writes the value of a key. Returns `false` if the key is absent.
 #[unsafe(no_mangle)]
 pub extern "C" fn indexset_text_map_get(
     alloc: Global,
@@ -110,7 +122,7 @@ pub extern "C" fn indexset_text_map_get(
     write(found, out)
 }
 
-/// Removes a key and writes its value, where there is one.
+/// Removes a key, and writes its value. Returns `false` if the key is absent.
 #[unsafe(no_mangle)]
 #[tactic(auto, unfolding(indexset_core::specs::Order::unequal))]
 pub extern "C" fn indexset_text_map_remove(
@@ -156,7 +168,7 @@ pub extern "C" fn indexset_text_map_contains(
     found
 }
 
-/// Returns how many keys are below a key.
+/// Returns how many keys are less than this one.
 #[unsafe(no_mangle)]
 pub extern "C" fn indexset_text_map_rank(alloc: Global, map: &mut TextHandle, key: &[u8]) -> usize
     ensures value { result ≡ key_rank (slice_cmp nat_cmp) (text_pairs map.old.slot.value) key.now }
@@ -170,7 +182,7 @@ pub extern "C" fn indexset_text_map_rank(alloc: Global, map: &mut TextHandle, ke
     below
 }
 
-/// Returns how many keys are not above a key.
+/// Returns how many keys are at most this one.
 #[unsafe(no_mangle)]
 pub extern "C" fn indexset_text_map_count_up_to(
     alloc: Global,

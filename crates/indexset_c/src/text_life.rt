@@ -1,4 +1,4 @@
-//! Calls that make, empty, clone and free a map from byte strings, and return its length.
+//! Creation and release of a map from byte strings, its clone and its length.
 ghost use Rattle.std.specs.Prelude.{◌≡◌, ◌≢◌, ◌↔◌, [], Some, None, true, length, is_some, IfSome, option_map};
 ghost use Rattle.indexset_map.specs.Contents.{no_pairs};
 ghost use Rattle.indexset_ffi.specs.Text.{text_pairs};
@@ -11,8 +11,11 @@ use indexset_map::BTreeMap;
 use std::alloc::Global;
 use std::mem::swap;
 
-/// Makes an empty map, whose nodes hold at most `TEXT_NODE_SIZE` pairs. Fails where the handle
-/// leads to a map.
+/// Makes an empty map with at most `TEXT_NODE_SIZE` pairs in a node.
+///
+/// # Errors
+///
+/// `HELD` if the handle is not empty, or `MEMORY`. A failed call changes nothing.
 #[unsafe(no_mangle)]
 pub extern "C" fn indexset_text_map_new(alloc: Global, map: &mut TextHandle) -> u32
     ensures empty { result ≡ YES → text_pairs map.new.slot.value ≡ [] }
@@ -37,7 +40,12 @@ pub extern "C" fn indexset_text_map_new(alloc: Global, map: &mut TextHandle) -> 
     }
 }
 
-/// Makes a clone of a map, under a second handle. Fails where the handle leads to a map.
+/// Makes a clone of a map in the handle `to`.
+///
+/// # Errors
+///
+/// `NONE` if the first handle is empty, `HELD` if `to` is not empty, or `MEMORY`. A failed call
+/// changes nothing.
 #[unsafe(no_mangle)]
 pub extern "C" fn indexset_text_map_clone(
     alloc: Global,
@@ -74,7 +82,7 @@ pub extern "C" fn indexset_text_map_clone(
     }
 }
 
-/// Frees a map, and leaves its handle with none.
+/// Frees a map, and leaves its handle empty.
 #[unsafe(no_mangle)]
 pub extern "C" fn indexset_text_map_free(alloc: Global, map: &mut TextHandle)
     ensures { map.new.slot.value ≡ None }
@@ -82,7 +90,11 @@ pub extern "C" fn indexset_text_map_free(alloc: Global, map: &mut TextHandle)
     drop(map.take(alloc));
 }
 
-/// Makes an empty map from byte strings under a handle on the heap.
+/// Makes a handle on the heap with an empty map from byte strings.
+///
+/// # Errors
+///
+/// `MEMORY`. A failed call changes nothing.
 #[unsafe(no_mangle)]
 pub extern "C" fn indexset_text_map_create(alloc: Global, map: &mut TextOwner) -> u32
     ensures made { result ≡ YES → option_map (λ h. h.slot.value) map.new.value
@@ -100,7 +112,7 @@ pub extern "C" fn indexset_text_map_create(alloc: Global, map: &mut TextOwner) -
     status
 }
 
-/// Frees a handle on the heap, and what it leads to.
+/// Frees a handle on the heap and its collection.
 #[unsafe(no_mangle)]
 pub extern "C" fn indexset_text_map_destroy(alloc: Global, map: &mut TextOwner)
     requires { is_some map.old.value ≡ true }
@@ -110,8 +122,9 @@ pub extern "C" fn indexset_text_map_destroy(alloc: Global, map: &mut TextOwner)
     indexset_text_map_free(alloc, &mut *handle);
 }
 
-/// Moves a map from byte strings to the handle `to`, whose own is freed, and leaves the handle
-/// `from` with none.
+/// Moves a map from byte strings from the handle `from` to `to`, and leaves `from` empty.
+///
+/// A map that `to` had is freed.
 #[unsafe(no_mangle)]
 pub extern "C" fn indexset_text_map_move(alloc: Global, to: &mut TextHandle, from: &mut TextHandle)
     ensures moved { to.new.slot.value ≡ from.old.slot.value }
@@ -121,7 +134,7 @@ pub extern "C" fn indexset_text_map_move(alloc: Global, to: &mut TextHandle, fro
     swap(to, from);
 }
 
-/// Swaps what two handles lead to.
+/// Swaps the collections of two handles.
 #[unsafe(no_mangle)]
 pub extern "C" fn indexset_text_map_swap(one: &mut TextHandle, other: &mut TextHandle)
     ensures one { one.new.slot.value ≡ other.old.slot.value }
@@ -144,7 +157,7 @@ pub extern "C" fn indexset_text_map_clear(alloc: Global, map: &mut TextHandle)
     map.put(held);
 }
 
-/// Returns how many pairs there are.
+/// Returns the number of pairs.
 #[unsafe(no_mangle)]
 pub extern "C" fn indexset_text_map_len(alloc: Global, map: &mut TextHandle) -> usize
     ensures value { result ≡ length (text_pairs map.old.slot.value) }

@@ -1,4 +1,4 @@
-//! Calls that change a logged map from byte strings, and that read the changes.
+//! Changes of a logged map from byte strings, and their events.
 ghost use Rattle.std.specs.Prelude.{◌≡◌, ◌≢◌, ◌≤◌, ◌↔◌, [], length, IfSome, None, Some, true, false, slice_get};
 ghost use Rattle.std.specs.Cmp.Lexicographic.{slice_cmp};
 ghost use Rattle.std.specs.Option.{option_map, option_map_or};
@@ -15,8 +15,15 @@ use indexset_ffi::text_log_handle::TextLogHandle;
 use indexset_ffi::write::write;
 use std::alloc::Global;
 
-/// Makes a value that of a key, keeps the changes and writes how many they are. Where the key is
-/// there, the value before is written. The bytes of the key are copied.
+/// Inserts a pair, or replaces the value of a present key. The bytes of the key are copied.
+///
+/// The map keeps the events, and the call writes their number. Returns `YES` for a new key. For a
+/// present key it writes the old value, and returns `NO`.
+///
+/// # Errors
+///
+/// `NONE` if the handle is empty, `MEMORY` or `NUMBERS`. A failed call changes nothing, and writes
+/// 0 as the number of events.
 #[unsafe(no_mangle)]
 pub extern "C" fn indexset_text_log_insert(
     alloc: Global,
@@ -61,8 +68,14 @@ pub extern "C" fn indexset_text_log_insert(
     status
 }
 
-/// Removes a key and writes its value, keeps the changes and writes how many they are. Where the
-/// key is not there, the changes that were kept stay.
+/// Removes a key, and writes its value.
+///
+/// The map keeps the events, and the call writes their number. Returns `NO` if the key is absent;
+/// the map then keeps the events that it had.
+///
+/// # Errors
+///
+/// `MEMORY` or `NUMBERS`. A failed call changes nothing, and writes 0 as the number of events.
 #[unsafe(no_mangle)]
 pub extern "C" fn indexset_text_log_remove(
     alloc: Global,
@@ -105,8 +118,10 @@ pub extern "C" fn indexset_text_log_remove(
     status
 }
 
-/// Writes one of the changes that are kept, counted from 0, where there is one: its record, and as
-/// many bytes of the keys that name its node and its pair as there is room for.
+/// Writes an event that the map keeps, counted from 0.
+///
+/// It writes the record, and as many bytes of the key of the node's maximum and of the key of the
+/// pair as fit. Returns `false` if the position is past the last event.
 #[unsafe(no_mangle)]
 pub extern "C" fn indexset_text_log_change(
     alloc: Global,

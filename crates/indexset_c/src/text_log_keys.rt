@@ -1,4 +1,4 @@
-//! Calls of a logged map from byte strings that read it by a key.
+//! Look-ups by key in a logged map from byte strings.
 ghost use Rattle.std.specs.Prelude.{◌≡◌, Some, None, true, false};
 ghost use Rattle.std.specs.Cmp.Lexicographic.{slice_cmp};
 ghost use Rattle.std.specs.Ordering.{nat_cmp};
@@ -10,7 +10,7 @@ use indexset_ffi::text_log_handle::TextLogHandle;
 use indexset_ffi::write::write;
 use std::alloc::Global;
 
-/// Writes the value of a key, where there is one.
+/// Writes the value of a key. Returns `false` if the key is absent.
 #[unsafe(no_mangle)]
 pub extern "C" fn indexset_text_log_get(
     alloc: Global,
@@ -52,7 +52,7 @@ pub extern "C" fn indexset_text_log_contains(
     found
 }
 
-/// Returns how many keys are below a key.
+/// Returns how many keys are less than this one.
 #[unsafe(no_mangle)]
 pub extern "C" fn indexset_text_log_rank(
     alloc: Global,
@@ -71,7 +71,7 @@ pub extern "C" fn indexset_text_log_rank(
     below
 }
 
-/// Returns how many keys are not above a key.
+/// Returns how many keys are at most this one.
 #[unsafe(no_mangle)]
 pub extern "C" fn indexset_text_log_count_up_to(
     alloc: Global,

@@ -1,4 +1,4 @@
-//! Calls of a logged map from byte strings that go by a position.
+//! Positions in a logged map from byte strings.
 ghost use Rattle.std.specs.Prelude.{◌≡◌, Some, None, true, false, drop, length, min, take};
 ghost use Rattle.indexset_core.specs.Nodes.{concat};
 ghost use Rattle.indexset_core.specs.Pairs.{pair_keys, pair_values};
@@ -11,8 +11,9 @@ use indexset_ffi::text_log_handle::TextLogHandle;
 use indexset_ffi::write::write_bytes;
 use std::alloc::Global;
 
-/// Writes the pair at a position, counted from 0, where there is one: as many bytes of its key as
-/// there is room for, how many the key has, and its value.
+/// Writes the pair at a position, counted from 0. Returns `false` if the position is past the end.
+///
+/// It writes as many bytes of the key as fit, the length of the key, and the value.
 #[unsafe(no_mangle)]
 pub extern "C" fn indexset_text_log_at(
     alloc: Global,
@@ -49,8 +50,9 @@ pub extern "C" fn indexset_text_log_at(
     found
 }
 
-/// Writes the values of the pairs from a position on, in order and as far as there is room. Returns
-/// how many it wrote.
+/// Writes as many values of the pairs from a position on as fit, in order.
+///
+/// Returns how many it wrote.
 #[unsafe(no_mangle)]
 pub extern "C" fn indexset_text_log_range_by_position(
     alloc: Global,
@@ -73,9 +75,10 @@ pub extern "C" fn indexset_text_log_range_by_position(
     count
 }
 
-/// Writes the lengths of the keys from a position on, in order and as far as there is room, and the
-/// bytes of these keys, one key behind another and as far as there is room. Returns how many
-/// lengths it wrote.
+/// Writes as many lengths of the keys from a position on as fit, in order.
+///
+/// The bytes of these keys are written one after another, as many as fit. Returns how many lengths
+/// it wrote.
 #[unsafe(no_mangle)]
 pub extern "C" fn indexset_text_log_keys_by_position(
     alloc: Global,

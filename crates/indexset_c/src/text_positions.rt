@@ -1,4 +1,4 @@
-//! Calls of a map from byte strings that go by a position, and those at its two ends.
+//! Positions in a map from byte strings, bounds and ends.
 ghost use Rattle.std.specs.Prelude.{◌≡◌, ◌-◌, Some, None, true, false, length, remove, is_some};
 ghost use Rattle.std.specs.Cmp.Lexicographic.{slice_cmp};
 ghost use Rattle.std.specs.Ordering.{nat_cmp};
@@ -13,8 +13,9 @@ use indexset_ffi::text_handle::TextHandle;
 use indexset_ffi::write::write_bytes;
 use std::alloc::Global;
 
-/// Writes the pair at a position, counted from 0, where there is one: as many bytes of its key as
-/// there is room for, how many the key has, and its value.
+/// Writes the pair at a position, counted from 0. Returns `false` if the position is past the end.
+///
+/// It writes as many bytes of the key as fit, the length of the key, and the value.
 #[unsafe(no_mangle)]
 pub extern "C" fn indexset_text_map_at(
     alloc: Global,
@@ -51,8 +52,9 @@ pub extern "C" fn indexset_text_map_at(
     found
 }
 
-/// Removes the pair at a position, counted from 0, and writes it as `indexset_text_map_at` does,
-/// where there is one.
+/// Removes the pair at a position, counted from 0, and writes it as `indexset_text_map_at` does.
+///
+/// Returns `false` if the position is past the end.
 #[unsafe(no_mangle)]
 pub extern "C" fn indexset_text_map_remove_at(
     alloc: Global,
@@ -90,8 +92,9 @@ pub extern "C" fn indexset_text_map_remove_at(
     found
 }
 
-/// Writes the pair of the first key that is not below a key, where there is one, as
-/// `indexset_text_map_at` does.
+/// Writes the pair of the first key that is at least this key, as `indexset_text_map_at` does.
+///
+/// Returns `false` if there is none.
 #[unsafe(no_mangle)]
 pub extern "C" fn indexset_text_map_lower_bound(
     alloc: Global,
@@ -119,8 +122,9 @@ pub extern "C" fn indexset_text_map_lower_bound(
     indexset_text_map_at(alloc, map, position, key, len, value)
 }
 
-/// Writes the pair of the first key that is above a key, where there is one, as
-/// `indexset_text_map_at` does.
+/// Writes the pair of the first key that is greater than this key, as `indexset_text_map_at` does.
+///
+/// Returns `false` if there is none.
 #[unsafe(no_mangle)]
 pub extern "C" fn indexset_text_map_upper_bound(
     alloc: Global,
@@ -149,7 +153,8 @@ pub extern "C" fn indexset_text_map_upper_bound(
     indexset_text_map_at(alloc, map, position, key, len, value)
 }
 
-/// Writes the pair of the least key, where there is one, as `indexset_text_map_at` does.
+/// Writes the pair of the least key, as `indexset_text_map_at` does. Returns `false` if there is
+/// none.
 #[unsafe(no_mangle)]
 pub extern "C" fn indexset_text_map_first(
     alloc: Global,
@@ -169,7 +174,9 @@ pub extern "C" fn indexset_text_map_first(
     indexset_text_map_at(alloc, map, 0, key, len, value)
 }
 
-/// Writes the pair of the greatest key, where there is one, as `indexset_text_map_at` does.
+/// Writes the pair of the greatest key, as `indexset_text_map_at` does.
+///
+/// Returns `false` if there is none.
 #[unsafe(no_mangle)]
 pub extern "C" fn indexset_text_map_last(
     alloc: Global,

@@ -1,4 +1,4 @@
-//! Calls of a map from byte strings that write a part of it into a caller's slices.
+//! Ranges of a map from byte strings.
 ghost use Rattle.std.specs.Prelude.{◌≡◌, drop, length, min, take};
 ghost use Rattle.indexset_core.specs.Nodes.{concat};
 ghost use Rattle.indexset_core.specs.Pairs.{pair_keys, pair_values};
@@ -10,8 +10,9 @@ use indexset_ffi::text_handle::TextHandle;
 use std::alloc::Global;
 use std::ops::Bound;
 
-/// Writes the values of the pairs from a position on, in order and as far as there is room. Returns
-/// how many it wrote.
+/// Writes as many values of the pairs from a position on as fit, in order.
+///
+/// Returns how many it wrote.
 #[unsafe(no_mangle)]
 pub extern "C" fn indexset_text_map_range_by_position(
     alloc: Global,
@@ -34,9 +35,10 @@ pub extern "C" fn indexset_text_map_range_by_position(
     count
 }
 
-/// Writes the lengths of the keys from a position on, in order and as far as there is room, and the
-/// bytes of these keys, one key behind another and as far as there is room. Returns how many
-/// lengths it wrote.
+/// Writes as many lengths of the keys from a position on as fit, in order.
+///
+/// The bytes of these keys are written one after another, as many as fit. Returns how many lengths
+/// it wrote.
 #[unsafe(no_mangle)]
 pub extern "C" fn indexset_text_map_keys_by_position(
     alloc: Global,

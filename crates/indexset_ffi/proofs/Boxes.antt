@@ -1,4 +1,4 @@
--- The collections' boxes, as the proofs of the parts take them.
+-- The boxes of the collections, for the proofs on parts.
 use mathlib.Core.List.{[]}
 use mathlib.Core.Path.{refl}
 use mir.Syntax.{impl, tnil, dnil}

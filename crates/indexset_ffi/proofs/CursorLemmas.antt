@@ -1,4 +1,4 @@
--- Where a cursor stands among nodes.
+-- The position of a cursor among nodes.
 use Rattle.std.proofs.Common.{◌≡◌, ℕ, zero, suc, ◌+◌, ◌-◌, ◌<◌, ◌≤◌, List, [], ◌∷◌, length, min, sum, take, get_or, refl, sym, ap, ◌∙◌, arith}
 use Rattle.std.proofs.Math.ListN as lists
 use Rattle.std.proofs.Math.Logic.{inl, inr}
@@ -27,11 +27,11 @@ module _ {X : Type 0} (ns : List (List X)) (c : Cursor) where
   before : sum (take c.node lengths) ≡ length (concat (take c.node ns))
   before = ap sum (take-map (λ (n : List X). length n) c.node ns) ∙ sym (length-concat (take c.node ns))
 
-  -- at a place between items
+  -- a cursor between two items
   pub at_place : IsPlace ns (c.node, c.offset) → cursor_position lengths c ≡ items_before ns (c.node, c.offset)
   at_place place = omega (arith, before, size, place.offset_in)
 
-  -- behind all nodes is the end
+  -- a cursor after all nodes is at the end
   pub ends : length ns ≤ c.node → cursor_position lengths c ≡ length (concat ns)
   ends h =
       let long : length lengths ≤ c.node = omega (arith, h, length-map ns (λ (n : List X). length n)) in
@@ -39,18 +39,18 @@ module _ {X : Type 0} (ns : List (List X)) (c : Cursor) where
       let all : sum (take c.node lengths) ≡ sum lengths = ap sum (take_all c.node lengths long) in
       omega (arith, none, all, length-concat ns)
 
-  -- no cursor stands behind the end
+  -- no cursor is past the end
   pub within : cursor_position lengths c ≤ length (concat ns)
   within = elim (cases_lt c.node (length lengths)) [
     | inl inside ↦ omega (arith, sum_by_more_le (λ (n : ℕ). n) lengths c.node 0 inside, length-concat ns)
     | inr outside ↦ omega (arith, ends (omega (arith, outside, length-map ns (λ (n : List X). length n))))
   ]
 
-  -- so many items stand behind it
+  -- the number of items after the cursor
   pub few : (count : ℕ) → count ≤ length (items_from lengths c (concat ns)) → min (cursor_position lengths c + count) (length (concat ns)) ≡ cursor_position lengths c + count
   few count h = omega (arith, h, within, length-drop (cursor_position lengths c) (concat ns))
 
--- a cursor in a node that was read, whose offset there is o
+-- a cursor in a node that was read, with the offset o
 module _ {X Z : Type 0} (vs : List (Vec X Z)) (c : Cursor) (v : Vec X Z) (len o : ℕ) (inside : c.node < length vs) (read : v ≡ get_or vs c.node v) (long : len ≡ length v.items) (least : o ≡ min c.offset len) where
   abbrev ns : List (List X)
   ns = vec_items vs
@@ -70,10 +70,10 @@ module _ {X Z : Type 0} (vs : List (Vec X Z)) (c : Cursor) (v : Vec X Z) (len o 
   pub in_node : o ≤ length (node_at ns c.node)
   in_node = omega (arith, least, node)
 
-  -- on in its node
+  -- the cursor moves within its node
   pub on : (left : ℕ) → left ≤ len - o → cursor_position ls (record { node = c.node; offset = o + left }) ≡ cursor_position ls c + left
   on left few = omega (arith, size ns c, node, least, few)
 
-  -- on to the node behind it
+  -- the cursor moves to the next node
   pub over : cursor_position ls (record { node = c.node + 1; offset = 0 }) ≡ cursor_position ls c + (len - o)
   over = omega (arith, size ns c, node, least, sum_by_more (λ (n : ℕ). n) ls c.node 0 there)

@@ -1,4 +1,4 @@
--- What a removal of a key that is not there tells, and leaves.
+-- The removal of an absent key: its events and its result.
 use Rattle.std.proofs.Common.{◌≡◌, ℕ, List, [], Option, Some, None, Ordering, length, refl, sym, ap, ◌∙◌, arith}
 use Rattle.std.proofs.lemmas.Option.{same_Some}
 use Rattle.std.specs.Option.{option_map}
@@ -15,14 +15,14 @@ pub mapped_none : {X Y : Type 0} (f : X → Y) (o : Option X) → option_map f o
 mapped_none f None h = refl
 mapped_none f (Some x) h = grind arith
 
--- no change
+-- it has no events
 pub none_told : {K V Q : Type 0} (order : K → Q → Ordering) (size : ℕ) (ns : List (List (Pair K V))) (k : Q) → pair_of order (concat ns) k ≡ None → key_removal_events order size ns k ≡ []
 none_told {K} {V} order size ns k none = absent_events (λ (p : Pair K V) q. order p.key q) ns k none size
 
 same_tree : {T : Type 0} (a b : Tree T) → a.nodes ≡ b.nodes → a.size ≡ b.size → a.next ≡ b.next → a ≡ b
 same_tree a b nodes size next = λ i. record { nodes = nodes i; size = size i; next = next i }
 
--- the same map
+-- the map is unchanged
 pub kept_tree : {K V Q : Type 0} (cmp : K → K → Ordering) (order : K → Q → Ordering) (t u : Tree (Pair K V)) (k : Q) → pair_of order (concat t.nodes) k ≡ None → Changed (by_key cmp) t u (key_removal order t k) → u ≡ t
 kept_tree cmp order t u k none changed =
     let empty = none_told order t.size t.nodes k none in let zero : length (key_removal_events order t.size t.nodes k) ≡ 0 = ap (λ l. length l) empty in

@@ -1,4 +1,4 @@
--- The boxes of the handles, as the proofs of the parts take them.
+-- The boxes of the handles, for the proofs on parts.
 use Rattle.indexset_ffi.proofs.Steps.{Bx}
 use Rattle.indexset_ffi.proofs.Boxes.{on_heap}
 use Rattle.indexset_ffi.proofs.log_handle.LogHandle.TheLaws as log

@@ -1,4 +1,4 @@
--- What a replica makes of a record.
+-- The effect of a record on a replica.
 use Rattle.std.proofs.Common.{◌≡◌, ℕ, zero, suc, ◌+◌, ◌<◌, ◌≤◌, List, [], ◌∷◌, take, slice_get, Option, Some, None, refl, sym, ap, ◌∙◌, arith, add-one, option_and_then}
 use Rattle.std.proofs.lemmas.Bool.{le-ltb, lt-ltb}
 use Rattle.std.proofs.lemmas.Option.{same_Some}
@@ -24,7 +24,7 @@ mapped_or : (o : Option Refusal) → unwrap_or (option_map status_of o) MEMORY �
 mapped_or None = refl
 mapped_or (Some x) = refl
 
--- a refusal does not tell that there is no replica
+-- the status of a refusal is not `NONE`
 pub not_none : (cause : Refusal) → status_of cause ≡ NONE → ⊥
 not_none refusals.Memory h = omega (arith, h)
 not_none refusals.Numbers h = omega (arith, h)
@@ -43,13 +43,13 @@ not_none refusals.BadSplit h = omega (arith, h)
 not_none refusals.NotNeighbours h = omega (arith, h)
 
 module _ (r : State) (e : Event) where
-  -- a record of no kind
+  -- a record whose kind is unknown
   pub kind_unfit : event_of e ≡ None → refused r e ≡ Some UNFIT
   unfolding refused
   kind_unfit none = rw none refl
 
   module _ (c : ChangeEvent (Pair ℕ ℕ)) (is : event_of e ≡ Some c) where
-    -- a change that came before
+    -- an event that came before
     pub before_refused : event_number c < r.next → refused r e ≡ Some NO
     unfolding refused
     before_refused less = rw (is, lt-ltb (event_number c) r.next less) refl
@@ -58,7 +58,7 @@ module _ (r : State) (e : Event) where
     unfolding applied
     before_applied less = rw (is, le-ltb r.next (event_number c) (omega (arith, less))) (passed_over (by_key nat_cmp) r c (λ same. omega (arith, same, less)))
 
-    -- another
+    -- any other event
     pub turn_refused : r.next ≤ event_number c → refused r e ≡ option_map status_of (apply_refusal (by_key nat_cmp) r.nodes r.next c)
     unfolding refused
     turn_refused turn = rw (is, le-ltb (event_number c) r.next turn) refl
@@ -72,7 +72,7 @@ module _ (r : State) (e : Event) where
         let number = turn_taken (by_key nat_cmp) r.nodes r.next c fits in
         rw (is, le-ltb r.next (event_number c) (omega (arith, number))) (taken_in (by_key nat_cmp) r new c fits made next)
 
--- one record more
+-- another record is applied
 then_more : (o : Option State) (es : List Event) (n : ℕ) (e : Event) → ((r : State) → option_and_then (λ s. applied s e) (applied_all r (take n es)) ≡ applied_all r (take (suc n) es))
     → option_and_then (λ s. applied s e) (option_and_then (λ r. applied_all r (take n es)) o) ≡ option_and_then (λ r. applied_all r (take (suc n) es)) o
 then_more None es n e more = refl

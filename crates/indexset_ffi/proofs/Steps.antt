@@ -1,7 +1,7 @@
--- What the proofs of the parts share: the names that they begin with, and the parts by value.
+-- What the proofs on parts share: common names, and parts by value.
 --     ptr_typed                   a pointer's machine value has its type
---     parts_word, parts_typed     the machine value of parts at a pointer and a handle, and that it has its type
---     parts_out, parts_in         parts by value are [the handle; what they hold]
+--     parts_word, parts_typed     the machine value of parts at a pointer and a handle, and its type
+--     parts_out, parts_in         parts by value are [the handle; their contents]
 pub use Rattle.std.proofs.raw_atomic.Walks.{proved_at}
 pub use Rattle.std.proofs.alloc.Calls.{α, token, Fits, handle_tells}
 pub use Rattle.std.proofs.BoxSteps.Form.{Bx, R, P, B, box_ty, word, box_typed, handle, args}
@@ -35,11 +35,11 @@ use Rattle.std.specs.declared.alloc.Allocator.{Ghosts}
 use Rattle.indexset_ffi.specs.Holds.{holds}
 use Rattle.indexset_ffi.specs.contracts.Parts as parts
 
--- a box at a type and an allocator, with what a statement assumes of both
+-- a box at a type and an allocator, with the assumptions of a statement on both
 abbrev pub boxed_at : (X : RattleType) → Laws X → (A : RattleType) → Laws A → Ghosts A.Denot → Dict → Dict → Bx
 boxed_at X LX A LA g allocates drops = record { row = X; laws = LX; al = record { row = A; laws = LA; g = g; d = allocates; drops = drops } }
 
--- what a call passes for the type, the allocator and the type's drop
+-- the arguments of a call for the type, the allocator and the drop of the type
 abbrev pub dropping : Bx → Dict → Args
 dropping E drops = bounded (a_type ∷ a_type ∷ []) (E.row, (E.al.row, tt)) (dcons E.al.d (dcons E.al.drops (dcons drops dnil)))
 
@@ -47,7 +47,7 @@ pub ptr_typed : (at : Ptr) → T (has_ty ty_ptr (ptr_val at)) × WT (ptr_val at)
 ptr_typed (block_ptr b o) = (tt, tt)
 ptr_typed null_ptr = (tt, record { fits = lit< tt })
 
--- what stands where something does
+-- the row of parts
 abbrev pub parts_row : Bx → RattleType
 parts_row E = parts.the_row (R E) (P E) E.al.g
 

@@ -1,4 +1,4 @@
--- The box of a map from byte strings, as the proofs of the parts take it.
+-- The box of a map from byte strings, for the proofs on parts.
 use denote.Param.Laws.{Laws}
 use denote.Builtin.{u64}
 use denote.Struct.Field.{u64-field}

@@ -1,4 +1,4 @@
--- What a loop leaves in a caller's bytes, where it writes byte strings one behind another.
+-- The bytes of a caller after a loop that writes byte strings one after another.
 use Rattle.std.proofs.Common.{◌≡◌, ℕ, zero, suc, ◌+◌, List, [], ◌∷◌, ◌++◌, length, take, drop, min, slice_get, Some, refl, ap, sym, ◌∙◌, arith, append_assoc, append-nil, add-one}
 use Rattle.indexset_core.specs.Nodes.{concat}
 use Rattle.indexset_ffi.specs.Text.{written_over}
@@ -12,7 +12,7 @@ length-over [] b = ap length (over_none b)
 length-over (x ∷ xs) [] = refl
 length-over (x ∷ xs) (c ∷ b) = ap suc (length-over xs b)
 
--- where the bytes end or the room does, more bytes go on
+-- more bytes are written after those so far, as many as fit
 pub over_more : (xs ys b : List ℕ) (u : ℕ) → u ≡ min (length b) (length xs) → take u (written_over xs b) ++ written_over ys (drop u (written_over xs b)) ≡ written_over (xs ++ ys) b
 over_more [] ys b u h = let none : u ≡ 0 = omega (arith, h) in rw none (ap (written_over ys) (over_none b))
 over_more (x ∷ xs) ys [] u h = let none : u ≡ 0 = omega (arith, h) in rw none (nothing ys) where
@@ -22,7 +22,7 @@ over_more (x ∷ xs) ys [] u h = let none : u ≡ 0 = omega (arith, h) in rw non
 over_more (x ∷ xs) ys (c ∷ b) zero h = let no : ⊥ = omega (arith, h) in absurd no
 over_more (x ∷ xs) ys (c ∷ b) (suc u) h = ap (λ l. x ∷ l) (over_more xs ys b u (omega (arith, h)))
 
--- one byte string more
+-- another byte string
 next_joined : (ks : List (List ℕ)) (n : ℕ) (k : List ℕ) → slice_get ks n ≡ Some k → concat (take (suc n) ks) ≡ concat (take n ks) ++ k
 next_joined [] n k h = grind arith
 next_joined (x ∷ ks) zero k h = let same : x ≡ k = grind arith in append-nil x ∙ same

@@ -1,4 +1,4 @@
--- Cursors: where they stand, whatever numbers they are made of, and what they have behind them.
+-- Cursors: their positions, for any numbers, and the items after them.
 use Rattle.std.specs.Prelude.{ℕ, ◌+◌, List, Option, drop, get_or, min, sum, take}
 use Rattle.indexset_core.specs.declared.multipair.MultiPair.{MultiPair}
 use Rattle.indexset_core.specs.declared.pair.Pair.{Pair}
@@ -14,7 +14,8 @@ use Rattle.indexset_ffi.specs.Replicas.{copied_nodes, copied_pairs}
 use Rattle.indexset_ffi.specs.Text.{text_lengths, text_pairs}
 use Rattle.indexset_ffi.specs.TextLogs.{TextPair, ToldTree, logged_lengths, logged_texts}
 
--- how many items are before a cursor, in nodes of these lengths: an offset past the end of its node is that end, and a node that is not there is the end of all
+-- the number of items before a cursor, in nodes of these lengths: an offset past the end of its
+-- node is that end, and an index past the last node is the end of all
 abbrev pub cursor_position : List ℕ → Cursor → ℕ
 cursor_position lengths c = sum (take c.node lengths) + min c.offset (get_or lengths c.node 0)
 
@@ -22,7 +23,7 @@ cursor_position lengths c = sum (take c.node lengths) + min c.offset (get_or len
 abbrev pub items_from : {X : Type 0} → List ℕ → Cursor → List X → List X
 items_from lengths c items = drop (cursor_position lengths c) items
 
--- those of what is behind a handle
+-- the items from a cursor on, in the collection of a handle
 abbrev pub set_from : Option (NodeList ℕ) → Cursor → List ℕ
 set_from set c = items_from (set_lengths set) c (elements set)
 

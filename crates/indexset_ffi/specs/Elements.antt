@@ -1,4 +1,4 @@
--- What is behind a handle, and what a call leaves in a caller's slice.
+-- The contents of a handle, and the slice of a caller after a call.
 use Rattle.std.specs.Prelude.{ℕ, List, [], ◌∷◌, ◌++◌, Option, take, drop, slice_get, slice_index_or, count_by}
 use Rattle.std.specs.Option.{option_map, option_map_or, unwrap_or}
 use Rattle.std.specs.Ordering.{is_le, nat_cmp}
@@ -14,68 +14,68 @@ use Rattle.indexset_log.specs.Tree.{Tree}
 use Rattle.indexset_multi.specs.Keys.{entries, pairs_of}
 use Rattle.indexset_multi.specs.Tree.{MultiTree}
 
--- the elements in order: none where there is no set
+-- the elements in order; an empty handle has none
 abbrev pub elements : Option (NodeList ℕ) → List ℕ
 elements set = option_map_or items set []
 
--- how many elements each node has
+-- the number of elements of each node
 abbrev pub set_lengths : Option (NodeList ℕ) → List ℕ
 set_lengths set = option_map_or (λ s. node_lengths s.nodes) set []
 
--- the slice where the first n of the answers went over its first n places
+-- the slice after its first n elements are replaced by the first n answers
 abbrev pub written : {X : Type 0} → ℕ → List X → List X → List X
 written n answers before = take n answers ++ drop n before
 
--- the element at a position, or 0 where there is none
+-- the element at a position, or 0 if there is none
 abbrev pub element_at : List ℕ → ℕ → ℕ
 element_at es i = slice_index_or es i 0
 
--- how many elements, or keys, are not above v
+-- the number of elements, or of keys, that are at most v
 abbrev pub count_up_to : {T : Type 0} → (T → T → Ordering) → List T → T → ℕ
 count_up_to cmp l v = count_by (λ x. is_le (cmp x v)) l
 
 abbrev pub key_count_up_to : {K V : Type 0} → (K → K → Ordering) → List (Pair K V) → K → ℕ
 key_count_up_to cmp l k = count_by (λ p. is_le (cmp p.key k)) l
 
--- the pairs in order: none where there is no map
+-- the pairs in order; an empty handle has none
 abbrev pub pairs : Option (Contents ℕ ℕ) → List (Pair ℕ ℕ)
 pairs map = option_map_or (λ m. m.pairs) map []
 
--- how many pairs each node has
+-- the number of pairs of each node
 abbrev pub map_lengths : Option (Contents ℕ ℕ) → List ℕ
 map_lengths map = option_map_or (λ m. m.lengths) map []
 
--- the key and the value at a position, where there is one
+-- the key and the value at a position, if any
 abbrev pub entry_at : List (Pair ℕ ℕ) → ℕ → Option (ℕ × ℕ)
 entry_at ps i = option_map entry_of (slice_get ps i)
 
--- the pairs after each value was made that of its key, first to last
+-- the pairs after each key and value is put, in order
 unfoldable pub put_all : List (Pair ℕ ℕ) → List ℕ → List ℕ → List (Pair ℕ ℕ)
 put_all ps [] ws = ps
 put_all ps (k ∷ ks) [] = ps
 put_all ps (k ∷ ks) (w ∷ ws) = put_all (put_value nat_cmp ps k w) ks ws
 
--- the value of a key, or w where it is not there
+-- the value of a key, or w if the key is absent
 abbrev pub value_or : List (Pair ℕ ℕ) → ℕ → ℕ → ℕ
 value_or ps w k = unwrap_or (value_of nat_cmp ps k) w
 
--- the numbered pairs in order: none where there is no multimap
+-- the numbered pairs in order; an empty handle has none
 abbrev pub numbered_pairs : Option (MultiTree ℕ ℕ) → List (MultiPair ℕ ℕ)
 numbered_pairs multi = option_map_or (λ m. concat m.nodes) multi []
 
--- how many pairs each node has
+-- the number of pairs of each node
 abbrev pub multi_lengths : Option (MultiTree ℕ ℕ) → List ℕ
 multi_lengths multi = option_map_or (λ m. node_lengths m.nodes) multi []
 
--- an empty multimap, as it is made
+-- a new multimap
 abbrev pub fresh_multi : MultiTree ℕ ℕ
 fresh_multi = record { nodes = []; size = DEFAULT_INNER_SIZE; next = 0; pair_next = 0 }
 
--- the values of a key, in the order in which they came
+-- the values of a key, in insertion order
 abbrev pub values_of : List (MultiPair ℕ ℕ) → ℕ → List ℕ
 values_of l k = pair_values (entries (pairs_of nat_cmp l k))
 
--- the nodes of a logged map, and its pairs in order: none where there is no map
+-- the nodes of a logged map, and its pairs in order; an empty handle has none
 abbrev pub logged_nodes : Option (Tree (Pair ℕ ℕ)) → List (List (Pair ℕ ℕ))
 logged_nodes log = option_map_or (λ m. m.nodes) log []
 

@@ -1,4 +1,4 @@
--- What a handle owns.
+-- Ownership of a handle.
 use base.Fml.{Fml, ftrue}
 use denote.RawPtr.{Ptr}
 use denote.RattleType.{RattleType}
@@ -6,7 +6,7 @@ use mir.Syntax.{Ty}
 use Rattle.std.specs.Prelude.{Option, Some, None}
 use Rattle.std.specs.Box.Ownership.{box_owns}
 
--- where it has a value, what a box of it owns; else nothing
+-- for a value, the ownership of its box; otherwise nothing
 abbrev pub holds : (Ty → Ptr → Fml) → (R : RattleType) → Ptr → Option R.Denot → Fml
 holds token R at None = ftrue
 holds token R at (Some value) = box_owns token R at value

@@ -1,4 +1,4 @@
--- What the place of a handle on the heap owns: a box of the handle, where there is one.
+-- Ownership of an owner: that of the box of its handle, if there is one.
 use base.Fml.{Fml}
 use denote.RawPtr.{Ptr}
 use denote.RattleType.{RattleType}

@@ -1,4 +1,4 @@
--- A replica's pairs, and what it makes of records.
+-- The pairs of a replica, and the effect of records on it.
 use Rattle.std.specs.Prelude.{ℕ, List, [], ◌∷◌, Option, Some, None, if◌then◌else◌, nat_lt}
 use Rattle.std.specs.Option.{option_and_then, option_map, option_map_or}
 use Rattle.std.specs.Ordering.{nat_cmp}
@@ -16,18 +16,18 @@ use Rattle.indexset_ffi.specs.declared.event.Event.{Event}
 use Rattle.indexset_ffi.specs.declared.status.TheConstants.{NO, MEMORY, NUMBERS, UNFIT}
 use Rattle.indexset_ffi.specs.Events.{event_of}
 
--- the nodes of a replica, and its pairs in order: none where there is no replica
+-- the nodes of a replica, and its pairs in order; an empty handle has none
 abbrev pub copied_nodes : Option (ReplicaState (Pair ℕ ℕ)) → List (List (Pair ℕ ℕ))
 copied_nodes replica = option_map_or (λ r. r.nodes) replica []
 
 abbrev pub copied_pairs : Option (ReplicaState (Pair ℕ ℕ)) → List (Pair ℕ ℕ)
 copied_pairs replica = concat (copied_nodes replica)
 
--- a replica with the nodes of a logged map, which awaits its next change
+-- a replica that has the nodes of a logged map and awaits its next event
 abbrev pub replica_of : Tree (Pair ℕ ℕ) → ReplicaState (Pair ℕ ℕ)
 replica_of log = record { nodes = log.nodes; next = log.next }
 
--- the status of a refusal: its own number, but for memory, numbers and nodes that do not fit
+-- the status of a refusal: `MEMORY`, `NUMBERS`, `UNFIT`, or a number of its own
 abbrev pub status_of : Refusal → ℕ
 status_of refusals.Memory = MEMORY
 status_of refusals.Numbers = NUMBERS
@@ -45,15 +45,16 @@ status_of refusals.OutOfOrder = number_of refusals.OutOfOrder
 status_of refusals.BadSplit = number_of refusals.BadSplit
 status_of refusals.NotNeighbours = number_of refusals.NotNeighbours
 
--- the status of a record whose change a replica does not make: none where it makes it, memory aside
+-- the status of a record that a replica does not apply; none if it applies it, unless memory runs
+-- out
 unfoldable pub refused : ReplicaState (Pair ℕ ℕ) → Event → Option ℕ
 refused r e = option_map_or (λ c. if nat_lt (event_number c) r.next then Some NO else option_map status_of (apply_refusal (by_key nat_cmp) r.nodes r.next c)) (event_of e) (Some UNFIT)
 
--- the replica after a record: unchanged where the change came before, and none where it is refused
+-- the replica after a record: unchanged if the event came before, and none if it is refused
 unfoldable pub applied : ReplicaState (Pair ℕ ℕ) → Event → Option (ReplicaState (Pair ℕ ℕ))
 applied r e = option_and_then (λ c. if nat_lt r.next (event_number c) then None else delivered (by_key nat_cmp) r c) (event_of e)
 
--- the replica after records, one after the other
+-- the replica after the records, in order
 abbrev pub applied_all : ReplicaState (Pair ℕ ℕ) → List Event → Option (ReplicaState (Pair ℕ ℕ))
 applied_all r [] = Some r
 applied_all r (e ∷ es) = option_and_then (λ s. applied_all s es) (applied r e)

@@ -1,4 +1,4 @@
--- What the slots own: what a box of the collection owns, where there is one.
+-- Ownership of a slot: that of the box of its collection, if there is one.
 use base.Fml.{Fml}
 use mathlib.Core.List.{[]}
 use mir.Syntax.{impl, tnil, dnil}
@@ -51,7 +51,7 @@ holds_map alloc = holds (frees.dealloc_token alloc) map_row
 abbrev pub node_row : RattleType → RattleType
 node_row X = vec.the_row X Heap.the_row frees
 
--- what is known of such nodes
+-- the ghost members of such nodes
 abbrev pub nodes : (X : RattleType) → Ghosts (node_row X).Denot X.Denot
 nodes X = record { list = λ v. v.items; room = vec_capacity; most = MAX; allocates = true }
 
@@ -73,7 +73,7 @@ multi_row = Multi.the_row u64 u64 (node_row multi_pair_row) ord eq equal partial
 abbrev pub holds_multi : Global → Ptr → Option multi_row.Denot → Fml
 holds_multi alloc = holds (frees.dealloc_token alloc) multi_row
 
--- what the impls of a pair of numbers say of it
+-- the ghost members of the order of pairs of numbers
 abbrev pub pairs_compare : Ord.Ghosts pair_row.Denot
 pairs_compare = pair_ord.ghosts u64 u64 ord ord_dict eq eq_dict equal equal_dict partial partial_dict
 

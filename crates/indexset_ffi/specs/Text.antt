@@ -1,4 +1,4 @@
--- Maps from byte strings, what is behind their handles, and what a call leaves in a caller's bytes.
+-- Maps from byte strings: the contents of their handles, and the bytes of a caller after a call.
 use base.Fml.{Fml}
 use denote.RawPtr.{Ptr}
 use denote.RattleType.{RattleType}
@@ -18,27 +18,27 @@ use Rattle.indexset_ffi.specs.Holds.{holds}
 use Rattle.indexset_map.specs.Contents.{Contents}
 use Rattle.indexset_map.specs.contracts.BTreeMap as Map
 
--- the pairs in order: none where there is no map
+-- the pairs in order; an empty handle has none
 abbrev pub text_pairs : Option (Contents (List ℕ) ℕ) → List (Pair (List ℕ) ℕ)
 text_pairs map = option_map_or (λ m. m.pairs) map []
 
--- how many pairs each node has
+-- the number of pairs of each node
 abbrev pub text_lengths : Option (Contents (List ℕ) ℕ) → List ℕ
 text_lengths map = option_map_or (λ m. m.lengths) map []
 
--- the key at a position, or no byte where there is none
+-- the key at a position, or no bytes if there is none
 abbrev pub key_at : List (Pair (List ℕ) ℕ) → ℕ → List ℕ
 key_at ps i = option_map_or (λ p. p.key) (slice_get ps i) []
 
--- the value at a position, where there is one
+-- the value at a position, if any
 abbrev pub value_at : List (Pair (List ℕ) ℕ) → ℕ → Option ℕ
 value_at ps i = option_map (λ p. p.value) (slice_get ps i)
 
--- how many bytes each key has
+-- the number of bytes of each key
 abbrev pub key_lengths : List (Pair (List ℕ) ℕ) → List ℕ
 key_lengths ps = map length (pair_keys ps)
 
--- the slice where the bytes went over its first places, as far as there is room
+-- the slice after its first elements are replaced by the bytes, as many as fit
 abbrev pub written_over : List ℕ → List ℕ → List ℕ
 written_over bytes before = take (length before) bytes ++ drop (length bytes) before
 

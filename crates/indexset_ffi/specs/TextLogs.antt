@@ -1,4 +1,4 @@
--- Logged maps from byte strings, the changes that they tell, and the records of these.
+-- Logged maps from byte strings, their events, and the records of events.
 use Rattle.std.specs.Prelude.{ℕ, List, [], length, Option, Some, None}
 use Rattle.std.specs.Option.{option_map, option_map_or}
 use Rattle.indexset_core.specs.declared.pair.Pair.{Pair}
@@ -15,20 +15,21 @@ use Rattle.indexset_ffi.specs.declared.text_event.TextEvent.{TextEvent}
 abbrev pub TextPair : Type 0
 TextPair = Pair (List ℕ) ℕ
 
--- the map, and the changes of the last call that made any
+-- the map, and the events of the last call that had any
 pub record ToldTree : Type 0 where
   pub tree : Tree TextPair
   pub told : List (ChangeEvent TextPair)
 
--- an empty map, which has told nothing
+-- an empty map, without events
 abbrev pub untold : ℕ → ℕ → ToldTree
 untold size next = record { tree = record { nodes = []; size = size; next = next }; told = [] }
 
--- after a change of the map
+-- the map after a change, with the events of the change
 abbrev pub after : Tree TextPair → Change TextPair → ToldTree
 after before made = record { tree = made.tree; told = numbered_from before.next made.events }
 
--- the pairs in order, how many each node has, and the changes that were told: none where there is no map
+-- the pairs in order, the number of pairs of each node, and the events that are kept; an empty
+-- handle has none
 abbrev pub logged_texts : Option ToldTree → List TextPair
 logged_texts log = option_map_or (λ t. concat t.tree.nodes) log []
 
@@ -38,7 +39,7 @@ logged_lengths log = option_map_or (λ t. node_lengths t.tree.nodes) log []
 abbrev pub told_changes : Option ToldTree → List (ChangeEvent TextPair)
 told_changes log = option_map_or (λ t. t.told) log []
 
--- what a change does
+-- the kind of an event
 abbrev pub kind_of : ChangeEvent TextPair → ℕ
 kind_of (InsertAt id m v i) = INSERT
 kind_of (RemoveAt id m v i) = REMOVE
@@ -47,7 +48,7 @@ kind_of (RemoveNode id m) = DROP
 kind_of (SplitNode id m k) = SPLIT
 kind_of (MergeNodes id m w) = MERGE
 
--- the pair that names its node
+-- the pair that identifies the node
 abbrev pub node_of : ChangeEvent TextPair → TextPair
 node_of (InsertAt id m v i) = m
 node_of (RemoveAt id m v i) = m
@@ -56,11 +57,11 @@ node_of (RemoveNode id m) = m
 node_of (SplitNode id m k) = m
 node_of (MergeNodes id m w) = m
 
--- its key
+-- the key of that pair
 abbrev pub node_key : ChangeEvent TextPair → List ℕ
 node_key e = (node_of e).key
 
--- the pair that it puts or removes, or that names its second node
+-- the pair that is inserted or removed, or that identifies the second node
 abbrev pub pair_of : ChangeEvent TextPair → Option TextPair
 pair_of (InsertAt id m v i) = Some v
 pair_of (RemoveAt id m v i) = Some v
@@ -69,7 +70,7 @@ pair_of (RemoveNode id m) = None
 pair_of (SplitNode id m k) = None
 pair_of (MergeNodes id m w) = Some w
 
--- where in the node
+-- the index in the node
 abbrev pub index_of : ChangeEvent TextPair → ℕ
 index_of (InsertAt id m v i) = i
 index_of (RemoveAt id m v i) = i
@@ -78,11 +79,11 @@ index_of (RemoveNode id m) = 0
 index_of (SplitNode id m k) = k
 index_of (MergeNodes id m w) = 0
 
--- the key of that pair: no byte where there is none
+-- the key of that pair, or no bytes if there is none
 abbrev pub pair_key : ChangeEvent TextPair → List ℕ
 pair_key e = option_map_or (λ p. p.key) (pair_of e) []
 
--- the record of a change
+-- the record of an event
 abbrev pub record_of : ChangeEvent TextPair → TextEvent
 record_of e = record {
   number = event_number e;

@@ -1,4 +1,4 @@
-//! Cursors: spots between the items of a collection, from which a walk goes on with no search.
+//! Cursors: positions between the items of a collection, from which iteration needs no search.
 ghost use Rattle.std.specs.Prelude.{◌≡◌, ◌+◌, ◌≤◌, length, min};
 ghost use Rattle.std.specs.List.{All};
 ghost use Rattle.indexset_core.specs.Nodes.{concat, node_lengths, vec_items};
@@ -10,9 +10,10 @@ use indexset_core::item_iter::{ItemIter, OfVec};
 use indexset_core::locate::{last_place, place_by};
 use indexset_core::probe::Probe;
 
-/// A spot between items: a node, and how many of its items are before the spot. Any two numbers
-/// are a cursor: an offset past the end of its node is that end, and a node that is not there is
-/// the end of all.
+/// A position between items: a node, and how many of its items are before the position.
+///
+/// Any two numbers are a cursor. An offset past the end of its node is that end, and an index past
+/// the last node is the end of all.
 #[repr(C)]
 #[derive(Clone, Copy)]
 pub struct Cursor {
@@ -25,8 +26,9 @@ pub struct Cursor {
 /// The cursor before all items.
 pub const START: Cursor = Cursor { node: 0, offset: 0 };
 
-/// Returns a cursor at the first item that the probe does not find Less, or at the end, by two
-/// binary searches.
+/// Returns a cursor at the first item that the probe does not compare as `Less`, or at the end.
+///
+/// Two binary searches find it.
 pub fn find<T, P: Probe<T> + Drop>(nodes: &[Vec<T>], mut probe: P) -> Cursor
     requires filled { 2 ≤ length nodes.now → All (λ n. 1 ≤ n) (node_lengths (vec_items nodes.now)) }
     requires parted { IsParted (P.answer probe) (concat (vec_items nodes.now)) }
@@ -37,8 +39,10 @@ pub fn find<T, P: Probe<T> + Drop>(nodes: &[Vec<T>], mut probe: P) -> Cursor
     Cursor { node, offset }
 }
 
-/// Returns a cursor at a position, or at the end, by the lengths of the nodes between it and
-/// another one, before which there are `start` items.
+/// Returns a cursor at a position, or at the end if the position is past it.
+///
+/// It starts from the cursor `near`, which has `start` items before it, and visits the nodes
+/// between.
 pub fn near_to<T>(nodes: &[Vec<T>], near: Cursor, start: usize, position: usize) -> Cursor
     requires { cursor_position (node_lengths (vec_items nodes.now)) near ≡ start }
     ensures { cursor_position (node_lengths (vec_items nodes.now)) result
@@ -61,8 +65,9 @@ pub fn end<T>(nodes: &[Vec<T>]) -> Cursor
     }
 }
 
-/// Returns a cursor that stands so many items behind another one, or at the end, by the lengths of
-/// the nodes between.
+/// Returns the cursor `count` items after another one, or at the end if there are fewer.
+///
+/// It visits the nodes between.
 pub fn moved<T>(nodes: &[Vec<T>], from: Cursor, count: usize) -> Cursor
     ensures { cursor_position (node_lengths (vec_items nodes.now)) result
         ≡ min (cursor_position (node_lengths (vec_items nodes.now)) from + count)
@@ -93,7 +98,7 @@ pub fn rest<'a, T>(nodes: &'a [Vec<T>], cursor: Cursor) -> ItemIter<'a, T, Vec<T
     ItemIter::between(nodes, place(nodes, cursor), last)
 }
 
-// Returns the place between items where a cursor stands.
+// Returns the node and the offset of a cursor, within bounds.
 fn place<T>(nodes: &[Vec<T>], cursor: Cursor) -> (usize, usize)
     ensures place { IsPlace (vec_items nodes.now) result }
     ensures before { items_before (vec_items nodes.now) result

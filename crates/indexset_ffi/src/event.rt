@@ -1,4 +1,4 @@
-//! Changes of a logged map, as C sees them.
+//! Events of a logged map as C records.
 ghost use Rattle.std.specs.Prelude.{◌≡◌, ◌≤◌, Some, length, map};
 ghost use Rattle.indexset_ffi.specs.Elements.{written};
 ghost use Rattle.indexset_ffi.specs.Events.{event_of, record_of, record_with, unnumbered};
@@ -6,46 +6,48 @@ ghost use Rattle.indexset_ffi.specs.Events.{event_of, record_of, record_with, un
 use indexset_core::pair::Pair;
 use indexset_events::change::{ChangeEvent, ChangeEventUnassigned, Id};
 
-/// In the node, the pair is put at the index.
+/// The pair is inserted into the node at the index.
 pub const INSERT: u32 = 1;
 
-/// In the node, the pair at the index is removed.
+/// The pair at the index is removed from the node.
 pub const REMOVE: u32 = 2;
 
-/// A node of one pair is put in its place.
+/// A node of one pair is inserted.
 pub const CREATE: u32 = 3;
 
 /// The node is removed.
 pub const DROP: u32 = 4;
 
-/// The node becomes two: the pairs before the index, and the rest.
+/// The node is split: the pairs before the index, and the rest.
 pub const SPLIT: u32 = 5;
 
-/// The node and the one after it, whose last pair is the pair, become one.
+/// The node and the next node, whose last pair is the pair, are merged.
 pub const MERGE: u32 = 6;
 
-/// A change. A node is named by its last pair before the change, or where it is created by its only
-/// pair. What a kind has no use for is 0.
+/// An event. A field that a kind does not use is 0.
+///
+/// A node is identified by its last pair before the event, or by its only pair if the event creates
+/// it.
 #[repr(C)]
 #[derive(Clone, Copy)]
 pub struct Event {
-    /// The number.
+    /// The event number.
     pub number: u64,
-    /// The key by which the node is named.
+    /// The key of the pair that identifies the node.
     pub node_key: u64,
-    /// The value that belongs to it.
+    /// The value of that pair.
     pub node_value: u64,
-    /// The pair's key.
+    /// The key of the pair.
     pub key: u64,
-    /// The pair's value.
+    /// The value of the pair.
     pub value: u64,
-    /// Where in the node.
+    /// The index in the node.
     pub index: usize,
-    /// What is done.
+    /// The kind.
     pub kind: u32,
 }
 
-// Returns the record of a change of this kind.
+// Returns the record of an event of this kind.
 fn filled(
     number: u64,
     kind: u32,
@@ -66,7 +68,7 @@ fn filled(
     }
 }
 
-/// Returns the record of a change, from which `event_of` returns the change.
+/// Returns the record of an event.
 #[tactic(auto, unfolding(crate::specs::Events::unnumbered))]
 pub fn record_of(event: &ChangeEvent<Pair<u64, u64>>) -> Event
     ensures value { result ≡ record_of event.now }
@@ -102,7 +104,7 @@ pub fn record_of(event: &ChangeEvent<Pair<u64, u64>>) -> Event
     }
 }
 
-// Returns the change of a record without its number.
+// Returns the event of a record, without its number.
 #[tactic(auto, unfolding(crate::specs::Events::unnumbered))]
 fn unnumbered(event: &Event) -> Option<ChangeEventUnassigned<Pair<u64, u64>>>
     ensures { result ≡ unnumbered event.now }
@@ -141,7 +143,7 @@ fn unnumbered(event: &Event) -> Option<ChangeEventUnassigned<Pair<u64, u64>>>
     }
 }
 
-/// Returns the change of a record, or `None` where its kind is none of the six.
+/// Returns the event of a record, or `None` if its kind is unknown.
 pub fn event_of(event: &Event) -> Option<ChangeEvent<Pair<u64, u64>>>
     ensures { result ≡ event_of event.now }
 {
@@ -151,7 +153,7 @@ pub fn event_of(event: &Event) -> Option<ChangeEvent<Pair<u64, u64>>>
     }
 }
 
-/// Writes the records of changes into the first places.
+/// Writes the records of events to the first elements of `out`.
 pub fn write_events(events: &[ChangeEvent<Pair<u64, u64>>], out: &mut [Event])
     requires { length events.now ≤ length out.old }
     ensures { out.new ≡ written (length events.now) (map record_of events.now) out.old }

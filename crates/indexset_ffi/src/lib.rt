@@ -1,11 +1,11 @@
-//! What C holds, and what its calls do with it: the layer below the static library.
+//! The layer below the static library for C: what C owns, and the bodies of its calls.
 //!
-//! C sees a pointer and knows nothing of a box. [`Parts`] is the step between the two: a box
-//! becomes its parts, a handle keeps them, and the parts become the box again. Each collection has
-//! a slot (as [`set_slot`]), which owns the parts, and a handle (as [`set_handle`]), which tells
-//! whether there are any. Modules such as [`set_calls`] hold what a call does with a collection
-//! once it is out of the handle, [`event`] the record of a change, and [`status`] what a call
-//! returns that can fail.
+//! C has a pointer where Rattle has a box. [`Parts`] converts between them: a box becomes its
+//! parts, a handle stores them, and the parts become the box again. Each collection has a slot
+//! (such as [`set_slot`]), which owns the parts, and a handle (such as [`set_handle`]), which has a
+//! flag for whether there are any. Modules such as [`set_calls`] have the bodies of calls on a
+//! collection that is taken out of its handle. [`event`] has the record of an event, and [`status`]
+//! the results of calls that can fail.
 #![tactic(auto)]
 
 ghost use Rattle.std.specs.Prelude.{◌≡◌, Option, Some, None, is_some, true};
@@ -55,9 +55,9 @@ use std::marker::Model;
 /// A boxed value taken apart, or no value. Dropping the parts frees nothing.
 #[derive(Drop)]
 pub struct Parts<T, A: Allocator> {
-    /// Where the value lies.
+    /// The address of the value.
     pub at: *mut T,
-    /// What the block goes back to.
+    /// The allocator of the block.
     pub alloc: A,
     /// The value, if any.
     pub ghost value: { Option T },
@@ -68,7 +68,7 @@ impl<T, A: Allocator> Model for Parts<T, A> {
 }
 
 impl<T, A: Allocator> Parts<T, A> {
-    /// Returns parts that hold no value.
+    /// Returns parts without a value.
     pub fn none(alloc: A) -> Parts<T, A>
         ensures { result.value ≡ None }
     {
@@ -86,7 +86,7 @@ impl<T, A: Allocator> Parts<T, A> {
         Parts { at, alloc }
     }
 
-    /// Returns the box that these are the parts of.
+    /// Returns the box of these parts.
     pub fn into_box(self) -> Box<T, A>
         requires { is_some self.value ≡ true }
         ensures { self.value ≡ Some result.value }

@@ -1,4 +1,4 @@
-//! What the calls of a logged map do with it.
+//! Bodies of the calls of a logged map.
 ghost use Rattle.std.specs.Prelude.{◌≡◌, ◌+◌, ◌<◌, ◌≤◌, length, map, IfOk, OnOk, IfErr, OnErr, IsOk, None, Some, min};
 ghost use Rattle.std.specs.Ordering.{nat_cmp};
 ghost use Rattle.indexset_core.specs.Nodes.{concat, node_lengths, vec_items};
@@ -20,7 +20,7 @@ use indexset_core::pair::Pair;
 use indexset_core::probe::ByKey;
 use indexset_core::refusal::Refusal;
 
-/// Inserts a pair and writes the changes. Returns the value before and how many the changes are.
+/// Inserts a pair, and writes the events. Returns the old value and the number of events.
 pub fn insert_told(
     log: &mut LoggedMap,
     key: u64,
@@ -60,7 +60,7 @@ pub fn insert_told(
     }
 }
 
-/// Removes a key and writes the changes. Returns its value and how many the changes are.
+/// Removes a key, and writes the events. Returns its value and the number of events.
 pub fn remove_told(
     log: &mut LoggedMap,
     key: u64,
@@ -93,8 +93,7 @@ pub fn remove_told(
     Ok((value, changes.len()))
 }
 
-/// Writes the lengths of the nodes that an iterator yields, as far as there is room, and returns
-/// how many that are.
+/// Writes the lengths of as many nodes of an iterator as fit, and returns how many it wrote.
 pub fn write_lengths(mut walk: LoggedNodes<'_>, out: &mut [usize]) -> usize
     ensures count { result ≡ min (length walk.entry) (length out.old) }
     ensures written { out.new ≡ written result (node_lengths (vec_items walk.entry)) out.old }
@@ -110,8 +109,7 @@ pub fn write_lengths(mut walk: LoggedNodes<'_>, out: &mut [usize]) -> usize
     count
 }
 
-/// Writes what an iterator yields, as far as there is room in both slices, and returns how much
-/// that is.
+/// Writes as many pairs of an iterator as fit in both slices, and returns how many it wrote.
 pub fn write_logged(mut walk: LoggedRange<'_>, keys: &mut [u64], values: &mut [u64]) -> usize
     ensures count { result ≡ min (length walk.entry) (min (length keys.old) (length values.old)) }
     ensures keys { keys.new ≡ written result (pair_keys walk.entry) keys.old }
@@ -137,17 +135,17 @@ pub fn nodes(log: &LoggedMap) -> &[Vec<Pair<u64, u64>>]
     log.iter_nodes().as_slice()
 }
 
-/// Returns a cursor at the first pair whose key is not below `from`, or at the end.
+/// Returns a cursor at the first pair whose key is at least `from`, or at the end.
 pub fn cursor_from(log: &LoggedMap, from: u64) -> Cursor
     ensures { cursor_position (node_lengths log.now.nodes) result
         ≡ key_rank nat_cmp (concat log.now.nodes) from }
 {
-    // Says that the keys ascend, and that no node is empty.
+    // For the proof: the keys ascend, and no node is empty.
     let _count = log.node_count();
     cursor::find(nodes(log), ByKey::new(&from))
 }
 
-/// Returns a cursor at a position, or at the end.
+/// Returns a cursor at a position, or at the end if the position is past it.
 pub fn cursor_at(log: &LoggedMap, position: usize) -> Cursor
     ensures { cursor_position (node_lengths log.now.nodes) result
         ≡ min position (length (concat log.now.nodes)) }

@@ -1,4 +1,4 @@
-//! A logged map's handle.
+//! The handle of a logged map.
 ghost use Rattle.std.specs.Prelude.{◌≡◌, Some, None, is_some};
 ghost use Rattle.std.specs.Option.{option_map};
 
@@ -7,7 +7,7 @@ use crate::log_slot::{LogSlot, LoggedMap};
 use std::alloc::Global;
 use std::mem::replace;
 
-/// What C holds of a logged map: the logged map on the heap, or none.
+/// A handle that C has: a logged map on the heap, or none.
 #[repr(C)]
 #[derive(Drop)]
 pub struct LogHandle {
@@ -15,12 +15,12 @@ pub struct LogHandle {
     pub slot: LogSlot,
     /// Whether there is a logged map.
     pub live: bool,
-    /// The flag tells of the slot.
+    /// The flag is whether the slot has a value.
     pub ghost sound: { live ≡ is_some slot.value },
 }
 
 impl LogHandle {
-    /// Returns a handle that leads to none.
+    /// Returns an empty handle.
     pub fn none(alloc: Global) -> LogHandle
         ensures { result.slot.value ≡ None }
     {
@@ -39,7 +39,7 @@ impl LogHandle {
         }
     }
 
-    /// Removes the logged map from the handle and returns it, if any.
+    /// Removes the logged map from the handle, and returns it, if there is one.
     pub fn take(&mut self, alloc: Global) -> Option<Box<LoggedMap, Global>>
         ensures taken { option_map (λ b. b.value) result ≡ self.old.slot.value }
         ensures left { self.new.slot.value ≡ None }
@@ -49,7 +49,7 @@ impl LogHandle {
         if live { Some(parts.into_box()) } else { None }
     }
 
-    /// Puts a logged map in. What the handle led to before is not freed.
+    /// Stores a logged map in the handle. One that the handle had is not freed.
     pub fn put(&mut self, log: Box<LoggedMap, Global>)
         ensures { self.new.slot.value ≡ Some log.value }
     {

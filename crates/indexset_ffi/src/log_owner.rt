@@ -1,4 +1,4 @@
-//! The place of a logged map's handle on the heap.
+//! The handle of a logged map on the heap.
 ghost use Rattle.std.specs.Prelude.{◌≡◌, Option, Some, None, is_some, true};
 ghost use Rattle.indexset_ffi.specs.Owners.{log_handle_row};
 
@@ -24,7 +24,7 @@ impl Model for LogOwner {
 }
 
 impl LogOwner {
-    /// Returns the place that these are the parts of.
+    /// Returns the owner of these parts.
     pub fn of_parts(parts: Parts<LogHandle, Global>) -> LogOwner
         ensures { result.value ≡ parts.value }
     {
@@ -35,7 +35,7 @@ impl LogOwner {
         }
     }
 
-    /// Returns the parts of this place.
+    /// Returns the parts of this owner.
     pub fn into_parts(self) -> Parts<LogHandle, Global>
         ensures { result.value ≡ self.value }
     {
@@ -46,7 +46,7 @@ impl LogOwner {
         }
     }
 
-    /// Removes the handle and returns it.
+    /// Removes the handle, and returns it.
     pub fn take(&mut self, alloc: Global) -> Box<LogHandle, Global>
         requires { is_some self.old.value ≡ true }
         ensures taken { self.old.value ≡ Some result.value }
@@ -57,7 +57,7 @@ impl LogOwner {
             .into_box()
     }
 
-    /// Puts a handle in. What was there before is not freed.
+    /// Stores a handle. One that was stored before is not freed.
     pub fn put(&mut self, handle: Box<LogHandle, Global>)
         ensures { self.new.value ≡ Some handle.value }
     {

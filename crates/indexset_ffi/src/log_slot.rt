@@ -1,4 +1,4 @@
-//! What a logged map's handle holds.
+//! The slot of a logged map.
 ghost use Rattle.std.specs.Prelude.{◌≡◌, Option};
 ghost use Rattle.indexset_ffi.specs.Slots.{log_row};
 
@@ -13,10 +13,10 @@ use std::marker::Model;
 /// A map of numbers that returns its changes.
 pub type LoggedMap = BTreeMap<u64, u64, Vec<Pair<u64, u64>>>;
 
-/// The pairs of a part of it.
+/// An iterator over some of its pairs.
 pub type LoggedRange<'a> = Range<'a, u64, u64, Vec<Pair<u64, u64>>>;
 
-/// Its nodes.
+/// An iterator over its nodes.
 pub type LoggedNodes<'a> = Nodes<'a, Vec<Pair<u64, u64>>>;
 
 /// A logged map on the heap, or none.
@@ -35,7 +35,7 @@ impl Model for LogSlot {
 }
 
 impl LogSlot {
-    /// Returns the slot that these are the parts of.
+    /// Returns the slot of these parts.
     pub fn of_parts(parts: Parts<LoggedMap, Global>) -> LogSlot
         ensures { result.value ≡ parts.value }
     {

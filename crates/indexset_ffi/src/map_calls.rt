@@ -1,4 +1,4 @@
-//! What the calls of a map do with it.
+//! Bodies of the calls of a map.
 ghost use Rattle.std.specs.Prelude.{◌≡◌, ◌<◌, ◌≤◌, None, length, map, min, remove, slice_get, take};
 ghost use Rattle.std.specs.Option.{option_map};
 ghost use Rattle.std.specs.Ordering.{nat_cmp};
@@ -12,7 +12,7 @@ use indexset_core::probe::ByKey;
 use indexset_map::{BTreeMap, RangeMap};
 use std::ops::Bound;
 
-/// Makes each value that of its key, until an allocation fails, and returns how many were taken.
+/// Puts each key and value until an allocation fails, and returns how many were put.
 #[tactic(auto, unfolding(crate::specs::Elements::put_all))]
 pub fn put_each(map: &mut BTreeMap<u64, u64>, keys: &[u64], values: &[u64]) -> usize
     ensures count { result ≤ min (length keys.now) (length values.now) }
@@ -30,8 +30,8 @@ pub fn put_each(map: &mut BTreeMap<u64, u64>, keys: &[u64], values: &[u64]) -> u
     count
 }
 
-/// Writes the value of each key or `absent`, as far as there is room, and returns how many those
-/// are.
+/// Writes the value of each key, or `absent`, for as many keys as fit, and returns how many it
+/// wrote.
 pub fn value_each(held: &BTreeMap<u64, u64>, keys: &[u64], absent: u64, out: &mut [u64]) -> usize
     ensures count { result ≡ min (length keys.now) (length out.old) }
     ensures written { out.new ≡ written result (map (value_or held.now.pairs absent) keys.now)
@@ -44,8 +44,7 @@ pub fn value_each(held: &BTreeMap<u64, u64>, keys: &[u64], absent: u64, out: &mu
     count
 }
 
-/// Writes what an iterator yields, as far as there is room in both slices, and returns how much
-/// that is.
+/// Writes as many pairs of an iterator as fit in both slices, and returns how many it wrote.
 pub fn write_pairs(mut walk: RangeMap<'_, u64, u64>, keys: &mut [u64], values: &mut [u64]) -> usize
     ensures count { result ≡ min (length walk.entry) (min (length keys.old) (length values.old)) }
     ensures keys { keys.new ≡ written result (pair_keys walk.entry) keys.old }
@@ -64,7 +63,7 @@ pub fn write_pairs(mut walk: RangeMap<'_, u64, u64>, keys: &mut [u64], values: &
     count
 }
 
-/// Returns the first pair whose key is not below `from`, or `None` where there is none.
+/// Returns the first pair whose key is at least `from`, or `None` if there is none.
 pub fn first_from(map: &BTreeMap<u64, u64>, from: u64) -> Option<(u64, u64)>
     ensures { result ≡ entry_at (pairs_within nat_cmp map.now.pairs (Included from) Unbounded) 0 }
 {
@@ -74,7 +73,7 @@ pub fn first_from(map: &BTreeMap<u64, u64>, from: u64) -> Option<(u64, u64)>
     Some((*key, *value))
 }
 
-/// Returns the first pair whose key is above `from`, or `None` where there is none.
+/// Returns the first pair whose key is greater than `from`, or `None` if there is none.
 pub fn first_past(map: &BTreeMap<u64, u64>, from: u64) -> Option<(u64, u64)>
     ensures { result ≡ entry_at (pairs_within nat_cmp map.now.pairs (Excluded from) Unbounded) 0 }
 {
@@ -84,23 +83,23 @@ pub fn first_past(map: &BTreeMap<u64, u64>, from: u64) -> Option<(u64, u64)>
     Some((*key, *value))
 }
 
-/// Returns how many keys are not above a key.
+/// Returns how many keys are at most this one.
 pub fn count_to(map: &BTreeMap<u64, u64>, key: u64) -> usize
     ensures { result ≡ key_count_up_to nat_cmp map.now.pairs key }
 {
     map.range((Bound::Unbounded, Bound::Included(&key))).len()
 }
 
-/// Returns a cursor at the first pair whose key is not below `from`, or at the end.
+/// Returns a cursor at the first pair whose key is at least `from`, or at the end.
 pub fn cursor_from(map: &BTreeMap<u64, u64>, from: u64) -> Cursor
     ensures { cursor_position map.now.lengths result ≡ key_rank nat_cmp map.now.pairs from }
 {
-    // Says that the keys ascend, and that no node of several is empty.
+    // For the proof: the keys ascend, and no node of several is empty.
     let _count = map.node_count();
     cursor::find(map.nodes(), ByKey::new(&from))
 }
 
-/// Returns a cursor at a position, or at the end.
+/// Returns a cursor at a position, or at the end if the position is past it.
 pub fn cursor_at(map: &BTreeMap<u64, u64>, position: usize) -> Cursor
     ensures { cursor_position map.now.lengths result ≡ min position (length map.now.pairs) }
 {
@@ -113,7 +112,7 @@ pub fn cursor_at(map: &BTreeMap<u64, u64>, position: usize) -> Cursor
     }
 }
 
-/// Removes the pair at a position and returns it, or returns `None` where there is none.
+/// Removes the pair at a position, and returns it, or `None` if there is none.
 pub fn take_index<K: Ord + Drop, V: Drop>(
     map: &mut BTreeMap<K, V>,
     position: usize,

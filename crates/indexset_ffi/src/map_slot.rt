@@ -1,4 +1,4 @@
-//! What a map's handle holds.
+//! The slot of a map.
 ghost use Rattle.std.specs.Prelude.{◌≡◌, Option};
 ghost use Rattle.indexset_ffi.specs.Slots.{map_row};
 
@@ -23,7 +23,7 @@ impl Model for MapSlot {
 }
 
 impl MapSlot {
-    /// Returns the slot that these are the parts of.
+    /// Returns the slot of these parts.
     pub fn of_parts(parts: Parts<BTreeMap<u64, u64>, Global>) -> MapSlot
         ensures { result.value ≡ parts.value }
     {

@@ -1,4 +1,4 @@
-//! What the calls of a multimap do with it.
+//! Bodies of the calls of a multimap.
 ghost use Rattle.std.specs.Prelude.{◌≡◌, is_some, length, min, nat_eq, ◌∷◌, ◌++◌, [], ℕ, false, IfErr, OnErr, OnOk, None};
 ghost use Rattle.std.specs.List.{count_by, list_any};
 ghost use Rattle.std.specs.Ordering.{nat_cmp, is_eq, is_lt};
@@ -29,14 +29,14 @@ pub fn has_value(mut walk: MultiRange<'_>, value: u64) -> bool
     false
 }
 
-/// Returns whether a key has a value.
+/// Returns whether a key has this value.
 pub fn has_pair(multi: &MultiMap, key: u64, value: u64) -> bool
     ensures { result ≡ is_some (equal_pair nat_cmp nat_eq (concat multi.now.nodes) key value) }
 {
     has_value(multi.get(&key), value)
 }
 
-/// Adds a value that a key does not have.
+/// Adds a value that the key does not have.
 pub fn insert_new(multi: &mut MultiMap, key: u64, value: u64) -> Result<(), Refusal>
     requires { equal_pair nat_cmp nat_eq (concat multi.old.nodes) key value ≡ None }
     ensures tree { OnOk result (multi.new ≡ after_insertion nat_cmp nat_eq multi.old key value) }
@@ -57,8 +57,7 @@ pub fn insert_new(multi: &mut MultiMap, key: u64, value: u64) -> Result<(), Refu
     }
 }
 
-/// Writes the values that an iterator yields, as far as there is room, and returns how many that
-/// are.
+/// Writes as many values of an iterator as fit, and returns how many it wrote.
 pub fn write_values(mut walk: MultiRange<'_>, out: &mut [u64]) -> usize
     ensures count { result ≡ min (length walk.entry) (length out.old) }
     ensures written { out.new ≡ written result (pair_values walk.entry) out.old }
@@ -74,8 +73,7 @@ pub fn write_values(mut walk: MultiRange<'_>, out: &mut [u64]) -> usize
     count
 }
 
-/// Writes what an iterator yields, as far as there is room in both slices, and returns how much
-/// that is.
+/// Writes as many pairs of an iterator as fit in both slices, and returns how many it wrote.
 pub fn write_entries(mut walk: MultiRange<'_>, keys: &mut [u64], values: &mut [u64]) -> usize
     ensures count { result ≡ min (length walk.entry) (min (length keys.old) (length values.old)) }
     ensures keys { keys.new ≡ written result (pair_keys walk.entry) keys.old }
@@ -101,17 +99,17 @@ pub fn nodes(multi: &MultiMap) -> &[Vec<MultiPair<u64, u64>>]
     multi.iter_nodes().as_slice()
 }
 
-/// Returns a cursor at the first pair whose key is not below `from`, or at the end.
+/// Returns a cursor at the first pair whose key is at least `from`, or at the end.
 pub fn cursor_from(multi: &MultiMap, from: u64) -> Cursor
     ensures { cursor_position (node_lengths multi.now.nodes) result
         ≡ count_by (λ p. is_lt (nat_cmp p.key from)) (concat multi.now.nodes) }
 {
-    // Says that the pairs ascend, and that no node is empty.
+    // For the proof: the pairs ascend, and no node is empty.
     let _count = multi.node_count();
     cursor::find(nodes(multi), ByKey::new(&from))
 }
 
-/// Returns a cursor at a position, or at the end.
+/// Returns a cursor at a position, or at the end if the position is past it.
 pub fn cursor_at(multi: &MultiMap, position: usize) -> Cursor
     ensures { cursor_position (node_lengths multi.now.nodes) result
         ≡ min position (length (concat multi.now.nodes)) }

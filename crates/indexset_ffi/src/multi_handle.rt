@@ -1,4 +1,4 @@
-//! A multimap's handle.
+//! The handle of a multimap.
 ghost use Rattle.std.specs.Prelude.{◌≡◌, Some, None, is_some};
 ghost use Rattle.std.specs.Option.{option_map};
 
@@ -7,7 +7,7 @@ use crate::multi_slot::{MultiMap, MultiSlot};
 use std::alloc::Global;
 use std::mem::replace;
 
-/// What C holds of a multimap: the multimap on the heap, or none.
+/// A handle that C has: a multimap on the heap, or none.
 #[repr(C)]
 #[derive(Drop)]
 pub struct MultiHandle {
@@ -15,12 +15,12 @@ pub struct MultiHandle {
     pub slot: MultiSlot,
     /// Whether there is a multimap.
     pub live: bool,
-    /// The flag tells of the slot.
+    /// The flag is whether the slot has a value.
     pub ghost sound: { live ≡ is_some slot.value },
 }
 
 impl MultiHandle {
-    /// Returns a handle that leads to none.
+    /// Returns an empty handle.
     pub fn none(alloc: Global) -> MultiHandle
         ensures { result.slot.value ≡ None }
     {
@@ -39,7 +39,7 @@ impl MultiHandle {
         }
     }
 
-    /// Removes the multimap from the handle and returns it, if any.
+    /// Removes the multimap from the handle, and returns it, if there is one.
     pub fn take(&mut self, alloc: Global) -> Option<Box<MultiMap, Global>>
         ensures taken { option_map (λ b. b.value) result ≡ self.old.slot.value }
         ensures left { self.new.slot.value ≡ None }
@@ -49,7 +49,7 @@ impl MultiHandle {
         if live { Some(parts.into_box()) } else { None }
     }
 
-    /// Puts a multimap in. What the handle led to before is not freed.
+    /// Stores a multimap in the handle. One that the handle had is not freed.
     pub fn put(&mut self, multi: Box<MultiMap, Global>)
         ensures { self.new.slot.value ≡ Some multi.value }
     {

@@ -1,4 +1,4 @@
-//! What a multimap's handle holds.
+//! The slot of a multimap.
 ghost use Rattle.std.specs.Prelude.{◌≡◌, Option};
 ghost use Rattle.indexset_ffi.specs.Slots.{multi_row};
 
@@ -9,10 +9,10 @@ use indexset_multi::multimap::range::Range;
 use std::alloc::Global;
 use std::marker::Model;
 
-/// A map of numbers whose keys may repeat.
+/// A multimap of numbers.
 pub type MultiMap = BTreeMultiMap<u64, u64, Vec<MultiPair<u64, u64>>>;
 
-/// The pairs of a part of it.
+/// An iterator over some of its pairs.
 pub type MultiRange<'a> = Range<'a, u64, u64, Vec<MultiPair<u64, u64>>>;
 
 /// A multimap on the heap, or none.
@@ -31,7 +31,7 @@ impl Model for MultiSlot {
 }
 
 impl MultiSlot {
-    /// Returns the slot that these are the parts of.
+    /// Returns the slot of these parts.
     pub fn of_parts(parts: Parts<MultiMap, Global>) -> MultiSlot
         ensures { result.value ≡ parts.value }
     {

@@ -1,4 +1,4 @@
-//! What stands behind a cursor, written where C points.
+//! Writes the items after a cursor to slices of C.
 ghost use Rattle.std.specs.Prelude.{◌≡◌, ◌+◌, ℕ, length, map, min, take};
 ghost use Rattle.indexset_core.specs.Nodes.{concat, node_lengths, vec_items};
 ghost use Rattle.indexset_core.specs.Pairs.{pair_keys, pair_values};
@@ -13,7 +13,7 @@ use indexset_core::multipair::MultiPair;
 use indexset_core::pair::Pair;
 use indexset_core::text::Text;
 
-/// A pair of numbers, whatever else it holds.
+/// A type that has a key and a value, both numbers.
 pub trait Numbers {
     /// The key.
     ghost key_of: { Self → ℕ };
@@ -58,8 +58,9 @@ impl Numbers for MultiPair<u64, u64> {
     }
 }
 
-/// Writes the elements from a cursor on, in order and as far as there is room, moves the cursor
-/// past them, and returns how many they are.
+/// Writes as many elements from a cursor on as fit, and moves the cursor past them.
+///
+/// Returns how many it wrote.
 pub fn next_elements(nodes: &[Vec<u64>], cursor: &mut Cursor, out: &mut [u64]) -> usize
     ensures count { result ≡ min (length (items_from (node_lengths (vec_items nodes.now)) cursor.old
         (concat (vec_items nodes.now)))) (length out.old) }
@@ -73,8 +74,9 @@ pub fn next_elements(nodes: &[Vec<u64>], cursor: &mut Cursor, out: &mut [u64]) -
     count
 }
 
-/// Writes the pairs from a cursor on, in order and as far as there is room in both slices, moves
-/// the cursor past them, and returns how many they are.
+/// Writes as many pairs from a cursor on as fit in both slices, and moves the cursor past them.
+///
+/// Returns how many it wrote.
 pub fn next_pairs<P: Numbers>(
     nodes: &[Vec<P>],
     cursor: &mut Cursor,
@@ -96,9 +98,10 @@ pub fn next_pairs<P: Numbers>(
     count
 }
 
-/// Writes the lengths of the keys and the values of the pairs from a cursor on, in order and as far
-/// as there is room in both slices, and the bytes of these keys, one key behind another and as far
-/// as there is room. Moves the cursor past the pairs, and returns how many they are.
+/// Writes as many pairs from a cursor on as fit, and moves the cursor past them.
+///
+/// A pair is the length of its key and its value. The bytes of these keys are written one after
+/// another, as many as fit. Returns how many pairs it wrote.
 pub fn next_texts(
     nodes: &[Vec<Pair<Text, u64>>],
     cursor: &mut Cursor,
@@ -125,8 +128,7 @@ pub fn next_texts(
     count
 }
 
-// Writes the items of a walk, node by node and as far as there is room, and returns how many that
-// are.
+// Writes as many items of an iterator as fit, node by node, and returns how many it wrote.
 fn write_elements(mut walk: ItemIter<'_, u64, Vec<u64>, OfVec>, out: &mut [u64]) -> usize
     ensures count { result ≡ min (length walk.entry) (length out.old) }
     ensures written { out.new ≡ written result walk.entry out.old }
@@ -142,7 +144,7 @@ fn write_elements(mut walk: ItemIter<'_, u64, Vec<u64>, OfVec>, out: &mut [u64])
     count
 }
 
-// Writes items, as far as there is room, and returns how many that are.
+// Writes as many items as fit, and returns how many it wrote.
 fn write_elements_of(run: &[u64], out: &mut [u64]) -> usize
     ensures count { result ≡ min (length run.now) (length out.old) }
     ensures written { out.new ≡ written result run.now out.old }
@@ -152,8 +154,8 @@ fn write_elements_of(run: &[u64], out: &mut [u64]) -> usize
     count
 }
 
-// Writes the keys and the values of a walk, node by node and as far as there is room in both
-// slices, and returns how many that are.
+// Writes as many keys and values of an iterator as fit in both slices, node by node, and returns
+// how many it wrote.
 fn write_numbers<P: Numbers>(
     mut walk: ItemIter<'_, P, Vec<P>, OfVec>,
     keys: &mut [u64],
@@ -175,8 +177,8 @@ fn write_numbers<P: Numbers>(
     count
 }
 
-// Writes the keys and the values of items, as far as there is room in both slices, and returns how
-// many that are.
+// Writes the keys and the values of as many items as fit in both slices, and returns how many it
+// wrote.
 fn write_numbers_of<P: Numbers>(run: &[P], keys: &mut [u64], values: &mut [u64]) -> usize
     ensures count { result ≡ min (length run.now) (min (length keys.old) (length values.old)) }
     ensures keys { keys.new ≡ written result (map P.key_of run.now) keys.old }
@@ -190,8 +192,8 @@ fn write_numbers_of<P: Numbers>(run: &[P], keys: &mut [u64], values: &mut [u64])
     count
 }
 
-// Writes the lengths of the keys and the values of a walk, as far as there is room in both slices,
-// and the bytes of these keys, as far as there is room. Returns how many pairs that are.
+// Writes as many key lengths and values of an iterator as fit in both slices, and as many bytes of
+// these keys as fit. Returns how many pairs it wrote.
 fn write_texts(
     mut walk: ItemIter<'_, Pair<Text, u64>, Vec<Pair<Text, u64>>, OfVec>,
     bytes: &mut [u8],

@@ -1,4 +1,4 @@
-//! What the calls of a replica do with it.
+//! Bodies of the calls of a replica.
 ghost use Rattle.std.specs.Prelude.{◌≡◌, ◌≢◌, ◌<◌, ◌≤◌, length, take, unwrap_or, IfSome, None, Some, slice_get, IfOk, min};
 ghost use Rattle.indexset_ffi.specs.Replicas.{applied, applied_all, refused, replica_of};
 ghost use Rattle.std.specs.Ordering.{nat_cmp};
@@ -17,7 +17,7 @@ use indexset_core::probe::ByKey;
 use indexset_replica::Replica;
 use std::alloc::{AllocError, Global};
 
-/// Makes the change of a record, and returns the status.
+/// Applies the event of a record, and returns the status.
 pub fn apply_record(replica: &mut MapReplica, event: &Event) -> u32
     ensures ok { result ≤ YES → applied replica.old event.now ≡ Some replica.new }
     ensures fits { result ≡ YES → refused replica.old event.now ≡ None }
@@ -37,8 +37,9 @@ pub fn apply_record(replica: &mut MapReplica, event: &Event) -> u32
     }
 }
 
-/// Makes the changes of records, first to last, until one is refused. Returns the status and how
-/// many records were taken.
+/// Applies the events of records in order, and stops at the first that is refused.
+///
+/// Returns the status and how many records were taken.
 pub fn apply_each(replica: &mut MapReplica, events: &[Event]) -> (u32, usize)
     ensures applied { applied_all replica.old (take result.1 events.now) ≡ Some replica.new }
     ensures all { result.0 ≡ YES → result.1 ≡ length events.now }
@@ -58,7 +59,7 @@ pub fn apply_each(replica: &mut MapReplica, events: &[Event]) -> (u32, usize)
     (YES, count)
 }
 
-/// Returns copies of the nodes that remain of an iterator.
+/// Returns copies of the remaining nodes of an iterator.
 pub fn copies(alloc: Global, walk: LoggedNodes<'_>) -> Result<Vec<Vec<Pair<u64, u64>>>, AllocError>
     ensures { IfOk result (λ nodes. vec_items nodes.items ≡ vec_items walk.entry) }
 {
@@ -69,11 +70,11 @@ pub fn copies(alloc: Global, walk: LoggedNodes<'_>) -> Result<Vec<Vec<Pair<u64, 
     Ok(nodes)
 }
 
-/// Returns a replica of a logged map, or `None` where memory ran out.
+/// Returns a replica of a logged map, or `None` if memory runs out.
 pub fn replica_of(alloc: Global, log: &LoggedMap) -> Option<MapReplica>
     ensures { IfSome result (λ r. r ≡ replica_of log.now) }
 {
-    // The contract of `node_count` says that the nodes are lawful.
+    // For the proof: the nodes are lawful.
     let _count = log.node_count();
     let Ok(nodes) = copies(alloc, log.iter_nodes()) else {
         return None;
@@ -84,14 +85,14 @@ pub fn replica_of(alloc: Global, log: &LoggedMap) -> Option<MapReplica>
     }
 }
 
-/// Returns the pair of a key that is sought.
+/// Returns a pair with this key, for a look-up.
 pub fn sought(key: u64) -> Pair<u64, u64>
     ensures { result ≡ record { key = key; value = 0 } }
 {
     Pair { key, value: 0 }
 }
 
-/// Writes how long each node is, as far as there is room, and returns how many those are.
+/// Writes the lengths of as many nodes as fit, and returns how many it wrote.
 pub fn write_lengths(nodes: &[Vec<Pair<u64, u64>>], out: &mut [usize]) -> usize
     ensures count { result ≡ min (length nodes.now) (length out.old) }
     ensures written { out.new ≡ written result (node_lengths (vec_items nodes.now)) out.old }
@@ -103,8 +104,7 @@ pub fn write_lengths(nodes: &[Vec<Pair<u64, u64>>], out: &mut [usize]) -> usize
     count
 }
 
-/// Writes what an iterator yields, as far as there is room in both slices, and returns how much
-/// that is.
+/// Writes as many pairs of an iterator as fit in both slices, and returns how many it wrote.
 pub fn write_copied(mut walk: ReplicaRange<'_>, keys: &mut [u64], values: &mut [u64]) -> usize
     ensures count { result ≡ min (length walk.entry) (min (length keys.old) (length values.old)) }
     ensures keys { keys.new ≡ written result (pair_keys walk.entry) keys.old }
@@ -123,7 +123,7 @@ pub fn write_copied(mut walk: ReplicaRange<'_>, keys: &mut [u64], values: &mut [
     count
 }
 
-/// Returns a cursor at the first pair whose key is not below `from`, or at the end.
+/// Returns a cursor at the first pair whose key is at least `from`, or at the end.
 pub fn cursor_from(replica: &MapReplica, from: u64) -> Cursor
     ensures { cursor_position (node_lengths replica.now.nodes) result
         ≡ key_rank nat_cmp (concat replica.now.nodes) from }
@@ -131,7 +131,7 @@ pub fn cursor_from(replica: &MapReplica, from: u64) -> Cursor
     cursor::find(replica.nodes(), ByKey::new(&from))
 }
 
-/// Returns a cursor at a position, or at the end.
+/// Returns a cursor at a position, or at the end if the position is past it.
 pub fn cursor_at(replica: &MapReplica, position: usize) -> Cursor
     ensures { cursor_position (node_lengths replica.now.nodes) result
         ≡ min position (length (concat replica.now.nodes)) }

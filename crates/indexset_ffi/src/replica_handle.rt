@@ -1,4 +1,4 @@
-//! A replica's handle.
+//! The handle of a replica.
 ghost use Rattle.std.specs.Prelude.{◌≡◌, Some, None, is_some};
 ghost use Rattle.std.specs.Option.{option_map};
 
@@ -7,7 +7,7 @@ use crate::replica_slot::{MapReplica, ReplicaSlot};
 use std::alloc::Global;
 use std::mem::replace;
 
-/// What C holds of a replica: the replica on the heap, or none.
+/// A handle that C has: a replica on the heap, or none.
 #[repr(C)]
 #[derive(Drop)]
 pub struct ReplicaHandle {
@@ -15,12 +15,12 @@ pub struct ReplicaHandle {
     pub slot: ReplicaSlot,
     /// Whether there is a replica.
     pub live: bool,
-    /// The flag tells of the slot.
+    /// The flag is whether the slot has a value.
     pub ghost sound: { live ≡ is_some slot.value },
 }
 
 impl ReplicaHandle {
-    /// Returns a handle that leads to none.
+    /// Returns an empty handle.
     pub fn none(alloc: Global) -> ReplicaHandle
         ensures { result.slot.value ≡ None }
     {
@@ -39,7 +39,7 @@ impl ReplicaHandle {
         }
     }
 
-    /// Removes the replica from the handle and returns it, if any.
+    /// Removes the replica from the handle, and returns it, if there is one.
     pub fn take(&mut self, alloc: Global) -> Option<Box<MapReplica, Global>>
         ensures taken { option_map (λ b. b.value) result ≡ self.old.slot.value }
         ensures left { self.new.slot.value ≡ None }
@@ -49,7 +49,7 @@ impl ReplicaHandle {
         if live { Some(parts.into_box()) } else { None }
     }
 
-    /// Puts a replica in. What the handle led to before is not freed.
+    /// Stores a replica in the handle. One that the handle had is not freed.
     pub fn put(&mut self, replica: Box<MapReplica, Global>)
         ensures { self.new.slot.value ≡ Some replica.value }
     {

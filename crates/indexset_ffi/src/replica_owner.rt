@@ -1,4 +1,4 @@
-//! The place of a replica's handle on the heap.
+//! The handle of a replica on the heap.
 ghost use Rattle.std.specs.Prelude.{◌≡◌, Option, Some, None, is_some, true};
 ghost use Rattle.indexset_ffi.specs.Owners.{replica_handle_row};
 
@@ -24,7 +24,7 @@ impl Model for ReplicaOwner {
 }
 
 impl ReplicaOwner {
-    /// Returns the place that these are the parts of.
+    /// Returns the owner of these parts.
     pub fn of_parts(parts: Parts<ReplicaHandle, Global>) -> ReplicaOwner
         ensures { result.value ≡ parts.value }
     {
@@ -35,7 +35,7 @@ impl ReplicaOwner {
         }
     }
 
-    /// Returns the parts of this place.
+    /// Returns the parts of this owner.
     pub fn into_parts(self) -> Parts<ReplicaHandle, Global>
         ensures { result.value ≡ self.value }
     {
@@ -46,7 +46,7 @@ impl ReplicaOwner {
         }
     }
 
-    /// Removes the handle and returns it.
+    /// Removes the handle, and returns it.
     pub fn take(&mut self, alloc: Global) -> Box<ReplicaHandle, Global>
         requires { is_some self.old.value ≡ true }
         ensures taken { self.old.value ≡ Some result.value }
@@ -57,7 +57,7 @@ impl ReplicaOwner {
             .into_box()
     }
 
-    /// Puts a handle in. What was there before is not freed.
+    /// Stores a handle. One that was stored before is not freed.
     pub fn put(&mut self, handle: Box<ReplicaHandle, Global>)
         ensures { self.new.value ≡ Some handle.value }
     {

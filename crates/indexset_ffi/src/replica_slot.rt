@@ -1,4 +1,4 @@
-//! What a replica's handle holds.
+//! The slot of a replica.
 ghost use Rattle.std.specs.Prelude.{◌≡◌, Option};
 ghost use Rattle.indexset_ffi.specs.Slots.{replica_row};
 
@@ -12,7 +12,7 @@ use std::marker::Model;
 /// A replica of a map of numbers.
 pub type MapReplica = Replica<Pair<u64, u64>>;
 
-/// The pairs of a part of it.
+/// An iterator over some of its pairs.
 pub type ReplicaRange<'a> = Iter<'a, Pair<u64, u64>>;
 
 /// A replica on the heap, or none.
@@ -31,7 +31,7 @@ impl Model for ReplicaSlot {
 }
 
 impl ReplicaSlot {
-    /// Returns the slot that these are the parts of.
+    /// Returns the slot of these parts.
     pub fn of_parts(parts: Parts<MapReplica, Global>) -> ReplicaSlot
         ensures { result.value ≡ parts.value }
     {

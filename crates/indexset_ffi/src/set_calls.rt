@@ -1,4 +1,4 @@
-//! What the calls of a set do with it.
+//! Bodies of the calls of a set.
 ghost use Rattle.std.specs.Prelude.{◌≡◌, ◌<◌, ◌≤◌, None, false, length, map, min, remove, slice_get, slice_index_or, take};
 ghost use Rattle.std.specs.List.{AllWithin, fold};
 ghost use Rattle.std.specs.Ordering.{nat_cmp};
@@ -14,7 +14,7 @@ use indexset_set::BTreeSet;
 use indexset_set::range::Range;
 use std::ops::Bound;
 
-/// Writes what an iterator yields, as far as there is room, and returns how much that is.
+/// Writes as many elements of an iterator as fit, and returns how many it wrote.
 pub fn write_each(mut walk: Range<'_, u64>, out: &mut [u64]) -> usize
     ensures count { result ≡ min (length walk.entry) (length out.old) }
     ensures written { out.new ≡ written result walk.entry out.old }
@@ -30,7 +30,7 @@ pub fn write_each(mut walk: Range<'_, u64>, out: &mut [u64]) -> usize
     count
 }
 
-/// Writes the rank of each key, as far as there is room, and returns how many that are.
+/// Writes the ranks of as many keys as fit, and returns how many it wrote.
 pub fn rank_each(set: &BTreeSet<u64>, keys: &[u64], out: &mut [usize]) -> usize
     ensures count { result ≡ min (length keys.now) (length out.old) }
     ensures written { out.new ≡ written result (map (rank nat_cmp (items set.now)) keys.now)
@@ -43,7 +43,7 @@ pub fn rank_each(set: &BTreeSet<u64>, keys: &[u64], out: &mut [usize]) -> usize
     count
 }
 
-/// Adds each key, until an allocation fails, and returns how many are present now.
+/// Inserts each key until an allocation fails, and returns how many keys are present.
 pub fn insert_each(set: &mut BTreeSet<u64>, keys: &[u64]) -> usize
     ensures count { result ≤ length keys.now }
     ensures kept { items set.new ≡ fold (keep nat_cmp) (items set.old) (take result keys.now) }
@@ -60,8 +60,9 @@ pub fn insert_each(set: &mut BTreeSet<u64>, keys: &[u64]) -> usize
     count
 }
 
-/// Writes the element at each position, as far as there is room and up to the first position that
-/// has none, and returns how many that are.
+/// Writes the element at each position, for as many positions as fit.
+///
+/// Stops at the first position that is past the end. Returns how many it wrote.
 pub fn element_each(set: &BTreeSet<u64>, positions: &[usize], out: &mut [u64]) -> usize
     ensures room { result ≤ min (length positions.now) (length out.old) }
     ensures contains { AllWithin (λ i. i < length (items set.now)) positions.now 0 result }
@@ -82,24 +83,24 @@ pub fn element_each(set: &BTreeSet<u64>, positions: &[usize], out: &mut [u64]) -
     count
 }
 
-/// Returns how many elements are not above a key.
+/// Returns how many elements are at most this key.
 pub fn count_to(set: &BTreeSet<u64>, key: u64) -> usize
     ensures { result ≡ count_up_to nat_cmp (items set.now) key }
 {
     set.range((Bound::Unbounded, Bound::Included(&key))).len()
 }
 
-/// Returns a cursor at the first element that is not below a key, or at the end.
+/// Returns a cursor at the first element that is at least this key, or at the end.
 pub fn cursor_from(set: &BTreeSet<u64>, key: u64) -> Cursor
     ensures { cursor_position (node_lengths set.now.nodes) result ≡ rank nat_cmp (items set.now)
         key }
 {
-    // These say that the elements ascend, and that no node of several is empty.
+    // For the proof: the elements ascend, and no node of several is empty.
     let (_len, _count) = (set.len(), set.node_count());
     cursor::find(set.nodes(), ByItem::new(&key))
 }
 
-/// Returns a cursor at a position, or at the end.
+/// Returns a cursor at a position, or at the end if the position is past it.
 pub fn cursor_at(set: &BTreeSet<u64>, position: usize) -> Cursor
     ensures { cursor_position (node_lengths set.now.nodes) result
         ≡ min position (length (items set.now)) }
@@ -113,7 +114,7 @@ pub fn cursor_at(set: &BTreeSet<u64>, position: usize) -> Cursor
     }
 }
 
-/// Removes the element at a position and returns it, or returns `None` where there is none.
+/// Removes the element at a position, and returns it, or `None` if there is none.
 pub fn take_index(set: &mut BTreeSet<u64>, position: usize) -> Option<u64>
     ensures value { result ≡ slice_get (items set.old) position }
     ensures rest { items set.new ≡ remove (items set.old) position }

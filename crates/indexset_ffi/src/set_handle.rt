@@ -1,4 +1,4 @@
-//! A set's handle.
+//! The handle of a set.
 ghost use Rattle.std.specs.Prelude.{◌≡◌, Some, None, is_some};
 ghost use Rattle.std.specs.Option.{option_map};
 
@@ -8,7 +8,7 @@ use indexset_set::BTreeSet;
 use std::alloc::Global;
 use std::mem::replace;
 
-/// What C holds of a set: the set on the heap, or none.
+/// A handle that C has: a set on the heap, or none.
 #[repr(C)]
 #[derive(Drop)]
 pub struct SetHandle {
@@ -16,12 +16,12 @@ pub struct SetHandle {
     pub slot: SetSlot,
     /// Whether there is a set.
     pub live: bool,
-    /// The flag says whether the slot holds one.
+    /// The flag is whether the slot has a value.
     pub ghost sound: { live ≡ is_some slot.value },
 }
 
 impl SetHandle {
-    /// Returns a handle that leads to none.
+    /// Returns an empty handle.
     pub fn none(alloc: Global) -> SetHandle
         ensures { result.slot.value ≡ None }
     {
@@ -40,7 +40,7 @@ impl SetHandle {
         }
     }
 
-    /// Removes the set from the handle and returns it, if any.
+    /// Removes the set from the handle, and returns it, if there is one.
     pub fn take(&mut self, alloc: Global) -> Option<Box<BTreeSet<u64>, Global>>
         ensures taken { option_map (λ b. b.value) result ≡ self.old.slot.value }
         ensures left { self.new.slot.value ≡ None }
@@ -50,7 +50,7 @@ impl SetHandle {
         if live { Some(parts.into_box()) } else { None }
     }
 
-    /// Puts a set into the handle. What it led to before is not freed.
+    /// Stores a set in the handle. One that the handle had is not freed.
     pub fn put(&mut self, set: Box<BTreeSet<u64>, Global>)
         ensures { self.new.slot.value ≡ Some set.value }
     {

@@ -1,4 +1,4 @@
-//! The place of a set's handle on the heap.
+//! The handle of a set on the heap.
 ghost use Rattle.std.specs.Prelude.{◌≡◌, Option, Some, None, is_some, true};
 ghost use Rattle.indexset_ffi.specs.Owners.{set_handle_row};
 
@@ -24,7 +24,7 @@ impl Model for SetOwner {
 }
 
 impl SetOwner {
-    /// Returns the place that these are the parts of.
+    /// Returns the owner of these parts.
     pub fn of_parts(parts: Parts<SetHandle, Global>) -> SetOwner
         ensures { result.value ≡ parts.value }
     {
@@ -35,7 +35,7 @@ impl SetOwner {
         }
     }
 
-    /// Returns the parts of this place.
+    /// Returns the parts of this owner.
     pub fn into_parts(self) -> Parts<SetHandle, Global>
         ensures { result.value ≡ self.value }
     {
@@ -46,7 +46,7 @@ impl SetOwner {
         }
     }
 
-    /// Removes the handle and returns it.
+    /// Removes the handle, and returns it.
     pub fn take(&mut self, alloc: Global) -> Box<SetHandle, Global>
         requires { is_some self.old.value ≡ true }
         ensures taken { self.old.value ≡ Some result.value }
@@ -57,7 +57,7 @@ impl SetOwner {
             .into_box()
     }
 
-    /// Puts a handle in. What was there before is not freed.
+    /// Stores a handle. One that was stored before is not freed.
     pub fn put(&mut self, handle: Box<SetHandle, Global>)
         ensures { self.new.value ≡ Some handle.value }
     {

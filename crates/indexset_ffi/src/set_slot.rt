@@ -1,4 +1,4 @@
-//! What a set's handle holds.
+//! The slot of a set.
 ghost use Rattle.std.specs.Prelude.{◌≡◌, Option};
 ghost use Rattle.indexset_ffi.specs.Slots.{set_row};
 
@@ -23,7 +23,7 @@ impl Model for SetSlot {
 }
 
 impl SetSlot {
-    /// Returns the slot that these are the parts of.
+    /// Returns the slot of these parts.
     pub fn of_parts(parts: Parts<BTreeSet<u64>, Global>) -> SetSlot
         ensures { result.value ≡ parts.value }
     {

@@ -1,31 +1,31 @@
-//! What a call returns that can fail.
+//! The results of calls that can fail.
 ghost use Rattle.std.specs.Prelude.{◌≡◌, ◌≢◌, ◌↔◌};
 ghost use Rattle.indexset_ffi.specs.Replicas.{status_of};
 
 use indexset_core::refusal::Refusal;
 
-/// Nothing was there to do.
+/// There was nothing to do.
 pub const NO: u32 = 0;
 
 /// It was done.
 pub const YES: u32 = 1;
 
-/// Memory ran out, and nothing changed.
+/// Memory ran out. Nothing was changed.
 pub const MEMORY: u32 = 2;
 
-/// The handle leads to no collection, and nothing changed.
+/// The handle is empty. Nothing was changed.
 pub const NONE: u32 = 3;
 
-/// The handle leads to a collection already, and nothing changed.
+/// The handle has a collection. Nothing was changed.
 pub const HELD: u32 = 4;
 
-/// Too few numbers are left, and nothing changed.
+/// Too few numbers remain. Nothing was changed.
 pub const NUMBERS: u32 = 5;
 
-/// What was given does not fit, and nothing changed.
+/// An argument does not fit. Nothing was changed.
 pub const UNFIT: u32 = 6;
 
-/// Returns the status of a change that was refused.
+/// Returns the status of a refusal.
 pub fn of_refusal(cause: Refusal) -> u32
     ensures memory { result ≡ MEMORY ↔ (cause ≡ Refusal.Memory) }
     ensures numbers { result ≡ NUMBERS ↔ (cause ≡ Refusal.Numbers) }
@@ -38,9 +38,9 @@ pub fn of_refusal(cause: Refusal) -> u32
     }
 }
 
-/// Returns the status of a change that a replica refused: memory, numbers and nodes that do not fit
-/// have the statuses that they have everywhere, and each other refusal has its own number, from 11
-/// on.
+/// Returns the status of an event that a replica refused.
+///
+/// It is `MEMORY`, `NUMBERS`, `UNFIT`, or a number of its own from 11 on.
 pub fn status_of(cause: Refusal) -> u32
     ensures { result ≡ status_of cause }
 {

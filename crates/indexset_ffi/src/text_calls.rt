@@ -1,4 +1,4 @@
-//! What the calls of a map from byte strings write into a caller's slices.
+//! Writes keys and values of a map from byte strings to slices of C.
 ghost use Rattle.std.specs.Prelude.{◌≡◌, ◌≤◌, ◌+◌, ◌++◌, drop, length, min, take};
 ghost use Rattle.indexset_core.specs.Nodes.{concat};
 ghost use Rattle.indexset_core.specs.Pairs.{pair_keys, pair_values};
@@ -8,8 +8,7 @@ ghost use Rattle.indexset_ffi.specs.Text.{key_lengths, written_over};
 use crate::text_slot::TextRange;
 use crate::write::write_bytes;
 
-/// Writes the values that an iterator gives, as far as there is room, and returns how many it
-/// wrote.
+/// Writes as many values of an iterator as fit, and returns how many it wrote.
 pub fn write_values(mut walk: TextRange<'_>, values: &mut [u64]) -> usize
     ensures count { result ≡ min (length walk.entry) (length values.old) }
     ensures values { values.new ≡ written result (pair_values walk.entry) values.old }
@@ -26,8 +25,7 @@ pub fn write_values(mut walk: TextRange<'_>, values: &mut [u64]) -> usize
     count
 }
 
-/// Writes bytes behind the first places, as far as there is room, and returns how many places then
-/// stand before the next.
+/// Writes as many bytes as fit after the first `used`, and returns how many bytes are then used.
 pub fn write_behind(bytes: &[u8], out: &mut [u8], used: usize) -> usize
     requires { used ≤ length out.old }
     ensures used { result ≡ min (length out.old) (used + length bytes.now) }
@@ -38,8 +36,9 @@ pub fn write_behind(bytes: &[u8], out: &mut [u8], used: usize) -> usize
     used + bytes.len().min(room)
 }
 
-/// Writes the lengths of the keys that an iterator gives, as far as there is room, and the bytes of
-/// these keys, as far as there is room. Returns how many lengths it wrote.
+/// Writes as many key lengths of an iterator as fit, and as many bytes of these keys as fit.
+///
+/// Returns how many lengths it wrote.
 pub fn write_keys(mut walk: TextRange<'_>, bytes: &mut [u8], lengths: &mut [usize]) -> usize
     ensures count { result ≡ min (length walk.entry) (length lengths.old) }
     ensures lengths { lengths.new ≡ written result (key_lengths walk.entry) lengths.old }

@@ -1,4 +1,4 @@
-//! What changes a map from byte strings.
+//! Changes of a map from byte strings.
 ghost use Rattle.std.specs.Prelude.{◌≡◌, true, None, IfOk, IsOk, OnErr, OnOk, OnSome};
 ghost use Rattle.std.specs.Cmp.Lexicographic.{slice_cmp};
 ghost use Rattle.std.specs.Ordering.{nat_cmp};
@@ -9,7 +9,7 @@ use indexset_core::text::Text;
 use std::alloc::{AllocError, Global};
 use std::mem::replace;
 
-// Replaces the value of a key, and returns the one before, or `None` where the key is not there.
+// Replaces the value of a key, and returns the old value, or `None` if the key is absent.
 fn replace_value(map: &mut TextMap, key: &[u8], value: u64) -> Option<u64>
     ensures before { result ≡ value_of (slice_cmp nat_cmp) map.old.pairs key.now }
     ensures ok { OnSome result (map.new.pairs
@@ -22,9 +22,10 @@ fn replace_value(map: &mut TextMap, key: &[u8], value: u64) -> Option<u64>
     }
 }
 
-/// Makes a value that of a key, and returns the value before. The bytes of the key are copied
-/// first, so that one search serves a new key and one that is there, whose value needs no copy
-/// where there is no memory for it.
+/// Inserts a pair, or replaces the value of a present key, and returns the old value.
+///
+/// The bytes of the key are copied first, so that one search serves a new key and a present one. If
+/// memory runs out for the copy, the value of a present key is still replaced.
 pub fn put(
     alloc: Global,
     map: &mut TextMap,
@@ -49,7 +50,7 @@ pub fn put(
     }
 }
 
-/// Removes a key and returns its value, or `None` where it is not there.
+/// Removes a key, and returns its value, or `None` if it is absent.
 pub fn take(map: &mut TextMap, key: &[u8]) -> Option<u64>
     ensures value { result ≡ value_of (slice_cmp nat_cmp) map.old.pairs key.now }
     ensures rest { map.new.pairs ≡ without_key (slice_cmp nat_cmp) map.old.pairs key.now }

@@ -1,4 +1,4 @@
-//! Changes of a logged map from byte strings, as C sees them.
+//! Events of a logged map from byte strings as C records.
 ghost use Rattle.std.specs.Prelude.{◌≡◌};
 ghost use Rattle.std.specs.Option.{option_copied};
 ghost use Rattle.indexset_ffi.specs.Text.{written_over};
@@ -11,28 +11,30 @@ use indexset_core::pair::Pair;
 use indexset_core::text::Text;
 use indexset_events::change::ChangeEvent;
 
-/// A change. A node is named by its last pair before the change, or where it is created by its only
-/// pair. The bytes of the two keys stand beside it. What a kind has no use for is 0.
+/// An event, without the bytes of its two keys. A field that a kind does not use is 0.
+///
+/// A node is identified by its last pair before the event, or by its only pair if the event creates
+/// it.
 #[repr(C)]
 #[derive(Clone, Copy)]
 pub struct TextEvent {
-    /// The number.
+    /// The event number.
     pub number: u64,
-    /// How many bytes the key has by which the node is named.
+    /// The length of the key of the pair that identifies the node.
     pub node_len: usize,
-    /// The value that belongs to it.
+    /// The value of that pair.
     pub node_value: u64,
-    /// How many bytes the pair's key has.
+    /// The length of the key of the pair.
     pub key_len: usize,
-    /// The pair's value.
+    /// The value of the pair.
     pub value: u64,
-    /// Where in the node.
+    /// The index in the node.
     pub index: usize,
-    /// What is done.
+    /// The kind.
     pub kind: u32,
 }
 
-// Returns the kind of a change.
+// Returns the kind of an event.
 fn kind_of(change: &TextChange) -> u32
     ensures { result ≡ kind_of change.now }
 {
@@ -46,7 +48,7 @@ fn kind_of(change: &TextChange) -> u32
     }
 }
 
-// Returns the pair by which a change names its node.
+// Returns the pair that identifies the node of an event.
 fn node_of(change: &TextChange) -> &Pair<Text, u64>
     ensures { result.now ≡ node_of change.now }
 {
@@ -60,7 +62,7 @@ fn node_of(change: &TextChange) -> &Pair<Text, u64>
     }
 }
 
-// Returns the pair that a change puts or removes, or that names its second node.
+// Returns the pair that an event inserts or removes, or that identifies its second node.
 fn pair_of(change: &TextChange) -> Option<&Pair<Text, u64>>
     ensures { option_copied result ≡ pair_of change.now }
 {
@@ -72,7 +74,7 @@ fn pair_of(change: &TextChange) -> Option<&Pair<Text, u64>>
     }
 }
 
-// Returns the index of a change.
+// Returns the index of an event.
 fn index_of(change: &TextChange) -> usize
     ensures { result ≡ index_of change.now }
 {
@@ -84,7 +86,7 @@ fn index_of(change: &TextChange) -> usize
     }
 }
 
-/// Writes the record of a change, and as many bytes of its two keys as there is room for.
+/// Writes the record of an event, and as many bytes of its two keys as fit.
 pub fn write_change(change: &TextChange, event: &mut TextEvent, node: &mut [u8], key: &mut [u8])
     ensures record { event.new ≡ record_of change.now }
     ensures node { node.new ≡ written_over (node_key change.now) node.old }

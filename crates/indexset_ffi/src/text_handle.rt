@@ -7,7 +7,7 @@ use crate::text_slot::{TextMap, TextSlot};
 use std::alloc::Global;
 use std::mem::replace;
 
-/// What C holds of a map from byte strings: the map on the heap, or none.
+/// A handle that C has: a map from byte strings on the heap, or none.
 #[repr(C)]
 #[derive(Drop)]
 pub struct TextHandle {
@@ -15,12 +15,12 @@ pub struct TextHandle {
     pub slot: TextSlot,
     /// Whether there is a map.
     pub live: bool,
-    /// The flag says whether the slot holds one.
+    /// The flag is whether the slot has a value.
     pub ghost sound: { live ≡ is_some slot.value },
 }
 
 impl TextHandle {
-    /// Returns a handle that leads to none.
+    /// Returns an empty handle.
     pub fn none(alloc: Global) -> TextHandle
         ensures { result.slot.value ≡ None }
     {
@@ -39,7 +39,7 @@ impl TextHandle {
         }
     }
 
-    /// Removes the map from the handle and returns it, if any.
+    /// Removes the map from the handle, and returns it, if there is one.
     pub fn take(&mut self, alloc: Global) -> Option<Box<TextMap, Global>>
         ensures taken { option_map (λ b. b.value) result ≡ self.old.slot.value }
         ensures left { self.new.slot.value ≡ None }
@@ -49,7 +49,7 @@ impl TextHandle {
         if live { Some(parts.into_box()) } else { None }
     }
 
-    /// Puts a map into the handle. What it led to before is not freed.
+    /// Stores a map in the handle. One that the handle had is not freed.
     pub fn put(&mut self, map: Box<TextMap, Global>)
         ensures { self.new.slot.value ≡ Some map.value }
     {

@@ -1,7 +1,7 @@
-//! A logged map from byte strings, which keeps the changes that its last call told.
+//! A logged map from byte strings that keeps the events of its last change.
 //!
-//! The changes stay beside the map, since C can't own the byte strings that they name: it reads a
-//! change at a time, into bytes of its own.
+//! The events are kept beside the map, because C cannot own their byte strings: it reads one event
+//! at a time into its own bytes.
 ghost use Rattle.std.specs.Prelude.{◌≡◌, ◌≢◌, ◌≤◌, Some, None, IfOk, OnOk, IfErr, OnErr, IsOk, drop, length, min, slice_get};
 ghost use Rattle.std.specs.Cmp.Lexicographic.{slice_cmp};
 ghost use Rattle.std.specs.Option.{option_copied, option_map};
@@ -25,13 +25,13 @@ use std::alloc::Global;
 use std::marker::Model;
 use std::ops::Bound;
 
-/// A change of such a map.
+/// An event of such a map.
 pub type TextChange = ChangeEvent<Pair<Text, u64>>;
 
-/// The pairs of a part of it.
+/// An iterator over some of its pairs.
 pub type TextLogRange<'a> = Range<'a, Text, u64>;
 
-/// A logged map from byte strings to numbers, and what its last change was.
+/// A logged map from byte strings to numbers, with the events of its last change.
 #[derive(Drop)]
 pub struct TextLog {
     tree: BTreeMap<Text, u64>,
@@ -47,8 +47,8 @@ impl Model for TextLog {
 }
 
 impl TextLog {
-    /// Returns an empty map, whose nodes hold at most `size` pairs and whose first change has the
-    /// number `next`.
+    /// Returns an empty map with at most `size` pairs in a node, whose first event has the number
+    /// `next`.
     pub fn starting_at(alloc: Global, size: usize, next: u64) -> TextLog
         requires { 2 ≤ size }
         ensures { result ≡ untold size next }
@@ -59,42 +59,42 @@ impl TextLog {
         }
     }
 
-    /// Returns how many pairs there are.
+    /// Returns the number of pairs.
     pub fn len(&self) -> usize
         ensures { result ≡ length (concat self.now.tree.nodes) }
     {
         self.tree.len()
     }
 
-    /// Returns how many nodes there are.
+    /// Returns the number of nodes.
     pub fn node_count(&self) -> usize
         ensures { result ≡ length self.now.tree.nodes }
     {
         self.tree.node_count()
     }
 
-    /// Returns the number of the next change.
+    /// Returns the number of the next event.
     pub fn next(&self) -> u64
         ensures { result ≡ self.now.tree.next }
     {
         self.tree.events_issued()
     }
 
-    /// Returns the value of a key, or `None` where it is not there.
+    /// Returns the value of a key, or `None` if it is absent.
     pub fn get(&self, key: &[u8]) -> Option<u64>
         ensures { result ≡ value_of (slice_cmp nat_cmp) (concat self.now.tree.nodes) key.now }
     {
         Some(self.tree.get(key)?.value)
     }
 
-    /// Returns how many keys are below a key.
+    /// Returns how many keys are less than this one.
     pub fn rank(&self, key: &[u8]) -> usize
         ensures { result ≡ key_rank (slice_cmp nat_cmp) (concat self.now.tree.nodes) key.now }
     {
         self.tree.rank(key)
     }
 
-    /// Returns how many keys are not above a key.
+    /// Returns how many keys are at most this one.
     pub fn count_up_to(&self, key: &[u8]) -> usize
         ensures { result
             ≡ key_count_up_to (slice_cmp nat_cmp) (concat self.now.tree.nodes) key.now }
@@ -125,17 +125,17 @@ impl TextLog {
         self.tree.iter_nodes().as_slice()
     }
 
-    /// Returns a cursor at the first pair whose key is not below `from`, or at the end.
+    /// Returns a cursor at the first pair whose key is at least `from`, or at the end.
     pub fn cursor_from(&self, from: &[u8]) -> Cursor
         ensures { cursor_position (node_lengths self.now.tree.nodes) result
             ≡ key_rank (slice_cmp nat_cmp) (concat self.now.tree.nodes) from.now }
     {
-        // Says that the keys ascend, and that no node is empty.
+        // For the proof: the keys ascend, and no node is empty.
         let _count = self.tree.node_count();
         cursor::find(self.nodes(), ByKey::new(&from))
     }
 
-    /// Returns a cursor at a position, or at the end.
+    /// Returns a cursor at a position, or at the end if the position is past it.
     pub fn cursor_at(&self, position: usize) -> Cursor
         ensures { cursor_position (node_lengths self.now.tree.nodes) result
             ≡ min position (length (concat self.now.tree.nodes)) }
@@ -149,8 +149,14 @@ impl TextLog {
         }
     }
 
-    /// Inserts a pair, or replaces that of an equal key and returns its value. The bytes of the key
-    /// are copied. A failed call changes nothing, the changes told before included.
+    /// Inserts a pair, or replaces that of an equal key, and returns the old value.
+    ///
+    /// The bytes of the key are copied.
+    ///
+    /// # Errors
+    ///
+    /// `Memory`, or `Numbers` if too few event numbers remain. A failed call changes nothing, and
+    /// the map keeps the events that it had.
     pub fn insert(&mut self, alloc: Global, key: &[u8], value: u64) -> Result<Option<u64>, Refusal>
         ensures before { IfOk result (λ r. r
             ≡ value_of (slice_cmp nat_cmp) (concat self.old.tree.nodes) key.now) }
@@ -175,8 +181,14 @@ impl TextLog {
         }
     }
 
-    /// Removes a key and returns its value, or `None` where it is not there; then nothing changes,
-    /// the changes told before included, nor does it where the call fails.
+    /// Removes a key, and returns its value, or `None` if it is absent.
+    ///
+    /// If the key is absent nothing is changed, and the map keeps the events that it had.
+    ///
+    /// # Errors
+    ///
+    /// `Memory`, or `Numbers` if too few event numbers remain. A failed call changes nothing, and
+    /// the map keeps the events that it had.
     pub fn remove(&mut self, key: &[u8]) -> Result<Option<u64>, Refusal>
         ensures found { IfOk result (λ r. r
             ≡ value_of (slice_cmp nat_cmp) (concat self.old.tree.nodes) key.now) }
@@ -200,14 +212,14 @@ impl TextLog {
         Ok(Some(value))
     }
 
-    /// Returns how many changes the last call told that told any.
+    /// Returns the number of events of the last call that had any.
     pub fn told(&self) -> usize
         ensures { result ≡ length self.now.told }
     {
         self.told.len()
     }
 
-    /// Returns one of these changes, counted from 0, or `None` past their end.
+    /// Returns one of these events, counted from 0, or `None` if there are fewer.
     pub fn change(&self, i: usize) -> Option<&TextChange>
         ensures { option_copied result ≡ slice_get self.now.told i }
     {

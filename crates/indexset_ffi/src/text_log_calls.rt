@@ -1,4 +1,4 @@
-//! What the calls of a logged map from byte strings write into a caller's slices.
+//! Writes keys and values of a logged map from byte strings to slices of C.
 ghost use Rattle.std.specs.Prelude.{◌≡◌, length, min, take};
 ghost use Rattle.indexset_core.specs.Nodes.{concat};
 ghost use Rattle.indexset_core.specs.Pairs.{pair_keys, pair_values};
@@ -8,8 +8,7 @@ ghost use Rattle.indexset_ffi.specs.Text.{key_lengths, written_over};
 use crate::text_calls::write_behind;
 use crate::text_log::TextLogRange;
 
-/// Writes the values that an iterator gives, as far as there is room, and returns how many it
-/// wrote.
+/// Writes as many values of an iterator as fit, and returns how many it wrote.
 pub fn write_values(mut walk: TextLogRange<'_>, values: &mut [u64]) -> usize
     ensures count { result ≡ min (length walk.entry) (length values.old) }
     ensures values { values.new ≡ written result (pair_values walk.entry) values.old }
@@ -26,8 +25,9 @@ pub fn write_values(mut walk: TextLogRange<'_>, values: &mut [u64]) -> usize
     count
 }
 
-/// Writes the lengths of the keys that an iterator gives, as far as there is room, and the bytes of
-/// these keys, as far as there is room. Returns how many lengths it wrote.
+/// Writes as many key lengths of an iterator as fit, and as many bytes of these keys as fit.
+///
+/// Returns how many lengths it wrote.
 pub fn write_keys(mut walk: TextLogRange<'_>, bytes: &mut [u8], lengths: &mut [usize]) -> usize
     ensures count { result ≡ min (length walk.entry) (length lengths.old) }
     ensures lengths { lengths.new ≡ written result (key_lengths walk.entry) lengths.old }

@@ -8,7 +8,7 @@ use crate::text_log_slot::TextLogSlot;
 use std::alloc::Global;
 use std::mem::replace;
 
-/// What C holds of a logged map from byte strings: the map on the heap, or none.
+/// A handle that C has: a logged map from byte strings on the heap, or none.
 #[repr(C)]
 #[derive(Drop)]
 pub struct TextLogHandle {
@@ -16,12 +16,12 @@ pub struct TextLogHandle {
     pub slot: TextLogSlot,
     /// Whether there is a map.
     pub live: bool,
-    /// The flag says whether the slot holds one.
+    /// The flag is whether the slot has a value.
     pub ghost sound: { live ≡ is_some slot.value },
 }
 
 impl TextLogHandle {
-    /// Returns a handle that leads to none.
+    /// Returns an empty handle.
     pub fn none(alloc: Global) -> TextLogHandle
         ensures { result.slot.value ≡ None }
     {
@@ -40,7 +40,7 @@ impl TextLogHandle {
         }
     }
 
-    /// Removes the map from the handle and returns it, if any.
+    /// Removes the map from the handle, and returns it, if there is one.
     pub fn take(&mut self, alloc: Global) -> Option<Box<TextLog, Global>>
         ensures taken { option_map (λ b. b.value) result ≡ self.old.slot.value }
         ensures left { self.new.slot.value ≡ None }
@@ -50,7 +50,7 @@ impl TextLogHandle {
         if live { Some(parts.into_box()) } else { None }
     }
 
-    /// Puts a map into the handle. What it led to before is not freed.
+    /// Stores a map in the handle. One that the handle had is not freed.
     pub fn put(&mut self, map: Box<TextLog, Global>)
         ensures { self.new.slot.value ≡ Some map.value }
     {

@@ -1,4 +1,4 @@
-//! What the handle of a logged map from byte strings holds.
+//! The slot of a logged map from byte strings.
 ghost use Rattle.std.specs.Prelude.{◌≡◌, Option};
 ghost use Rattle.indexset_ffi.specs.Slots.{text_log_row};
 
@@ -23,7 +23,7 @@ impl Model for TextLogSlot {
 }
 
 impl TextLogSlot {
-    /// Returns the slot that these are the parts of.
+    /// Returns the slot of these parts.
     pub fn of_parts(parts: Parts<TextLog, Global>) -> TextLogSlot
         ensures { result.value ≡ parts.value }
     {

@@ -1,4 +1,4 @@
-//! The place of a map from byte strings's handle on the heap.
+//! The handle of a map from byte strings on the heap.
 ghost use Rattle.std.specs.Prelude.{◌≡◌, Option, Some, None, is_some, true};
 ghost use Rattle.indexset_ffi.specs.Owners.{text_handle_row};
 
@@ -24,7 +24,7 @@ impl Model for TextOwner {
 }
 
 impl TextOwner {
-    /// Returns the place that these are the parts of.
+    /// Returns the owner of these parts.
     pub fn of_parts(parts: Parts<TextHandle, Global>) -> TextOwner
         ensures { result.value ≡ parts.value }
     {
@@ -35,7 +35,7 @@ impl TextOwner {
         }
     }
 
-    /// Returns the parts of this place.
+    /// Returns the parts of this owner.
     pub fn into_parts(self) -> Parts<TextHandle, Global>
         ensures { result.value ≡ self.value }
     {
@@ -46,7 +46,7 @@ impl TextOwner {
         }
     }
 
-    /// Removes the handle and returns it.
+    /// Removes the handle, and returns it.
     pub fn take(&mut self, alloc: Global) -> Box<TextHandle, Global>
         requires { is_some self.old.value ≡ true }
         ensures taken { self.old.value ≡ Some result.value }
@@ -57,7 +57,7 @@ impl TextOwner {
             .into_box()
     }
 
-    /// Puts a handle in. What was there before is not freed.
+    /// Stores a handle. One that was stored before is not freed.
     pub fn put(&mut self, handle: Box<TextHandle, Global>)
         ensures { self.new.value ≡ Some handle.value }
     {

@@ -1,4 +1,4 @@
-//! What the handle of a map from byte strings holds.
+//! The slot of a map from byte strings.
 ghost use Rattle.std.specs.Prelude.{◌≡◌, Option};
 ghost use Rattle.indexset_ffi.specs.Text.{text_row};
 
@@ -11,11 +11,13 @@ use std::marker::Model;
 /// A map from byte strings to numbers.
 pub type TextMap = BTreeMap<Text, u64>;
 
-/// How many pairs a node of such a map holds at most: a quarter of the default, since an insertion
-/// and a removal move half a node's pairs, of 32 bytes each.
+/// The maximum number of pairs in a node of such a map.
+///
+/// It is a quarter of the default, because an insertion or a removal moves half of the pairs of a
+/// node, of 32 bytes each.
 pub const TEXT_NODE_SIZE: usize = 256;
 
-/// The pairs of a part of it.
+/// An iterator over some of its pairs.
 pub type TextRange<'a> = RangeMap<'a, Text, u64>;
 
 /// A map from byte strings on the heap, or none.
@@ -34,7 +36,7 @@ impl Model for TextSlot {
 }
 
 impl TextSlot {
-    /// Returns the slot that these are the parts of.
+    /// Returns the slot of these parts.
     pub fn of_parts(parts: Parts<TextMap, Global>) -> TextSlot
         ensures { result.value ≡ parts.value }
     {

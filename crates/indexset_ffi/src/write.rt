@@ -1,9 +1,9 @@
-//! What is written where C points, if there is anything to write.
+//! Writes results to variables and slices of C.
 ghost use Rattle.std.specs.Prelude.{◌≡◌, Some, None, true, false, length, min, replicate};
 ghost use Rattle.indexset_ffi.specs.Elements.{written};
 ghost use Rattle.indexset_ffi.specs.Text.{written_over};
 
-/// Writes an element, if any, and returns whether there was one.
+/// Writes an element, if there is one, and returns whether there is.
 pub fn write(found: Option<u64>, out: &mut u64) -> bool
     ensures found { result ≡ true → found ≡ Some out.new }
     ensures absent { result ≡ false → found ≡ None }
@@ -18,7 +18,7 @@ pub fn write(found: Option<u64>, out: &mut u64) -> bool
     }
 }
 
-/// Writes a pair, if any, and returns whether there was one.
+/// Writes a pair, if there is one, and returns whether there is.
 pub fn write_pair(found: Option<(u64, u64)>, key: &mut u64, value: &mut u64) -> bool
     ensures found { result ≡ true → found ≡ Some (key.new, value.new) }
     ensures absent { result ≡ false → found ≡ None }
@@ -35,7 +35,7 @@ pub fn write_pair(found: Option<(u64, u64)>, key: &mut u64, value: &mut u64) -> 
     }
 }
 
-/// Writes bytes into the first places, as far as there is room.
+/// Writes as many bytes as fit to the first elements of `out`.
 pub fn write_bytes(bytes: &[u8], out: &mut [u8])
     ensures { out.new ≡ written_over bytes.now out.old }
 {
@@ -43,8 +43,7 @@ pub fn write_bytes(bytes: &[u8], out: &mut [u8])
     out[..count].copy_from_slice(&bytes[..count]);
 }
 
-/// Writes the same answer to each of `asked` questions, as far as there is room, and returns how
-/// many those are.
+/// Writes the same answer `asked` times, or as often as fits, and returns how many it wrote.
 pub fn write_same<T: Copy>(asked: usize, answer: T, out: &mut [T]) -> usize
     ensures count { result ≡ min asked (length out.old) }
     ensures written { out.new ≡ written result (replicate asked answer) out.old }

@@ -1,4 +1,4 @@
--- Early events by their numbers, and one more among them.
+-- Early events in the order of their numbers, and insertion of another.
 use Rattle.std.proofs.Common.{◌≡◌, ◌⊎◌, inl, inr, ℕ, ◌+◌, ◌<◌, ◌≤◌, ◌==◌, Bool, true, false, cond, [], ◌∷◌, ◌++◌, refl, ap, sym, ◌∙◌, subst, arith}
 use borrow.Author.Tests.{ltb-false}
 use Rattle.std.proofs.lemmas.Bool.{eqb-false, eqb-true, ltb-true}
@@ -23,7 +23,7 @@ is_equal m n same = sym (nat_cmp_is m n Equal same)
 is_greater : (m n : ℕ) → n < m → nat_cmp m n ≡ Greater
 is_greater m n lt = sym (nat_cmp_is m n Greater lt)
 
--- either, or, or
+-- which of two numbers is less, or neither
 pub data Side (m n : ℕ) : Type 0 where
   lower : m < n → Side m n
   equals : m ≡ n → Side m n
@@ -38,12 +38,12 @@ side m n = at (nat_lt m n) refl (m == n) refl
     at false ge false eq = let ne = eqb-false m n eq in higher (omega (arith, ltb-false m n ge, ne))
 
 module _ {T : Type 0} where
-  -- the number is one of theirs
+  -- the number is that of an event in the list
   abbrev pub Among : ℕ → EarlyEvents T → Type 0
   Among n [] = ⊥
   Among n (p ∷ early) = (p.key ≡ n) ⊎ Among n early
 
-  -- ---- where an event goes
+  -- ---- the position of an event
 
   put_none : (m : ℕ) (e : Event T) → put_value nat_cmp [] m e ≡ pair m e ∷ []
   unfolding put_value put
@@ -93,7 +93,7 @@ module _ {T : Type 0} where
     ascend_weaker n m [] le h = tt
     ascend_weaker n m (p ∷ early) le h = (omega (arith, le, h.0), h.1, h.2)
 
-    -- the numbers are those that there were, and this one
+    -- inserting an event adds its number to the numbers
     pub among_put : (n m x : ℕ) (e : Event T) (early : EarlyEvents T) → AscendFrom Q n early → Among x (put_value nat_cmp early m e) → (m ≡ x) ⊎ Among x early
     among_put n m x e [] h a = elim (subst (Among x) (put_none m e) a) [ inl eq ↦ inl eq | inr none ↦ absurd none ]
     among_put n m x e (p ∷ early) h a =
@@ -118,7 +118,7 @@ module _ {T : Type 0} where
           | higher lt ↦ subst (Among x) (sym (put_before p early m e lt (omega arith, h.1, h.2))) (elim a [ inl eq ↦ inl eq | inr there ↦ inr there ])
         ]
 
-    -- none of them is below the first
+    -- no number is less than the first
     pub no_earlier : (n x : ℕ) (early : EarlyEvents T) → x < n → AscendFrom Q n early → Among x early → ⊥
     no_earlier n x [] lt h a = a
     no_earlier n x (p ∷ early) lt h a = elim a [ inl eq ↦ omega (arith, lt, h.0, eq) | inr on ↦ no_earlier (p.key + 1) x early (omega (arith, lt, h.0)) h.2 on ]

@@ -1,4 +1,4 @@
--- A read is answered alike in both roles, and changes nothing.
+-- A read has the same answer in both roles, and changes nothing.
 use Rattle.std.proofs.Common.{None, ◌≡◌, ℕ, false, refl, arith}
 use lib.Chars.{codes}
 use Rattle.indexset_follow.specs.EventLine.{event_of}
@@ -20,7 +20,7 @@ use Rattle.std.specs.declared.cmp.Ordering.{Ordering}
 use Rattle.indexset_bench.specs.Texts.{AreWords, Texts}
 
 module _ {T : Type 0} (texts : Texts T) where
-  -- the line of a read is no event
+  -- the line of a read is not an event
   no_event : (q : Query T) → event_of texts (query_line texts q) ≡ None
   no_event (Get k) = rw (query_cut texts (Get k), no_number 103 (codes "et") (omega arith)) refl
   no_event Len = refl
@@ -37,7 +37,7 @@ module _ {T : Type 0} (texts : Texts T) where
   no_event Sum = refl
   no_event Compact = refl
 
-  -- nor is it a node
+  -- it is not a node
   no_node : (q : Query T) → node_of texts (query_line texts q) ≡ None
   no_node (Get k) = rw (query_cut texts (Get k)) refl
   no_node Len = refl
@@ -54,7 +54,7 @@ module _ {T : Type 0} (texts : Texts T) where
   no_node Sum = refl
   no_node Compact = refl
 
-  -- nor does it begin or end a snapshot
+  -- it is not a line of a snapshot or a `done` line
   no_mark : (q : Query T) → mark_of (query_line texts q) ≡ None
   no_mark (Get k) = rw (query_cut texts (Get k)) refl
   no_mark Len = refl
@@ -71,7 +71,7 @@ module _ {T : Type 0} (texts : Texts T) where
   no_mark Sum = refl
   no_mark Compact = refl
 
-  -- nor does it make a follower lead
+  -- it is not `lead`
   no_lead : (q : Query T) → is_lead (query_line texts q) ≡ false
   no_lead (Get k) = refl
   no_lead Len = refl
@@ -88,7 +88,7 @@ module _ {T : Type 0} (texts : Texts T) where
   no_lead Sum = refl
   no_lead Compact = refl
 
-  -- nor a leader follow
+  -- it is not `follow`
   no_follow : (q : Query T) → is_follow (query_line texts q) ≡ false
   no_follow (Get k) = refl
   no_follow Len = refl

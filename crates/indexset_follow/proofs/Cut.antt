@@ -1,4 +1,4 @@
--- A last line that lacks its end changes nothing.
+-- A last line without a line end changes nothing.
 use Rattle.std.proofs.Common.{◌≡◌, ◌≢◌, ℕ, ◌<◌, Bool, List, [], ◌∷◌, ◌++◌, length, map, refl, sym, ap, ◌∙◌, arith, append-nil}
 use Rattle.std.proofs.lemmas.List.Elements.{All-nil}
 use Rattle.indexset_lines.specs.Lines.{HasNoEnd, IsWhole, lines_of}
@@ -11,7 +11,7 @@ use Rattle.std.specs.declared.cmp.Ordering.{Ordering}
 use Rattle.indexset_bench.specs.Texts.{Texts}
 
 module _ {T : Type 0} (cmp : T → T → Ordering) (texts : Texts T) where
-  -- the lines of the input, one after another, are these lines without the bytes 13
+  -- reading the lines of the input has the effect of these lines without the bytes 13
   lines_held : (h : Held T) (lines : List (List ℕ)) → left_by (after_input cmp texts) h lines ≡ held_after cmp texts h (map without_return lines)
   unfolding left_by
   lines_held h [] = refl

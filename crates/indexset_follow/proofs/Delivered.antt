@@ -1,4 +1,4 @@
--- A follower of lines that the first program wrote.
+-- A follower that reads lines of the first program.
 use Rattle.std.proofs.Common.{Option, None, Some, ◌≡◌, inl, ℕ, zero, suc, ◌<◌, ◌≤◌, ◌^◌, cond, List, [], ◌∷◌, length, map, get_or, slice_get, take, is_some, refl, ap, sym, ◌∙◌, subst}
 use Rattle.std.proofs.lemmas.Option.{slice_get-get_or}
 use Rattle.std.specs.List.{All}
@@ -34,9 +34,9 @@ all_came (x ∷ xs) = inl (refl, all_came xs)
 all_among : (ls : List (List ℕ)) → All (IsAmong ls) ls
 all_among ls k d lt = record { place = k; at = slice_get-get_or ls k d lt }
 
--- ---- lines that tell events
+-- ---- lines that are events
 
--- they are the texts of these events
+-- the lines that are events are the texts of these events
 texts_told : (ls : List (List ℕ)) → event_lines ls ≡ map (event_text number_texts) (events_in ls)
 texts_told [] = refl
 texts_told (l ∷ ls) = at (event_of number_texts l) (λ e told. (event_sound number_texts number_words l e told).0) (texts_told ls)
@@ -46,7 +46,7 @@ texts_told (l ∷ ls) = at (event_of number_texts l) (λ e told. (event_sound nu
     at None text rest = rest
     at (Some e) text rest = λ i. text e refl i ∷ rest i
 
--- the event of a line is one of them
+-- the event of a line is an element of the events
 event_at : (ls : List (List ℕ)) (p : ℕ) (l : List ℕ) (e : Event ℕ) → slice_get ls p ≡ Some l → event_of number_texts l ≡ Some e → (q : ℕ) × (slice_get (events_in ls) q ≡ Some e)
 event_at [] p l e at told = none_some l at
 event_at (x ∷ ls) zero l e at told =
@@ -58,7 +58,7 @@ event_at (x ∷ ls) (suc p) l e at told = behind (event_of number_texts x) (even
     behind None found = found
     behind (Some f) found = (suc found.0, found.1)
 
--- a line that tells one is among those that do
+-- a line that is an event is an element of the lines that are events
 among_told : (ls : List (List ℕ)) (i : ℕ) (l : List ℕ) (e : Event ℕ) → slice_get ls i ≡ Some l → event_of number_texts l ≡ Some e → IsAmong (event_lines ls) l
 among_told [] i l e at told = none_some l at
 among_told (x ∷ ls) zero l e at told =
@@ -75,7 +75,7 @@ text_at [] p e at = none_some e at
 text_at (f ∷ es) zero e at = ap (λ g. Some (event_text number_texts g)) (some_inj f e at)
 text_at (f ∷ es) (suc p) e at = text_at es p e at
 
--- what holds of the lines that tell events holds of these alone
+-- a property of each line that is an event holds for each of the filtered lines
 each_told : (Q : List ℕ → Type 0) (ls : List (List ℕ)) → Each (λ l. (e : Event ℕ) → event_of number_texts l ≡ Some e → Q l) ls → Each Q (event_lines ls)
 each_told Q [] h = tt
 each_told Q (l ∷ ls) h = at (event_of number_texts l) h.0 (each_told Q ls h.1)
@@ -95,7 +95,7 @@ only_told r (l ∷ ls) h = at (event_of number_texts l) (λ none. h.0 none r) (o
     at None still same made = ap (λ q. state_after nat_cmp number_texts q ls) (still refl) ∙ same
     at (Some e) still same made = made
 
--- and what is within the window is so without them
+-- lines that are within the window are so without other lines
 only_within : (r : State ℕ) (ls : List (List ℕ)) → Each Known ls → AreWithin nat_cmp number_texts r ls → AreWithin nat_cmp number_texts r (event_lines ls)
 only_within r [] h within = tt
 only_within r (l ∷ ls) h within = at (event_of number_texts l) (λ none. h.0 none r) (only_within r ls h.1) (within.0, only_within (after_line nat_cmp number_texts r l) ls h.1 within.1)
@@ -104,7 +104,7 @@ only_within r (l ∷ ls) h within = at (event_of number_texts l) (λ none. h.0 n
     at None still same made = same (subst (λ q. AreWithin nat_cmp number_texts q ls) (still refl) within.1)
     at (Some e) still same made = made
 
--- ---- what is delivered
+-- ---- delivered lines
 
 module _ (lines : List (List ℕ)) (many : length lines < 2 ^ 64) (less : (stores_of no_stores lines).pairs.next < 2 ^ 64) where
   pub output_texts : event_lines (output_lines lines) ≡ map (event_text number_texts) (events_of_lines lines)

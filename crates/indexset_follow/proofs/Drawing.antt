@@ -1,4 +1,4 @@
--- A follower of lines that are drawn from events holds what a beginning of the events leads to.
+-- A follower of lines that are texts of events has the nodes after a prefix of the events.
 use Rattle.std.proofs.Common.{◌≡◌, ◌==◌, inl, inr, ℕ, zero, suc, ◌+◌, ◌-◌, ◌<◌, ◌≤◌, Bool, true, false, if◌then◌else◌, List, [], ◌∷◌, length, map, get_or, slice_get, drop, Some, refl, ap, sym, ◌∙◌, subst, arith}
 use Rattle.std.proofs.lemmas.Bool.{eqb-false, eqb-true, ltb-false, ltb-true}
 use Rattle.std.specs.Prelude.{nat_lt}
@@ -74,13 +74,13 @@ module _ {T : Type 0} (cmp : T → T → Ordering) (texts : Texts T) (spelled : 
     abbrev texts_from : ℕ → List (List ℕ)
     texts_from j = map (event_text texts) (drop j es)
 
-    -- no two events have one text
+    -- two events with the same text have the same place
     pub same_place : (p j : ℕ) (e f : Event T) → slice_get es p ≡ Some e → slice_get es j ≡ Some f → event_text texts f ≡ event_text texts e → p ≡ j
     same_place p j e f first second text =
         let same : f ≡ e = some_inj f e (sym (event_told texts spelled f (fits_at j f second)) ∙ ap (event_of texts) text ∙ event_told texts spelled e (fits_at p e first)) in
         omega (arith, number_at cmp s ns es feed p e first, number_at cmp s ns es feed j f second, ap event_number same)
 
-    -- what is to come behind a line that came
+    -- the texts that are still to come after a line that came
     came_on : (j p : ℕ) (e : Event T) (ls : List (List ℕ)) → slice_get es p ≡ Some e → IsSubsequence (texts_from j) (event_text texts e ∷ ls) → (b : Bool) → (p == j) ≡ b → IsSubsequence (texts_from (if b then j + 1 else j)) ls
     came_on j p e ls told came b here = at (nat_lt j (length es)) refl b here
       where
@@ -117,7 +117,7 @@ module _ {T : Type 0} (cmp : T → T → Ordering) (texts : Texts T) (spelled : 
     came_from : (j k : ℕ) (e : Event T) (ls : List (List ℕ)) → j ≤ k → IsSubsequence (texts_from j) ls → IsSubsequence (texts_from k) ls
     came_from j k e ls le came = let same : j + (k - j) ≡ k = omega (arith, le) in subst (λ i. IsSubsequence (texts_from i) ls) same (later_came (k - j) j e ls came)
 
-    -- what is to come behind a line that was taken, or is early
+    -- the texts that are still to come after an event that was applied or is held early
     on_came : (j : ℕ) (r : State T) (l : List ℕ) (ls : List (List ℕ)) (d : IsDrawn texts es l) (on : Onward cmp s ns es feed j d.place r (after_line cmp texts r l)) → IsSubsequence (texts_from j) (l ∷ ls) → IsSubsequence (texts_from on.place) ls
     on_came j r l ls d on came = by (d.place == j) refl
       where

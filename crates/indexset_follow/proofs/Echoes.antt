@@ -1,4 +1,4 @@
--- The numbers in a command that a line gives are of 64 bits, whether it has a number before it or none.
+-- The numbers of a command have at most 64 bits, with or without a command number.
 use Rattle.std.proofs.Common.{Option, None, Some, ◌≡◌, ℕ, List, refl, subst, ◌∙◌}
 use Rattle.std.specs.Option.{option_and_then, option_map, option_map_or}
 use Rattle.indexset_bench.specs.PairCommand.{CommandFits, pair_meaning}

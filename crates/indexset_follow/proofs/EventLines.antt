@@ -1,4 +1,4 @@
--- A line tells the event of which it is the text, and no other.
+-- A line is an event if and only if it is the text of that event.
 use Rattle.std.proofs.Common.{Option, None, Some, ◌≡◌, ℕ, ◌<◌, ◌^◌, Bool, true, false, cond, List, [], ◌∷◌, ◌++◌, refl, sym, ap, subst, ◌∙◌, arith, append_assoc}
 use lib.Chars.{codes}
 use Rattle.std.proofs.lemmas.Slice.Eq.{bytes_eq-Decides}
@@ -15,14 +15,14 @@ use Rattle.indexset_bench.specs.Texts.{AreWords, PairFits, Texts, pair_of}
 use Rattle.indexset_events.specs.Spelling.Laws.{Lacks, cut_sound, cut_told, lacks_tested, map_some, none_some, number_lacks, number_sound, number_told, some_inj, then_some}
 use Rattle.indexset_follow.proofs.Readings.{pair_lacks, pair_sound, pair_told, space_apart}
 
--- ---- the texts, by their words
+-- ---- the texts of events
 
--- a number, a word and the rest, with spaces between
+-- a number, a word and the rest, separated by spaces
 abbrev line_of : Id → List ℕ → List ℕ → List ℕ
 line_of id word rest = decimal id.0 ++ 32 ∷ (word ++ 32 ∷ rest)
 
 module _ {T : Type 0} (texts : Texts T) where
-  -- a name, and what stands behind it
+  -- the maximum of the node, and the text after it
   abbrev named : Pair T T → List ℕ → List ℕ
   named p rest = pair_text texts p ++ 32 ∷ rest
 
@@ -32,11 +32,11 @@ module _ {T : Type 0} (texts : Texts T) where
   drop_line : (id : Id) (max : Pair T T) → event_text texts (RemoveNode id max) ≡ line_of id (codes "drop") (pair_text texts max)
   drop_line id max = append_assoc (decimal id.0) (codes " drop ") (pair_text texts max)
 
--- what stands behind a head, a space and the rest
+-- the text after the first fields of an event
 behind : (d w p rest : List ℕ) → ((d ++ w) ++ p) ++ (32 ∷ []) ++ rest ≡ d ++ (w ++ (p ++ 32 ∷ rest))
 behind d w p rest = append_assoc ((d ++ w) ++ p) (32 ∷ []) rest ∙ append_assoc (d ++ w) p (32 ∷ rest) ∙ append_assoc d w (p ++ 32 ∷ rest)
 
--- the same, where the rest is in two parts
+-- the same, where the rest has two parts
 behind_two : (d w p q rest : List ℕ) → ((d ++ w) ++ p) ++ (32 ∷ []) ++ q ++ (32 ∷ []) ++ rest ≡ d ++ (w ++ (p ++ 32 ∷ (q ++ 32 ∷ rest)))
 behind_two d w p q rest =
     append_assoc (((d ++ w) ++ p) ++ (32 ∷ []) ++ q) (32 ∷ []) rest ∙ append_assoc (((d ++ w) ++ p) ++ (32 ∷ [])) q (32 ∷ rest) ∙ behind d w p (q ++ 32 ∷ rest)
@@ -55,7 +55,7 @@ module _ {T : Type 0} (texts : Texts T) where
   merge_line id max next = behind (decimal id.0) (codes " merge ") (pair_text texts max) (pair_text texts next)
 
 module _ {T : Type 0} (texts : Texts T) (spelled : AreWords texts) where
-  -- ---- what is spelled is read
+  -- ---- reading the text of an event
 
   module _ (id : Id) (small : id.0 < 2 ^ 64) where
     line_told : (word rest : List ℕ) → Lacks 32 word → event_of texts (line_of id word rest) ≡ word_event texts id word rest
@@ -71,7 +71,7 @@ module _ {T : Type 0} (texts : Texts T) (spelled : AreWords texts) where
       drop_told : word_event texts id (codes "drop") (pair_text texts max) ≡ Some (RemoveNode id max)
       drop_told = ap (option_map (RemoveNode id)) (pair_told texts spelled max fit)
 
-      -- what stands behind the name is cut off
+      -- the text is split after the maximum of the node
       name_cut : (f : List ℕ → Pair T T → Option (Event T)) (rest : List ℕ) → option_and_then (λ cut. option_and_then (f cut.1) (pair_of texts cut.0)) (cut_at 32 (named texts max rest)) ≡ f rest max
       name_cut f rest =
           let cut : cut_at 32 (named texts max rest) ≡ Some (pair_text texts max, rest) = cut_told 32 (pair_text texts max) rest (pair_lacks texts 32 (space_apart texts spelled) max fit) in
@@ -83,7 +83,7 @@ module _ {T : Type 0} (texts : Texts T) (spelled : AreWords texts) where
       merge_told : (next : Pair T T) → PairFits texts next → word_event texts id (codes "merge") (named texts max (pair_text texts next)) ≡ Some (MergeNodes id max next)
       merge_told next fits = name_cut (λ rest m. named_event texts id (codes "merge") m rest) (pair_text texts next) ∙ ap (option_map (MergeNodes id max)) (pair_told texts spelled next fits)
 
-  -- an item and an index are cut apart
+  -- an item and an index are split
   placed_cut : (f : Pair T T → ℕ → Option (Event T)) (p : Pair T T) (i : ℕ) → PairFits texts p → i < 2 ^ 64
       → option_and_then (λ cut. option_and_then (λ q. option_and_then (f q) (number_of cut.1)) (pair_of texts cut.0)) (cut_at 32 (named texts p (decimal i))) ≡ f p i
   placed_cut f p i fit less =
@@ -113,7 +113,7 @@ module _ {T : Type 0} (texts : Texts T) (spelled : AreWords texts) where
       ap (event_of texts) (merge_line texts id max next) ∙ line_told id h.0 (codes "merge") (named texts max (pair_text texts next)) (lacks_tested 32 (codes "merge") refl) ∙ merge_told id h.0 max h.1 next h.2
 
 module _ {T : Type 0} (texts : Texts T) where
-  -- ---- what is read is spelled
+  -- ---- the text of an event that was read
 
   -- the text is that of the event
   abbrev Spells : List ℕ → Event T → Type 0
@@ -124,7 +124,7 @@ same word text e = (bytes_eq-Decides word text).0 e
 
 module _ {T : Type 0} (texts : Texts T) (spelled : AreWords texts) where
   module _ (id : Id) (small : id.0 < 2 ^ 64) (word : List ℕ) where
-    -- the event of what stands behind a name, and of what stands behind the word
+    -- the event from the text after the maximum of the node, and from the text after the word
     abbrev item_event : Pair T T → List ℕ × List ℕ → Option (Event T)
     item_event max cut = option_and_then (λ p. option_and_then (placed_event texts id word max p) (number_of cut.1)) (pair_of texts cut.0)
 

@@ -1,4 +1,5 @@
--- The numbers in the events of a put and of a removal are of 64 bits, where those of the map are.
+-- The numbers in the events of a put and of a removal have at most 64 bits if those of the map
+-- have.
 use Rattle.std.proofs.Common.{Option, None, Some, ◌≡◌, ℕ, zero, suc, ◌+◌, ◌-◌, ◌/◌, ◌==◌, ◌<◌, ◌≤◌, ◌^◌, Bool, true, false, cond, List, [], ◌∷◌, length, get_or, set, remove, take, drop, Ordering, sym, ap, ◌∙◌, subst, arith, length-append}
 use Rattle.std.proofs.lemmas.List.{take-append-drop}
 use Rattle.std.proofs.lemmas.List.Sums.{count_by-le-length}
@@ -76,7 +77,7 @@ half_length true false xs = omega (arith, parts_length)
 module _ {T : Type 0} (texts : Texts T) where
   -- ---- events
 
-  -- the numbers of an event without a number are of 64 bits
+  -- the numbers of an event without a number have at most 64 bits
   abbrev pub PlainFits : ChangeEventUnassigned (Pair T T) → Type 0
   PlainFits (CreateNode max) = PairFits texts max
   PlainFits (RemoveNode max) = PairFits texts max
@@ -85,7 +86,7 @@ module _ {T : Type 0} (texts : Texts T) where
   PlainFits (SplitNode max k) = PairFits texts max × (k < 2 ^ 64)
   PlainFits (MergeNodes max next) = PairFits texts max × PairFits texts next
 
-  -- the pairs of a node fit, and their places
+  -- the pairs of a node are in range, and its length has at most 64 bits
   abbrev Fit : List (Pair T T) → Type 0
   Fit n = (length n < 2 ^ 64) × Each (PairFits texts) n
 
@@ -148,7 +149,7 @@ module _ {T : Type 0} (cmp : T → T → Ordering) (texts : Texts T) where
           at true = target_fit v new size (node_at ns (target (order cmp) ns v)) (at_fit ns (target (order cmp) ns v) small held)
           at false = (new, tt)
 
-      -- what is left once an item is gone
+      -- the nodes after an item is removed
       left_fit : (k i : ℕ) → Each (Each (PairFits texts)) (item_removed ns k i)
       left_fit k i = at (length (node_at ns k) == 1)
         where

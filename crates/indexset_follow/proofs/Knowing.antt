@@ -1,4 +1,4 @@
--- What a follower holds as done was done by events that it took.
+-- The events of the commands up to a follower's greatest command number were applied.
 use Rattle.std.proofs.Common.{Option, None, Some, ◌≡◌, ◌≢◌, ℕ, zero, suc, ◌≤◌, Bool, true, false, if◌then◌else◌, List, [], ◌∷◌, take, max, refl, sym, subst, arith}
 use Rattle.std.proofs.Math.Nat.{le-max_left, max-eq_left, max-eq_right}
 use Rattle.std.proofs.lemmas.Bool.{leb-false, leb-true, ltb-false}
@@ -26,7 +26,7 @@ use Rattle.indexset_bench.specs.Texts.{Texts}
 
 -- ---- the greatest number
 
--- it does not fall
+-- it never decreases
 number_kept : (d : ℕ) (o : Option ℕ) → d ≤ option_map_or (max d) o d
 number_kept d None = omega arith
 number_kept d (Some n) = le-max_left d n
@@ -45,7 +45,7 @@ module _ {T : Type 0} (texts : Texts T) where
   all_kept d [] = omega arith
   all_kept d (line ∷ lines) = omega (arith, one_kept d line, all_kept (done_after texts d line) lines)
 
-  -- a beginning of the lines has no greater one
+  -- a prefix of the lines has no greater one
   pub beginning_less : (k d : ℕ) (lines : List (List ℕ)) → done_of texts d (take k lines) ≤ done_of texts d lines
   unfolding left_by
   beginning_less zero d lines = all_kept d lines
@@ -59,7 +59,7 @@ module _ {T : Type 0} (cmp : T → T → Ordering) (texts : Texts T) where
     abbrev Knows : State T → Type 0
     Knows = KnowsDone cmp texts size lines
 
-    -- more events were taken
+    -- further events were applied
     further : (s after : State T) → after.done ≡ s.done → s.held.next ≤ after.held.next → Knows s → Knows after
     further s after same more known = record {
       place = known.place;
@@ -68,7 +68,7 @@ module _ {T : Type 0} (cmp : T → T → Ordering) (texts : Texts T) where
       taken = omega (arith, more, known.taken);
     }
 
-    -- the greater of two such numbers is one
+    -- the greater of two such numbers is such a number
     greater : (s : State T) (d n : ℕ) → (k : ℕ) × IsDoneBy cmp texts size lines k d n → n ≤ s.held.next → Knows s → Knows (with_done s d)
     greater s d n told near known = at (nat_le d s.done) refl
       where

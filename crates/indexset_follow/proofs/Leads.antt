@@ -1,4 +1,4 @@
--- The events that a leader tells lead from no nodes to its nodes, and a follower that holds them takes over.
+-- Replaying the events of a leader gives its nodes, and a follower that applied them can take over.
 use Rattle.std.proofs.Common.{Option, None, Some, ◌≡◌, ℕ, ◌<◌, ◌≤◌, ◌^◌, Bool, true, false, ◌&&◌, ◌||◌, not, cond, List, [], ◌∷◌, ◌++◌, length, refl, ap, sym, ◌∙◌, subst, arith}
 use lib.Chars.{codes}
 use Rattle.std.proofs.lemmas.List.{take_all}
@@ -57,7 +57,7 @@ module _ {T : Type 0} (cmp : T → T → Ordering) (texts : Texts T) (total : Is
       both_onward cmp texts t (after_leading cmp texts t line) (tree_of cmp texts (after_leading cmp texts t line) lines) (leading_events cmp texts t line) (events_led cmp texts (after_leading cmp texts t line) lines) first (lines_led (after_leading cmp texts t line) first.good lines)
 
 module _ {T : Type 0} (cmp : T → T → Ordering) (texts : Texts T) where
-  -- a line leaves the node size
+  -- a line does not change the node size
   size_kept : (t : PairTree T) (line : List ℕ) → (after_leading cmp texts t line).size ≡ t.size
   size_kept t line = at (query_of texts line) (command_of texts line)
     where
@@ -82,12 +82,12 @@ module _ {T : Type 0} (cmp : T → T → Ordering) (texts : Texts T) (total : Is
 module _ {T : Type 0} (cmp : T → T → Ordering) (texts : Texts T) where
   -- ---- the roles
 
-  -- a leader that is told to lead goes on
+  -- a leader that receives `lead` stays the same
   word_still : (l : Leader T) (line : List ℕ) → line ≡ codes "lead" → l ≡ leader_after cmp texts l line
   unfolding pair_meaning
   word_still l line is = subst (λ text. l ≡ leader_after cmp texts l text) (sym is) refl
 
--- the line leaves a leader one
+-- a leader that reads the line stays a leader
 abbrev stays : List ℕ → Type 0
 stays line = (starts line || is_follow line) ≡ false
 
@@ -120,7 +120,7 @@ module _ {T : Type 0} (cmp : T → T → Ordering) (texts : Texts T) where
     unfolding replies_to
     answers_on v lines = λ i. told_so i ++ held_replies cmp texts v (takes_over i) lines
 
-  -- and so the leader of which it holds the nodes and the greatest number of a command
+  -- and so the leader that has its nodes and its greatest command number
   module _ (w : ℕ) (l : Leader T) (s : State T) (holds : s.held ≡ copy l.pairs.nodes l.pairs.next) (knows : s.done ≡ l.done) (fits : nodes_refusal (by_key cmp) l.pairs.size l.pairs.nodes ≡ None) where
     fit_held : nodes_refusal (by_key cmp) l.pairs.size s.held.nodes ≡ None
     fit_held = subst (λ c. nodes_refusal (by_key cmp) l.pairs.size c.nodes ≡ None) (sym holds) fits
@@ -135,7 +135,7 @@ module _ {T : Type 0} (cmp : T → T → Ordering) (texts : Texts T) where
     answers_as v lines = answers_on l.pairs.size w s fit_held v lines ∙ (λ i. reply_ended (reply.Next (holds i).next) ++ held_replies cmp texts v (held l.pairs.size w (role.Leading (same_leader i))) lines)
 
 module _ {T : Type 0} (cmp : T → T → Ordering) (texts : Texts T) (total : IsTotalOrder cmp) (spelled : AreWords texts) where
-  -- a follower that holds what all events of a leader lead to, and its greatest number of a command
+  -- a follower that applied all events of a leader and has its greatest command number
   module _ (size : ℕ) (two : 2 ≤ size) (few : size < 2 ^ 64) (lines : List (List ℕ)) (s : State T) (holds : HoldsFirst cmp 0 [] (events_led cmp texts (fresh size) lines) (length (events_led cmp texts (fresh size) lines)) s) (knows : s.done ≡ done_of texts 0 lines) where
     abbrev tree : PairTree T
     tree = tree_of cmp texts (fresh size) lines

@@ -1,4 +1,4 @@
--- A line gives the mark of which it is the text, and no other.
+-- A line is a mark if and only if it is the text of that mark.
 use Rattle.std.proofs.Common.{Option, None, Some, IfSome, ◌≡◌, ℕ, ◌<◌, ◌^◌, ◌==◌, Bool, true, false, cond, List, [], ◌∷◌, ◌++◌, refl, ap, sym, subst, ◌∙◌, arith, append-nil}
 use lib.Chars.{codes}
 use Rattle.std.proofs.lemmas.Bool.{eqb-true}
@@ -14,7 +14,7 @@ use Rattle.indexset_follow.specs.declared.mark.Mark.TheVariants.{Start, End, Don
 use Rattle.indexset_follow.proofs.Passing.{uncut}
 use Rattle.indexset_follow.proofs.QueryLines.{same, two_sound, two_told}
 
--- two numbers are not one
+-- the text of two numbers is not that of one
 two_apart : (a b : ℕ) → a < 2 ^ 64 → number_of (decimal a ++ 32 ∷ decimal b) ≡ None
 two_apart a b small = at (number_of (decimal a ++ 32 ∷ decimal b)) refl
   where

@@ -1,4 +1,4 @@
--- Early events are no more than the window.
+-- The early events are at most as many as the window.
 use Rattle.std.proofs.Common.{◌≡◌, ℕ, ◌+◌, ◌≤◌, ◌==◌, Bool, true, false, if◌then◌else◌, List, [], ◌∷◌, length, Option, None, Some, option_map, refl, sym, subst, arith}
 use Rattle.std.below.core.specs.declared.int.u64.TheConstants.{MAX}
 use Rattle.std.proofs.lemmas.Bool.{eqb-false, eqb-true, leb-true, ltb-false}
@@ -40,7 +40,7 @@ module _ {T : Type 0} where
   few n m (p ∷ early) le h = let rest = few (p.key + 1) m early (omega (arith, h.1)) h.2 in omega (arith, h.0, rest)
 
 module _ {T : Type 0} (cmp : T → T → Ordering) where
-  -- an event is awaited at most once
+  -- an applied event increases the awaited number by one, another event leaves it
   next_after : (c : Copy T) (e : Event T) → (c.next ≤ (copy_after cmp c e).next) × ((copy_after cmp c e).next ≤ c.next + 1)
   unfolding delivered
   next_after c e = at (event_number e == c.next) (c.next == MAX) (step (by_key cmp) c.nodes e)
@@ -54,7 +54,7 @@ module _ {T : Type 0} (cmp : T → T → Ordering) where
       at false d o = (omega arith, omega arith)
 
 module _ {T : Type 0} where
-  -- what is early behind what was taken
+  -- the early events after those that were applied
   record Behind (n m : ℕ) (t : Taken T) : Type 0 where
     on : n ≤ t.held.next
     between : Between (t.held.next + 1) m t.early
@@ -74,7 +74,7 @@ module _ {T : Type 0} (cmp : T → T → Ordering) where
       by true is (Some cause) more = record { on = omega arith; between = ascend_weaker (λ q. q.key ≤ m) (p.key + 1) (c.next + 1) early (omega (arith, eqb-true p.key c.next is)) h.2 }
       by false other o more = record { on = omega arith; between = (let ne = eqb-false p.key c.next other in omega (arith, h.0, ne), h.1, h.2) }
 
-  -- the awaited number does not fall
+  -- the awaited number never decreases
   caught_on : (c : Copy T) (early : EarlyEvents T) → c.next ≤ (caught_up cmp c early).held.next
   unfolding caught_up
   caught_on c [] = omega arith

@@ -1,4 +1,4 @@
--- Without a window a follower takes the awaited event alone.
+-- A follower without a window applies only the awaited event.
 use Rattle.std.proofs.Common.{◌≡◌, ◌≢◌, ◌+◌, ◌<◌, ◌==◌, Bool, true, false, if◌then◌else◌, List, [], ◌∷◌, Option, None, Some, option_map, refl, ap, sym, ◌∙◌, arith}
 use Rattle.std.below.core.specs.declared.int.u64.TheConstants.{MAX}
 use Rattle.std.proofs.lemmas.Bool.{eq-eqb, eqb-false, le-ltb, lt-leb, lt-ltb, ne_eqb}
@@ -37,13 +37,13 @@ module _ {T : Type 0} (cmp : T → T → Ordering) where
           let none = misfit_refused (by_key cmp) c.nodes c.next e here (eqb-false c.next MAX more) ∙ step_fits (by_key cmp) c.nodes (unassigned e) after made in
           absurd (none_some_apart (apply_refusal (by_key cmp) c.nodes c.next e) cause none refused)
 
-  -- any other changes nothing
+  -- another event changes nothing
   other_unchanged : (c : Copy T) (e : Event T) → event_number e ≢ c.next → c ≡ copy_after cmp c e
   unfolding delivered
   other_unchanged c e other = rw (ne_eqb (event_number e) c.next other) refl
 
   module _ (r : State T) (e : Event T) where
-    -- the awaited event alone
+    -- the case of the awaited event
     module _ (here : event_number e ≡ r.held.next) (none : r.early ≡ []) where
       awaited : event_taken cmp r e ≡ caught_up cmp r.held (pair (event_number e) e ∷ [])
       awaited =

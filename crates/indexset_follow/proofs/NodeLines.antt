@@ -1,4 +1,4 @@
--- A line gives the node of which it is the text, and no other.
+-- A line is a node if and only if it is the text of that node.
 use Rattle.std.proofs.Common.{Option, None, Some, ◌≡◌, ◌≢◌, ℕ, ◌+◌, ◌<◌, Bool, true, false, cond, if◌then◌else◌, eqb, take, drop, get_or, List, [], ◌∷◌, ◌++◌, length, map, refl, sym, ap, subst, ◌∙◌, arith, append_assoc}
 use lib.Chars.{codes}
 use Rattle.std.specs.Prelude.{nat_lt}
@@ -21,11 +21,11 @@ use Rattle.indexset_follow.proofs.Readings.{pair_lacks, pair_sound, pair_told, s
 
 -- ---- words
 
--- the place of the first space, and the length where there is none
+-- the index of the first space, or the length if there is none
 abbrev spot : List ℕ → ℕ
 spot text = position_or_len (λ x. eqb x 32) text
 
--- a text that is cut has its front as its first word
+-- a text with a space: its first word is the part before it
 pub cut_words : (text a b : List ℕ) → cut_at 32 text ≡ Some (a, b) → words text ≡ a ∷ words b
 cut_words text a b e = at (nat_lt (spot text) (length text)) refl e
   where
@@ -42,7 +42,7 @@ lacking_words text lacks = slice_split_none (λ x. eqb x 32) text (none text lac
     none [] lacks = All-nil (λ x. eqb x 32 ≡ false)
     none (x ∷ xs) lacks = All-cons (λ y. eqb y 32 ≡ false) x xs (ne_eqb x 32 (All-head (λ y. y ≢ 32) x xs lacks)) (none xs (All-tail (λ y. y ≢ 32) x xs lacks))
 
--- a text that is not cut is one word
+-- a text without a space is one word
 pub uncut_words : (text : List ℕ) → cut_at 32 text ≡ None → words text ≡ text ∷ []
 uncut_words text e = at (nat_lt (spot text) (length text)) refl e
   where
@@ -69,7 +69,7 @@ module _ {T : Type 0} (texts : Texts T) where
   pairs_last word p e = rw e refl
 
 module _ {T : Type 0} where
-  -- one more pair was read
+  -- another pair was read
   pub pairs_more : (ps : List (Pair T T)) (p : Pair T T) (o : Option (List (Pair T T))) → option_map (λ qs. ps ++ qs) (option_map (λ qs. p ∷ qs) o) ≡ option_map (λ qs. (ps ++ p ∷ []) ++ qs) o
   pairs_more ps p None = refl
   pairs_more ps p (Some qs) = ap Some (sym (append_assoc ps (p ∷ []) qs))

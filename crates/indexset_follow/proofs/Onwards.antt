@@ -1,4 +1,4 @@
--- The events of a command lead from the nodes before it to those after it.
+-- Replaying the events of a command on the nodes before it gives those after it.
 use Rattle.std.proofs.Common.{Some, ◌≡◌, ℕ, ◌+◌, ◌<◌, ◌≤◌, ◌^◌, List, [], ◌∷◌, ◌++◌, length, option_and_then, Ordering, refl, ap, sym, ◌∙◌, subst, arith, length-append}
 use Rattle.std.below.core.specs.declared.int.u64.TheConstants.{MAX}
 use Rattle.std.specs.Prelude.{unwrap_or}
@@ -27,7 +27,7 @@ module _ {T : Type 0} (cmp : T → T → Ordering) where
 module _ {T : Type 0} (texts : Texts T) where
   -- ---- numbers
 
-  -- events fit once they have numbers that do
+  -- events are in range if their numbers are
   numbered_fit : (s : ℕ) (es : List (ChangeEventUnassigned (Pair T T))) → s + length es ≤ MAX → Each (PlainFits texts) es → Each (EventFits texts) (numbered_from s es)
   numbered_fit s [] less h = tt
   numbered_fit s (InsertAt m v i ∷ es) less h = ((omega (arith, less), h.0.0, h.0.1, h.0.2), numbered_fit (s + 1) es (omega (arith, less)) h.1)
@@ -40,14 +40,15 @@ module _ {T : Type 0} (texts : Texts T) where
 module _ {T : Type 0} (cmp : T → T → Ordering) (texts : Texts T) where
   -- ---- a command
 
-  -- the map's nodes are lawful, and its numbers are of 64 bits
+  -- the nodes of the map are lawful, and its numbers have at most 64 bits
   pub record Good (t : PairTree T) : Type 0 where
     pub two : 2 ≤ t.size
     pub few : t.size < 2 ^ 64
     pub lawful : IsLawful (order cmp) t.size t.nodes
     pub held : Each (PairFits texts) (concat t.nodes)
 
-  -- the events lead from what is held to what is held after them, which has the number after theirs
+  -- replaying the events takes the first tree to the second, and the next number is the one after
+  -- theirs
   pub record Onward (t after : PairTree T) (es : List (Event T)) : Type 0 where
     pub good : Good after
     pub replayed : replay (order cmp) t.nodes es ≡ Some after.nodes

@@ -1,4 +1,4 @@
--- The lines of the first program's output that tell events tell those of its commands.
+-- The lines of the first program's output that are events are the events of its commands.
 use Rattle.std.proofs.Common.{Option, None, Some, ◌≡◌, ℕ, zero, suc, ◌+◌, ◌<◌, ◌≤◌, ◌^◌, Bool, true, false, cond, not, List, [], ◌∷◌, ◌++◌, length, filter, slice_get, Ordering, refl, ap, sym, ◌∙◌, subst, arith, append_assoc, append-nil, length-append}
 use Rattle.std.below.core.specs.declared.int.u64.TheConstants.{MAX}
 use Rattle.std.proofs.lemmas.List.Sums.{count_by-le-length}
@@ -39,18 +39,18 @@ use Rattle.indexset_follow.proofs.Snapshots.{first_line, row_lacks}
 use Rattle.indexset_bench.specs.Texts.{PairFits, number_texts, number_words}
 use Rattle.indexset_follow.proofs.Replies.{change_fits, event_whole, reply_alone, reply_whole}
 
--- ---- what a text tells, whatever follows it
+-- ---- the events of a text, with any text after it
 
--- the events that lines tell, in order: other lines tell none
+-- the events of lines in order, without lines that are not events
 abbrev pub events_in : List (List ℕ) → List (Event ℕ)
 events_in [] = []
 events_in (line ∷ lines) = option_map_or (λ e. e ∷ events_in lines) (event_of number_texts line) (events_in lines)
 
--- a line that tells no event changes no follower
+-- the line is an event, or changes no follower
 abbrev pub Known : List ℕ → Type 0
 Known line = event_of number_texts line ≡ None → (s : State ℕ) → after_line nat_cmp number_texts s line ≡ s
 
--- the text tells these events, whatever follows it, and changes a follower by nothing else
+-- the text has these events, with any text after it, and its other lines change no follower
 abbrev Tells : List ℕ → List (Event ℕ) → Type 0
 Tells text es = (rest : List ℕ) → (events_in (lines_of (text ++ rest)) ≡ es ++ events_in (lines_of rest)) × (Each Known (lines_of rest) → Each Known (lines_of (text ++ rest)))
 
@@ -98,7 +98,7 @@ command_tells t g Nodes fits = at (is_filled t.nodes)
 
 -- ---- a command to the set
 
--- the numbers of the set are of 64 bits, and at most so many
+-- the numbers of the set have at most 64 bits, and there are at most `count` of them
 record Few (count : ℕ) (s : List ℕ) : Type 0 where
   pub small : Each (λ n. n < 2 ^ 64) s
   pub many : length s ≤ count
@@ -119,7 +119,7 @@ kept_many q (x ∷ s) = at (q x) (kept_many q s)
     at true rest = omega (arith, rest)
     at false rest = omega (arith, rest)
 
--- none is both below and above
+-- no number is both less than and greater than another
 parted_many : (v : ℕ) (s : List ℕ) → length (below nat_cmp s v) + length (above nat_cmp s v) ≤ length s
 parted_many v [] = omega arith
 parted_many v (x ∷ s) = at (nat_cmp x v) (parted_many v s)
@@ -206,7 +206,7 @@ lines_tell count s g h (line ∷ lines) many less =
     (line_tells count (omega (arith, many)) s g h line (first.fits (omega (arith, less, onward.next))))
     (lines_tell (count + 1) (stores_after s line) first.good (line_few count s h line) lines (omega (arith, many)) less)
 
--- the lines of the output, from nothing on
+-- the lines of the output from the initial state
 module _ (lines : List (List ℕ)) (many : length lines < 2 ^ 64) (less : (stores_of no_stores lines).pairs.next < 2 ^ 64) where
   all_tell : Tells (replies_of no_stores lines) (events_of_lines lines)
   all_tell = lines_tell 0 no_stores no_good (record { small = tt; many = omega arith }) lines (omega (arith, many)) (omega (arith, less))

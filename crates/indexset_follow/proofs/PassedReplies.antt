@@ -1,4 +1,4 @@
--- The replies of the first program are no lines of a follower.
+-- No reply of the first program is a line that a follower accepts.
 use Rattle.std.proofs.Common.{◌≡◌, ◌≢◌, ℕ, ◌<◌, ◌≤◌, ◌^◌, Bool, true, false, List, ◌∷◌, refl, subst, arith}
 use lib.Chars.{codes}
 use Rattle.std.proofs.lemmas.List.Elements.{All-head}
@@ -15,7 +15,7 @@ use Rattle.indexset_follow.proofs.Passing.{gone_passed, old_passed, says_nothing
 use Rattle.std.specs.Ordering.{nat_cmp}
 use Rattle.indexset_bench.specs.Texts.{number_texts}
 
--- a number is no word that begins with another byte than a digit
+-- a number is not a word that begins with a byte other than a digit
 no_word : (n : ℕ) → n < 2 ^ 64 → (c : ℕ) (word : List ℕ) → 10 ≤ digit_value c → bytes_eq (decimal n) (c ∷ word) ≡ false
 no_word n small c word big = at (bytes_eq (decimal n) (c ∷ word)) refl
   where

@@ -1,4 +1,4 @@
--- The replies of a leader, and the nodes that it writes, are no lines of a follower.
+-- No reply of a leader, and no node that it writes, is a line that a follower accepts.
 use Rattle.std.proofs.Common.{Option, None, Some, ◌≡◌, ℕ, ◌+◌, Bool, true, false, cond, eqb, get_or, take, drop, List, [], ◌∷◌, ◌++◌, length, refl, sym, subst, arith, append_assoc, length-append}
 use Rattle.std.proofs.Math.Seq.{get_or-append_seam}
 use lib.Chars.{codes}
@@ -34,7 +34,7 @@ use Rattle.indexset_follow.proofs.Readings.{no_number, pair_lacks, space_apart}
 use Rattle.std.specs.declared.cmp.Ordering.{Ordering}
 
 module _ {T : Type 0} (cmp : T → T → Ordering) (texts : Texts T) where
-  -- what says nothing is passed over
+  -- a line that is not one of the grammar is passed over
   pub says_nothing : (line : List ℕ) → event_of texts line ≡ None → node_of texts line ≡ None → mark_of line ≡ None → query_of texts line ≡ None → IsPassedOver cmp texts line
   says_nothing line event node mark query s = (rw (event, node, mark) refl, silent)
     where
@@ -42,7 +42,7 @@ module _ {T : Type 0} (cmp : T → T → Ordering) (texts : Texts T) where
       silent true = rw (event, node, mark, query) refl
       silent false = rw (event, node, mark, query) refl
 
--- a text without the byte is not cut
+-- a text without the byte is not split
 pub uncut : (c : ℕ) (text : List ℕ) → Lacks c text → cut_at c text ≡ None
 uncut c text lacks = at (nat_lt spot (length text)) refl
   where
@@ -66,13 +66,13 @@ module _ {T : Type 0} (cmp : T → T → Ordering) (texts : Texts T) where
       let cut : cut_at 32 (codes "gone " ++ texts.spelling v) ≡ Some (codes "gone", texts.spelling v) = cut_told 32 (codes "gone") (texts.spelling v) (lacks_tested 32 (codes "gone") refl) in
       says_nothing cmp texts (codes "gone " ++ texts.spelling v) (rw (cut, no_number 103 (codes "one") (omega arith)) refl) (rw cut refl) (rw cut refl) (rw cut refl)
 
-  -- the line that ends the answer of a leader to a command
+  -- the last line of a leader's answer to a command
   pub next_passed : (n : ℕ) → IsPassedOver cmp texts (codes "next " ++ decimal n)
   next_passed n =
       let cut : cut_at 32 (codes "next " ++ decimal n) ≡ Some (codes "next", decimal n) = cut_told 32 (codes "next") (decimal n) (lacks_tested 32 (codes "next") refl) in
       says_nothing cmp texts (codes "next " ++ decimal n) (rw (cut, no_number 110 (codes "ext") (omega arith)) refl) (rw cut refl) (rw cut refl) (rw cut refl)
 
-  -- a reply of one word that is none of the reads
+  -- a reply of one word that is not a read
   pub word_passed : (word : List ℕ) → Lacks 32 word → query_of texts word ≡ None → IsPassedOver cmp texts word
   word_passed word lacks none = let one = uncut 32 word lacks in says_nothing cmp texts word (rw one refl) (rw one refl) (rw one refl) none
 
@@ -100,7 +100,7 @@ module _ {T : Type 0} (texts : Texts T) where
       let parts : pair_text texts p ≡ text ++ 58 ∷ texts.spelling p.value = append_assoc text (58 ∷ []) (texts.spelling p.value) in
       subst (Lacks 58) parts lacks (length text) 0 (omega (arith, length-append text (58 ∷ texts.spelling p.value))) (get_or-append_seam text 58 (texts.spelling p.value) 0)
 
-  -- so it is no number, and no word without one
+  -- so it is not a number, nor a word without a colon
   pair_no_number : (p : Pair T T) → number_of (pair_text texts p) ≡ None
   pair_no_number p = at (number_of (pair_text texts p)) refl
     where

@@ -1,4 +1,4 @@
--- The events that the first program tells lead from no nodes to its nodes.
+-- Replaying the events of the first program gives its nodes.
 use Rattle.std.proofs.Common.{Option, None, Some, ◌≡◌, ℕ, ◌<◌, ◌≤◌, ◌^◌, List, [], ◌∷◌, ◌++◌, length, map, drop, slice_get, take, refl, ap, sym, ◌∙◌, arith, append_assoc}
 use Rattle.std.proofs.Math.Seq.{take-append_seam}
 use Rattle.std.proofs.lemmas.Cmp.{nat_cmp_total}
@@ -48,7 +48,7 @@ lines_onward s g (line ∷ lines) =
     let first = line_onward s g line in
     both_onward nat_cmp number_texts s.pairs (stores_after s line).pairs (stores_of (stores_after s line) lines).pairs (line_events s line) (events_from (stores_after s line) lines) first (lines_onward (stores_after s line) first.good lines)
 
--- the events of a beginning of the lines are a beginning of the events
+-- the events of a prefix of the lines are a prefix of the events
 pub events_part : (s : Stores) (front back : List (List ℕ)) → events_from s (front ++ back) ≡ events_from s front ++ events_from (stores_of s front) back
 unfolding left_by events_from
 events_part s [] back = refl
@@ -66,7 +66,7 @@ no_good = record {
 
 -- ---- a follower
 
--- the events of the lines, and what the program holds after them
+-- the events of the lines, and the state of the program after them
 module _ (lines : List (List ℕ)) where
   told : Onward nat_cmp number_texts no_stores.pairs (stores_of no_stores lines).pairs (events_of_lines lines)
   told = lines_onward no_stores no_good lines
@@ -99,7 +99,7 @@ module _ (lines : List (List ℕ)) where
       pub follower_begins : (k : ℕ) × HoldsFirst nat_cmp 0 [] (events_of_lines lines) k (state_after nat_cmp number_texts (start_state w) delivered)
       follower_begins = let held = beginning nat_cmp number_texts number_words 0 [] (events_of_lines lines) told_feed told_fit 0 (start_state w) delivered (start w) tt drawn in (held.0, held.1)
 
-      -- a follower that holds what k events lead to, and the program after lines that told as many
+      -- a follower that applied k events, and the program after lines that emitted as many
       pub same_nodes : (n : ℕ) → (state_after nat_cmp number_texts (start_state w) delivered).held.next ≡ (stores_of no_stores (take n lines)).pairs.next → (state_after nat_cmp number_texts (start_state w) delivered).held.nodes ≡ (stores_of no_stores (take n lines)).pairs.nodes
       same_nodes n same =
           let at = follower_begins in
@@ -108,7 +108,7 @@ module _ (lines : List (List ℕ)) where
           let first : take at.0 (events_of_lines lines) ≡ events_of_lines (take n lines) = ap (λ k. take k (events_of_lines lines)) count ∙ told_first n in
           some_inj _ _ (sym at.1.nodes ∙ ap (replay (by_key nat_cmp) []) first ∙ front.replayed)
 
-      -- a follower that holds what all events lead to holds the program's nodes
+      -- a follower that applied all events has the program's nodes
       at_end : HoldsFirst nat_cmp 0 [] (events_of_lines lines) (length (events_of_lines lines)) (state_after nat_cmp number_texts (start_state w) delivered) → (state_after nat_cmp number_texts (start_state w) delivered).held ≡ copy (stores_of no_stores lines).pairs.nodes (stores_of no_stores lines).pairs.next
       at_end at =
           let nodes : (state_after nat_cmp number_texts (start_state w) delivered).held.nodes ≡ (stores_of no_stores lines).pairs.nodes = some_inj _ _ (sym at.nodes ∙ ap (replay (by_key nat_cmp) []) (take_all (length (events_of_lines lines)) (events_of_lines lines) (omega arith)) ∙ told.replayed) in

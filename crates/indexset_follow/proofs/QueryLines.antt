@@ -1,4 +1,4 @@
--- A line asks for the read of which it is the text, and for no other.
+-- A line is a read if and only if it is the text of that read.
 use Rattle.std.proofs.Common.{Option, None, Some, ◌≡◌, ℕ, ◌<◌, ◌^◌, Bool, true, false, cond, List, ◌∷◌, ◌++◌, refl, ap, sym, subst, ◌∙◌, arith}
 use lib.Chars.{codes}
 use Rattle.std.proofs.lemmas.Slice.Eq.{bytes_eq-Decides}
@@ -34,10 +34,10 @@ two_sound text p h =
 pub same : (word text : List ℕ) → bytes_eq word text ≡ true → word ≡ text
 same word text e = (bytes_eq-Decides word text).0 e
 
--- ---- what is spelled is read
+-- ---- reading the text of a read
 
 module _ {T : Type 0} (texts : Texts T) where
-  -- the word of a read, and what stands behind it, where something does
+  -- the word of a read and the text after it, if it has one
   abbrev pub parts_of : Query T → Option (List ℕ × List ℕ)
   parts_of (Get k) = Some (codes "get", texts.spelling k)
   parts_of Len = None
@@ -91,7 +91,7 @@ module _ {T : Type 0} (texts : Texts T) where
     query_told Sum fit = refl
     query_told Compact fit = refl
 
-    -- ---- what is read is spelled
+    -- ---- the text of a read that was read
 
     word_sound : (word : List ℕ) (q : Query T) → word_query {T = T} word ≡ Some q → Spells word q
     word_sound word q h = at (bytes_eq word (codes "len")) (bytes_eq word (codes "first")) (bytes_eq word (codes "last")) (bytes_eq word (codes "nodes")) (bytes_eq word (codes "next")) (bytes_eq word (codes "snapshot")) (bytes_eq word (codes "sum")) (bytes_eq word (codes "compact")) refl refl refl refl refl refl refl refl h

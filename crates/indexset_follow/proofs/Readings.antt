@@ -1,4 +1,4 @@
--- Numbers and pairs: what is read is what was spelled.
+-- Numbers and pairs: reading the text of a value returns that value.
 use Rattle.std.proofs.Common.{Option, None, Some, ◌≡◌, ◌≢◌, ℕ, ◌≤◌, List, ◌∷◌, refl, sym, subst}
 use Rattle.std.proofs.lemmas.List.Elements.{All-head}
 use Rattle.std.specs.Char.{digit_value}
@@ -7,7 +7,7 @@ use Rattle.indexset_events.specs.Spelling.Laws.{Lacks, number_lacks, number_soun
 pub use Rattle.indexset_bench.proofs.CallerLemmas.{IsApart, end_apart, pair_lacks, pair_told, space_apart}
 pub use Rattle.indexset_bench.proofs.CallerLemmas.{pair_read as pair_sound}
 
--- a text that begins with another byte than a digit is no number
+-- a text that begins with a byte other than a digit is not a number
 pub no_number : (c : ℕ) (text : List ℕ) → 10 ≤ digit_value c → number_of (c ∷ text) ≡ None
 no_number c text big = at (number_of (c ∷ text)) refl
   where

@@ -1,4 +1,4 @@
--- The replies to commands: none has a byte that ends a line, and none tells an event.
+-- No reply to a command has a line end, and none is an event.
 use Rattle.std.proofs.Common.{Option, None, Some, ◌≡◌, ◌≢◌, ℕ, ◌<◌, ◌^◌, List, ◌++◌, Ordering, refl, arith}
 use lib.Chars.{codes}
 use Rattle.std.proofs.lemmas.List.Elements.{All-append}
@@ -29,7 +29,7 @@ use Rattle.indexset_bench.proofs.CallerLemmas.{end_lacks, space_lacks}
 use Rattle.indexset_events.specs.Spelling.Laws.{Lacks, cut_told, lacks_tested, number_lacks}
 use Rattle.indexset_follow.proofs.Readings.{end_apart, no_number, pair_lacks}
 
--- ---- no text has a byte that ends a line
+-- ---- no text has a line end
 
 join : (a b : List ℕ) → Lacks 10 a → Lacks 10 b → Lacks 10 (a ++ b)
 join a b first second = All-append (λ x. x ≢ 10) a b first second
@@ -78,7 +78,7 @@ module _ {T : Type 0} (texts : Texts T) (spelled : AreWords texts) where
   reply_whole Bad fit = lacks_tested 10 (codes "bad") refl
 
 module _ {T : Type 0} (texts : Texts T) where
-  -- ---- no reply tells an event, and no node
+  -- ---- no reply is an event or a node
 
   word_alone : (word : List ℕ) → Lacks 32 word → event_of texts word ≡ None
   word_alone word lacks = let one = uncut 32 word lacks in rw one refl

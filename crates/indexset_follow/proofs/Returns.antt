@@ -1,4 +1,4 @@
--- A line without the byte 13 before its end.
+-- A line without the byte 13 before its line end.
 use Rattle.std.proofs.Common.{◌≡◌, ◌==◌, ◌-◌, ℕ, true, false, nat_lt, List, [], ◌∷◌, ◌++◌, length, take, refl, ap, ◌∙◌, arith}
 use Rattle.std.proofs.Math.Seq.{get_or-append_seam, take-append_seam}
 use Rattle.std.proofs.lemmas.Bool.{lt-ltb}
@@ -20,10 +20,10 @@ module _ (line : List ℕ) (x : ℕ) where
   pub by_last : ends_with_byte 13 (line ++ x ∷ []) ≡ (x == 13)
   by_last = rw (is_some, last_is) refl
 
--- one byte 13 goes
+-- one byte 13 is removed
 pub return_goes : (line : List ℕ) → without_return (line ++ 13 ∷ []) ≡ line
 return_goes line = rw (by_last line 13) (ap (λ n. take n (line ++ 13 ∷ [])) (before_last line 13) ∙ take-append_seam line (13 ∷ []))
 
--- any other line stays
+-- any other line is unchanged
 pub other_stays : (line : List ℕ) → ends_with_byte 13 line ≡ false → without_return line ≡ line
 other_stays line other = rw other refl

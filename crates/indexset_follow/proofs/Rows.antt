@@ -1,4 +1,4 @@
--- What a writer holds after a line for each thing of a list, behind what it held.
+-- The contents of a writer after a line for each element of a list is appended.
 use Rattle.std.proofs.Common.{Option, ◌≡◌, ◌≢◌, ℕ, List, [], ◌∷◌, ◌++◌, map, refl, sym, ap, subst, ◌∙◌, append_assoc, append-nil}
 use lib.Chars.{codes}
 use Rattle.std.specs.Io.KnownBytes.{Appends}
@@ -12,24 +12,24 @@ use Rattle.indexset_follow.specs.Reads.{row_text}
 use Rattle.indexset_follow.specs.NodeLine.{node_line}
 use Rattle.indexset_bench.specs.Texts.{Texts}
 
--- lines for things that are walked over
+-- lines for the elements of an iteration
 module _ {X : Type 0} (text : X → List ℕ) where
   lines_more : (xs : List X) (x : X) → lines_for text (xs ++ x ∷ []) ≡ lines_for text xs ++ ended (text x)
   lines_more [] x = append-nil (ended (text x))
   lines_more (y ∷ xs) x = ap (λ l. ended (text y) ++ l) (lines_more xs x) ∙ sym (append_assoc (ended (text y)) (lines_for text xs) (ended (text x)))
 
-  -- one more line
+  -- another line
   pub line_push : (front : List ℕ) (done : List X) (x : X) → (front ++ lines_for text done) ++ ended (text x) ≡ front ++ lines_for text (done ++ x ∷ [])
   line_push front done x = append_assoc front (lines_for text done) (ended (text x)) ∙ ap (λ l. front ++ l) (sym (lines_more done x))
 
-  -- one more line was written
+  -- another line was written
   pub line_behind : (front : List ℕ) (done : List X) (x : X) (w w1 w2 : Option (List ℕ)) → Appends w w1 (front ++ lines_for text done) → Appends w1 w2 (ended (text x)) → Appends w w2 (front ++ lines_for text (done ++ x ∷ []))
   line_behind front done x w w1 w2 far told = subst (Appends w w2) (line_push front done x) (Appends-trans w w1 w2 (front ++ lines_for text done) (ended (text x)) far told)
 
 pub walked_on : {X : Type 0} (done : List X) (x : X) (left rest all : List X) → done ++ left ≡ all → left ≡ x ∷ rest → (done ++ x ∷ []) ++ rest ≡ all
 walked_on done x left rest all walked next = append_assoc done (x ∷ []) rest ∙ ap (λ l. done ++ l) (sym next) ∙ walked
 
--- the things are read one by one, and written in a row
+-- the elements are read one by one and written in one line
 module _ {R X : Type 0} (text : X → List ℕ) (read : R → X) where
   join_push : (xs : List X) (x : X) → join_with_byte 32 (map text (xs ++ x ∷ [])) ≡ join_with_byte 32 (map text xs) ++ (lead_after xs ++ text x)
   join_push [] x = refl
@@ -52,7 +52,7 @@ module _ {R X : Type 0} (text : X → List ℕ) (read : R → X) where
         after (z ∷ ys) = refl
 
 module _ {T : Type 0} (texts : Texts T) where
-  -- ---- the end of a row
+  -- ---- the end of a line of pairs
 
   pub row_full : (ps : List (Pair T T)) (w w1 w2 : Option (List ℕ)) → lead_after ps ≢ [] → Appends w w1 (node_text texts ps) → Appends w1 w2 (10 ∷ []) → Appends w w2 (row_text texts ps)
   row_full [] w w1 w2 some far told = absurd (some refl)

@@ -1,4 +1,4 @@
--- A snapshot makes another follower the same.
+-- A follower that reads a snapshot has its state.
 use Rattle.std.specs.Option.{option_map_or}
 use Rattle.std.specs.Prelude.{nat_lt}
 use Rattle.std.proofs.Common.{◌≡◌, ◌≢◌, ◌⊎◌, ◌==◌, inl, inr, Option, Bool, false, None, Some, IfSome, IsSomeAnd, ℕ, ◌<◌, ◌^◌, true, if◌then◌else◌, List, [], ◌∷◌, ◌++◌, length, map, insert, Ordering, refl, sym, ap, subst, ◌∙◌, arith, append_assoc, append-nil}
@@ -38,7 +38,7 @@ use Rattle.indexset_follow.proofs.Sums.{sum_small}
 use Rattle.indexset_events.specs.Spelling.Laws.{Lacks, cut_told, lacks_tested, number_lacks}
 use Rattle.indexset_follow.proofs.Readings.{end_apart, no_number, pair_lacks}
 
--- ---- nodes one after the other
+-- ---- consecutive nodes
 
 module _ {T : Type 0} (cmp : T → T → Ordering) where
   row_below : (x : T) (ys : List T) → Each (λ y. cmp x y ≡ Less) ys → list_all (λ y. is_lt (cmp x y)) ys ≡ true
@@ -67,7 +67,7 @@ module _ {T : Type 0} (cmp : T → T → Ordering) where
   front_of n rest [] h = tt
   front_of n rest (x ∷ xs) h = (each-left (λ y. cmp x y ≡ Less) n rest h.0, front_of n rest xs h.1)
 
-  -- the node that comes next goes behind the others
+  -- the next node is appended to those so far
   module _ (done rest : List (List T)) (n : List T) (rule : Ruled cmp (done ++ n ∷ rest)) where
     whole : Up cmp (concat done ++ (n ++ concat rest))
     whole = subst (Up cmp) (concat-append done (n ∷ rest)) rule.up
@@ -87,7 +87,7 @@ module _ {T : Type 0} (cmp : T → T → Ordering) where
 module _ {T : Type 0} where
   -- ---- lines
 
-  -- a snapshot is coming
+  -- a snapshot has begun
   abbrev coming : State T → Copy T → ℕ → State T
   coming s came d = with_coming s (Some came) d
 
@@ -106,7 +106,7 @@ module _ {T : Type 0} (cmp : T → T → Ordering) (texts : Texts T) where
       mark_line_told s (End count sum) (few, small) (rw (end_cut count sum, word) refl) (rw (end_cut count sum) refl)
 
 module _ {T : Type 0} (texts : Texts T) where
-  -- what came whole takes the place of what is held
+  -- a complete snapshot replaces the state
   whole_put : (s : State T) (came : Copy T) (d : ℕ) (sum : Option ℕ) → has_sum texts sum came d ≡ true → after_mark texts (coming s came d) (End (length came.nodes) sum) ≡ holding s.window came d
   whole_put s came d sum has = rw (eq-eqb (length came.nodes) (length came.nodes) refl, has) refl
 
@@ -131,7 +131,7 @@ module _ {T : Type 0} (cmp : T → T → Ordering) (texts : Texts T) (spelled : 
       ∙ ap (λ ns. coming s (copy ns next) d) more
 
 module _ {T : Type 0} (texts : Texts T) (spelled : AreWords texts) where
-  -- ---- the text of a snapshot is cut into its lines
+  -- ---- the text of a snapshot is split into its lines
 
   pub row_lacks : (ps : List (Pair T T)) → All (PairFits texts) ps → Lacks 10 (node_text texts ps)
   row_lacks [] fit = All-nil (λ x. x ≢ 10)
@@ -202,7 +202,7 @@ module _ {T : Type 0} (cmp : T → T → Ordering) (texts : Texts T) (spelled : 
     unsummed_taken = it_is_taken None tt refl
 
 module _ {T : Type 0} (cmp : T → T → Ordering) (texts : Texts T) where
-  -- ---- until the end
+  -- ---- before the end of a snapshot
 
   held_still : (s : State T) (line : List ℕ) → LacksEnd texts line → (after_line cmp texts s line).held ≡ s.held
   held_still s line lacks = at (event_of texts line) lacks.0 (node_of texts line) (mark_of line) lacks.1

@@ -1,4 +1,4 @@
--- The sum of a copy: it is of 64 bits, and reads the first bytes of the digest.
+-- The sum of a follower's state has at most 64 bits, and is the first bytes of the digest.
 use Rattle.std.proofs.Common.{◌≡◌, ℕ, zero, suc, ◌<◌, ◌^◌, List, [], ◌∷◌, ◌++◌, take, get_or, sym, ap, ◌∙◌, arith}
 use Rattle.std.proofs.lemmas.List.{get_or-take}
 use Rattle.std.proofs.lemmas.List.Elements.{All-append, All-cons, All-head, All-nil, All-tail}
@@ -55,6 +55,6 @@ first_eight d = λ i. from_be_bytes w64 (at 0 (omega arith) i ∷ at 1 (omega ar
     at : (k : ℕ) → k < 8 → get_or d k 0 ≡ get_or (take 8 d) k 0
     at k lt = sym (get_or-take 8 d k 0 lt)
 
--- what was appended to nothing
+-- appending to an empty list gives the appended list
 pub appended_alone : (a b x : List ℕ) → b ≡ a ++ x → a ≡ [] → b ≡ x
 appended_alone a b x told none = told ∙ ap (λ l. l ++ x) none

@@ -1,4 +1,4 @@
--- What a follower makes of an event, and of a range that runs backwards.
+-- The effect of an event on a follower, and ranges whose bounds are out of order.
 use Rattle.std.proofs.Common.{Result, Ok, Err, OnOk, IfOk, Option, None, Some, ◌≡◌, ◌≢◌, ◌==◌, ℕ, ◌+◌, ◌&&◌, Bool, true, false, if◌then◌else◌, nat_lt, List, [], ◌∷◌, slice_get, unwrap_or, refl, sym, ap, ◌∙◌, true≢false}
 use Rattle.std.below.core.specs.declared.int.u64.TheConstants.{MAX}
 use Rattle.std.proofs.lemmas.Bool.{eq-eqb, eqb-true, ne_eqb, not-false}
@@ -30,11 +30,11 @@ use Rattle.indexset_follow.specs.declared.reply.Reply.TheVariants as reply
 
 -- ---- clones
 
--- a clone of a pair is the pair, where a clone of its key and of its value is the identical one
+-- a clone of a pair is identical to it if clones of its key and its value are
 pub pair_identical : {K : Type 0} {C : K → K → Type 0} → ((x y : K) → C x y → y ≡ x) → (p q : Pair K K) → C p.key q.key × C p.value q.value → q ≡ p
 pair_identical same p q cloned i = record { key = same p.key q.key cloned.0 i; value = same p.value q.value cloned.1 i }
 
--- ---- whose turn it is
+-- ---- the number of an event and the awaited number
 
 turn_next : (b c : Bool) → (if b then Next else if c then Had else Missing) ≡ Next → b ≡ true
 turn_next true c e = refl
@@ -68,14 +68,14 @@ module _ {T : Type 0} (cmp : T → T → Ordering) where
       rw (not-false _ number.0, more.0, made, ← next) refl
 
   module _ (r : Copy T) (e : Event T) (early : EarlyEvents T) where
-    -- one that fits is followed by those after it
+    -- one that applies is followed by the early events after it
     pub one_taken : (new : Copy T) → apply_refusal (by_key cmp) r.nodes r.next e ≡ None → step (by_key cmp) r.nodes e ≡ Some new.nodes → new.next ≡ r.next + 1 → caught_up cmp r (pair r.next e ∷ early) ≡ caught_up cmp new early
     unfolding caught_up
     one_taken new fits made next =
         let held : copy_after cmp r e ≡ new = ap (λ o. unwrap_or o r) (delivered_new r new e fits made next) in
         rw (eq-eqb r.next r.next refl, fits, held) refl
 
-    -- one that does not is dropped
+    -- one that does not apply is dropped
     pub one_refused : (cause : Refusal) → cause ≡ unwrap_or (apply_refusal (by_key cmp) r.nodes r.next e) Memory → cause ≢ Memory → caught_up cmp r (pair r.next e ∷ early) ≡ taken r early (reply.Unfit r.next (Refused cause))
     unfolding caught_up
     one_refused cause refused other = rw (eq-eqb r.next r.next refl, some_cause (apply_refusal (by_key cmp) r.nodes r.next e) refused) refl
@@ -84,19 +84,19 @@ module _ {T : Type 0} (cmp : T → T → Ordering) where
         some_cause None is = absurd (other is)
         some_cause (Some c) is = sym (ap Some is)
 
-    -- the same of the reply to it
+    -- the reply to one that does not apply
     pub refused_reply : (t : Taken T) → t ≡ caught_up cmp r (pair r.next e ∷ early) → (cause : Refusal) → cause ≡ unwrap_or (apply_refusal (by_key cmp) r.nodes r.next e) Memory → (o : Result Reply RunFault) (next : ℕ) → next ≡ r.next → OnOk o (cause ≢ Memory) → IfOk o (λ x. x ≡ reply.Unfit next (Refused cause)) → (new : Copy T) → new ≡ r → IfOk o (λ x. t ≡ taken new early x)
     refused_reply t from cause refused (Ok x) next same other is new still = from ∙ one_refused cause refused other ∙ (λ i. taken (sym still i) early ((ap (λ n. reply.Unfit n (Refused cause)) (sym same) ∙ sym is) i))
     refused_reply t from cause refused (Err fault) next same other is new still = tt
 
-  -- so does the awaited one of early events, where it is the first
+  -- the same for the first early event, if it is awaited
   pub first_taken : (r new : Copy T) (early rest : EarlyEvents T) (n : ℕ) (e : Event T) (all : Taken T) → all ≡ caught_up cmp r early → early ≡ pair n e ∷ rest → n ≡ r.next
       → apply_refusal (by_key cmp) r.nodes r.next e ≡ None → step (by_key cmp) r.nodes e ≡ Some new.nodes → new.next ≡ r.next + 1 → all ≡ caught_up cmp new rest
   first_taken r new early rest n e all from first here fits made next =
       from ∙ ap (caught_up cmp r) first ∙ ap (λ n. caught_up cmp r (pair n e ∷ rest)) here ∙ one_taken r e rest new fits made next
 
 module _ {T : Type 0} where
-  -- what a call took is held, and its reply is told
+  -- the result of a call is the follower's new state and its reply
   module _ (t u : Taken T) (from : t ≡ u) (c : Copy T) (early : EarlyEvents T) where
     pub reply_by : (o : Result Reply RunFault) → IfOk o (λ x. u ≡ taken c early x) → IfOk o (λ x. x ≡ t.reply)
     reply_by (Ok x) is = ap (λ v. v.reply) (sym (from ∙ is))
@@ -107,7 +107,7 @@ module _ {T : Type 0} where
     held_by s (Err fault) is = tt
 
 module _ {T : Type 0} (cmp : T → T → Ordering) where
-  -- the first is not the awaited one
+  -- the first early event is not awaited
   pub none_due : (c : Copy T) (early : EarlyEvents T) → option_map (λ p. p.key) (slice_get early 0) ≢ Some c.next → caught_up cmp c early ≡ taken c early (reply.Next c.next)
   unfolding caught_up
   none_due c [] other = refl
@@ -126,7 +126,7 @@ ge_turned Equal p e turned = ap is_gt turned
 ge_turned Greater p e turned = ap is_gt turned
 
 module _ {T : Type 0} (cmp : T → T → Ordering) where
-  -- no pair is within bounds that run backwards
+  -- no pair is within bounds that are out of order
   pub none_within : IsTotalOrder cmp → (low high : T) → cmp low high ≡ Greater → (ps : List (Pair T T)) → keys_from cmp ps low high ≡ []
   none_within total low high back [] = refl
   none_within total low high back (p ∷ ps) = rw (outside p) (none_within total low high back ps)

@@ -1,4 +1,4 @@
--- What a follower makes of one of a leader's events: what it holds, and what is early.
+-- The effect of one of a leader's events on a follower: its nodes, and its early events.
 use Rattle.std.proofs.Common.{◌≡◌, ◌≢◌, ◌⊎◌, inl, inr, ℕ, zero, suc, ◌+◌, ◌-◌, ◌<◌, ◌≤◌, ◌==◌, Bool, true, false, if◌then◌else◌, List, [], ◌∷◌, ◌++◌, length, get_or, slice_get, take, drop, Option, Some, None, option_and_then, refl, ap, sym, ◌∙◌, subst, arith}
 use Rattle.std.below.core.specs.declared.int.u64.TheConstants.{MAX}
 use Rattle.std.proofs.lemmas.Bool.{eq-eqb, eqb-false, eqb-true, le-ltb, leb-false, lt-ltb, ne_eqb}
@@ -50,7 +50,7 @@ module _ {T : Type 0} (cmp : T → T → Ordering) where
         ∙ replay-append (by_key cmp) ns (take j es) (e ∷ [])
         ∙ rw at.nodes (and_then_some (step (by_key cmp) r.nodes e))
 
-    -- the awaited event makes a step
+    -- the awaited event is applied
     step_made : (j : ℕ) (r : Copy T) (e : Event T) → At j r → slice_get es j ≡ Some e → (after : List (List (Pair T T))) × (step (by_key cmp) r.nodes e ≡ Some after)
     step_made j r e at told =
         let all = some_held (replay (by_key cmp) ns es) feed.defined in
@@ -77,7 +77,7 @@ module _ {T : Type 0} (cmp : T → T → Ordering) where
           next = omega (arith, at.next);
         })
 
-    -- nothing speaks against it
+    -- it is not refused
     step_fit : (j : ℕ) (r : Copy T) (e : Event T) → At j r → slice_get es j ≡ Some e → apply_refusal (by_key cmp) r.nodes r.next e ≡ None
     step_fit j r e at told =
         let read = read_at es j e told in
@@ -88,11 +88,11 @@ module _ {T : Type 0} (cmp : T → T → Ordering) where
 
     -- ---- early events
 
-    -- the event at place p was taken, or is early
+    -- the event at place p was applied, or is held early
     abbrev pub Knows : ℕ → EarlyEvents T → ℕ → Type 0
     Knows k early p = (p < k) ⊎ Among (s + p) early
 
-    -- the events from place k on were taken, as far as they are early
+    -- the events from place k on were applied, as far as they are held early without a gap
     record Caught (k : ℕ) (early : EarlyEvents T) (t : Taken T) : Type 0 where
       place : ℕ
       from : k ≤ place
@@ -149,7 +149,7 @@ module _ {T : Type 0} (cmp : T → T → Ordering) where
             (one_caught k q early (caught_up cmp (copy_after cmp c q.value) early) (here is) (more is))
         by false other more = none_caught k c (q ∷ early) (reply.Next c.next) at (let ne = eqb-false q.key c.next other in omega (arith, h.0, ne), h.1, h.2)
 
-    -- the state after the event at place q, from one that holds what the first k lead to
+    -- the state after the event at place q, from one after the first k events
     pub record Onward (k q : ℕ) (r after : State T) : Type 0 where
       pub place : ℕ
       pub from : k ≤ place
@@ -160,7 +160,7 @@ module _ {T : Type 0} (cmp : T → T → Ordering) where
       pub came : s + q ≤ r.held.next + r.window → Knows place after.early q
       pub grown : q ≡ k → k < place
 
-    -- a place that was taken is below the one that is awaited
+    -- the place of an applied event is less than that of the awaited event
     pub is_taken : (k p : ℕ) (c : Copy T) (early : EarlyEvents T) → At k c → AscendFrom (IsOneOf s es) (c.next + 1) early → p ≤ k → Knows k early p → p < k
     is_taken k p c early at h le known = elim known [
       | inl lt ↦ lt

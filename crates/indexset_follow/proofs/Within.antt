@@ -1,4 +1,5 @@
--- Where each event comes within the window, a follower holds all before the first that never came.
+-- If each event comes within the window, a follower applies all events before the first that never
+-- came.
 use Rattle.std.proofs.Common.{◌≡◌, ◌⊎◌, inl, inr, ℕ, zero, suc, ◌+◌, ◌<◌, ◌≤◌, Bool, true, false, List, [], ◌∷◌, length, slice_get, Some, refl, ap, sym, ◌∙◌, subst, arith}
 use Rattle.std.proofs.lemmas.Bool.{ltb-false, ltb-true}
 use Rattle.std.specs.Prelude.{nat_lt}
@@ -27,7 +28,7 @@ some_at (x ∷ xs) (suc i) lt = some_at xs i (omega (arith, lt))
 
 module _ {T : Type 0} (cmp : T → T → Ordering) (texts : Texts T) (spelled : AreWords texts) where
   module _ (s : ℕ) (ns : List (List (Pair T T))) (es : List (Event T)) (feed : IsFeedOfPairs cmp s ns es) (fit : All (EventFits texts) es) where
-    -- what is known after the lines: what was known before, and the events that came
+    -- the events that are applied or held early after the lines: those before, and those that came
     record Known (k : ℕ) (r : State T) (ls : List (List ℕ)) (after : State T) : Type 0 where
       place : ℕ
       from : k ≤ place
@@ -42,7 +43,7 @@ module _ {T : Type 0} (cmp : T → T → Ordering) (texts : Texts T) (spelled : 
         let told : event_of texts l ≡ Some d.event = ap (event_of texts) d.text ∙ event_told texts spelled d.event (fits_at cmp texts spelled s ns es feed fit d.place d.event d.at) in
         omega (arith, within d.event told, number_at cmp s ns es feed d.place d.event d.at)
 
-    -- what is known behind one line more
+    -- the same after another line
     module _ (k : ℕ) (r : State T) (l : List ℕ) (ls : List (List ℕ)) (after : State T) (d : IsDrawn texts es l) (on : Onward cmp s ns es feed k d.place r (after_line cmp texts r l)) (within : s + d.place ≤ r.held.next + r.window) (more : Known on.place (after_line cmp texts r l) ls after) where
       come : (p : ℕ) (e : Event T) → slice_get es p ≡ Some e → (i : ℕ) → slice_get (l ∷ ls) i ≡ Some (event_text texts e) → Knows cmp s ns es feed more.place after.early p
       come p e told zero is =

@@ -1,4 +1,4 @@
--- Lines that come from events, with losses, repeats and in any order.
+-- Lines of events with losses and repeats, in any order.
 use Rattle.std.specs.Prelude.{◌≡◌, ℕ, ◌+◌, ◌-◌, ◌<◌, ◌≤◌, Some, slice_get, List, [], ◌∷◌}
 use Rattle.indexset_bench.specs.PairText.{event_text}
 use Rattle.indexset_core.specs.Pairs.{by_key}
@@ -21,25 +21,25 @@ module _ {T : Type 0} (texts : Texts T) where
     pub text : line ≡ event_text texts event
 
 module _ {T : Type 0} (cmp : T → T → Ordering) where
-  -- the events are numbered from s on, and lead from these nodes on
+  -- the events are numbered from s on without a gap, and apply to these nodes one after another
   abbrev pub IsFeedOfPairs : ℕ → List (List (Pair T T)) → List (Event T) → Type 0
   IsFeedOfPairs s ns es = IsEventLog (by_key cmp) s ns es
 
-  -- the nodes are those that the first k events lead to, and the event after these is awaited
+  -- the nodes are those after the first k events, and the event after these is awaited
   abbrev pub HoldsFirst : ℕ → List (List (Pair T T)) → List (Event T) → ℕ → State T → Type 0
   HoldsFirst s ns es k r = IsAt (by_key cmp) s ns es k r.held
 
 module _ {T : Type 0} where
-  -- the event is that of its number among those numbered from s on
+  -- the event has its place in the list by its number, where the first number is s
   abbrev pub IsOneOf : ℕ → List (Event T) → Pair ℕ (Event T) → Type 0
   IsOneOf s es p = slice_get es (p.key - s) ≡ Some p.value
 
-  -- the events that are early are some of those after the awaited one
+  -- each early event is one of those after the awaited event
   abbrev pub HoldsAhead : ℕ → List (Event T) → State T → Type 0
   HoldsAhead s es r = AscendFrom (IsOneOf s es) (r.held.next + 1) r.early
 
 module _ {T : Type 0} (cmp : T → T → Ordering) (texts : Texts T) where
-  -- each event is ahead of the awaited one by no more than the window when its line comes
+  -- when the line of an event comes, the event is ahead of the awaited one by at most the window
   abbrev pub AreWithin : State T → List (List ℕ) → Type 0
   AreWithin r [] = Unit {0}
   AreWithin r (line ∷ lines) = ((e : Event T) → event_of texts line ≡ Some e → event_number e ≤ r.held.next + r.window) × AreWithin (after_line cmp texts r line) lines

@@ -1,4 +1,4 @@
--- Events that come before their turn, and what they lead to once it has come.
+-- Events that come before the awaited one, and their effect once they are awaited.
 use Rattle.std.specs.Prelude.{ℕ, ◌+◌, ◌≤◌, ◌==◌, if◌then◌else◌, List, [], ◌∷◌, slice_get, unwrap_or}
 use Rattle.std.specs.Option.{option_map_or}
 use Rattle.std.specs.Ordering.{nat_cmp}
@@ -14,30 +14,30 @@ use Rattle.indexset_follow.specs.declared.reply.Reply.{Reply}
 use Rattle.indexset_follow.specs.declared.reply.Reply.TheVariants as reply
 use Rattle.std.specs.declared.cmp.Ordering.{Ordering}
 
--- events by their numbers, which ascend
+-- events with their numbers, in ascending order
 abbrev pub EarlyEvents : Type 0 → Type 0
 EarlyEvents T = List (Pair ℕ (Event T))
 
 module _ {T : Type 0} where
-  -- each has the property, and their numbers ascend from n on
+  -- each has the property, and the numbers ascend from n on
   abbrev pub AscendFrom : (Pair ℕ (Event T) → Type 0) → ℕ → EarlyEvents T → Type 0
   AscendFrom Q n [] = Unit {0}
   AscendFrom Q n (p ∷ early) = (n ≤ p.key) × Q p × AscendFrom Q (p.key + 1) early
 
-  -- the event among them, in place of one of the same number
+  -- the event is inserted, or replaces that of the same number
   abbrev pub with_early : EarlyEvents T → Event T → EarlyEvents T
   with_early early e = put_value nat_cmp early (event_number e) e
 
-  -- the first of their numbers, or n where there is none
+  -- the least number, or n if there is none
   abbrev pub first_number : EarlyEvents T → ℕ → ℕ
   first_number early n = option_map_or (λ p. p.key) (slice_get early 0) n
 
 module _ {T : Type 0} (cmp : T → T → Ordering) where
-  -- the awaited event makes its step where it is one; any other event changes nothing
+  -- the awaited event is applied if it applies; any other event changes nothing
   abbrev pub copy_after : Copy T → Event T → Copy T
   copy_after c e = unwrap_or (delivered (by_key cmp) c e) c
 
--- what is held, the events that are early, and the reply
+-- the nodes and the awaited number, the early events, and the reply
 pub record Taken (T : Type 0) : Type 0 where
   pub held : Copy T
   pub early : EarlyEvents T
@@ -48,7 +48,8 @@ module _ {T : Type 0} where
   taken c early r = record { held = c; early = early; reply = r }
 
 module _ {T : Type 0} (cmp : T → T → Ordering) where
-  -- the events make their steps one after another, while the first is the awaited one; one that is no step is dropped, and ends it
+  -- the events are applied one after another while the first is the awaited one; one that does not
+  -- apply is dropped, and ends this
   unfoldable pub caught_up : Copy T → EarlyEvents T → Taken T
   caught_up c [] = taken c [] (reply.Next c.next)
   caught_up c (p ∷ early) =
@@ -57,7 +58,7 @@ module _ {T : Type 0} (cmp : T → T → Ordering) where
       else taken c (p ∷ early) (reply.Next c.next)
 
 module _ {T : Type 0} where
-  -- the events whose numbers go on by one from n, from the first on
+  -- the first events as long as their numbers are consecutive from n on
   abbrev pub consecutive : ℕ → EarlyEvents T → List (Event T)
   consecutive n [] = []
   consecutive n (p ∷ early) = if p.key == n then p.value ∷ consecutive (n + 1) early else []

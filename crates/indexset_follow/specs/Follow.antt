@@ -1,4 +1,4 @@
--- What a line does to a follower, and the text that answers it.
+-- The effect of a line on a follower, and the reply to it.
 use Rattle.std.specs.Prelude.{ℕ, Bool, true, ◌+◌, ◌≤◌, ◌==◌, is_none, not, if◌then◌else◌, nat_le, nat_lt, List, [], ◌∷◌, length, max, Option, Some, None}
 use Rattle.std.specs.Option.{option_map, option_map_or}
 use Rattle.indexset_lines.specs.Run.{left_by}
@@ -25,26 +25,27 @@ use Rattle.indexset_follow.specs.declared.reply.Reply.TheVariants as reply
 use Rattle.std.specs.declared.cmp.Ordering.{Ordering}
 use Rattle.indexset_bench.specs.Texts.{Texts}
 
--- what is held, and the snapshot that has begun and not ended
+-- the state of a follower, with the snapshot that has begun and not ended
 abbrev pub State : Type 0 → Type 0
 State T = Follower T
 
 module _ {T : Type 0} where
-  -- a copy and the greatest number of a command are held with a window, no snapshot has begun, and no event is early
+  -- a follower with this state, greatest command number and window, without early events or a
+  -- snapshot that has begun
   abbrev pub holding : ℕ → Copy T → ℕ → State T
   holding window c d = record { held = c; done = d; coming = None; coming_done = 0; window = window; early = [] }
 
-  -- another snapshot comes with its greatest number of a command, or none
+  -- the follower with another snapshot that has begun, or none
   abbrev pub with_coming : State T → Option (Copy T) → ℕ → State T
   with_coming s c d = record { held = s.held; done = s.done; coming = c; coming_done = d; window = s.window; early = s.early }
 
-  -- the commands up to a number are done
+  -- the follower with a command number, if it is the greatest
   abbrev pub with_done : State T → ℕ → State T
   with_done s d = record { held = s.held; done = max s.done d; coming = s.coming; coming_done = s.coming_done; window = s.window; early = s.early }
 
   -- ---- an event
 
-  -- an event that is ahead of the awaited one is held where it is ahead by no more than the window
+  -- an event that is ahead of the awaited one by at most the window becomes an early event
   abbrev pub ahead_taken : State T → Event T → Taken T
   ahead_taken s e =
       if nat_le (event_number e) (s.held.next + s.window)
@@ -52,7 +53,7 @@ module _ {T : Type 0} where
       else taken s.held s.early (reply.Gap s.held.next)
 
 module _ {T : Type 0} (cmp : T → T → Ordering) where
-  -- the awaited event is taken, and then the early ones whose turn has come
+  -- the awaited event is applied, and then the early events after it
   abbrev pub event_taken : State T → Event T → Taken T
   event_taken s e =
       if event_number e == s.held.next then caught_up cmp s.held (pair (event_number e) e ∷ s.early)
@@ -60,7 +61,7 @@ module _ {T : Type 0} (cmp : T → T → Ordering) where
       else ahead_taken s e
 
 module _ {T : Type 0} where
-  -- what was taken is held
+  -- the follower with the result of an event
   abbrev pub with_taken : State T → Taken T → State T
   with_taken s t = record { held = t.held; done = s.done; coming = s.coming; coming_done = s.coming_done; window = s.window; early = t.early }
 
@@ -73,11 +74,11 @@ module _ {T : Type 0} (cmp : T → T → Ordering) where
 
   -- ---- a whole node
 
-  -- why the node does not fit the nodes of the snapshot
+  -- the reason why the node does not fit the nodes of the snapshot, if any
   abbrev pub node_refusal : Copy T → List (Pair T T) → Option Refusal
   node_refusal c n = attach_refusal (by_key cmp) (length n) c.nodes n
 
-  -- the node in its place, where it fits
+  -- the node is inserted if it fits
   abbrev pub with_node : List (Pair T T) → Copy T → Copy T
   with_node n c = if is_none (node_refusal c n) then copy (attached (by_key cmp) c.nodes n) c.next else c
 
@@ -88,20 +89,20 @@ module _ {T : Type 0} (cmp : T → T → Ordering) where
   node_reply s n = option_map_or (λ c. option_map_or (λ cause. reply.Unfit s.held.next (Refused cause)) (node_refusal c n) reply.Held) s.coming (reply.Unfit s.held.next NotBegun)
 
 module _ {T : Type 0} (texts : Texts T) where
-  -- ---- the beginning and the end of a snapshot, and commands that are done
+  -- ---- the start and the end of a snapshot, and `done` lines
 
-  -- the sum, where one is told, is that of what came
+  -- the sum, if there is one, is that of the snapshot's nodes
   abbrev pub has_sum : Option ℕ → Copy T → ℕ → Bool
   has_sum sum c d = option_map_or (λ told. sum_of texts c d == told) sum true
 
-  -- why the numbers at the end of a snapshot are not those of what came
+  -- the reason why the last line does not fit the snapshot, if any
   abbrev pub end_reason : ℕ → Option ℕ → Copy T → ℕ → Option Reason
   end_reason count sum c d =
       if not (length c.nodes == count) then Some Count
       else if not (has_sum sum c d) then Some Sum
       else None
 
-  -- the snapshot takes the place of all that is held, where it is whole
+  -- a complete snapshot replaces the whole state
   abbrev pub put_in_place : ℕ → Option ℕ → State T → Copy T → State T
   put_in_place count sum s c = if is_none (end_reason count sum c s.coming_done) then holding s.window c s.coming_done else with_coming s None 0
 
@@ -133,10 +134,10 @@ module _ {T : Type 0} (cmp : T → T → Ordering) (texts : Texts T) where
   state_after = left_by after_line
 
 module _ {T : Type 0} where
-  -- at first: no nodes, and event 0 is awaited
+  -- the initial state: no nodes, and event 0 is awaited
   abbrev pub start_state : ℕ → State T
   start_state window = holding window (copy [] 0) 0
 
-  -- the events that are early are ahead of the awaited one by no more than the window
+  -- the early events are ahead of the awaited one by at most the window
   abbrev pub HoldsNear : State T → Type 0
   HoldsNear s = AscendFrom (λ p. p.key ≤ s.held.next + s.window) (s.held.next + 1) s.early

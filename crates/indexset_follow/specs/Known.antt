@@ -1,4 +1,4 @@
--- What a follower knows of the commands that a leader has done.
+-- A follower's knowledge of the commands that a leader has executed.
 use Rattle.std.specs.Prelude.{◌≡◌, ◌≢◌, ℕ, ◌≤◌, Option, Some, List, take}
 use Rattle.indexset_log.specs.Tree.{fresh}
 use Rattle.indexset_follow.specs.Follow.{State}
@@ -9,17 +9,18 @@ use Rattle.std.specs.declared.cmp.Ordering.{Ordering}
 use Rattle.indexset_bench.specs.Texts.{Texts}
 
 module _ {T : Type 0} (cmp : T → T → Ordering) (texts : Texts T) where
-  -- after the first k of its lines a leader held d as the greatest number of a command, and n as the number of the next event
+  -- after the first k of its lines the leader had d as the greatest command number, and n as the
+  -- number of the next event
   pub record IsDoneBy (size : ℕ) (lines : List (List ℕ)) (k d n : ℕ) : Type 0 where
     pub done : d ≡ done_of texts 0 (take k lines)
     pub next : n ≡ (tree_of cmp texts (fresh size) (take k lines)).next
 
-  -- the line does not end a snapshot, and tells only such numbers as done
+  -- the line does not end a snapshot, and a `done` line has such numbers
   pub record TellsDone (size : ℕ) (lines : List (List ℕ)) (line : List ℕ) : Type 0 where
     pub no_end : (count : ℕ) (sum : Option ℕ) → mark_of line ≢ Some (End count sum)
     pub told : (d n : ℕ) → mark_of line ≡ Some (Done d n) → (k : ℕ) × IsDoneBy size lines k d n
 
-  -- the greatest number that is held is such a number, and the events before n were taken
+  -- the greatest command number is such a number, and the events before n were applied
   pub record KnowsDone (size : ℕ) (lines : List (List ℕ)) (s : State T) : Type 0 where
     pub place : ℕ
     pub next : ℕ

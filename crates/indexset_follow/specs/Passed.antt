@@ -1,4 +1,4 @@
--- Lines of the first program that are no events.
+-- Lines of the first program that are not events.
 use Rattle.std.specs.Prelude.{◌≡◌, Bool, ℕ, ◌^◌, ◌<◌, List, []}
 use Rattle.std.specs.declared.cmp.Ordering.{Ordering}
 use Rattle.indexset_bench.specs.Texts.{Texts}
@@ -8,7 +8,7 @@ use Rattle.indexset_follow.specs.Follow.{State, after_line, reply_line}
 use Rattle.indexset_follow.specs.declared.others.Others.TheVariants.{Pass}
 
 module _ {T : Type 0} (texts : Texts T) where
-  -- the number of a reply is of 64 bits, or its value is in range
+  -- the number of a reply has at most 64 bits, or its value is in range
   abbrev pub ReplyFits : Reply T → Type 0
   ReplyFits New = Unit {0}
   ReplyFits Old = Unit {0}
@@ -24,6 +24,6 @@ module _ {T : Type 0} (texts : Texts T) where
   ReplyFits Bad = Unit {0}
 
 module _ {T : Type 0} (cmp : T → T → Ordering) (texts : Texts T) where
-  -- a follower that passes over other lines answers the line by nothing, and it changes nothing
+  -- a follower that passes over other lines writes nothing for the line, and does not change
   abbrev pub IsPassedOver : List ℕ → Type 0
   IsPassedOver line = (s : State T) → (after_line cmp texts s line ≡ s) × ((quiet : Bool) → reply_line cmp texts (record { others = Pass; is_quiet = quiet }) s line ≡ [])

@@ -1,4 +1,4 @@
--- What a line asks to read, and how it is written.
+-- Reads of a map, and their lines.
 use Rattle.std.specs.Prelude.{ℕ, ◌<◌, ◌^◌, if◌then◌else◌, List, ◌∷◌, ◌++◌, Option, None, Some, codes}
 use Rattle.std.specs.Fmt.{decimal}
 use Rattle.std.specs.Option.{option_map, option_map_or}
@@ -22,7 +22,7 @@ word_query word =
     else if bytes_eq word (codes "compact") then Some Compact
     else None
 
--- the read of a word and a number behind it, or two
+-- the read of a word and one number or two
 abbrev pub numbered_query : {T : Type 0} → List ℕ → List ℕ → Option (Query T)
 numbered_query word rest =
     if bytes_eq word (codes "at") then option_map At (number_of rest)
@@ -48,7 +48,7 @@ module _ {T : Type 0} (texts : Texts T) where
   query_line Sum = codes "sum"
   query_line Compact = codes "compact"
 
-  -- the numbers of a read are of 64 bits, and its keys are in range
+  -- the numbers of a read have at most 64 bits, and its keys are in range
   abbrev pub QueryFits : Query T → Type 0
   QueryFits (Get k) = texts.InRange k
   QueryFits Len = Unit {0}
@@ -65,7 +65,7 @@ module _ {T : Type 0} (texts : Texts T) where
   QueryFits Sum = Unit {0}
   QueryFits Compact = Unit {0}
 
-  -- the read of a word and what stands behind it
+  -- the read of a word and the text after it
   abbrev pub keyed_query : List ℕ → List ℕ → Option (Query T)
   keyed_query word rest =
       if bytes_eq word (codes "get") then option_map Get (texts.reading rest)
@@ -73,6 +73,6 @@ module _ {T : Type 0} (texts : Texts T) where
       else if bytes_eq word (codes "range") then option_map (λ p. Range p.0 p.1) (two_keys texts rest)
       else numbered_query word rest
 
-  -- the read that a line asks for
+  -- the read of a line
   abbrev pub query_of : List ℕ → Option (Query T)
   query_of line = option_map_or (λ cut. keyed_query cut.0 cut.1) (cut_at 32 line) (word_query line)

@@ -1,4 +1,4 @@
--- What is read of a map: of its nodes, and of the list that they make joined.
+-- The answers to reads, defined on the nodes of a map and on the list of its pairs.
 use Rattle.std.specs.Prelude.{ℕ, nat_lt, if◌then◌else◌, List, ◌++◌, Option, drop, length, slice_get, take}
 use Rattle.std.specs.Option.{option_map, option_map_or}
 use Rattle.std.specs.declared.cmp.Ordering.{Ordering}
@@ -23,7 +23,7 @@ use Rattle.indexset_follow.specs.declared.reply.Reply.TheVariants as reply
 abbrev pub PairNodes : Type 0 → Type 0
 PairNodes T = List (List (Pair T T))
 
--- the n pairs from position i on, or those that there are
+-- the pairs from position i on, at most n
 abbrev pub page : {T : Type 0} → List (Pair T T) → ℕ → ℕ → List (Pair T T)
 page ps i n = take n (drop i ps)
 
@@ -31,29 +31,29 @@ page ps i n = take n (drop i ps)
 abbrev pub keys_from : {T : Type 0} → (T → T → Ordering) → List (Pair T T) → T → T → List (Pair T T)
 keys_from cmp ps a b = pairs_within cmp ps (Included a) (Included b)
 
--- the reply where the events before number m were told: some are missing, or none is
+-- the reply to `head`: whether events before number m are missing
 abbrev pub head_reply : ℕ → ℕ → Reply
 head_reply next m = if nat_lt next m then reply.Gap next else reply.Next next
 
 module _ {T : Type 0} (texts : Texts T) where
-  -- a key and its value as a line, where they are there
+  -- a key and its value as a line, or `none`
   abbrev pub entry_text : Option (T × T) → List ℕ
   entry_text o = option_map_or (λ e. ended (pair_text texts (pair e.0 e.1))) o (reply_ended reply.Nothing)
 
-  -- the same of a pair
+  -- a pair as a line, or `none`
   abbrev pub item_text : Option (Pair T T) → List ℕ
   item_text o = entry_text (option_map entry_of o)
 
-  -- the pairs in one line
+  -- the pairs in one line, or `none`
   abbrev pub row_text : List (Pair T T) → List ℕ
   row_text ps = if is_filled ps then ended (node_text texts ps) else reply_ended reply.Nothing
 
-  -- the nodes, one a line, and then the next number
+  -- the nodes, one in each line, and then the next number
   abbrev pub nodes_text : PairNodes T → ℕ → List ℕ
   nodes_text ns next = lines_for (node_text texts) ns ++ reply_ended (reply.Next next)
 
 module _ {T : Type 0} (cmp : T → T → Ordering) (texts : Texts T) where
-  -- the answer to a read, where d is the greatest number of a command
+  -- the answer to a read, where d is the greatest command number
   abbrev pub query_text : PairNodes T → ℕ → ℕ → Query T → List ℕ
   query_text ns next d (Get k) = item_text texts (pair_of cmp (concat ns) k)
   query_text ns next d Len = reply_ended (reply.Count (length (concat ns)))
@@ -70,6 +70,6 @@ module _ {T : Type 0} (cmp : T → T → Ordering) (texts : Texts T) where
   query_text ns next d Sum = reply_ended (reply.Sum next (length ns) (sum_of texts (copy ns next) d) d)
   query_text ns next d Compact = reply_ended (reply.Next next)
 
-  -- the answer to a line that may ask for a read, and is nothing else
+  -- the answer to a line that is a read, or not one of the grammar
   abbrev pub read_reply : Others → PairNodes T → ℕ → ℕ → List ℕ → List ℕ
   read_reply o ns next d line = option_map_or (query_text ns next d) (query_of texts line) (others_text o)

@@ -5,7 +5,7 @@ use Rattle.indexset_core.specs.declared.refusal.Refusal.TheVariants as refusal
 use Rattle.indexset_follow.specs.declared.reason.Reason.{Reason}
 use Rattle.indexset_follow.specs.declared.reason.Reason.TheVariants.{Refused, NotBegun, Count, Sum}
 
--- the last: no line is refused so
+-- no line has a refusal that is not named
 abbrev pub refusal_word : Refusal → List ℕ
 refusal_word refusal.Numbers = codes "number"
 refusal_word refusal.NoSuchNode = codes "node"

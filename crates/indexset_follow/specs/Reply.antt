@@ -1,4 +1,4 @@
--- How a reply is written.
+-- The text of a reply.
 use Rattle.std.specs.Prelude.{ℕ, Bool, true, false, ◌&&◌, not, if◌then◌else◌, List, [], ◌++◌, codes}
 use Rattle.std.specs.Fmt.{decimal}
 use Rattle.indexset_bench.specs.PairText.{ended}
@@ -28,22 +28,22 @@ reply_ended reply = ended (reply_text reply)
 
 -- ---- which replies are written
 
--- something is missing, or does not fit
+-- events are missing, or a line does not fit
 abbrev pub is_urgent : Reply → Bool
 is_urgent (Gap n) = true
 is_urgent (Missing n first) = true
 is_urgent (Unfit n reason) = true
 is_urgent other = false
 
--- what a follower tells of its reply to an event or a line of a snapshot
+-- what a follower writes as its reply to an event or a line of a snapshot
 abbrev pub voiced : Voice → Reply → List ℕ
 voiced v reply = if v.is_quiet && not (is_urgent reply) then [] else reply_ended reply
 
--- a quiet follower passes over what says nothing
+-- what a follower does with a line that is not one of the grammar: a quiet one passes over it
 abbrev pub follower_others : Voice → Others
 follower_others v = if v.is_quiet then Pass else v.others
 
--- the answer to a line that says nothing
+-- the answer to a line that is not one of the grammar
 abbrev pub others_text : Others → List ℕ
 others_text Tell = reply_ended Bad
 others_text Pass = []

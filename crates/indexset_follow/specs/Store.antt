@@ -1,4 +1,4 @@
--- What a line does to a map that follows or leads, and the text that answers it.
+-- The effect of a line on a map in either role, and the answer to it.
 use Rattle.std.specs.Prelude.{ℕ, ◌&&◌, is_none, not, if◌then◌else◌, Bool, true, false, List, [], codes, Option, None, Some}
 use Rattle.std.specs.Io.BufRead.{strip_last}
 use Rattle.std.specs.Str.{bytes_eq}
@@ -24,7 +24,7 @@ use Rattle.indexset_follow.specs.declared.role.Role.TheVariants.{Following, Lead
 use Rattle.std.specs.declared.cmp.Ordering.{Ordering}
 use Rattle.indexset_bench.specs.Texts.{Texts}
 
--- a map in one of two roles, how many pairs a node of a leader holds at most, and the window of a follower
+-- a map in one of two roles, with the node size of a leader and the window of a follower
 pub record Held (T : Type 0) : Type 0 where
   pub size : ℕ
   pub window : ℕ
@@ -34,14 +34,14 @@ module _ {T : Type 0} where
   abbrev pub held : ℕ → ℕ → Role T → Held T
   held size window role = record { size = size; window = window; role = role }
 
-  -- ---- a follower leads
+  -- ---- a follower becomes a leader
 
-  -- a leader of the nodes that are held, which goes on with the number that was awaited
+  -- a leader of the nodes, whose next event has the awaited number
   abbrev pub promoted : ℕ → Copy T → PairTree T
   promoted size c = record { nodes = c.nodes; size = size; next = c.next }
 
 module _ {T : Type 0} (cmp : T → T → Ordering) where
-  -- no node has more pairs than one of a leader
+  -- no node has more pairs than the node size of a leader
   abbrev pub can_lead : ℕ → Copy T → Bool
   can_lead size c = is_none (nodes_refusal (by_key cmp) size c.nodes)
 
@@ -54,9 +54,9 @@ module _ {T : Type 0} (cmp : T → T → Ordering) where
   lead_reply size (Leading l) = reply_ended (reply.Next l.pairs.next)
 
 module _ {T : Type 0} where
-  -- ---- a leader follows
+  -- ---- a leader becomes a follower
 
-  -- a follower of the leader's nodes, which awaits the number that it would have given next
+  -- a follower of the leader's nodes that awaits the leader's next event
   abbrev pub after_follow : ℕ → Role T → Role T
   after_follow window (Following s) = Following s
   after_follow window (Leading l) = Following (holding window (copy l.pairs.nodes l.pairs.next) l.done)
@@ -65,7 +65,7 @@ module _ {T : Type 0} where
   follow_reply (Following s) = reply_ended (reply.Next s.held.next)
   follow_reply (Leading l) = reply_ended (reply.Next l.pairs.next)
 
--- ---- a snapshot begins a leader without nodes
+-- ---- a snapshot starts at a leader without nodes
 
 abbrev pub is_start : Option Mark → Bool
 is_start None = false
@@ -73,17 +73,17 @@ is_start (Some (Start n d)) = true
 is_start (Some (End count sum)) = false
 is_start (Some (Done d n)) = false
 
--- the line begins a snapshot
+-- the line starts a snapshot
 abbrev pub starts : List ℕ → Bool
 starts line = is_start (mark_of line)
 
 module _ {T : Type 0} where
-  -- it finds a leader without nodes, which then follows
+  -- a leader without nodes becomes a follower at the start of a snapshot
   abbrev pub begun : ℕ → Role T → List ℕ → Role T
   begun window (Following s) line = Following s
   begun window (Leading l) line = if starts line && not (is_filled l.pairs.nodes) then Following (holding window (copy [] l.pairs.next) l.done) else Leading l
 
--- ---- a line, by the role
+-- ---- a line, in either role
 
 abbrev pub is_lead : List ℕ → Bool
 is_lead line = bytes_eq line (codes "lead")
@@ -115,7 +115,7 @@ module _ {T : Type 0} (cmp : T → T → Ordering) (texts : Texts T) where
       else if is_follow line then follow_reply h.role
       else reply_in_role v (begun h.window h.role line) line
 
-  -- a last line that lacks its end is answered where it asks for a read, and changes nothing
+  -- a last line without a line end is answered if it is a read, and changes nothing
   abbrev pub cut_in_role : Voice → Role T → List ℕ → List ℕ
   cut_in_role v (Following s) line = read_reply cmp texts (follower_others v) s.held.nodes s.held.next s.done line
   cut_in_role v (Leading l) line = read_reply cmp texts v.others l.pairs.nodes l.pairs.next l.done line
@@ -125,7 +125,7 @@ module _ {T : Type 0} (cmp : T → T → Ordering) (texts : Texts T) where
 
 -- ---- a line of the input
 
--- a byte 13 directly before the byte 10 belongs to the end of the line
+-- a byte 13 directly before the byte 10 belongs to the line end
 abbrev pub without_return : List ℕ → List ℕ
 without_return line = strip_last 13 line
 
@@ -137,7 +137,7 @@ module _ {T : Type 0} (cmp : T → T → Ordering) (texts : Texts T) where
   input_reply v h line = held_reply cmp texts v h (without_return line)
 
 module _ {T : Type 0} where
-  -- the role tells events, and more of them than there are numbers
+  -- a leader whose number of events is above the greatest event number
   abbrev pub role_lacks : Role T → Type 0
   role_lacks (Following s) = ⊥
   role_lacks (Leading l) = lacks l.pairs
@@ -148,15 +148,15 @@ module _ {T : Type 0} where
 module _ {T : Type 0} (cmp : T → T → Ordering) (texts : Texts T) where
   -- ---- lines
 
-  -- the answers to the lines, joined
+  -- the concatenation of the answers to the lines
   abbrev pub held_replies : Voice → Held T → List (List ℕ) → List ℕ
   held_replies v = replies_to (held_reply cmp texts v) (after_held cmp texts)
 
-  -- what is held after the lines
+  -- the map after the lines
   abbrev pub held_after : Held T → List (List ℕ) → Held T
   held_after = left_by (after_held cmp texts)
 
 module _ {T : Type 0} where
-  -- at first: no nodes, and event 0 is awaited, or to be told
+  -- the initial map: no nodes, and 0 as the number of the next event
   abbrev pub first_held : ℕ → ℕ → Bool → Held T
   first_held size window leads = held size window (if leads then Leading (leader_of (record { nodes = []; size = size; next = 0 }) 0) else Following (start_state window))

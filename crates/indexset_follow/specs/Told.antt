@@ -1,4 +1,4 @@
--- The events that the first program tells, and the lines of its output that tell them.
+-- The events that the first program emits, and the lines of its output that are events.
 use Rattle.std.specs.Prelude.{◌≡◌, ℕ, is_some, Some, List, [], ◌∷◌, ◌++◌, filter, slice_get}
 use Rattle.std.specs.Option.{option_map_or}
 use Rattle.indexset_lines.specs.Lines.{lines_of}
@@ -9,24 +9,24 @@ use Rattle.indexset_follow.specs.EventLine.{Event, event_of}
 use Rattle.std.specs.Ordering.{nat_cmp}
 use Rattle.indexset_bench.specs.Texts.{number_texts}
 
--- the events that the reply to a line tells: those of its command to the map
+-- the events of a line: those of its command to the map
 abbrev pub line_events : Stores → List ℕ → List (Event ℕ)
 line_events s line = option_map_or (told_events nat_cmp s.pairs) (pair_meaning number_texts line) []
 
--- the events that the replies to the lines tell, one line after another
+-- the events of the lines, in order
 unfoldable pub events_from : Stores → List (List ℕ) → List (Event ℕ)
 events_from s [] = []
 events_from s (line ∷ lines) = line_events s line ++ events_from (stores_after s line) lines
 
--- the same, from nothing on
+-- the events of the lines from the initial state
 abbrev pub events_of_lines : List (List ℕ) → List (Event ℕ)
 events_of_lines lines = events_from no_stores lines
 
--- the lines that the first program writes when it reads these
+-- the lines that the first program writes for these lines
 abbrev pub output_lines : List (List ℕ) → List (List ℕ)
 output_lines lines = lines_of (replies_of no_stores lines)
 
--- those of the lines that tell events
+-- the lines that are events
 abbrev pub event_lines : List (List ℕ) → List (List ℕ)
 event_lines lines = filter (λ line. is_some (event_of number_texts line)) lines
 

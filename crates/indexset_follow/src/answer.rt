@@ -1,4 +1,4 @@
-//! What a line changes in a follower, and the reply that is written to it.
+//! The effect of a line on a follower, and the reply to it.
 
 ghost use Rattle.std.specs.Prelude.{◌≡◌, ◌≢◌, IfOk, OnOk, IfErr, OnErr, Err};
 ghost use Rattle.std.specs.Io.KnownBytes.{Appends, Keeps};
@@ -23,7 +23,11 @@ use indexset_replica::lookup::Delivery;
 use std::alloc::Global;
 use std::io::Write;
 
-/// Writes the reply to one line. Where memory runs out, nothing is written.
+/// Writes the reply to one line.
+///
+/// # Errors
+///
+/// `Memory`: nothing is written. `Write`.
 pub fn answer_line<T: Key, W: Write>(
     alloc: Global,
     voice: Voice,
@@ -63,8 +67,9 @@ pub fn answer_line<T: Key, W: Write>(
     }
 }
 
-/// Makes the step of the awaited event and those of the early ones after it, holds an early event,
-/// and returns the reply to any event.
+/// Applies the awaited event and the early events after it, or holds an event that is ahead.
+///
+/// Returns the reply to the event.
 fn take_event<T: Key>(
     alloc: Global,
     follower: &mut Follower<T>,
@@ -85,8 +90,9 @@ fn take_event<T: Key>(
     }
 }
 
-/// Makes the steps of early events while the first is the awaited one, and returns the reply. One
-/// that does not apply is dropped, and ends it.
+/// Applies early events while the first is the awaited one, and returns the reply.
+///
+/// An event that does not apply is dropped, and ends this.
 fn catch_up<T: Key>(nodes: &mut Nodes<T>, early: &mut Early<T>) -> Result<Reply, RunFault>
     ensures taken { IfOk result (λ reply. caught_up T.cmp nodes.old early.old
         ≡ taken nodes.new early.new reply) }
@@ -100,8 +106,9 @@ fn catch_up<T: Key>(nodes: &mut Nodes<T>, early: &mut Early<T>) -> Result<Reply,
     Ok(Reply::Next(nodes.next()))
 }
 
-/// Holds an event that is ahead of the awaited one by no more than the window, and returns the
-/// reply to one that is ahead. A failed call changes nothing.
+/// Holds an event that is ahead of the awaited one by at most the window, and returns the reply.
+///
+/// A failed call changes nothing.
 fn take_ahead<T: Key>(
     alloc: Global,
     follower: &mut Follower<T>,
@@ -122,7 +129,11 @@ fn take_ahead<T: Key>(
     Ok(Reply::Missing(next, follower.early.first_number(number)))
 }
 
-/// Returns the reply to what does not apply. A lack of memory is a fault.
+/// Returns the reply to an event or a node that does not apply.
+///
+/// # Errors
+///
+/// `Memory`, if that is the refusal.
 pub fn reply_unless_memory(refusal: Refusal, next: u64) -> Result<Reply, RunFault>
     ensures unfit { OnOk result (refusal ≢ Refusal.Memory) }
     ensures reply { IfOk result (λ reply. reply ≡ Reply.Unfit next (Reason.Refused refusal)) }

@@ -1,4 +1,4 @@
-//! Events that come before their turn.
+//! Early events: those that came before the awaited one.
 
 ghost use Rattle.std.specs.Prelude.{◌≡◌, ◌≢◌, ◌∷◌, [], IfErr, IfOk, IfSome, None, OnErr, OnOk, Some, map, slice_get};
 ghost use Rattle.std.specs.Option.{option_map, option_map_or};
@@ -14,10 +14,10 @@ use indexset_map::BTreeMap;
 use std::alloc::Global;
 use std::marker::Model;
 
-/// Events that came before their turn, by their numbers.
+/// Early events, by their numbers.
 #[derive(Drop)]
 pub struct Early<T: Key> {
-    // None until the first comes.
+    // `None` until the first event.
     events: Option<BTreeMap<u64, Event<T>>>,
 }
 
@@ -32,14 +32,18 @@ impl<T: Key> Model for Early<T> {
 }
 
 impl<T: Key> Early<T> {
-    /// Returns none.
+    /// Returns an empty collection.
     pub fn new() -> Early<T>
         ensures { result ≡ [] }
     {
         Early { events: None }
     }
 
-    /// Inserts an event, in place of one of the same number. A failed call changes nothing.
+    /// Inserts an event, or replaces that of the same number.
+    ///
+    /// # Errors
+    ///
+    /// `Memory`. A failed call changes nothing.
     pub fn insert(&mut self, alloc: Global, event: Event<T>) -> Result<(), RunFault>
         ensures held { OnOk result (self.new ≡ with_early self.old event) }
         ensures fault { IfErr result (λ fault. fault ≡ RunFault.Memory) }
@@ -56,7 +60,7 @@ impl<T: Key> Early<T> {
         Ok(())
     }
 
-    /// Returns the least of their numbers, or this one where there is none.
+    /// Returns the least number of an event, or `number` if there is none.
     pub fn first_number(&self, number: u64) -> u64
         ensures { result ≡ first_number self.now number }
     {
@@ -69,8 +73,8 @@ impl<T: Key> Early<T> {
         }
     }
 
-    /// Returns the lines of the events whose numbers go on by one from `number` on, from the first
-    /// on.
+    /// Returns the lines of the first events, as long as their numbers are consecutive from
+    /// `number` on.
     pub fn lines_from(&self, alloc: Global, number: u64) -> Result<Vec<Vec<u8>>, RunFault>
         ensures lines { IfOk result (λ lines. map (λ line. line.items) lines.items
             ≡ map (event_text T.texts) (consecutive number self.now)) }
@@ -82,7 +86,7 @@ impl<T: Key> Early<T> {
         }
     }
 
-    /// Removes the first event and returns it, where this is its number.
+    /// Removes the first event and returns it, if this is its number.
     pub fn pop(&mut self, number: u64) -> Option<Event<T>>
         ensures first { IfSome result (λ event. self.old ≡ pair number event ∷ self.new) }
         ensures other { result ≡ None
@@ -99,7 +103,8 @@ impl<T: Key> Early<T> {
     }
 }
 
-/// Returns the lines of the events whose numbers go on by one from `number` on, from the first on.
+/// Returns the lines of the first events, as long as their numbers are consecutive from `number`
+/// on.
 fn consecutive_lines<T: Key>(
     alloc: Global,
     events: &BTreeMap<u64, Event<T>>,

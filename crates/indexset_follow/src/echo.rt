@@ -1,4 +1,4 @@
-//! The number that a caller gives a command.
+//! Commands with command numbers.
 
 ghost use Rattle.std.specs.Prelude.{◌≡◌, IfErr, IfOk};
 ghost use Rattle.indexset_follow.specs.Echo.{change_of, command_of, done_by, echo_of, echoed_of};
@@ -10,17 +10,17 @@ use indexset_bench::pair_command::{PairCommand, parse_pairs};
 use indexset_events::parts::{cut, read_number};
 use std::alloc::Global;
 
-/// A command, and the number that its caller gave it.
+/// A command, and its command number.
 #[derive(Debug, PartialEq, Eq, Drop)]
 pub struct Command<T> {
-    /// The number, where the line begins with one.
+    /// The command number, if it has one.
     pub echo: Option<u64>,
-    /// What is done to the map.
+    /// The command to the map.
     pub change: PairCommand<T>,
 }
 
 impl<T> Command<T> {
-    /// Returns the greatest number of a command, where `done` was the greatest before this one.
+    /// Returns the greatest command number after this command, where `done` is that before it.
     pub fn done(&self, done: u64) -> u64
         ensures { result ≡ done_by done self.now }
     {
@@ -31,7 +31,7 @@ impl<T> Command<T> {
     }
 }
 
-/// Returns the command of a line, with its number or without one.
+/// Returns the command of a line, with or without a command number.
 pub fn read_command<T: Key>(alloc: Global, line: &[u8]) -> Result<Option<Command<T>>, RunFault>
     ensures command { IfOk result (λ command. command ≡ command_of T.texts line.now) }
     ensures fault { IfErr result (λ fault. fault ≡ RunFault.Memory) }
@@ -42,7 +42,7 @@ pub fn read_command<T: Key>(alloc: Global, line: &[u8]) -> Result<Option<Command
     }
 }
 
-/// Returns the command of a line that begins with its number and a space.
+/// Returns the command of a line that begins with a command number and a space.
 fn read_echoed<T: Key>(alloc: Global, line: &[u8]) -> Result<Option<Command<T>>, RunFault>
     ensures command { IfOk result (λ command. command ≡ echoed_of T.texts line.now) }
     ensures fault { IfErr result (λ fault. fault ≡ RunFault.Memory) }
@@ -62,7 +62,7 @@ fn read_echoed<T: Key>(alloc: Global, line: &[u8]) -> Result<Option<Command<T>>,
     }))
 }
 
-/// Returns the number of a word, behind a `#`.
+/// Returns the command number of a word, `#` and digits.
 fn read_echo(word: &[u8]) -> Option<u64>
     ensures { result ≡ echo_of word.now }
 {
@@ -72,7 +72,7 @@ fn read_echo(word: &[u8]) -> Option<u64>
     }
 }
 
-/// Returns the command of a text that is no read.
+/// Returns the command of a text that is not a read.
 fn read_change<T: Key>(alloc: Global, text: &[u8]) -> Result<Option<PairCommand<T>>, RunFault>
     ensures command { IfOk result (λ command. command ≡ change_of T.texts text.now) }
     ensures fault { IfErr result (λ fault. fault ≡ RunFault.Memory) }

@@ -1,4 +1,4 @@
-//! The event that a line spells.
+//! Parses the lines of events.
 
 ghost use Rattle.std.specs.Prelude.{◌≡◌, IfErr, IfOk};
 ghost use Rattle.indexset_follow.specs.EventLine.{event_of, item_event, named_event, word_event};
@@ -13,7 +13,7 @@ use std::alloc::Global;
 /// An event whose items are pairs.
 pub type Event<T> = ChangeEvent<Pair<T, T>>;
 
-/// Returns the event that the line spells, if it spells one.
+/// Returns the event of a line, or `None` if it is not one.
 pub fn read_event<T: Key>(alloc: Global, line: &[u8]) -> Result<Option<Event<T>>, RunFault>
     ensures event { IfOk result (λ event. event ≡ event_of T.texts line.now) }
     ensures fault { IfErr result (λ fault. fault ≡ RunFault.Memory) }
@@ -30,7 +30,7 @@ pub fn read_event<T: Key>(alloc: Global, line: &[u8]) -> Result<Option<Event<T>>
     read_change(alloc, Id::from(number), word, rest)
 }
 
-/// Returns the event of a word, by what stands behind it.
+/// Returns the event of a number, a word and the text after it.
 fn read_change<T: Key>(
     alloc: Global,
     event_id: Id,
@@ -63,7 +63,7 @@ fn read_change<T: Key>(
     read_named(alloc, event_id, word, max_value, rest)
 }
 
-/// Returns the event of a word that names a node, by what stands behind the name.
+/// Returns the event of a number, a word, a node's maximum and the text after it.
 fn read_named<T: Key>(
     alloc: Global,
     event_id: Id,
@@ -98,7 +98,7 @@ fn read_named<T: Key>(
     read_placed(alloc, event_id, word, max_value, rest)
 }
 
-/// Returns the event of a word that names a node and an item, by the item and its index.
+/// Returns the event of a number, a word, a node's maximum and an item with an index.
 fn read_placed<T: Key>(
     alloc: Global,
     event_id: Id,

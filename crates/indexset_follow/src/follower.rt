@@ -1,22 +1,22 @@
-//! What a follower holds.
+//! The state of a follower.
 
 use crate::early::Early;
 use crate::write::Nodes;
 use indexset_bench::key::Key;
 
-/// What a follower holds.
+/// The state of a follower.
 #[derive(Drop)]
 pub struct Follower<T: Key> {
-    /// The nodes that are held, and the number of the awaited event.
+    /// The nodes, and the number of the awaited event.
     pub held: Nodes<T>,
-    /// The greatest number of a command whose events are held, 0 while there is none.
+    /// The greatest command number whose events are applied, 0 if there is none.
     pub done: u64,
     /// The snapshot that has begun and not ended.
     pub coming: Option<Nodes<T>>,
-    /// The greatest number of a command that this snapshot tells.
+    /// The greatest command number of this snapshot.
     pub coming_done: u64,
-    /// How far ahead of the awaited event another is held.
+    /// How far ahead of the awaited event an event is held.
     pub window: u64,
-    /// The events that came before their turn.
+    /// The early events.
     pub early: Early<T>,
 }

@@ -1,4 +1,4 @@
-//! Laws of the definitions of lines and replies, whatever the code.
+//! Theorems on the definitions of lines and replies.
 
 ghost use Rattle.std.specs.Prelude.{◌≡◌, ◌≢◌, ◌⊎◌, ◌↔◌, ◌<◌, ◌≤◌, ◌^◌, ◌++◌, ℕ, List, [], codes, length, map, drop, slice_get, take, None, Option, Some, IsSomeAnd};
 ghost use Rattle.std.specs.Fmt.{decimal};
@@ -34,7 +34,7 @@ ghost use Rattle.indexset_replica.specs.Replica.{apply_refusal};
 
 use indexset_bench::key::Key;
 
-/// A line spells the event of which it is the text, and no other line spells one.
+/// A line is an event if and only if it is the text of that event.
 pub fn event_meaning_is_spelling<T: Key>()
     ensures spelled { (line : List ℕ) (e : Event T) → EventFits T.texts e
         → (event_of T.texts line ≡ Some e) ↔ (line ≡ event_text T.texts e) }
@@ -42,7 +42,7 @@ pub fn event_meaning_is_spelling<T: Key>()
         → EventFits T.texts e }
 {}
 
-/// The same of the line that gives a node, which has a pair at least.
+/// A line is a node, which has at least one pair, if and only if it is the text of that node.
 pub fn node_meaning_is_spelling<T: Key>()
     ensures spelled { (line : List ℕ) (n : List (Pair T T)) → NodeFits T.texts n
         → (node_of T.texts line ≡ Some n) ↔ (line ≡ node_line T.texts n) }
@@ -50,7 +50,7 @@ pub fn node_meaning_is_spelling<T: Key>()
         → NodeFits T.texts n }
 {}
 
-/// The same of the line of a read.
+/// A line is a read if and only if it is the text of that read.
 pub fn query_meaning_is_spelling<T: Key>()
     ensures spelled { (line : List ℕ) (q : Query T) → QueryFits T.texts q
         → (query_of T.texts line ≡ Some q) ↔ (line ≡ query_line T.texts q) }
@@ -58,18 +58,22 @@ pub fn query_meaning_is_spelling<T: Key>()
         → QueryFits T.texts q }
 {}
 
-/// The same of the line that begins a snapshot or ends it, or tells which commands were done.
+/// A line is a mark if and only if it is the text of that mark.
+///
+/// Marks are the first and the last line of a snapshot, and the `done` line.
 pub fn mark_meaning_is_spelling()
     ensures spelled { (line : List ℕ) (m : Mark) → MarkFits m
         → (mark_of line ≡ Some m) ↔ (line ≡ mark_line m) }
     ensures fits { (line : List ℕ) (m : Mark) → mark_of line ≡ Some m → MarkFits m }
 {}
 
-/// Let the events be numbered without a gap and lead from some nodes on, and let a follower hold
-/// what the first j of them lead to, and some of those after the awaited one early. After any list
-/// of lines that are texts of these events, with losses, repeats and in any order, it holds what
-/// the first k lead to, for some k, and some of those after the awaited one early. Where the texts
-/// of the events from j on are among the lines in their order, k is all of them.
+/// However events are lost, repeated or reordered, a follower has the nodes after a prefix of them.
+///
+/// Let the events be numbered without a gap, and let each apply to the nodes after those before it.
+/// Let a follower have the nodes after the first j events, and some of those after the awaited one
+/// as early events. After any lines that are texts of these events it has the nodes after the first
+/// k events, for some k, and some of those after the awaited one as early events. If the texts of
+/// the events from j on are among the lines in their order, k is the number of all events.
 pub fn deliveries_lead_to_a_beginning<T: Key>()
     ensures beginning { (s j : ℕ) (ns : List (List (Pair T T))) (es : List (Event T)) (r : State T)
         (lines : List (List ℕ)) → IsFeedOfPairs T.cmp s ns es → All (EventFits T.texts) es
@@ -86,10 +90,12 @@ pub fn deliveries_lead_to_a_beginning<T: Key>()
         × HoldsAhead s es (holding w (copy ns s) d) }
 {}
 
-/// Let a follower hold what the first j of such events lead to, and none early, and let each event
-/// be ahead of the awaited one by no more than the window when its line comes. Then nothing that
-/// comes is lost, in whatever order: after the lines it holds what the first k lead to, where k is
-/// the first from j on that never came. Where all from j on came, it holds what all lead to.
+/// If each event comes within the window, no event that comes is lost.
+///
+/// Let a follower have the nodes after the first j events, and no early events. Let each event be
+/// ahead of the awaited one by at most the window when its line comes. After the lines, in any
+/// order, it has the nodes after the first k events, where k is the first from j on that never
+/// came.
 pub fn nothing_within_the_window_is_lost<T: Key>()
     ensures first { (s j : ℕ) (ns : List (List (Pair T T))) (es : List (Event T)) (r : State T)
         (lines : List (List ℕ)) → IsFeedOfPairs T.cmp s ns es → All (EventFits T.texts) es
@@ -105,8 +111,9 @@ pub fn nothing_within_the_window_is_lost<T: Key>()
         → HoldsFirst T.cmp s ns es (length es) (state_after T.cmp T.texts r lines) }
 {}
 
-/// The events that are held early are ahead of the awaited one by no more than the window, whatever
-/// the lines, and so they are no more than it.
+/// Early events are ahead of the awaited one by at most the window.
+///
+/// So they are at most as many as the window, after any lines.
 pub fn early_events_are_few<T: Key>()
     ensures near { (r : State T) (lines : List (List ℕ)) → HoldsNear r
         → HoldsNear (state_after T.cmp T.texts r lines) }
@@ -114,8 +121,10 @@ pub fn early_events_are_few<T: Key>()
     ensures none { (w d : ℕ) (c : Copy T) → HoldsNear (holding w c d) }
 {}
 
-/// Without a window no event is held early: the awaited event makes its step or is refused, and any
-/// other changes nothing, and tells what is awaited.
+/// A follower without a window holds no early event.
+///
+/// The awaited event is applied or refused. Any other event changes nothing. The reply to one that is
+/// ahead is `Gap` with the awaited number.
 pub fn without_a_window_only_the_awaited_event_is_taken<T: Key>()
     ensures early { (r : State T) (e : Event T) → r.window ≡ 0 → r.early ≡ []
         → (after_event T.cmp r e).early ≡ [] }
@@ -129,9 +138,10 @@ pub fn without_a_window_only_the_awaited_event_is_taken<T: Key>()
         → event_reply T.cmp r e ≡ reply.Gap r.held.next }
 {}
 
-/// The lines of a snapshot, sent to any follower, make it what its source is: the nodes, the
-/// expected number, and the greatest number of a command. Where the source holds what the first k
-/// events lead to, the other does.
+/// A follower that reads a snapshot has the state of its source.
+///
+/// These are the nodes, the awaited number and the greatest command number. If the source has the
+/// nodes after the first k events, so has the follower.
 pub fn snapshot_gives_the_follower<T: Key>()
     ensures summed { (giver : Copy T) (d : ℕ) (taker : State T)
         → IsNodeList (by_key T.cmp) giver.nodes
@@ -145,9 +155,10 @@ pub fn snapshot_gives_the_follower<T: Key>()
         (unsummed_text T.texts giver d)) ≡ holding taker.window giver d }
 {}
 
-/// Nothing of a snapshot is held before its end: lines that are neither events nor such an end
-/// change nothing that is held. An end that tells another number of nodes than came, or another
-/// sum, leaves what was held and ends the snapshot.
+/// An incomplete snapshot changes nothing.
+///
+/// Before its last line, lines that are not events change neither the nodes nor the awaited number.
+/// A last line with another number of nodes, or with another sum, drops the snapshot.
 pub fn snapshots_are_held_whole<T: Key>()
     ensures before { (s : State T) (lines : List (List ℕ)) → All (LacksEnd T.texts) lines
         → (state_after T.cmp T.texts s lines).held ≡ s.held }
@@ -157,8 +168,10 @@ pub fn snapshots_are_held_whole<T: Key>()
         → after_mark T.texts s (Mark.End count sum) ≡ with_coming s None 0 }
 {}
 
-/// A follower that passes over other lines writes nothing for a reply of the first program, nor for
-/// the reply of a leader to a command and the line that ends it, and no such line changes it.
+/// A follower that passes over other lines accepts none of the other program's replies.
+///
+/// It writes nothing for a reply of the first program, for a leader's reply to a command or for the
+/// last line of a leader's answer, and no such line changes it.
 pub fn replies_are_passed_over<T: Key>()
     ensures first { (reply : Reply ℕ) → ReplyFits number_texts reply
         → IsPassedOver nat_cmp number_texts (reply_text number_texts reply) }
@@ -167,10 +180,12 @@ pub fn replies_are_passed_over<T: Key>()
     ensures next { (n : ℕ) → IsPassedOver T.cmp T.texts (codes "next " ++ decimal n) }
 {}
 
-/// The events that the first program writes, whatever lines it reads, are numbered from 0 without a
-/// gap. They lead from no nodes to the nodes that it holds after these lines, and the number that
-/// it gives next is how many they are. While that is a number of 64 bits, so are the numbers in the
-/// events. The events of the first n lines are the first of all.
+/// Replaying the events of the first program gives its nodes.
+///
+/// The events are numbered from 0 without a gap, for any lines that it reads. Replaying them from
+/// no nodes gives the nodes after these lines, and the next number is the number of events. While
+/// it has at most 64 bits, so have the numbers in the events. The events of the first n lines are a
+/// prefix of all.
 pub fn told_events_lead_to_the_nodes()
     ensures numbered { (lines : List (List ℕ)) → IsNumberedFrom 0 (events_of_lines lines) }
     ensures replayed { (lines : List (List ℕ))
@@ -185,21 +200,24 @@ pub fn told_events_lead_to_the_nodes()
         ≡ events_of_lines (take n lines) }
 {}
 
-/// The lines of the first program's output that spell events are the texts of these, all of them in
-/// their order, while the lines that it reads are fewer than 2^64, and so are the events.
+/// The lines of the first program's output that are events are the texts of its events, in order.
+///
+/// It reads fewer than 2^64 lines, and emits fewer than 2^64 events.
 pub fn output_tells_the_events()
     ensures { (lines : List (List ℕ)) → length lines < 2 ^ 64
         → (stores_of no_stores lines).pairs.next < 2 ^ 64
         → event_lines (output_lines lines) ≡ map (event_text number_texts) (events_of_lines lines) }
 {}
 
-/// Both programs together. Let the first read fewer than 2^64 lines, and write fewer than 2^64
-/// events. A follower that starts from nothing is given any list of lines that the first wrote,
-/// with losses, repeats and in any order. It then holds what the first k events lead to, for some
-/// k: no other line changes it. Where it expects the number that the first would give next after
-/// its first n lines, it holds the nodes that the first held then. Where all the lines that spell
-/// events came, in their order or each within the window, and so where all that the first wrote
-/// came as it was written, it holds the nodes of the first, and expects its next number.
+/// A follower of the first program has its nodes after a prefix of its events.
+///
+/// The first program reads fewer than 2^64 lines, and emits fewer than 2^64 events. A follower that
+/// starts empty reads any lines that the first program wrote, with losses, repeats and in any
+/// order. It then has the nodes after the first k events, for some k; no other line changes it. If
+/// it awaits the number that the first program would use next after its first n lines, it has the
+/// nodes of the first program after them. If all lines that are events came, in order or each
+/// within the window, it has the nodes of the first program, and awaits its next number. So it does
+/// if it read the whole output in order.
 pub fn programs_agree()
     ensures beginning { (w : ℕ) (lines delivered : List (List ℕ)) → length lines < 2 ^ 64
         → (stores_of no_stores lines).pairs.next < 2 ^ 64

@@ -1,13 +1,13 @@
-//! What a leader holds.
+//! The state of a leader.
 
 use indexset_bench::key::Key;
 use indexset_bench::pairs::Pairs;
 
-/// What a leader holds.
+/// The state of a leader.
 #[derive(Drop)]
 pub struct Leader<T: Key> {
     /// The map, and the number of the next event.
     pub pairs: Pairs<T>,
-    /// The greatest number of a command, 0 while none had one.
+    /// The greatest command number, 0 if no command had one.
     pub done: u64,
 }

@@ -1,4 +1,4 @@
-//! A map that leads: commands change it, and their events are told.
+//! The effect of a line on a leader, and the answer to it.
 
 ghost use Rattle.std.specs.Prelude.{◌≡◌, ◌≢◌, Err, IfErr, OnOk};
 ghost use Rattle.std.specs.Io.KnownBytes.{Appends, Keeps};
@@ -20,8 +20,11 @@ use indexset_bench::pairs::answer_pairs;
 use std::alloc::Global;
 use std::io::Write;
 
-/// Writes the answer to one line: to a read, or to a command. Where it fails for memory or for
-/// numbers, nothing is written.
+/// Writes the answer to one line: to a read, or to a command.
+///
+/// # Errors
+///
+/// `Memory` or `Numbers`: nothing is written. `Write`.
 pub fn answer_leading<T: Key, W: Write>(
     alloc: Global,
     others: Others,
@@ -49,8 +52,9 @@ pub fn answer_leading<T: Key, W: Write>(
     }
 }
 
-/// Carries out a command, and writes the reply, the events of its change, the commands that are
-/// done and the next number. A failed call changes nothing, and nothing is written.
+/// Executes a command, and writes the reply, the events, the `done` line and the next number.
+///
+/// On `Memory` or `Numbers` nothing is changed or written.
 fn answer_command<T: Key, W: Write>(
     writer: &mut W,
     leader: &mut Leader<T>,
@@ -78,7 +82,7 @@ fn answer_command<T: Key, W: Write>(
     write_reply(writer, Reply::Next(next))
 }
 
-/// Writes the line that tells followers which commands were done, where the command has a number.
+/// Writes the `done` line, if the command has a number.
 fn write_done<W: Write>(
     writer: &mut W,
     echo: Option<u64>,

@@ -1,12 +1,11 @@
-//! A program over lines that holds a map, which follows another by its events or leads.
+//! A program over lines that has a map as a leader or as a follower.
 //!
-//! [`serve`] reads lines of a reader and writes the answer to each. A line is an event, as
-//! `indexset_bench` writes it, one of a snapshot, a read, or a command to a map that leads.
-//! `numbers`, `event`, `node`, `mark`, `echo` and [`reads`] read a line, `answer` and `snapshot`
-//! change what a `follower` holds, `early` holds its events ahead, `leading` changes what a
-//! `leader` holds, `step_down` makes a follower of it, `sum` and `write` tell it, and `store` has
-//! both roles. The text that it writes is defined in `specs/Store.antt`, and [`laws`] and
-//! [`takeover`] say what the definitions mean.
+//! [`serve`] writes the answer to each line of a reader. A line is an event as `indexset_bench`
+//! writes it, a line of a snapshot, a read, or a command to a leader. `numbers`, `event`, `node`,
+//! `mark`, `echo` and [`reads`] parse lines. `answer` and `snapshot` change a `follower`, whose
+//! early events are in `early`. `leading` changes a `leader`. `step_down` makes a leader a
+//! follower. `sum` and `write` write snapshots. `store` has both roles. `specs/Store.antt` defines
+//! the output. [`laws`] and [`takeover`] have theorems on the definitions.
 #![tactic(auto)]
 
 pub mod answer;

@@ -1,4 +1,4 @@
-//! The lines that begin and end a snapshot, and the line that tells which commands were done.
+//! The first and the last line of a snapshot, and the `done` line.
 
 ghost use Rattle.std.specs.Prelude.{◌≡◌, Some};
 ghost use Rattle.indexset_follow.specs.Mark.{end_of, mark_line, mark_of, start_of, word_mark};
@@ -7,15 +7,14 @@ use crate::numbers::{Tail, read_two};
 use indexset_events::parts::{cut, read_number};
 use std::fmt;
 
-/// The beginning or the end of a snapshot, or which commands were done.
+/// The first or the last line of a snapshot, or a `done` line.
 #[derive(Clone, Copy, Debug, PartialEq, Eq)]
 pub enum Mark {
-    /// A snapshot begins, before the event of the first number. The second is the greatest number
-    /// of a command, 0 where there is none.
+    /// A snapshot starts: the number of its next event, and the greatest command number, or 0.
     Start(u64, u64),
-    /// It ends: how many nodes it has, and its sum, which may be left out.
+    /// A snapshot ends: the number of its nodes, and its sum, which is optional.
     End(u64, Option<u64>),
-    /// The greatest number of a command, and the number of the event after those of the commands.
+    /// The greatest command number, and the number of the event after those of the commands.
     Done(u64, u64),
 }
 
@@ -35,7 +34,7 @@ impl fmt::Display for Mark {
     }
 }
 
-/// Returns the mark that the line gives, if it gives one.
+/// Returns the mark of a line, or `None` if it is not one.
 pub fn read_mark(line: &[u8]) -> Option<Mark>
     ensures { result ≡ mark_of line.now }
 {
@@ -43,7 +42,7 @@ pub fn read_mark(line: &[u8]) -> Option<Mark>
     read_word_mark(word, rest)
 }
 
-/// Returns the mark of a word and what stands behind it.
+/// Returns the mark of a word and the text after it.
 fn read_word_mark(word: &[u8], rest: &[u8]) -> Option<Mark>
     ensures { result ≡ word_mark word.now rest.now }
 {
@@ -58,7 +57,7 @@ fn read_word_mark(word: &[u8], rest: &[u8]) -> Option<Mark>
     }
 }
 
-/// Returns the beginning of a snapshot, by its number, or by two of which the second is not 0.
+/// Returns the start of a snapshot from one number, or from two of which the second is not 0.
 fn read_start(text: &[u8]) -> Option<Mark>
     ensures { result ≡ start_of text.now }
 {
@@ -73,7 +72,7 @@ fn read_start(text: &[u8]) -> Option<Mark>
     }
 }
 
-/// Returns the end of a snapshot, by how many nodes it has, or by that and its sum.
+/// Returns the end of a snapshot from the number of its nodes, or from that and its sum.
 fn read_end(text: &[u8]) -> Option<Mark>
     ensures { result ≡ end_of text.now }
 {

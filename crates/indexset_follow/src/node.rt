@@ -1,4 +1,4 @@
-//! The node that a line gives.
+//! Parses the lines of nodes.
 
 ghost use Rattle.std.specs.Prelude.{◌≡◌, [], ◌∷◌, ◌++◌, IfOk, OnOk, IfErr};
 ghost use Rattle.std.specs.Option.{option_map};
@@ -10,10 +10,10 @@ use indexset_core::pair::Pair;
 use indexset_events::parts::cut;
 use std::alloc::Global;
 
-/// A whole node.
+/// A node of a snapshot.
 pub type Node<T> = Vec<Pair<T, T>>;
 
-/// Returns the node that the line gives, if it gives one.
+/// Returns the node of a line, or `None` if it is not one.
 pub fn read_node<T: Key>(alloc: Global, line: &[u8]) -> Result<Option<Node<T>>, RunFault>
     ensures node { IfOk result (λ node. option_map (λ n. n.items) node ≡ node_of T.texts line.now) }
     ensures fault { IfErr result (λ fault. fault ≡ RunFault.Memory) }
@@ -30,7 +30,7 @@ pub fn read_node<T: Key>(alloc: Global, line: &[u8]) -> Result<Option<Node<T>>, 
     }
 }
 
-/// Returns the pairs of a text, where each of its words is one.
+/// Returns the pairs of a text, or `None` if a word is not a pair.
 fn read_pairs<T: Key>(alloc: Global, text: &[u8]) -> Result<Option<Node<T>>, RunFault>
     ensures pairs { IfOk result (λ node. option_map (λ n. n.items) node
         ≡ pairs_of T.texts (words text.now)) }

@@ -1,4 +1,4 @@
-//! Numbers within a line.
+//! Parses two numbers, and writes an optional last number.
 
 ghost use Rattle.std.specs.Prelude.{◌≡◌, Some};
 ghost use Rattle.indexset_follow.specs.Numbers.{tail_text, two_numbers};
@@ -6,7 +6,7 @@ ghost use Rattle.indexset_follow.specs.Numbers.{tail_text, two_numbers};
 use indexset_events::parts::{cut, read_number};
 use std::fmt;
 
-/// Returns two numbers with a space between them.
+/// Returns the two numbers of a text that separates them with a space.
 pub fn read_two(text: &[u8]) -> Option<(u64, u64)>
     ensures { result ≡ two_numbers text.now }
 {
@@ -16,7 +16,7 @@ pub fn read_two(text: &[u8]) -> Option<(u64, u64)>
     Some((first, second))
 }
 
-/// A number behind others in a line, which is left out where it is 0.
+/// A last number of a line, which is omitted if it is 0.
 #[derive(Clone, Copy, Debug, PartialEq, Eq)]
 pub struct Tail(pub u64);
 

@@ -1,8 +1,8 @@
-//! Reads of a map, whether it follows or leads.
+//! Reads of a map in either role.
 //!
-//! [`Reads`] is what a read needs, [`replica`] and [`logged`] have it, and [`answer_query`] answers
-//! each read by it. [`query`] says what a line asks to read, [`row`] writes pairs in a line, and
-//! [`nodes`] walks over the nodes of a snapshot.
+//! [`Reads`] is the trait of a map that can be read. [`replica`] and [`logged`] implement it, and
+//! [`answer_query`] answers each read. [`query`] parses reads, [`row`] writes pairs in a line, and
+//! [`nodes`] iterates over the nodes of a snapshot.
 
 ghost use Rattle.std.specs.Prelude.{◌≡◌, ◌≢◌, ℕ, true, Err, OnOk, IfOk, IfErr, length, slice_get};
 ghost use Rattle.std.specs.Io.KnownBytes.{Appends, Keeps};
@@ -39,12 +39,12 @@ pub trait Reads<T: Key> {
 
     ghost next: { Self → ℕ };
 
-    /// Returns a key and its value.
+    /// Returns the key and the value of an entry.
     fn entry(&self, key: &T) -> Option<(&T, &T)>
         ensures { option_map (λ e. (e.0.now, e.1.now)) result
             ≡ option_map entry_of (pair_of T.cmp (concat (nodes self.now)) key.now) };
 
-    /// Returns how many pairs there are.
+    /// Returns the number of pairs.
     fn count(&self) -> usize
         ensures { result ≡ length (concat (nodes self.now)) };
 
@@ -53,7 +53,7 @@ pub trait Reads<T: Key> {
         ensures { option_map (λ e. (e.0.now, e.1.now)) result
             ≡ option_map entry_of (slice_get (concat (nodes self.now)) position) };
 
-    /// Returns how many keys are below this one.
+    /// Returns how many keys are less than this one.
     fn rank_of(&self, key: &T) -> usize
         ensures { result ≡ key_rank T.cmp (concat (nodes self.now)) key.now };
 
@@ -61,18 +61,17 @@ pub trait Reads<T: Key> {
     fn next_number(&self) -> u64
         ensures { result ≡ next self.now };
 
-    /// Returns how many nodes there are.
+    /// Returns the number of nodes.
     fn node_total(&self) -> usize
         ensures { result ≡ length (nodes self.now) };
 
-    /// Returns the sum of the nodes, the next number and the greatest number of a command.
+    /// Returns the sum of the nodes, the next number and the greatest command number.
     fn sum_of_nodes(&self, alloc: Global, done: u64) -> Result<u64, RunFault>
         ensures sum { IfOk result (λ sum. sum
             ≡ sum_of T.texts (copy (nodes self.now) (next self.now)) done) }
         ensures fault { IfErr result (λ fault. fault ≡ RunFault.Memory) };
 
-    /// Writes the lines of a snapshot before its last, where `done` is the greatest number of a
-    /// command.
+    /// Writes the lines of a snapshot before its last, where `done` is the greatest command number.
     fn write_snapshot_body<W: Write>(&self, writer: &mut W, done: u64) -> Result<(), RunFault>
         ensures told { OnOk result (Appends (W.contents writer.old) (W.contents writer.new)
             (body_text T.texts (copy (nodes self.now) (next self.now)) done)) }
@@ -96,15 +95,18 @@ pub trait Reads<T: Key> {
             (row_text T.texts (between from to (concat (nodes self.now))))) }
         ensures fault { IfErr result (λ fault. fault ≡ RunFault.Write) };
 
-    /// Writes the nodes, one a line, and then the next number.
+    /// Writes the nodes, one in each line, and then the next number.
     fn write_all<W: Write>(&self, writer: &mut W) -> Result<(), RunFault>
         ensures told { OnOk result (Appends (W.contents writer.old) (W.contents writer.new)
             (nodes_text T.texts (nodes self.now) (next self.now))) }
         ensures fault { IfErr result (λ fault. fault ≡ RunFault.Write) };
 }
 
-/// Writes the answer to a line that may ask for a read. Any other line is as one that says nothing.
-/// Where memory runs out, nothing is written.
+/// Writes the answer to a line that is a read, or not one of the grammar.
+///
+/// # Errors
+///
+/// `Memory`: nothing is written. `Write`.
 pub fn answer_read<T: Key, R: Reads<T>, W: Write>(
     alloc: Global,
     others: Others,
@@ -126,7 +128,7 @@ pub fn answer_read<T: Key, R: Reads<T>, W: Write>(
     }
 }
 
-/// Writes the reply to a line that says nothing.
+/// Writes the reply to a line that is not one of the grammar.
 pub fn answer_other<W: Write>(others: Others, writer: &mut W) -> Result<(), RunFault>
     ensures told { OnOk result (Appends (W.contents writer.old) (W.contents writer.new)
         (others_text others)) }
@@ -138,7 +140,11 @@ pub fn answer_other<W: Write>(others: Others, writer: &mut W) -> Result<(), RunF
     }
 }
 
-/// Writes the answer to a read. Where memory runs out, nothing is written.
+/// Writes the answer to a read.
+///
+/// # Errors
+///
+/// `Memory`: nothing is written. `Write`.
 pub fn answer_query<T: Key, R: Reads<T>, W: Write>(
     alloc: Global,
     writer: &mut W,
@@ -175,7 +181,7 @@ pub fn answer_query<T: Key, R: Reads<T>, W: Write>(
     }
 }
 
-/// Returns the reply where the events before the number `end` were told.
+/// Returns the reply to `head`: whether events before the number `end` are missing.
 pub fn reply_to_head(next: u64, end: u64) -> Reply
     ensures { result ≡ head_reply next end }
 {
@@ -186,7 +192,7 @@ pub fn reply_to_head(next: u64, end: u64) -> Reply
     }
 }
 
-/// Writes a key and its value, or `none` where there is none.
+/// Writes a key and its value, or `none`.
 fn write_entry<T: Key, W: Write>(writer: &mut W, entry: Option<(&T, &T)>) -> Result<(), RunFault>
     ensures told { OnOk result (Appends (W.contents writer.old) (W.contents writer.new)
         (entry_text T.texts (option_map (λ e. (e.0.now, e.1.now)) entry.entry))) }
@@ -218,7 +224,7 @@ fn write_range<T: Key, R: Reads<T>, W: Write>(
     }
 }
 
-/// Writes the pairs from a position on, `count` at most, in one line.
+/// Writes at most `count` pairs from a position on in one line.
 fn write_page<T: Key, R: Reads<T>, W: Write>(
     writer: &mut W,
     map: &R,
@@ -233,7 +239,7 @@ fn write_page<T: Key, R: Reads<T>, W: Write>(
     map.write_positions(writer, position, end)
 }
 
-/// Writes the next number, how many nodes there are, the sum, and the greatest number of a command.
+/// Writes the next number, the number of nodes, the sum, and the greatest command number.
 fn write_sum<T: Key, R: Reads<T>, W: Write>(
     alloc: Global,
     writer: &mut W,
@@ -254,7 +260,7 @@ fn write_sum<T: Key, R: Reads<T>, W: Write>(
     )
 }
 
-/// Writes the lines that make another map the same.
+/// Writes the lines of a snapshot.
 fn write_snapshot<T: Key, R: Reads<T>, W: Write>(
     alloc: Global,
     writer: &mut W,
@@ -273,7 +279,7 @@ fn write_snapshot<T: Key, R: Reads<T>, W: Write>(
     write_mark(writer, Mark::End(map.node_total() as u64, Some(sum)))
 }
 
-/// Writes the lines that make another map the same, of which the last tells no sum.
+/// Writes the lines of a snapshot, without a sum in the last.
 pub fn write_unsummed<T: Key, R: Reads<T>, W: Write>(
     writer: &mut W,
     map: &R,

@@ -1,4 +1,4 @@
-//! Why a line does not fit.
+//! The reasons why a line does not fit.
 
 ghost use Rattle.std.specs.Prelude.{◌≡◌};
 ghost use Rattle.indexset_follow.specs.Reason.{word_of};
@@ -6,16 +6,16 @@ ghost use Rattle.indexset_follow.specs.Reason.{word_of};
 use indexset_core::refusal::Refusal;
 use std::fmt;
 
-/// Why an event or a line of a snapshot does not fit.
+/// The reason why an event or a line of a snapshot does not fit.
 #[derive(Clone, Copy, Debug, PartialEq, Eq)]
 pub enum Reason {
-    /// The nodes refuse it.
+    /// The event or the node does not apply.
     Refused(Refusal),
     /// No snapshot has begun.
     NotBegun,
-    /// The snapshot has another number of nodes.
+    /// The number of nodes differs from that of the snapshot.
     Count,
-    /// The snapshot has another sum.
+    /// The sum differs from that of the snapshot.
     Sum,
 }
 

@@ -10,25 +10,26 @@ use std::fmt;
 /// A reply of one line.
 #[derive(Clone, Copy, Debug, PartialEq, Eq)]
 pub enum Reply {
-    /// The event was taken; this number is awaited.
+    /// The event was applied. The number is that of the awaited event.
     Next(u64),
-    /// The event came before; this number is awaited.
+    /// The event was applied before. The number is that of the awaited event.
     Had(u64),
     /// Events are missing, from this number on.
     Gap(u64),
-    /// The event is held. Events are missing, from the first number on, and the second is held.
+    /// The event is held. Events are missing from the first number on; the second is the least that
+    /// is held.
     Missing(u64, u64),
-    /// The event or the line of a snapshot does not fit; this number is awaited.
+    /// The event or the line of a snapshot does not fit. The number is that of the awaited event.
     Unfit(u64, Reason),
-    /// The line of a snapshot is held.
+    /// The line of a snapshot was accepted.
     Held,
-    /// The awaited number, how many nodes there are, the sum, and the greatest number of a command.
+    /// The awaited number, the number of nodes, the sum, and the greatest command number.
     Sum(u64, u64, u64, u64),
-    /// How many there are.
+    /// A count.
     Count(usize),
-    /// There is none.
+    /// No pair.
     Nothing,
-    /// The line says nothing.
+    /// The line is not one of the grammar.
     Bad,
 }
 
@@ -36,7 +37,7 @@ impl Reply {
     ghost use Rattle.std.specs.Prelude.{◌≡◌};
     ghost use Rattle.indexset_follow.specs.Reply.{is_urgent};
 
-    /// Returns whether something is missing, or does not fit.
+    /// Returns whether events are missing, or a line does not fit.
     pub fn is_urgent(self) -> bool
         ensures { result ≡ is_urgent self }
     {

@@ -4,11 +4,11 @@ use crate::follower::Follower;
 use crate::leader::Leader;
 use indexset_bench::key::Key;
 
-/// A map in its role.
+/// A map in one of two roles.
 #[derive(Drop)]
 pub enum Role<T: Key> {
-    /// It holds what the events of another lead to.
+    /// The map is changed by the events of another map.
     Following(Follower<T>),
-    /// It is changed by commands, and tells events.
+    /// The map is changed by commands, and emits events.
     Leading(Leader<T>),
 }

@@ -1,4 +1,4 @@
-//! The run of a map that follows or leads, over a reader and a writer.
+//! A run of a map in either role, over a reader and a writer.
 
 ghost use Rattle.std.specs.Prelude.{◌≡◌, ◌≤◌, [], Some, Err, OnOk, IfSome, OnSome};
 ghost use Rattle.std.specs.Io.KnownBytes.{Appends};
@@ -14,14 +14,17 @@ use indexset_lines::run::answer_lines;
 use std::alloc::Global;
 use std::io::{BufRead, Write};
 
-/// Writes the answer to each line of the reader to the writer, over a map without nodes, which
-/// leads or follows from event 0 on. A node holds at most `size` pairs while it leads. While it
-/// follows, an event that is at most `window` ahead of the awaited one is held. The writer is
-/// flushed where the reader's buffer is empty, so that each answer is out before the next read.
+/// Writes the answer to each line of the reader, over a map that starts empty, in either role.
 ///
-/// A last line that lacks its end changes nothing. A fault ends the run at once, and the first fault
-/// is returned. A line past the first 2^64 - 1 is a fault of the reader. After a failed write
-/// nothing is said of what was written.
+/// As a leader the map has at most `size` pairs in a node. As a follower it holds events that are
+/// at most `window` ahead of the awaited one. The number of the next event is 0. A last line
+/// without a line end changes nothing. The writer is flushed when the reader's buffer is empty, so
+/// an answer is written before the run waits for the next line.
+///
+/// # Errors
+///
+/// The first fault, which ends the run. A run that reads more than 2^64 - 1 lines fails with
+/// `Read`. After `Write` it is not specified what was written.
 pub fn serve<T: Key, R: BufRead, W: Write>(
     alloc: Global,
     voice: Voice,
@@ -33,31 +36,31 @@ pub fn serve<T: Key, R: BufRead, W: Write>(
 ) -> Result<(), RunFault>
     requires { 2 ≤ size }
 
-    // Of a reader whose bytes are known, all was read, and the answers to it were written.
+    // If the bytes of the reader are known, all were read, and their answers were written.
     ensures all_read { OnOk result (OnSome (R.remaining reader.old)
         (R.remaining reader.new ≡ Some [])) }
     ensures all_answered { OnOk result (IfSome (R.remaining reader.old) (λ input.
         Appends (W.contents writer.old) (W.contents writer.new)
         (store_text T.cmp T.texts voice size window leads input))) }
 
-    // The same of any reader, for the bytes that it gave.
+    // For any reader, the bytes that it returned have their answers.
     ensures given_answered { OnOk result (AnswersAll T.cmp T.texts voice size window leads
         (R.remaining reader.old) (R.remaining reader.new)
         (W.contents writer.old) (W.contents writer.new)) }
 
-    // The whole lines that the reader gave before it failed have their answers.
+    // The whole lines that the reader returned before it failed have their answers.
     ensures read_failed { result ≡ Err RunFault.Read
         → AnswersWholeLines T.cmp T.texts voice size window leads HasNoEnd
         (R.remaining reader.old) (R.remaining reader.new)
         (W.contents writer.old) (W.contents writer.new) }
 
-    // The lines before the failed one have their answers; some or all of it was read.
+    // The lines before the failed line have their answers; that line was read in part or whole.
     ensures memory_refused { result ≡ Err RunFault.Memory
         → AnswersWholeLines T.cmp T.texts voice size window leads IsLinePart
         (R.remaining reader.old) (R.remaining reader.new)
         (W.contents writer.old) (W.contents writer.new) }
 
-    // The same, and the events of the failed line did not fit.
+    // The same, and the events of the failed line need more numbers than remain.
     ensures numbers_refused { result ≡ Err RunFault.Numbers
         → LacksNumbers T.cmp T.texts voice size window leads (R.remaining reader.old) (R.remaining
         reader.new) (W.contents writer.old) (W.contents writer.new) }
@@ -67,7 +70,7 @@ pub fn serve<T: Key, R: BufRead, W: Write>(
     answered.and(flushed)
 }
 
-/// Writes the answer to each line, and leaves the writer to be flushed at the end.
+/// Writes the answer to each line, without flushing the writer at the end.
 fn answer_all<T: Key, R: BufRead, W: Write>(
     alloc: Global,
     voice: Voice,

@@ -1,4 +1,4 @@
-//! What the lines of a snapshot and of commands that were done change, and the replies to them.
+//! The effect of snapshot lines and `done` lines on a follower, and the replies to them.
 
 ghost use Rattle.std.specs.Prelude.{◌≡◌, OnOk, OnErr, IfOk, IfErr};
 ghost use Rattle.indexset_follow.specs.Follow.{after_mark, after_node, end_reason, mark_reply, node_reply};
@@ -17,7 +17,7 @@ use indexset_bench::key::Key;
 use std::alloc::Global;
 use std::mem;
 
-/// Inserts a whole node into the snapshot that is coming, and returns the reply.
+/// Inserts a node into the snapshot that has begun, and returns the reply.
 pub fn take_node<T: Key>(follower: &mut Follower<T>, node: Node<T>) -> Result<Reply, RunFault>
     ensures held { OnOk result (follower.new ≡ after_node T.cmp follower.old node.items) }
     ensures reply { IfOk result (λ reply. reply ≡ node_reply T.cmp follower.old node.items) }
@@ -33,8 +33,7 @@ pub fn take_node<T: Key>(follower: &mut Follower<T>, node: Node<T>) -> Result<Re
     }
 }
 
-/// Begins a snapshot or ends it, or takes the greatest number of a command whose events are held,
-/// and returns the reply.
+/// Starts or ends a snapshot, or accepts a `done` line, and returns the reply.
 pub fn take_mark<T: Key>(
     alloc: Global,
     follower: &mut Follower<T>,
@@ -56,8 +55,7 @@ pub fn take_mark<T: Key>(
     }
 }
 
-/// Takes the greatest number of a command where the events before the number `end` are held, and
-/// returns the reply.
+/// Sets the greatest command number if the events before `end` are applied, and returns the reply.
 fn take_done<T: Key>(follower: &mut Follower<T>, done: u64, end: u64) -> Reply
     ensures held { follower.new ≡ after_mark T.texts follower.old (Mark.Done done end) }
     ensures reply { result ≡ mark_reply T.texts follower.old (Mark.Done done end) }
@@ -69,8 +67,7 @@ fn take_done<T: Key>(follower: &mut Follower<T>, done: u64, end: u64) -> Reply
     reply_to_head(next, end)
 }
 
-/// Puts the snapshot that came in place of all that is held, early events among it, where it is
-/// whole, and returns the reply.
+/// Replaces the whole state by the snapshot if it is complete, and returns the reply.
 fn take_end<T: Key>(
     alloc: Global,
     follower: &mut Follower<T>,
@@ -101,7 +98,7 @@ fn take_end<T: Key>(
     Ok(Reply::Next(next))
 }
 
-/// Returns why the numbers at the end of a snapshot are not those of what came.
+/// Returns the reason why the last line of a snapshot does not fit it, if any.
 pub fn wrong_end<T: Key>(
     alloc: Global,
     coming: &Nodes<T>,

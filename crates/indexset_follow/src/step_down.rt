@@ -1,4 +1,4 @@
-//! The follower that a leader becomes.
+//! Makes a leader a follower.
 
 ghost use Rattle.std.specs.Prelude.{◌≡◌, IfErr, IfOk};
 ghost use Rattle.indexset_follow.specs.Copy.{copy};
@@ -10,7 +10,7 @@ use indexset_bench::pairs::Pairs;
 use indexset_core::pair::Pair;
 use std::alloc::Global;
 
-/// Returns a follower of copies of the nodes, which awaits the event of the next number.
+/// Returns copies of the nodes of a leader, as a follower that awaits the leader's next event.
 pub fn follower_of<T: Key>(alloc: Global, pairs: &Pairs<T>) -> Result<Nodes<T>, RunFault>
     ensures follower { IfOk result (λ nodes. nodes ≡ copy pairs.now.nodes pairs.now.next) }
     ensures fault { IfErr result (λ fault. fault ≡ RunFault.Memory) }

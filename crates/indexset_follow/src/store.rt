@@ -1,4 +1,4 @@
-//! A map that follows another or leads.
+//! A map in either role.
 
 ghost use Rattle.std.specs.Prelude.{◌≡◌, ◌≢◌, ◌≤◌, if◌then◌else◌, Err, IfOk, IfErr, None, OnOk, Some};
 ghost use Rattle.std.specs.Io.KnownBytes.{Appends, Keeps};
@@ -28,14 +28,14 @@ use std::alloc::Global;
 use std::io::Write;
 use std::mem;
 
-/// A map in one of two roles, as a run has lines answered.
+/// A map in one of two roles, with the settings of a run.
 #[derive(Drop)]
 pub struct Store<T: Key> {
-    /// What it allocates from.
+    /// The allocator.
     pub alloc: Global,
     /// Which replies it writes.
     pub voice: Voice,
-    /// How many pairs a node holds at most while it leads.
+    /// The maximum number of pairs in a node of a leader.
     pub size: usize,
     /// The window of a follower.
     pub window: u64,
@@ -45,7 +45,7 @@ pub struct Store<T: Key> {
 }
 
 impl<T: Key> Store<T> {
-    /// Returns a map without nodes, which leads or follows from event 0 on.
+    /// Returns an empty map in one of the roles, with 0 as the number of the next event.
     pub fn new(alloc: Global, voice: Voice, size: usize, window: u64, leads: bool) -> Store<T>
         requires { 2 ≤ size }
         ensures voice { result.voice ≡ voice }
@@ -75,9 +75,10 @@ impl<T: Key> Store<T> {
         }
     }
 
-    /// Makes a follower a leader of the same nodes, which goes on with the next number, and writes
-    /// the reply. Early events and a snapshot that has not ended are dropped. It stays a follower
-    /// where a node is larger than one of a leader.
+    /// Makes a follower a leader of the same nodes and the same next number, and writes the reply.
+    ///
+    /// Early events and an incomplete snapshot are dropped. The map stays a follower if a node is
+    /// larger than `size`.
     fn lead<W: Write>(&mut self, writer: &mut W) -> Result<(), RunFault>
         ensures role { OnOk result (self.new.role ≡ after_lead T.cmp self.old.size self.old.role) }
         ensures size { self.new.size ≡ self.old.size }
@@ -110,8 +111,7 @@ impl<T: Key> Store<T> {
         }
     }
 
-    /// Makes a leader a follower of its own nodes, which awaits the next number, and writes the
-    /// reply.
+    /// Makes a leader a follower of its own nodes that awaits its next event, and writes the reply.
     fn follow<W: Write>(&mut self, writer: &mut W) -> Result<(), RunFault>
         ensures role { OnOk result (self.new.role ≡ after_follow self.old.window self.old.role) }
         ensures size { self.new.size ≡ self.old.size }
@@ -136,7 +136,7 @@ impl<T: Key> Store<T> {
         }
     }
 
-    /// Makes a leader without nodes a follower, where the line begins a snapshot.
+    /// Makes a leader without nodes a follower if the line starts a snapshot.
     fn begin(&mut self, line: &[u8])
         ensures role { self.new.role ≡ begun self.old.window self.old.role line.now }
         ensures size { self.new.size ≡ self.old.size }
@@ -151,7 +151,7 @@ impl<T: Key> Store<T> {
         }
     }
 
-    /// Writes the answer to a line in the role that it has.
+    /// Writes the answer to a line in the current role.
     fn answer_in_role<W: Write>(&mut self, writer: &mut W, line: &[u8]) -> Result<(), RunFault>
         ensures role { OnOk result (self.new.role
             ≡ after_in_role T.cmp T.texts self.old.role line.now) }
@@ -182,8 +182,9 @@ impl<T: Key> Store<T> {
         }
     }
 
-    /// Writes the answer to a last line that lacks its end: to a read. Any other line is as one that
-    /// says nothing: it may be the beginning of another line.
+    /// Writes the answer to a last line without a line end, if it is a read.
+    ///
+    /// Any other line may be incomplete, and is answered as one that is not of the grammar.
     fn answer_rest<W: Write>(&self, writer: &mut W, line: &[u8]) -> Result<(), RunFault>
         ensures told { OnOk result (Appends (W.contents writer.old) (W.contents writer.new)
             (cut_in_role T.cmp T.texts self.now.voice self.now.role line.now)) }
@@ -206,8 +207,9 @@ impl<T: Key> Store<T> {
     }
 }
 
-/// Returns a follower that holds these nodes and the greatest number of a command, where no
-/// snapshot has begun and no event is early.
+/// Returns a follower of these nodes with this greatest command number.
+///
+/// It has no early events, and no snapshot has begun.
 pub fn holding<T: Key>(window: u64, held: Nodes<T>, done: u64) -> Follower<T>
     ensures { result ≡ holding window held done }
 {
@@ -221,7 +223,7 @@ pub fn holding<T: Key>(window: u64, held: Nodes<T>, done: u64) -> Follower<T>
     }
 }
 
-/// Returns whether the line begins a snapshot.
+/// Returns whether the line starts a snapshot.
 fn starts(line: &[u8]) -> bool
     ensures { result ≡ starts line.now }
 {
@@ -231,8 +233,9 @@ fn starts(line: &[u8]) -> bool
     }
 }
 
-/// Takes the nodes for a leader of the same nodes, which goes on with the next number. Returns
-/// `None`, and takes nothing, where a node has more than `size` pairs.
+/// Moves the nodes into a leader with the same next number.
+///
+/// Returns `None`, and moves nothing, if a node has more than `size` pairs.
 pub fn promote<T: Key>(
     alloc: Global,
     nodes: &mut Nodes<T>,

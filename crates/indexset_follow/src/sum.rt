@@ -1,4 +1,4 @@
-//! The sum by which two copies are compared.
+//! The sum that compares the states of two maps.
 
 ghost use Rattle.std.specs.Prelude.{◌≡◌, IfOk, IfErr};
 ghost use Rattle.indexset_follow.specs.Copy.{copy, sum_of};

@@ -1,5 +1,4 @@
-//! Laws of a follower that takes over, of reads in both roles, and of a last line without its end,
-//! whatever the code.
+//! Theorems on a follower that takes over, on reads in both roles, and on an incomplete last line.
 
 ghost use Rattle.std.specs.Prelude.{◌≡◌, ◌<◌, ◌≤◌, ◌^◌, ◌++◌, ◌∷◌, ◌||◌, Bool, ℕ, List, [], codes, false, length, map, None, Some};
 ghost use Rattle.std.specs.Io.BufRead.{ends_with_byte};
@@ -30,9 +29,11 @@ ghost use Rattle.indexset_follow.specs.declared.role.Role.TheVariants as role;
 
 use indexset_bench::key::Key;
 
-/// A follower that is told to lead is the leader of the same nodes that goes on with the same
-/// number and the same greatest number of a command, whether a snapshot is coming or not. So it
-/// answers all further lines, and tells the events of them, as that leader does.
+/// A follower that receives `lead` is the leader that has its state.
+///
+/// It has the same nodes, the same next number and the same greatest command number, also while a
+/// snapshot is incomplete. So it answers all further lines as that leader does, and emits the same
+/// events.
 pub fn follower_takes_over<T: Key>()
     ensures held { (l : Leader T) (w : ℕ) (s : State T)
         → s.held ≡ copy l.pairs.nodes l.pairs.next → s.done ≡ l.done
@@ -47,10 +48,11 @@ pub fn follower_takes_over<T: Key>()
         ++ held_replies T.cmp T.texts v (held l.pairs.size w (role.Leading l)) lines }
 {}
 
-/// The events that a leader tells, whatever lines it reads, are numbered from 0 without a gap. They
-/// lead from no nodes to the nodes that it holds after these lines, and the number that it gives
-/// next is how many they are. It leads until it is told to follow, or a line that begins a snapshot
-/// finds it without nodes.
+/// Replaying the events of a leader gives its nodes.
+///
+/// The events are numbered from 0 without a gap, for any lines that it reads. Replaying them from
+/// no nodes gives the nodes after these lines, and the next number is the number of events. The map
+/// stays a leader until it receives `follow`, or the start of a snapshot while it has no nodes.
 pub fn led_events_lead_to_the_nodes<T: Key>()
     ensures numbered { (size : ℕ) (lines : List (List ℕ)) → 2 ≤ size → size < 2 ^ 64
         → IsNumberedFrom 0 (events_led T.cmp T.texts (fresh size) lines) }
@@ -67,10 +69,11 @@ pub fn led_events_lead_to_the_nodes<T: Key>()
         T.texts l.done lines))) }
 {}
 
-/// Let a leader begin without nodes and read some lines, and let a follower hold what all events
-/// lead to that it told, and the greatest number of its commands. The follower that is told to lead
-/// is what the leader is, and answers all further lines, and tells the events of them, as the
-/// leader that goes on.
+/// A follower that applied all events of a leader becomes the same leader.
+///
+/// Let a leader start without nodes and read some lines. Let a follower have the nodes after all
+/// its events, and its greatest command number. A follower that then receives `lead` answers all
+/// further lines as the leader would, and emits the same events.
 pub fn follower_goes_on_as_the_leader<T: Key>()
     ensures held { (size w : ℕ) (lines : List (List ℕ)) (s : State T) → 2 ≤ size → size < 2 ^ 64
         → HoldsFirst T.cmp 0 [] (events_led T.cmp T.texts (fresh size) lines) (length (events_led
@@ -87,11 +90,13 @@ pub fn follower_goes_on_as_the_leader<T: Key>()
         (fresh size) lines) (done_of T.texts 0 lines)))) more }
 {}
 
-/// Let a leader begin without nodes and read some lines, and let a follower get any lines, with
-/// losses, repeats and in any order, of which none ends a snapshot, and those that tell which
-/// commands were done are the leader's. The greatest number of a command that it then holds is what
-/// the leader held after the first k of its lines, for some k, and it took the events of all these.
-/// So it holds no greater one than the leader.
+/// A follower's greatest command number is one whose events it has applied.
+///
+/// Let a leader start without nodes and read some lines. Let a follower read any lines, with
+/// losses, repeats and in any order, of which no line ends a snapshot and each `done` line is the
+/// leader's. The follower's greatest command number is that of the leader after the first k of its
+/// lines, for some k, and the follower has applied the events of these lines. So it is not greater
+/// than the leader's.
 pub fn followers_know_what_was_done<T: Key>()
     ensures known { (size : ℕ) (lines delivered : List (List ℕ)) (s : State T)
         → All (TellsDone T.cmp T.texts size lines) delivered → KnowsDone T.cmp T.texts size lines s
@@ -102,8 +107,9 @@ pub fn followers_know_what_was_done<T: Key>()
         → KnowsDone T.cmp T.texts size lines s → s.done ≤ done_of T.texts 0 lines }
 {}
 
-/// A read is answered by the nodes, the next number and the greatest number of a command alone,
-/// whatever the role, and changes nothing.
+/// The answer to a read is the same in both roles, and a read changes nothing.
+///
+/// It depends only on the nodes, the next number and the greatest command number.
 pub fn reads_agree<T: Key>()
     ensures follows { (v : Voice) (size w : ℕ) (s : State T) (q : Query T) → QueryFits T.texts q
         → held_reply T.cmp T.texts v (held size w (role.Following s)) (query_line T.texts q)
@@ -115,7 +121,7 @@ pub fn reads_agree<T: Key>()
         → after_held T.cmp T.texts (held size w r) (query_line T.texts q) ≡ held size w r }
 {}
 
-/// A line with a byte 13 before its end is answered as the line without it, and any other as it is.
+/// A byte 13 before a line end belongs to the line end. Any other line is unchanged.
 pub fn returns_belong_to_line_ends<T: Key>()
     ensures held { (h : Held T) (line : List ℕ)
         → after_input T.cmp T.texts h (line ++ 13 ∷ []) ≡ after_held T.cmp T.texts h line }
@@ -125,10 +131,11 @@ pub fn returns_belong_to_line_ends<T: Key>()
         → without_return line ≡ line }
 {}
 
-/// A last line that lacks its end changes nothing in either role, whatever it would be with its
-/// end: what is held after whole lines and a cut one is what is held after the whole lines. The
-/// answer to the cut line stands behind those to the whole ones. It is none where lines that say
-/// nothing are passed over and the cut one asks for no read.
+/// A last line without a line end changes nothing, in either role.
+///
+/// The state after whole lines and such a line is that after the whole lines. The answer to it
+/// follows those to the whole lines. There is none if it is not a read and other lines are passed
+/// over.
 pub fn cut_lines_change_nothing<T: Key>()
     ensures held { (size w : ℕ) (leads : Bool) (whole rest : List ℕ) → IsWhole whole → HasNoEnd rest
         → store_after T.cmp T.texts size w leads (whole ++ rest)

@@ -1,4 +1,4 @@
-//! What is written: lines of a reply, of nodes and of a snapshot.
+//! Output: lines of replies, of nodes and of snapshots.
 
 ghost use Rattle.std.specs.Prelude.{◌≡◌, OnOk, IfErr};
 ghost use Rattle.std.specs.Io.KnownBytes.{Appends};
@@ -19,7 +19,7 @@ use indexset_bench::{Replica, RunFault};
 use indexset_core::pair::Pair;
 use std::io::Write;
 
-/// The nodes that follow a map.
+/// The nodes of a follower.
 pub type Nodes<T> = Replica<Pair<T, T>>;
 
 /// Writes a reply as a line.
@@ -38,7 +38,9 @@ pub fn write_reply<W: Write>(writer: &mut W, reply: Reply) -> Result<(), RunFaul
     }
 }
 
-/// Writes what a follower tells of its reply to an event or a line of a snapshot.
+/// Writes a follower's reply to an event or a line of a snapshot.
+///
+/// A quiet follower writes only urgent replies.
 pub fn write_voiced<W: Write>(writer: &mut W, voice: Voice, reply: Reply) -> Result<(), RunFault>
     ensures told { OnOk result (Appends (W.contents writer.old) (W.contents writer.new)
         (voiced voice reply)) }
@@ -51,7 +53,7 @@ pub fn write_voiced<W: Write>(writer: &mut W, voice: Voice, reply: Reply) -> Res
     }
 }
 
-/// Writes the nodes, one a line, and then the next number.
+/// Writes the nodes, one in each line, and then the next number.
 pub fn write_nodes<'a, T: Key + 'a, N: WalkNodes<'a, T> + Drop, W: Write>(
     writer: &mut W,
     next: u64,
@@ -68,7 +70,7 @@ pub fn write_nodes<'a, T: Key + 'a, N: WalkNodes<'a, T> + Drop, W: Write>(
     write_reply(writer, Reply::Next(next))
 }
 
-/// Writes the beginning or the end of a snapshot, or which commands were done, as a line.
+/// Writes the first or the last line of a snapshot, or a `done` line.
 pub fn write_mark<W: Write>(writer: &mut W, mark: Mark) -> Result<(), RunFault>
     ensures told { OnOk result (Appends (W.contents writer.old) (W.contents writer.new)
         (ended (mark_line mark))) }
@@ -77,7 +79,7 @@ pub fn write_mark<W: Write>(writer: &mut W, mark: Mark) -> Result<(), RunFault>
     writer.writeln(mark).map_err(|_| RunFault::Write)
 }
 
-/// Writes the line that gives a node.
+/// Writes the line of a node.
 pub fn write_node_line<T: Key, W: Write>(
     writer: &mut W,
     node: &[Pair<T, T>],

@@ -1,4 +1,4 @@
--- Why a call of the store fails, said of the state before an earlier call.
+-- Causes of failures of the store, in terms of the state before an earlier call.
 use Rattle.std.proofs.Common.{◌≡◌, ℕ, ◌+◌, ◌<◌, ◌≤◌, ◌^◌, IsTrue, List, length, ap, arith}
 use Rattle.std.specs.Int.{bit_at}
 use Rattle.std.proofs.lemmas.Nat.Bits.{bit_at-zero}
@@ -42,7 +42,7 @@ storable reals number line none short = (
 pub faults_until : (old mid new : ℕ) → MoreFaults old mid → mid ≤ new → MoreFaults old new
 faults_until old mid new more within = omega (arith, within, more)
 
--- an error is explained by what follows from what explained it
+-- an error that has a cause has each weaker cause
 pub explained : (fault shut long numbers other fault2 shut2 long2 numbers2 other2 : Type 0) → (fault → fault2) → (shut → shut2) → (long → long2) → (numbers → numbers2)
     → (other → other2) → (error : JournalError) → Explains fault shut long numbers other error → Explains fault2 shut2 long2 numbers2 other2 error
 explained a b c d e a2 b2 c2 d2 e2 f g h i j OutOfMemory is = tt
@@ -56,6 +56,6 @@ explained a b c d e a2 b2 c2 d2 e2 f g h i j NotLines is = j is
 explained a b c d e a2 b2 c2 d2 e2 f g h i j InUse is = is
 explained a b c d e a2 b2 c2 d2 e2 f g h i j CannotOpen is = is
 
--- where a line cannot be stored it is too long
+-- a line that cannot be stored is too long
 pub too_long : (reals number : ℕ) (line : List ℕ) → reals ≡ 0 → ¬ IsStorableRow reals (row_of number line) → 10 ^ 9 < 54 + length line
 too_long reals number line none refused = elim (dec_le (54 + length line) (10 ^ 9)) [ yes short ↦ absurd (refused (storable reals number line none short)) | no long ↦ omega (arith, long) ]

@@ -1,4 +1,4 @@
--- What a transaction leaves once it is committed.
+-- The state after a transaction is committed.
 use Rattle.std.proofs.Common.{◌≡◌, ℕ, ◌+◌, Bool, true, false, true≢false, Result, Ok, OnOk, IsTrue, List, ◌++◌, length, map, refl, sym, ap, subst, ◌∙◌}
 use Rattle.std.specs.List.{AllByRecursion}
 use Rattle.std.proofs.lemmas.List.{map-append}
@@ -22,7 +22,7 @@ still_open old mid new rows stages commits is_open = ap (λ (v : View). v.is_ope
 pub committed_of : (mid new : View) → Commits mid new → new.committed ≡ mid.trees
 committed_of mid new commits = ap (λ (v : View). v.committed) commits.is
 
--- lines put behind the rows `before`, which end below `start`
+-- lines are inserted after the rows `before`, whose numbers are less than `start`
 module _ (next start : ℕ) (before : List Row) (lines : List (List ℕ)) (old mid : View) (rests : IsAtRest next old) (stages : Stages old mid (before ++ rows_of start lines)) where
   pub lines_put : lines_in mid.trees ≡ map line_of before ++ lines
   lines_put = ap (map line_of) stages.this ∙ map-append line_of before (rows_of start lines) ∙ ap (λ l. map line_of before ++ l) (lines_of_rows start lines)

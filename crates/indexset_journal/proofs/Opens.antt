@@ -1,4 +1,4 @@
--- A store whose transaction was undone before its lines are read.
+-- A store that is rolled back before its lines are read.
 use Rattle.std.proofs.Common.{◌≡◌, ◌⊎◌, ℕ, ◌≤◌, Bool, true, false, true≢false, if◌then◌else◌, IsTrue, inl, inr, refl, sym, ap, subst, ◌∙◌}
 use Rattle.std.specs.List.{AllByRecursion}
 use Rattle.sqlite_disk.specs.Disk.{MoreFaults}
@@ -8,7 +8,7 @@ use Rattle.indexset_journal.specs.Kept.{IsLine}
 use Rattle.indexset_journal.specs.State.{IsForLines, IsAlone, HoldsLines}
 use Rattle.indexset_journal.proofs.Causes.{faults_until}
 
--- a store that is broken even so was shut, or a fault shut it
+-- a store that is broken after a rollback was shut before, or shut by a fault
 pub shut_or_fault : (old mid : View) (faults since later : ℕ) → IsRolledBack old mid → since ≤ later
     → (IsTrue old.is_open → IsTrue mid.is_open ⊎ MoreFaults faults since) → IsTrue mid.is_broken → (old.is_open ≡ false) ⊎ MoreFaults faults later
 shut_or_fault old mid faults since later back within closes broken = go old.is_open refl
@@ -27,7 +27,7 @@ module _ (old mid : View) (back : IsRolledBack old mid) (clean : IsClean mid) (s
   pub reals_back : mid.reals ≡ old.committed_reals
   reals_back = (back.kept clean).reals ∙ ap (λ (b : Bool). if b then old.committed_reals else old.reals) still
 
-  -- what was committed is what is read
+  -- the lines that are read are those that are committed
   pub not_only_lines : ¬ (IsForLines mid.shape mid.reals × AllByRecursion IsLine (mid.trees 0) × IsAlone mid.shape) → ¬ (HoldsLines old × IsAlone old.committed_shape)
   not_only_lines none holds =
       let rows = ap (λ (t : Trees). t 0) (sym (back.undone still).0) in

@@ -1,4 +1,4 @@
--- Rows with rising numbers.
+-- Rows with ascending numbers.
 use Rattle.std.proofs.Common.{◌≡◌, ℕ, suc, ◌+◌, ◌<◌, ◌≤◌, ◌^◌, max, pos, negsuc, ℤ, nat_abs, int_lt, false, true≢false, FitsSigned, w64, Less, List, [], ◌∷◌, ◌++◌, length, map, take, get_or, refl, sym, ap, subst, ◌∙◌, arith, append-nil, append_assoc, lt→ltb, length-take-le}
 use Rattle.std.specs.Prelude.{Vec}
 use Rattle.std.specs.declared.alloc.Global.{Global}
@@ -13,7 +13,7 @@ use Rattle.indexset_journal.specs.Kept.{texts, row_of, rows_of, line_of, IsLine,
 use Rattle.std.specs.List.{AllByRecursion}
 use Rattle.std.proofs.lemmas.List.Sums.{fold-append}
 
--- a number that is not negative is its magnitude
+-- a non-negative number is its magnitude
 pub not_negative : (z : ℤ) → int_lt z (pos 0) ≡ false → pos (nat_abs z) ≡ z
 not_negative (pos n) within = refl
 not_negative (negsuc n) within = absurd (true≢false within)
@@ -33,14 +33,14 @@ three_values (x ∷ y ∷ z ∷ w ∷ more) id empty text three a b c = absurd (
 rises : (m n : ℕ) → m < n → value_cmp (Int (pos m)) (Int (pos n)) ≡ Less
 rises m n less = value_cmp-Int (pos m) (pos n) ∙ sym (int_cmp_is (pos m) (pos n) Less (record { lt = lt→ltb m n less }))
 
--- a row above all others is put behind them
+-- a row with a number above all others is inserted at the end
 pub put_behind : (number : ℕ) (line : List ℕ) (rows : List Row) → AreBelow number rows → put_row (row_of number line) rows ≡ rows ++ row_of number line ∷ []
 put_behind number line [] below = refl
 put_behind number line (row ∷ rows) below =
     let less : value_cmp (rowid row) (Int (pos number)) ≡ Less = ap (λ v. value_cmp v (Int (pos number))) below.0.1 ∙ rises below.0.0 number below.0.2 in
     rw less (ap (λ (more : List Row). row ∷ more) (put_behind number line rows below.1))
 
--- one row more, whose number is below `more`
+-- another row, whose number is less than `more`
 pub below-push : (next more number : ℕ) (rows : List Row) (row : Row) → AreBelow next rows → rowid row ≡ Int (pos number) → number < more → next ≤ more → AreBelow more (rows ++ row ∷ [])
 below-push next more number [] row below is less within = ((number, is, less), tt)
 below-push next more number (x ∷ rows) row below is less within =
@@ -70,7 +70,7 @@ are_lines number [] before all = rw (append-nil before) all
 are_lines number (line ∷ lines) [] all = ((number, line, refl), are_lines (suc number) lines [] tt)
 are_lines number lines (row ∷ before) all = (all.0, are_lines number lines before all.1)
 
--- the number after rows that are numbered from the next number on
+-- the next number after rows that are numbered from the next number on
 pub next_after : (next : ℕ) (lines : List (List ℕ)) (before : List Row) → next ≡ next_number before → next_number (before ++ rows_of next lines) ≡ next + length lines
 next_after next [] before first =
     let same : next ≡ next + length {A = List ℕ} [] = omega arith in
@@ -85,7 +85,7 @@ next_after next (line ∷ lines) before first =
 pub texts_taken : (lines : List (Vec ℕ Global)) (i : ℕ) → i ≤ length lines → length (texts (take i lines)) ≡ i
 texts_taken lines i within = length-map (take i lines) (λ (v : Vec ℕ Global). v.items) ∙ length-take-le i lines within
 
--- one line more, as a row
+-- another line, as a row
 pub rows_more : (next : ℕ) (lines : List (Vec ℕ Global)) (i : ℕ) (line : Vec ℕ Global) → i < length lines
     → rows_of next (texts (take (i + 1) lines)) ≡ rows_of next (texts (take i lines)) ++ row_of (next + i) (get_or lines i line).items ∷ []
 rows_more next lines i line within =

@@ -1,4 +1,4 @@
--- The rows of a table one after another.
+-- Reading the rows of a table in order.
 use Rattle.std.proofs.Common.{◌≡◌, ℕ, suc, ◌+◌, max, false, List, [], ◌∷◌, ◌++◌, map, Some, refl, sym, ap, subst, ◌∙◌, arith, append-nil, append_assoc}
 use Rattle.std.specs.List.{AllByRecursion}
 use Rattle.std.proofs.lemmas.List.{map-append}
@@ -12,7 +12,7 @@ use Rattle.indexset_journal.specs.State.{Reads}
 use Rattle.indexset_journal.proofs.Rows.{below-push}
 use Rattle.indexset_journal.proofs.Steps.{all_sought, left_of}
 
--- some rows have been read, each a line, and the first cursor has the others left
+-- some rows were read, each a line, and the cursor has the others left
 pub record IsReadUpTo (old now : View) (lines : List (List ℕ)) (next : ℕ) : Type 0 where
   pub done : List Row
   pub more : List Row
@@ -29,7 +29,7 @@ rows-push : (done : List Row) (row : Row) → AllByRecursion IsLine done → IsL
 rows-push [] row lines line = (line, tt)
 rows-push (first ∷ done) row lines line = (lines.0, rows-push done row lines.1 line)
 
--- among rows that are all lines each one is a line
+-- each row of rows that are all lines is a line
 pub within_lines : (done more : List Row) (row : Row) → AllByRecursion IsLine (done ++ row ∷ more) → IsLine row
 within_lines [] more row all = all.0
 within_lines (first ∷ done) more row all = within_lines done more row all.1
@@ -62,7 +62,7 @@ ended old now new lines next read over =
       rest = over.1 ∙ read.rest ∙ ap (λ (v : View). record old { cursors = v.cursors }) (sym over.1);
     }
 
--- the row that the cursor gave next
+-- the next row of the cursor
 pub row_next : (old now new : View) (lines : List (List ℕ)) (next : ℕ) (row : Row) → (read : IsReadUpTo old now lines next)
     → (given : (rest : List Row) × (now.cursors 0 ≡ Some (row ∷ rest)) × (new ≡ with_cursor now 0 rest)) → read.done ++ row ∷ given.0 ≡ old.trees 0
 row_next old now new lines next row read given = ap (λ l. read.done ++ l) (left_of (row ∷ given.0) read.more (sym given.1 ∙ read.cursor)) ∙ read.all
@@ -72,7 +72,7 @@ numbered number line row is =
     let next : number + 1 ≡ suc number = omega arith in
     next ∙ ap (λ (r : Row). suc (number_in (rowid r))) (sym is)
 
--- one row more has been read
+-- another row was read
 pub one_more : (old now new : View) (lines after : List (List ℕ)) (next number : ℕ) (line : List ℕ) (row : Row) → IsReadUpTo old now lines next
     → (rest : List Row) × (now.cursors 0 ≡ Some (row ∷ rest)) × (new ≡ with_cursor now 0 rest) → row ≡ row_of number line → after ≡ lines ++ line ∷ []
     → IsReadUpTo old new after (max next (number + 1))

@@ -1,4 +1,4 @@
--- How the calls of one transaction add up.
+-- The calls of one transaction.
 use Rattle.std.proofs.Common.{◌≡◌, ℕ, ◌+◌, ◌<◌, ◌≤◌, List, [], ◌∷◌, ◌++◌, length, take, get_or, Option, Some, None, refl, sym, ap, subst, ◌∙◌, arith, append_assoc}
 use Rattle.std.specs.Prelude.{Vec}
 use Rattle.std.specs.declared.alloc.Global.{Global}
@@ -22,7 +22,7 @@ writes_any old new trees cursors is = is ∙ ap (λ (v : View). record old { tre
 pub places : (old new : View) (cursor : ℕ) (left : List Row) → new ≡ with_cursor old cursor left → OnlyWrites old new
 places old new cursor left is = is ∙ ap (λ (v : View). record old { trees = v.trees; cursors = v.cursors }) (sym is)
 
--- what is staged leaves the last commit alone
+-- staged changes leave the last commit unchanged
 pub keeps_staged : (old new : View) → OnlyWrites old new → KeepsCommitted old new
 keeps_staged old new writes = record {
   shape = ap (λ (v : View). v.shape) writes;
@@ -47,7 +47,7 @@ keeps_on old mid new first second = record {
   marks = λ still. second.marks still ∙ first.marks (second.was_open still);
 }
 
--- one row more is put behind the others
+-- another row is inserted at the end
 pub put_one : (next : ℕ) (lines : List (Vec ℕ Global)) (i : ℕ) (line : Vec ℕ Global) (old mid new : View) (row : Row) → i < length lines → AreBelow next (old.trees 0)
     → Stages old mid (old.trees 0 ++ rows_of next (texts (take i lines))) → row ≡ row_of (next + i) (get_or lines i line).items → SetsTree mid new 0 (put_row row)
     → Stages old new (old.trees 0 ++ rows_of next (texts (take (i + 1) lines)))
@@ -62,7 +62,7 @@ put_one next lines i line old mid new row within below stages is sets =
       rest = writes_on old mid new stages.rest (writes_any mid new _ _ sets.is);
     }
 
--- a key of no columns leads to the first row
+-- a seek with an empty key finds the first row
 pub all_sought : (order : Order) (rows : List Row) → from_key order [] rows ≡ rows
 all_sought order [] = refl
 all_sought order (row ∷ rows) = refl
@@ -75,7 +75,7 @@ pub left_of : (rows others : List Row) → Some rows ≡ Some others → rows �
 unfolding left
 left_of rows others same = ap left same
 
--- where the cursor at the first row has no more to give, there is no row
+-- if a cursor at the first row has no more rows, there are none
 pub none_left : (old mid new : View) (order : Order) → mid ≡ with_cursor old 0 (from_key order [] (old.trees 0)) → (mid.cursors 0 ≡ Some []) × (new ≡ mid) → new.trees 0 ≡ []
 none_left old mid new order sought ended =
     let found : mid.cursors 0 ≡ Some (old.trees 0) = ap (λ (v : View). v.cursors 0) sought ∙ ap Some (all_sought order (old.trees 0)) in

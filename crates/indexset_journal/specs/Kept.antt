@@ -11,27 +11,27 @@ use Rattle.sqlite_trees.specs.Tree.{Trees, rowid}
 abbrev pub texts : List (Vec ℕ Global) → List (List ℕ)
 texts = map (λ line. line.items)
 
--- a line is a row of its number, of NULL where SQLite would repeat the number, and of its text
+-- the row of a line: its number, NULL in the column that SQLite fills with the number, and its text
 abbrev pub row_of : ℕ → List ℕ → Row
 row_of number line = Int (pos number) ∷ Null ∷ Text line ∷ []
 
--- lines as rows that are numbered from `number` on
+-- the rows of lines that are numbered from `number` on
 abbrev pub rows_of : ℕ → List (List ℕ) → List Row
 rows_of number [] = []
 rows_of number (line ∷ lines) = row_of number line ∷ rows_of (suc number) lines
 
--- the row is a line, under some number
+-- the row is that of a line with some number
 abbrev pub IsLine : Row → Type 0
 IsLine row = (number : ℕ) × (line : List ℕ) × (row ≡ row_of number line)
 
 abbrev pub line_of : Row → List ℕ
 line_of row = bytes (column row 2)
 
--- the lines of a database, in the order of their numbers
+-- the lines of a database in the order of their numbers
 abbrev pub lines_in : Trees → List (List ℕ)
 lines_in trees = map line_of (trees 0)
 
--- the number of a line
+-- the number in the first column of a row
 abbrev pub number_in : Value → ℕ
 number_in (Int (pos n)) = n
 number_in (Int (negsuc n)) = 0
@@ -40,14 +40,15 @@ number_in (Real x) = 0
 number_in (Text t) = 0
 number_in (Blob b) = 0
 
--- the first number after those of all rows
+-- the least number that is greater than those of all rows
 abbrev pub next_number : List Row → ℕ
 next_number = fold (λ next row. max next (suc (number_in (rowid row)))) 0
 
--- each row has a number, and that is below `next`
+-- each row has a number less than `next`
 abbrev pub AreBelow : ℕ → List Row → Type 0
 AreBelow next = AllByRecursion (λ row. (number : ℕ) × (rowid row ≡ Int (pos number)) × (number < next))
 
--- SQLite stores no row of more than a billion bytes, where each of its three values takes 18 beside its own
+-- the row of the line would exceed SQLite's limit of a billion bytes, with 18 bytes for each of its
+-- three values
 abbrev pub IsTooLong : Vec ℕ Global → Type 0
 IsTooLong line = 10 ^ 9 < 54 + length line.items

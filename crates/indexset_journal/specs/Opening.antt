@@ -1,4 +1,4 @@
--- What an open of a file tells.
+-- The errors of opening a file.
 use Rattle.sqlite.specs.declared.error.Error.{Error}
 use Rattle.sqlite.specs.declared.error.Error.TheVariants.{SqliteFailure}
 use Rattle.sqlite.specs.declared.error.ErrorCode.{ErrorCode}
@@ -17,7 +17,7 @@ by_code code.DatabaseBusy = InUse
 by_code code.CannotOpen = CannotOpen
 by_code _ = NotLines
 
--- the name of what an open answered, or a statement
+-- the journal's error for an error of opening the file or of a statement
 abbrev pub opening : Error → JournalError
 opening (SqliteFailure found) = by_code found
 opening _ = NotLines

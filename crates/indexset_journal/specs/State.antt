@@ -1,4 +1,4 @@
--- What the store of a journal shows, and what a call may do to it.
+-- The state of a journal's store, and the effects of a call on it.
 use Rattle.std.specs.Prelude.{◌≡◌, ◌⊎◌, false, ℕ, ◌<◌, ◌≤◌, ◌^◌, List, map, IsTrue}
 use Rattle.std.specs.List.{AllByRecursion}
 use Rattle.sqlite_disk.specs.Disk.{MoreFaults}
@@ -9,7 +9,7 @@ use Rattle.sqlite_trees.specs.Tree.{IsIndexShape}
 use Rattle.sqlite_trees.specs.View.{View, IsClean, doubt}
 use Rattle.indexset_journal.specs.Kept.{IsLine, line_of, next_number, AreBelow}
 
--- the first tree is a table with no index and with no column of the type REAL
+-- the first tree is a table without an index and without a REAL column
 pub record IsForLines (shape : ℕ → Shape) (reals : ℕ → ℕ) : Type 0 where
   pub table : shape 0 ≡ Table
   pub plain : reals 0 ≡ 0
@@ -19,12 +19,12 @@ pub record IsForLines (shape : ℕ → Shape) (reals : ℕ → ℕ) : Type 0 whe
 abbrev pub IsAlone : (ℕ → Shape) → Type 0
 IsAlone shape = (t : ℕ) → 0 < t → t < 2 ^ 32 → shape t ≡ Absent
 
--- what is committed is a table of lines
+-- the committed tree is a table of lines
 pub record HoldsLines (v : View) : Type 0 where
   pub form : IsForLines v.committed_shape v.committed_reals
   pub lines : AllByRecursion IsLine (v.committed 0)
 
--- nothing is under way, and `next` is the first number after those of all rows
+-- no transaction is open, and `next` is the least number that is greater than those of all rows
 pub record IsAtRest (next : ℕ) (v : View) : Type 0 where
   pub sound : v.is_broken ≡ false
   pub settled : v.trees ≡ v.committed
@@ -34,7 +34,7 @@ pub record IsAtRest (next : ℕ) (v : View) : Type 0 where
   pub below : AreBelow next (v.committed 0)
   pub first : next ≡ next_number (v.committed 0)
 
--- while the store is open it is at rest
+-- an open store is at rest
 abbrev pub RestsIfOpen : ℕ → View → Type 0
 RestsIfOpen next v = IsClean v → IsTrue v.is_open → IsAtRest next v
 
@@ -44,12 +44,12 @@ pub record IsReady (v : View) : Type 0 where
   pub table : v.shape 0 ≡ Table
   pub plain : v.reals 0 ≡ 0
 
--- the first tree has these rows, and nothing but trees and cursors differs
+-- the first tree has these rows, and only trees and cursors changed
 pub record Stages (old new : View) (rows : List Row) : Type 0 where
   pub this : new.trees 0 ≡ rows
   pub rest : new ≡ record old { trees = new.trees; cursors = new.cursors }
 
--- the rows of the transaction are these lines, and only cursors differ
+-- the rows of the transaction are these lines, and only cursors changed
 pub record Reads (old new : View) (lines : List (List ℕ)) (next : ℕ) : Type 0 where
   pub sound : old.is_broken ≡ false
   pub rows : AllByRecursion IsLine (old.trees 0)
@@ -58,7 +58,7 @@ pub record Reads (old new : View) (lines : List (List ℕ)) (next : ℕ) : Type 
   pub first : next ≡ next_number (old.trees 0)
   pub rest : new ≡ record old { cursors = new.cursors }
 
--- reads stay tested, no wrong answer and no fault is forgotten, and only a fault shuts the store
+-- the store stays clean only if it was, faults are not forgotten, and only a fault shuts it
 pub record IsSteady {S : Type 0} (view : S → View) (faults : S → ℕ) (Shielded : S → Type 0) (old new : S) : Type 0 where
   pub clean : doubt (view old).is_clean ≤ doubt (view new).is_clean
   pub closes : IsClean (view new) → IsTrue (view old).is_open → IsTrue (view new).is_open ⊎ MoreFaults (faults old) (faults new)

@@ -1,4 +1,4 @@
-//! Why a call failed.
+//! The error of a journal.
 
 use sqlite::ErrorCode;
 use sqlite_trees::error::StoreError;
@@ -6,7 +6,7 @@ use std::alloc::{AllocError, AllocFailed};
 use std::error::Error;
 use std::fmt;
 
-/// The error of a call.
+/// The error of a call of a journal.
 #[derive(Clone, Copy, Debug, PartialEq, Eq)]
 pub enum JournalError {
     /// An allocation failed.
@@ -15,15 +15,15 @@ pub enum JournalError {
     Disk,
     /// The file is damaged.
     Damaged,
-    /// The disk or the file has no room.
+    /// The disk or the file is full.
     Full,
     /// An earlier failure shut the store.
     Shut,
     /// A line is longer than 999,999,946 bytes.
     TooLong,
-    /// The file is no database, or has more than the one table of lines, or a row that is no line.
+    /// The file is not a database, has another table, or has a row that is not a line.
     NotLines,
-    /// Too few numbers are left for the lines.
+    /// Too few numbers remain for the lines.
     Numbers,
     /// Another process has the file open.
     InUse,
@@ -70,7 +70,7 @@ impl From<StoreError> for JournalError {
     }
 }
 
-/// What an open of the file, or the statement that makes its table, answered.
+/// Converts the error of opening the file, or of the statement that creates its table.
 impl From<sqlite::Error> for JournalError {
     ghost use Rattle.std.specs.Prelude.{◌≡◌};
     ghost use Rattle.indexset_journal.specs.Opening.{opening};

@@ -15,10 +15,10 @@ use sqlite_value::row::Row;
 use std::alloc::Global;
 use std::marker::Model;
 
-/// SQLite's numbers of rows end below this one.
+/// SQLite's row numbers are less than this one.
 const PAST_LAST: u64 = 1 << 63;
 
-/// Lines in the one table of a store, which outlive a crash. A contract sees the store.
+/// Lines in the only table of a store. They survive a crash.
 #[derive(Drop)]
 pub struct Journal<S: Store> {
     store: S,
@@ -38,7 +38,7 @@ impl<S: Store> Model for Journal<S> {
     ghost invariant = { λ journal. RestsIfOpen journal.next (S.view journal.store) };
 }
 
-/// Returns the number after those of `count` lines from `next` on.
+/// Returns the number after those of `count` lines that are numbered from `next` on.
 fn end_of<S: Store>(store: &S, next: u64, count: usize) -> Result<u64, JournalError>
     ensures end { IfOk result (λ end. (end ≡ next + count) × (end ≤ 2 ^ 63)) }
     ensures sound { OnOk result (IsClean (S.view store.now)
@@ -58,8 +58,11 @@ fn end_of<S: Store>(store: &S, next: u64, count: usize) -> Result<u64, JournalEr
 }
 
 impl<S: Store> Journal<S> {
-    /// Returns a journal over a store, and the lines that it keeps, in order. What was under way in
-    /// the store is undone. An `Err` returns the store. Reads all rows, and commits nothing.
+    /// Opens the journal of a store, and returns it with its lines in order.
+    ///
+    /// An open transaction of the store is rolled back. Nothing is committed.
+    ///
+    /// # Examples
     ///
     /// ```
     /// # use indexset_journal::Journal;
@@ -69,6 +72,10 @@ impl<S: Store> Journal<S> {
     /// let opened = Journal::open(alloc, conn.into_store());
     /// assert!(rt; opened.is_ok_and(|(_, lines)| lines.is_empty()));
     /// ```
+    ///
+    /// # Errors
+    ///
+    /// The error, with the store: see [`JournalError`].
     pub fn open(
         alloc: Global,
         mut store: S,
@@ -101,9 +108,12 @@ impl<S: Store> Journal<S> {
         }
     }
 
-    /// Keeps more lines behind the others, with one commit. At `Ok` each later crash leaves them. A
-    /// crash before leaves the lines from before the call, or those and all of the new ones. After an
-    /// `Err` the journal may be used again, and keeps what it kept.
+    /// Appends lines, with one commit.
+    ///
+    /// After `Ok` the lines survive a crash. A crash during the call leaves the lines from before
+    /// the call, or those and all new lines.
+    ///
+    /// # Examples
     ///
     /// ```
     /// # use indexset_journal::Journal;
@@ -116,6 +126,11 @@ impl<S: Store> Journal<S> {
     ///     assert!(rt; opened.is_ok_and(|(_, lines)| lines.len() == 2));
     /// }
     /// ```
+    ///
+    /// # Errors
+    ///
+    /// See [`JournalError`]. While the store is open, the lines are as before the call. Only a failure
+    /// of the disk shuts the store.
     pub fn append(&mut self, lines: &[Vec<u8>]) -> Result<(), JournalError>
         ensures kept { OnOk result (IsClean (S.view self.new) → IsTrue (S.view self.new).is_open
             × (lines_in (S.view self.new).committed
@@ -144,9 +159,12 @@ impl<S: Store> Journal<S> {
         Ok(())
     }
 
-    /// Replaces all lines that are kept by these, with one commit. At `Ok` each later crash
-    /// leaves them. A crash before leaves the old lines, or all of the new ones. After an `Err` the
-    /// journal may be used again, and keeps what it kept.
+    /// Replaces all lines, with one commit.
+    ///
+    /// After `Ok` the new lines survive a crash. A crash during the call leaves the old lines, or
+    /// all new lines.
+    ///
+    /// # Examples
     ///
     /// ```
     /// # use indexset_journal::Journal;
@@ -160,6 +178,11 @@ impl<S: Store> Journal<S> {
     ///     assert!(rt; opened.is_ok_and(|(_, lines)| lines.len() == 1));
     /// }
     /// ```
+    ///
+    /// # Errors
+    ///
+    /// See [`JournalError`]. While the store is open, the lines are as before the call. Only a failure
+    /// of the disk shuts the store.
     pub fn replace(&mut self, lines: &[Vec<u8>]) -> Result<(), JournalError>
         ensures kept { OnOk result (IsClean (S.view self.new) → IsTrue (S.view self.new).is_open
             × (lines_in (S.view self.new).committed ≡ texts lines.now)) }
@@ -183,7 +206,7 @@ impl<S: Store> Journal<S> {
         Ok(())
     }
 
-    /// Returns the store, with no other effect.
+    /// Returns the store.
     ///
     /// ```
     /// # use indexset_journal::Journal;

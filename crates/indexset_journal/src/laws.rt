@@ -1,5 +1,5 @@
-//! What is found after a crash. A crash is a disk of which each call fails from some moment on, and
-//! each clause holds for every such moment.
+//! Theorems on crashes. A crash is a disk of which each call fails from some moment on, and each
+//! clause holds for every such moment.
 ghost use Rattle.std.specs.Prelude.{◌≡◌, ◌⊎◌, ◌++◌, IsTrue, IfSome};
 ghost use Rattle.sqlite_trees.specs.Tree.{Trees};
 ghost use Rattle.sqlite_trees.specs.View.{IsClean};
@@ -9,8 +9,10 @@ use crate::journal::Journal;
 use sqlite_trees::store::Reopen;
 use std::alloc::Global;
 
-/// Crashes, and opens the files again. What is found is what the crash could leave. Returns `None`
-/// where memory runs out or the files cannot be opened.
+/// Crashes, opens the files again, and returns the journal with its lines.
+///
+/// The lines are some that the crash could leave. Returns `None` if memory runs out or the files
+/// cannot be opened.
 pub fn restart<S: Reopen + Drop>(
     alloc: Global,
     journal: Journal<S>,
@@ -27,9 +29,10 @@ pub fn restart<S: Reopen + Drop>(
     Journal::open(alloc, store).ok()
 }
 
-/// Appends lines, crashes and opens the files again. What is found are the lines from before, or
-/// those and all of the new ones; and all of them where `append` returned `Ok`, which the `bool`
-/// says. Returns `None` as `restart` does.
+/// Appends lines, crashes, opens the files again, and returns the journal with its lines.
+///
+/// The lines are those from before, or those and all new ones. The `bool` is whether `append`
+/// returned `Ok`: then all new ones are there. Returns `None` as `restart` does.
 pub fn append_and_restart<S: Reopen + Drop>(
     alloc: Global,
     mut journal: Journal<S>,
@@ -48,9 +51,10 @@ pub fn append_and_restart<S: Reopen + Drop>(
     Some((again, found, is_kept))
 }
 
-/// Replaces all lines, crashes and opens the files again. What is found are the lines
-/// from before or the new ones, whole; and the new ones where `replace` returned `Ok`, which the
-/// `bool` says. Returns `None` as `restart` does.
+/// Replaces all lines, crashes, opens the files again, and returns the journal with its lines.
+///
+/// The lines are the old ones, or all new ones. The `bool` is whether `replace` returned `Ok`: then
+/// they are the new ones. Returns `None` as `restart` does.
 pub fn replace_and_restart<S: Reopen + Drop>(
     alloc: Global,
     mut journal: Journal<S>,

@@ -1,8 +1,7 @@
-//! Lines that outlive a crash, as the rows of the one table of a SQLite file.
+//! Lines that survive a crash, as the rows of the only table of a SQLite file.
 //!
-//! A [`Journal`] appends lines, or replaces all, in one transaction each. It
-//! stands over any `Store` of the toolchain's SQLite crates. [`laws`] says what is found after a
-//! crash.
+//! A [`Journal`] appends lines, or replaces all of them, in one transaction each. It works over
+//! any `Store` of the toolchain's SQLite crates. [`laws`] has theorems on crashes.
 #![tactic(auto)]
 
 mod error;

@@ -1,4 +1,4 @@
-//! The lines of a store that was just opened.
+//! Reads the lines of a store that was just opened.
 ghost use Rattle.std.specs.Prelude.{◌≡◌, ◌≤◌, ◌^◌, false, IsTrue, IfOk, IfErr, OnOk, OnErr};
 ghost use Rattle.std.specs.List.{AllByRecursion};
 ghost use Rattle.sqlite_disk.specs.Disk.{MoreFaults};
@@ -14,7 +14,7 @@ use sqlite_trees::store::{Direction, Shape, Store};
 use sqlite_value::row::Row;
 use std::alloc::Global;
 
-/// Whether the store has the one table of lines.
+/// Returns whether the store has only the table of lines.
 fn is_for_lines<S: Store>(store: &S) -> bool
     ensures yes { IsTrue result → IsForLines (S.view store.now).shape (S.view store.now).reals }
     ensures no { result ≡ false → ¬ (IsForLines (S.view store.now).shape (S.view store.now).reals
@@ -23,7 +23,7 @@ fn is_for_lines<S: Store>(store: &S) -> bool
     store.shape(TABLE) == Shape::Table && store.reals(TABLE) == 0 && store.tree_count() <= 1
 }
 
-/// Returns the lines of the table, and the first number after those of all rows.
+/// Returns the lines of the table, and the number of the next line.
 fn read_lines<S: Store>(alloc: Global, store: &mut S) -> Result<(Vec<Vec<u8>>, u64), JournalError>
     ensures ok { IfOk result (λ read. IsClean (S.view store.new)
         → Reads (S.view store.old) (S.view store.new) (texts read.0.items) read.1) }
@@ -50,11 +50,11 @@ fn read_lines<S: Store>(alloc: Global, store: &mut S) -> Result<(Vec<Vec<u8>>, u
         next = next.max(number + 1);
         lines.push(bytes_of(row.get(2)).to_vec(alloc)?)?;
     }
-    // No table has so many rows.
+    // No table has that many rows.
     Err(JournalError::OutOfMemory)
 }
 
-/// As `read_lines`, of a store that has the table of lines and nothing under way.
+/// Does `read_lines` for a store that has the table of lines and no open transaction.
 pub(crate) fn find_lines<S: Store>(
     alloc: Global,
     store: &mut S,

@@ -6,10 +6,10 @@ use sqlite_value::row::Row;
 use sqlite_value::value::ValueRef;
 use std::alloc::AllocError;
 
-/// The lines are the rows of the first tree.
+/// The table of lines is the first tree.
 pub(crate) const TABLE: u32 = 0;
 
-/// Writes a line over `row`.
+/// Sets `row` to the row of a line.
 pub(crate) fn set_line(row: &mut Row, number: u64, line: &[u8]) -> Result<(), AllocError>
     requires { number < 2 ^ 63 }
     ensures { OnOk result (row.new ≡ row_of number line.now) }
@@ -20,7 +20,7 @@ pub(crate) fn set_line(row: &mut Row, number: u64, line: &[u8]) -> Result<(), Al
     row.push(ValueRef::Text(line))
 }
 
-/// Returns the number of a line, or `None` where the row is no line.
+/// Returns the number of a line, or `None` if the row is not a line.
 pub(crate) fn number_of(row: &Row) -> Option<u64>
     ensures line { IfSome result (λ number. number < 2 ^ 63 × ((line : List ℕ)
         × (row.now ≡ row_of number line))) }

@@ -1,4 +1,4 @@
-//! Rows put into the table of lines, and the end of a transaction.
+//! Writes rows to the table of lines, and ends the transaction.
 ghost use Rattle.std.specs.Prelude.{◌≡◌, ◌⊎◌, ◌+◌, ◌≤◌, ◌<◌, ◌^◌, ◌++◌, [], false, length, Any, IsTrue, Ok, Err, IfErr, OnOk, OnErr};
 ghost use Rattle.sqlite_disk.specs.Disk.{MoreFaults};
 ghost use Rattle.sqlite_trees.specs.Tree.{Trees};
@@ -12,7 +12,7 @@ use sqlite_trees::store::{Direction, Store};
 use sqlite_value::row::Row;
 use sqlite_value::value::ValueRef;
 
-/// Puts the lines behind all rows, under the numbers from `next` on.
+/// Inserts the lines after all rows, numbered from `next` on.
 pub(crate) fn put_lines<S: Store>(
     store: &mut S,
     row: &mut Row,
@@ -39,7 +39,7 @@ pub(crate) fn put_lines<S: Store>(
     Ok(())
 }
 
-/// Takes all rows out.
+/// Deletes all rows.
 pub(crate) fn take_all<S: Store>(store: &mut S, row: &mut Row) -> Result<(), StoreError>
     requires ready { IsClean (S.view store.old) → IsReady (S.view store.old) }
     ensures ok { OnOk result (IsClean (S.view store.new)
@@ -58,12 +58,12 @@ pub(crate) fn take_all<S: Store>(store: &mut S, row: &mut Row) -> Result<(), Sto
             return Ok(());
         }
         let ValueRef::Int(number) = row.get(0) else {
-            // No row of a table is without a number.
+            // Each row of a table has a number.
             return Err(StoreError::OutOfMemory);
         };
         store.delete(TABLE, number)?;
     }
-    // No table has so many rows.
+    // No table has that many rows.
     Err(StoreError::OutOfMemory)
 }
 
@@ -88,7 +88,7 @@ pub(crate) fn put_instead<S: Store>(
     put_lines(store, row, 0, lines)
 }
 
-/// Commits what was staged, or undoes it where that failed.
+/// Commits what was staged, or rolls it back if that failed.
 pub(crate) fn commit_or_undo<S: Store>(
     store: &mut S,
     staged: Result<(), StoreError>,

@@ -1,4 +1,4 @@
--- A text is cut into its lines.
+-- Splitting a text into its lines.
 use Rattle.std.proofs.Common.{None, Some, ◌≡◌, ◌≢◌, ℕ, ◌+◌, ◌-◌, ◌<◌, Bool, true, false, cond, eqb, take, drop, get_or, List, [], ◌∷◌, ◌++◌, length, refl, sym, ap, subst, ◌∙◌, arith, append_assoc, length-append}
 use Rattle.std.specs.Prelude.{nat_lt}
 use Rattle.std.proofs.lemmas.Bool.{eqb-false, ne_eqb}
@@ -14,7 +14,7 @@ use Rattle.indexset_events.specs.Spelling.{cut_at}
 use Rattle.indexset_events.specs.Spelling.Laws.{cut_sound, none_some, some_inj}
 use Rattle.indexset_keep.specs.Told.{inner}
 
--- the place of the first line end, and the length where there is none
+-- the index of the first line end, or the length if there is none
 abbrev spot : List ℕ → ℕ
 spot text = position_or_len (λ x. eqb x 10) text
 
@@ -31,7 +31,7 @@ front_lacks text = All-from_get_or (λ x. x ≢ 10) (take (spot text) text) 0 (�
     let same : get_or (take (spot text) text) k 0 ≡ get_or text k 0 = get_or-take (spot text) text k 0 before in
     eqb-false (get_or text k 0) 10 (fails_before_first (λ x. eqb x 10) text k 0 before) (sym same ∙ end))
 
--- a text that is cut has its front as its first line
+-- a text that has a line end: its first line is the part before it
 pub cut_lines : (text a b : List ℕ) → cut_at 10 text ≡ Some (a, b) → whole_lines text ≡ a ∷ whole_lines b
 cut_lines text a b e = at (nat_lt (spot text) (length text)) refl e
   where
@@ -45,7 +45,7 @@ no_lines : (text : List ℕ) → HasNoEnd text → whole_lines text ≡ []
 unfolding IsWhole lines_of
 no_lines text none = whole_lines-append text none [] (λ some. absurd (omega (arith, some)))
 
--- a text that is not cut has none
+-- a text that has no line end has no whole line
 pub uncut_lines : (text : List ℕ) → cut_at 10 text ≡ None → whole_lines text ≡ []
 uncut_lines text e = at (nat_lt (spot text) (length text)) refl e
   where
@@ -58,7 +58,7 @@ uncut_lines text e = at (nat_lt (spot text) (length text)) refl e
 -- ---- lines so far
 
 module _ (done : List (List ℕ)) (left line rest : List ℕ) (cut : cut_at 10 left ≡ Some (line, rest)) where
-  -- the next line goes behind them
+  -- the next line is appended to them
   pub line_more : done ++ whole_lines left ≡ (done ++ line ∷ []) ++ whole_lines rest
   line_more = ap (λ ls. done ++ ls) (cut_lines left line rest cut) ∙ sym (append_assoc done (line ∷ []) (whole_lines rest))
 
@@ -67,7 +67,7 @@ module _ (done : List (List ℕ)) (left line rest : List ℕ) (cut : cut_at 10 l
 
 -- ---- lines between the first and the last
 
--- a line and more of them, but for the last
+-- a line and the lines after it, without the last of all
 abbrev pub but_last : List ℕ → List (List ℕ) → List (List ℕ)
 but_last line lines = take (length lines) (line ∷ lines)
 
@@ -86,7 +86,7 @@ pub inner_one : (text a b : List ℕ) → cut_at 10 text ≡ Some (a, b) → cut
 inner_one text a b first none = ap inner (cut_lines text a b first ∙ ap (λ ls. a ∷ ls) (uncut_lines b none))
 
 module _ (done : List (List ℕ)) (line left next rest : List ℕ) (cut : cut_at 10 left ≡ Some (next, rest)) where
-  -- a line that another follows goes behind those so far
+  -- a line with another after it is appended to those so far
   pub but_last_more : done ++ but_last line (whole_lines left) ≡ (done ++ line ∷ []) ++ but_last next (whole_lines rest)
   but_last_more = ap (λ ls. done ++ but_last line ls) (cut_lines left next rest cut) ∙ sym (append_assoc done (line ∷ []) (but_last next (whole_lines rest)))
 

@@ -1,4 +1,5 @@
--- The pairs of lawful nodes have numbers of 64 bits after an event whose numbers have, and after an attached node.
+-- An event or an attached node whose numbers have at most 64 bits leaves lawful nodes with such
+-- numbers.
 use Rattle.std.proofs.Common.{Option, None, Some, IfSome, ◌≡◌, ℕ, zero, suc, ◌+◌, ◌==◌, Bool, true, false, if◌then◌else◌, List, [], ◌∷◌, ◌++◌, ◌&&◌, length, get_or, take, drop, insert, remove, ltb, leb, refl, sym, subst}
 use Rattle.std.proofs.lemmas.Bool.{false≢true}
 use Rattle.std.proofs.lemmas.List.{take-append-drop}
@@ -56,13 +57,13 @@ module _ {T : Type 0} (texts : Texts T) where
   node_fits (n ∷ ns) zero h = h.0
   node_fits (n ∷ ns) (suc k) h = node_fits ns k h.1
 
-  -- what a test lets pass
+  -- the result of a test that passes
   tested_fit : (b : Bool) (ns : Nodes T) → NodesFit ns → IfSome (if b then Some ns else None) NodesFit
   tested_fit true ns h = h
   tested_fit false ns h = tt
 
 module _ {T : Type 0} (cmp : T → T → Ordering) (texts : Texts T) where
-  -- ---- the edit that an event names
+  -- ---- the edit of an event
 
   module _ (ns : Nodes T) (h : NodesFit texts ns) where
     spliced_fit : (i j : ℕ) (parts : Nodes T) → NodesFit texts parts → NodesFit texts (splice ns i j parts)
@@ -72,7 +73,7 @@ module _ {T : Type 0} (cmp : T → T → Ordering) (texts : Texts T) where
     parts_fit p None new = tt
     parts_fit p (Some parts) new = spliced_fit p (p + 1) parts new
 
-    -- a node made into the parts that f makes of it
+    -- replacing a node by the parts that f gives for it
     named_fit : (place : Option ℕ) (f : List (Pair T T) → Option (Nodes T)) → ((n : List (Pair T T)) → Each (PairFits texts) n → IfSome (f n) (NodesFit texts)) → IfSome (option_and_then (λ p. option_map (splice ns p (p + 1)) (f (node_at ns p))) place) (NodesFit texts)
     named_fit None f made = tt
     named_fit (Some p) f made = parts_fit p (f (node_at ns p)) (made (node_at ns p) (node_fits texts ns p h))
@@ -97,7 +98,7 @@ module _ {T : Type 0} (cmp : T → T → Ordering) (texts : Texts T) where
         (λ n k. tested_fit texts (ltb 0 i && ltb i (length n)) (take i n ∷ drop i n ∷ []) (each_front (PairFits texts) i n k, (each_back (PairFits texts) i n k, tt)))
     edited_fit (MergeNodes id m w) fit = merged_fit (node_named (order cmp) ns m) (node_named (order cmp) ns w)
 
-  -- ---- what an event leaves
+  -- ---- the nodes after an event
 
   -- the nodes are lawful, and their pairs fit
   pub record SoundNodes (ns : Nodes T) : Type 0 where
@@ -117,7 +118,7 @@ module _ {T : Type 0} (cmp : T → T → Ordering) (texts : Texts T) where
       at (Some r) k = tested r k (are_nodes (order cmp) r) refl
 
 module _ {T : Type 0} (cmp : T → T → Ordering) (total : IsTotalOrder cmp) where
-  -- ---- what an attached node leaves
+  -- ---- the nodes after a node is attached
 
   pub ordered : IsTotalOrder (order cmp)
   ordered = pairs_total cmp total

@@ -1,4 +1,4 @@
--- The lines that a follower keeps lead one without a window where it went.
+-- Replaying the lines that a follower keeps gives its state.
 use Rattle.std.proofs.Common.{Option, None, Some, ◌≡◌, ◌≢◌, ℕ, suc, ◌+◌, ◌-◌, ◌<◌, ◌≤◌, ◌^◌, ◌==◌, Bool, true, false, if◌then◌else◌, List, [], ◌∷◌, ◌++◌, length, map, take, refl, ap, sym, subst, ◌∙◌, arith}
 use Rattle.std.below.core.specs.declared.int.u64.TheConstants.{MAX}
 use Rattle.std.proofs.lemmas.Bool.{eq-eqb, eqb-true, ne_eqb}
@@ -47,7 +47,7 @@ use Rattle.std.specs.Cmp.{IsTotalOrder}
 module _ {T : Type 0} (cmp : T → T → Ordering) where
   -- ---- a step
 
-  -- a step leaves nodes in order
+  -- a step preserves the order of the nodes
   step_ruled : (ns after : List (List (Pair T T))) (e : Event T) → step (order cmp) ns e ≡ Some after → Ruled (order cmp) after
   unfolding step_plain
   step_ruled ns after e made =
@@ -58,13 +58,13 @@ module _ {T : Type 0} (cmp : T → T → Ordering) where
       at r true is e = subst (Ruled (order cmp)) (some_inj r after e) (tested_ruled (order cmp) r is)
       at r false is e = none_some after e
 
-  -- the awaited event makes its step, where there is a number behind it
+  -- the awaited event is applied if it has a successor number
   made : (c : Copy T) (e : Event T) (after : List (List (Pair T T))) → event_number e ≡ c.next → c.next ≢ MAX → step (order cmp) c.nodes e ≡ Some after → copy_after cmp c e ≡ copy after (c.next + 1)
   unfolding delivered
   made c e after number more is = rw (eq-eqb (event_number e) c.next number, ne_eqb c.next MAX more, is) refl
 
 module _ {T : Type 0} (cmp : T → T → Ordering) (total : IsTotalOrder cmp) where
-  -- an event that nothing speaks against makes one
+  -- an event for which no refusal is found is applied
   stepped : (c : Copy T) (e : Event T) → Ruled (order cmp) c.nodes → apply_refusal (order cmp) c.nodes c.next e ≡ None → ((copy_after cmp c e).next ≡ c.next + 1) × Ruled (order cmp) (copy_after cmp c e).nodes
   stepped c e rule fits =
       let law = (refusal_law (order cmp) c.nodes c.next e (pairs_total cmp total) rule).0 fits in
@@ -74,7 +74,8 @@ module _ {T : Type 0} (cmp : T → T → Ordering) (total : IsTotalOrder cmp) wh
 module _ {T : Type 0} (cmp : T → T → Ordering) (texts : Texts T) where
   -- ---- steps
 
-  -- as many of the events as the next number goes up by lead from one copy to the other
+  -- replaying as many of the events as the next number increases by gives the second copy from the
+  -- first
   abbrev StepsTo : ℕ → Copy T → List (Event T) → Copy T → Type 0
   StepsTo d c es t = (c.next ≤ t.next) × (state_after cmp texts (holding 0 c d) (map (event_text texts) (take (t.next - c.next) es)) ≡ holding 0 t d)
 
@@ -96,7 +97,7 @@ module _ {T : Type 0} (cmp : T → T → Ordering) (texts : Texts T) (spelled : 
       )
 
 module _ {T : Type 0} (cmp : T → T → Ordering) (texts : Texts T) (total : IsTotalOrder cmp) (spelled : AreWords texts) where
-  -- the events that are taken one after another
+  -- the events that are applied one after another
   caught : (d : ℕ) (c : Copy T) (early : EarlyEvents T) → Ruled (order cmp) c.nodes → All (λ p. EventFits texts p.value) early → StepsTo cmp texts d c (consecutive c.next early) (caught_up cmp c early).held
   unfolding caught_up
   caught d c [] rule fit = stays cmp texts d c []
@@ -160,13 +161,13 @@ module _ {T : Type 0} (texts : Texts T) where
   no_node : (line : List ℕ) (m : Mark) → mark_of line ≡ Some m → node_of texts line ≡ None
   no_node line m is = ap (node_of texts) (mark_sound line m is).0 ∙ mark_is_no_node m
 
--- why the end of a snapshot is wrong, by whether its count and its sum are right
+-- the reason to refuse the end of a snapshot, from whether its count and its sum are right
 abbrev reason_by : Bool → Bool → Option Reason
 reason_by count sum = if not count then Some Count else if not sum then Some Sum else None
 
 module _ {T : Type 0} (cmp : T → T → Ordering) (texts : Texts T) (total : IsTotalOrder cmp) (spelled : AreWords texts) where
   module _ (s : State T) (sound : IsSoundFollower cmp texts s) where
-    -- the line leads on from what is held, and from the commands that are done
+    -- the line takes the replayed state and the finished commands to this state
     abbrev GoesTo : List (List ℕ) → State T → Type 0
     GoesTo kept t = state_after cmp texts (holding 0 s.held s.done) kept ≡ holding 0 t.held t.done
 
@@ -209,7 +210,8 @@ module _ {T : Type 0} (cmp : T → T → Ordering) (texts : Texts T) (total : Is
         at None event None node (Some m) mark = mark_on line m event mark
         at None event (Some n) node (Some m) mark = none_some n (sym (no_node texts line m mark) ∙ node)
 
-  -- the lines that are kept of a line lead on, behind lines that lead to what is held
+  -- if replaying some lines gives the state, replaying those kept of a line after them gives the
+  -- next state
   pub followed_on : (s : State T) (line : List ℕ) → IsSoundFollower cmp texts s → (b : State T) (kept : List (List ℕ)) → state_after cmp texts b kept ≡ holding 0 s.held s.done
       → state_after cmp texts b (kept ++ line_kept cmp texts s line) ≡ holding 0 (after_line cmp texts s line).held (after_line cmp texts s line).done
   followed_on s line sound b kept leads =

@@ -1,4 +1,5 @@
--- Of the answer to a line of a leader that is no read, the lines between the first and the last are kept.
+-- Of a leader's answer to a line that is not a read, the lines between the first and the last are
+-- kept.
 use Rattle.std.proofs.Common.{Option, None, Some, ◌≡◌, ◌≢◌, ℕ, ◌-◌, ◌<◌, ◌≤◌, ◌^◌, Bool, true, false, List, [], ◌∷◌, ◌++◌, length, take, map, refl, ap, sym, subst, ◌∙◌, arith, append_assoc, append-nil, length-append}
 use lib.Chars.{codes}
 use Rattle.std.below.core.specs.declared.int.u64.TheConstants.{MAX}
@@ -46,7 +47,7 @@ use Rattle.indexset_keep.proofs.Told.{EchoFits, command_keeps, done_lines, done_
 use Rattle.std.specs.declared.cmp.Ordering.{Ordering}
 use Rattle.std.specs.Cmp.{IsTotalOrder}
 
--- ---- the lines of a text, whatever follows it
+-- ---- the lines of a text, with any text after it
 
 abbrev Cuts : List ℕ → List (List ℕ) → Type 0
 Cuts text ls = (rest : List ℕ) → lines_of (text ++ rest) ≡ ls ++ lines_of rest
@@ -75,7 +76,7 @@ cuts_done : (echo : Option ℕ) (d n : ℕ) → d < 2 ^ 64 → n < 2 ^ 64 → Cu
 cuts_done None d n small less = λ rest. refl
 cuts_done (Some _) d n small less = cuts_line (mark_line (Done d n)) (done_whole d n small less)
 
--- ---- the answer to a command that is a change
+-- ---- the answer to a command that changes the map
 
 abbrev is_change : {T : Type 0} → PairCommand T → Bool
 is_change (Put k v) = true
@@ -118,7 +119,7 @@ module _ {T : Type 0} (cmp : T → T → Ordering) (texts : Texts T) (spelled : 
   cuts_reply echo small t g (Cut k) is fits = cuts_change texts spelled echo small (change_reply cmp t (Cut k)) (change_fits cmp texts t g (Cut k)) (told_events cmp t (Cut k)) fits
   cuts_reply echo small t g Nodes is fits = absurd (cc)
 
--- all but the first and the last of such lines
+-- such lines without the first and the last
 inner_between : (a b : List ℕ) (lines : List (List ℕ)) → inner (a ∷ (lines ++ b ∷ [])) ≡ lines
 inner_between a b lines =
     let count : length (a ∷ (lines ++ b ∷ [])) - 2 ≡ length lines = omega (arith, length-append lines (b ∷ [])) in
@@ -126,11 +127,11 @@ inner_between a b lines =
 
 -- ---- all lines of an answer
 
--- the lines of whole lines all have their ends
+-- each line of whole lines has a line end
 ended_lines : (text : List ℕ) → IsWhole text → whole_lines text ≡ lines_of text
 ended_lines text is = sym (ap whole_lines (append-nil text)) ∙ whole_lines-append [] (All-nil (λ x. x ≢ 10)) text is
 
--- the reply that tells the next number
+-- the reply with the next number
 abbrev next_line : ℕ → List ℕ
 next_line n = codes "next " ++ decimal n
 

@@ -1,4 +1,4 @@
--- What the answers of a leader tell leads a follower on.
+-- A follower that reads the answers of a leader has the leader's state.
 use Rattle.std.proofs.Common.{None, Some, Option, ◌≡◌, ℕ, zero, suc, ◌<◌, ◌≤◌, ◌^◌, max, List, [], ◌∷◌, length, map, get_or, refl, ap, sym, subst, ◌∙◌, arith, inl, append-nil}
 use Rattle.std.proofs.Math.Nat.{le-max_left, max-eq_right}
 use Rattle.std.proofs.lemmas.Bool.{le-ltb}
@@ -95,7 +95,7 @@ module _ {T : Type 0} (texts : Texts T) where
   own_texts es k d lt = let it = text_at es k d lt in record { place = k; event = it.0; at = it.1; text = it.2 }
 
 module _ {T : Type 0} (cmp : T → T → Ordering) (texts : Texts T) (spelled : AreWords texts) where
-  -- a follower without a window takes the line of an event, and holds nothing besides
+  -- a follower without a window applies the event of a line, and holds no early event
   pub one_taken : (c : Copy T) (n : ℕ) (e : Event T) → EventFits texts e → after_line cmp texts (holding 0 c n) (event_text texts e) ≡ holding 0 (copy_after cmp c e) n
   one_taken c n e fit =
       let told = event_told texts spelled e fit in
@@ -110,7 +110,7 @@ module _ {T : Type 0} (cmp : T → T → Ordering) (texts : Texts T) (spelled : 
       ap (λ r. state_after cmp texts r (map (event_text texts) es)) one ∙ nothing_besides (copy_after cmp c e) n es fit.1 ∙ ap (λ r. holding 0 (state_after cmp texts r (map (event_text texts) es)).held n) (sym one)
 
 module _ {T : Type 0} where
-  -- what a follower holds of a tree
+  -- a follower's copy of a tree
   abbrev copied : PairTree T → Copy T
   copied t = copy t.nodes t.next
 
@@ -150,12 +150,12 @@ module _ {T : Type 0} (cmp : T → T → Ordering) (texts : Texts T) where
   one_left l line = refl
 
 module _ {T : Type 0} where
-  -- what a follower holds that has read all that the leader told
+  -- the state of a follower that has read all answers of the leader
   abbrev followed : Leader T → State T
   followed l = holding 0 (copied l.pairs) l.done
 
 module _ {T : Type 0} (cmp : T → T → Ordering) (texts : Texts T) (total : IsTotalOrder cmp) (spelled : AreWords texts) where
-  -- the events of a line alone
+  -- the events of a line
   events_onward : (l : Leader T) → IsSound cmp texts l → (line : List ℕ) → (after_leading cmp texts l.pairs line).next < 2 ^ 64 → state_after cmp texts (followed l) (map (event_text texts) (leading_events cmp texts l.pairs line)) ≡ holding 0 (copied (after_leading cmp texts l.pairs line)) l.done
   events_onward l s line less =
       let left = one_left cmp texts l line in
@@ -163,12 +163,12 @@ module _ {T : Type 0} (cmp : T → T → Ordering) (texts : Texts T) (total : Is
       ∙ onward cmp texts total spelled l s (line ∷ []) (subst (λ t. t.next < 2 ^ 64) (sym left) less)
       ∙ ap (λ t. holding 0 (copied t) l.done) left
 
--- the greatest number of a command takes the place of a smaller one
+-- taking the greater of two command numbers twice changes nothing
 max_twice : (d n : ℕ) → max d (max d n) ≡ max d n
 max_twice d n = max-eq_right (le-max_left d n)
 
 module _ {T : Type 0} (cmp : T → T → Ordering) (texts : Texts T) where
-  -- a follower that awaits the number of a done line takes it
+  -- a follower that awaits the event of a `done` line accepts the line
   done_taken : (t : PairTree T) (d n : ℕ) → max d n < 2 ^ 64 → t.next < 2 ^ 64 → after_line cmp texts (holding 0 (copied t) d) (mark_line (Done (max d n) t.next)) ≡ holding 0 (copied t) (max d n)
   done_taken t d n small less =
       let event = done_alone texts (max d n) t.next in

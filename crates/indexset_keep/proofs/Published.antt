@@ -1,4 +1,5 @@
--- The events that a leader told before a crash are the first of those that lead to what is found after it.
+-- The events that a leader emitted before a crash are a prefix of those that give the state after
+-- recovery.
 use Rattle.std.proofs.Common.{◌≡◌, ℕ, ◌<◌, ◌^◌, List, [], ◌∷◌, ◌++◌, length, refl, ap, sym, ◌∙◌, arith}
 use Rattle.std.proofs.lemmas.List.{append_assoc, take_all}
 use Rattle.std.specs.List.{All}

@@ -1,4 +1,4 @@
--- A line is carried out, and what is to be kept of it leads on.
+-- A line was executed, and replaying what is to be kept of it gives the next state.
 use Rattle.std.proofs.Common.{Option, ◌≡◌, ◌<◌, ◌^◌, ℕ, List, [], ◌∷◌, ◌++◌, ap, sym, subst, ◌∙◌}
 use Rattle.std.specs.Io.KnownBytes.{Consumes, Keeps}
 use Rattle.indexset_lines.specs.Lines.{HasNoEnd}

@@ -1,4 +1,4 @@
--- A follower of the kept lines.
+-- A follower that has read the kept lines.
 use Rattle.std.proofs.Common.{◌≡◌, ℕ, List, [], ◌∷◌, ◌++◌, ap, sym, ◌∙◌}
 use Rattle.indexset_lines.specs.Run.{left_by}
 use Rattle.indexset_follow.specs.Copy.{Copy, copy}

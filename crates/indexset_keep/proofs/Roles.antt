@@ -1,4 +1,4 @@
--- What is kept of a line leads on, in either role, and the map stays sound.
+-- In either role, replaying what is kept of a line gives the next state, and the map stays sound.
 use Rattle.std.proofs.Common.{Option, None, Some, ◌≡◌, ℕ, ◌-◌, ◌<◌, ◌≤◌, ◌^◌, Bool, true, false, cond, List, [], ◌∷◌, take, refl, ap, sym, subst, ◌∙◌, arith}
 use lib.Chars.{codes}
 use Rattle.std.proofs.lemmas.Slice.Eq.{bytes_eq-Decides}
@@ -51,7 +51,7 @@ same_word : (word text : List ℕ) → bytes_eq word text ≡ true → word ≡ 
 same_word word text e = (bytes_eq-Decides word text).0 e
 
 module _ {T : Type 0} (texts : Texts T) where
-  -- an answer that tells nothing
+  -- an answer without events or `done` lines
   keeps_nothing : (line answer : List ℕ) → told_lines texts (whole_lines answer) ≡ [] → answer_kept texts line answer ≡ []
   keeps_nothing line answer none = at (query_of texts line)
     where
@@ -76,9 +76,9 @@ held_inner v = at v.is_quiet
     at false = refl
 
 module _ {T : Type 0} (cmp : T → T → Ordering) where
-  -- ---- a follower that is told to lead or to follow
+  -- ---- a follower that receives `lead` or `follow`
 
-  -- whether it leads then or not, it holds what it held
+  -- in its new role the map has the same state
   module _ (size : ℕ) (s : State T) where
     after_lead_same : settled (after_lead cmp size (Following s)) ≡ settled (Following s)
     after_lead_same = at (can_lead cmp size s.held)
@@ -120,7 +120,7 @@ module _ {T : Type 0} (cmp : T → T → Ordering) (texts : Texts T) (total : Is
         at false false = follower_sound cmp texts total spelled s line sound
 
 module _ {T : Type 0} (cmp : T → T → Ordering) (texts : Texts T) where
-  -- whether it is told to lead or not, the map holds what a follower does
+  -- in either role the map has the follower's state
   module _ (size window : ℕ) (s : State T) where
     word_still : (line word : List ℕ) → line ≡ word → event_of texts word ≡ None → node_of texts word ≡ None → mark_of word ≡ None → settled (Following s) ≡ settled (Following (after_line cmp texts s line))
     word_still line word is event node mark =
@@ -144,7 +144,7 @@ module _ {T : Type 0} (texts : Texts T) where
   tells_alike Snapshot line next q r same = ap (λ s. whole_lines (unsummed_text texts s.held s.done)) same
 
 module _ {T : Type 0} (cmp : T → T → Ordering) (texts : Texts T) where
-  -- what is kept of a line, by the role in which it found the map
+  -- what is kept of a line, by the role before it
   module _ (reply : Held T → List ℕ → List ℕ) (h : Held T) (line : List ℕ) where
     pub leading_told : (l : Leader T) → h.role ≡ Leading l → answer_kept texts (without_return line) (reply h line) ≡ kept_by cmp texts reply h line
     leading_told l is = sym (ap (λ r. kept_in cmp texts r (without_return line) (reply h line)) is)
@@ -167,7 +167,7 @@ none_filled [] none = refl
 none_filled (x ∷ xs) none = absurd (cc)
 
 module _ {T : Type 0} (cmp : T → T → Ordering) (texts : Texts T) where
-  -- the line that begins a snapshot
+  -- the first line of a snapshot
   module _ (line : List ℕ) (is : starts line ≡ true) where
     start_read : (m : Option Mark) → mark_of line ≡ m → is_start m ≡ true → (n : ℕ) × (d : ℕ) × (mark_of line ≡ Some (Start n d))
     start_read None told is = absurd (cc)
@@ -190,7 +190,7 @@ module _ {T : Type 0} (cmp : T → T → Ordering) (texts : Texts T) where
         let cut = start_cut started.0 started.1 in
         ap (node_of texts) spelled ∙ rw cut refl
 
-    -- changes nothing that a follower holds, and is answered by one word
+    -- it does not change a follower's state, and its reply is one word
     start_still : (s : State T) → settled (Following (after_line cmp texts s line)) ≡ settled (Following s)
     start_still s = let event = no_event in let node = no_node in let mark = started.2 in rw (event, node, mark) refl
 
@@ -202,7 +202,7 @@ module _ {T : Type 0} (cmp : T → T → Ordering) (texts : Texts T) (total : Is
     abbrev from : State T
     from = settled (Leading l)
 
-    -- a follower of no nodes, which awaits the next number
+    -- a follower without nodes that awaits the next number
     abbrev emptied : State T
     emptied = holding window (copy [] l.pairs.next) l.done
 
@@ -215,7 +215,7 @@ module _ {T : Type 0} (cmp : T → T → Ordering) (texts : Texts T) (total : Is
         ∙ ap (λ ns. holding 0 (copy ns l.pairs.next) l.done) (none_filled l.pairs.nodes none)
         ∙ sym (start_still cmp texts line is emptied)
 
-    -- the role after a line, by what it is
+    -- the role after a line, by the kind of the line
     abbrev next_role : (a b c d : Bool) → List ℕ → Role T
     next_role a b c d line = cond a (Leading l) (cond b (Following (holding window (copy l.pairs.nodes l.pairs.next) l.done)) (after_in_role cmp texts (cond (c && not d) (Following emptied) (Leading l)) line))
 
@@ -234,7 +234,7 @@ module _ {T : Type 0} (cmp : T → T → Ordering) (texts : Texts T) (total : Is
         at false false true is true none fits = line_leads cmp texts total spelled v.others l sound line fits
         at false false false is d none fits = line_leads cmp texts total spelled v.others l sound line fits
 
-    -- of the answer to a line that is no read, the lines between the first and the last are kept
+    -- of the answer to a line that is not a read, the lines between the first and the last are kept
     leading_between : (line : List ℕ) → query_of texts line ≡ None → (copy_held (role_after cmp texts (held size window (Leading l)) line)).next < 2 ^ 64
         → inner (whole_lines (held_reply cmp texts v (held size window (Leading l)) line)) ≡ told_lines texts (whole_lines (held_reply cmp texts v (held size window (Leading l)) line))
     leading_between line none fits = at (is_lead line) (is_follow line) (starts line) refl (is_filled l.pairs.nodes) fits
@@ -272,14 +272,14 @@ module _ {T : Type 0} (cmp : T → T → Ordering) (texts : Texts T) (total : Is
   role_sound v size window two few (Following s) sound line fits = following_sound cmp texts total spelled v size window s sound two few line
   role_sound v size window two few (Leading l) sound line fits = leading_sound v size window l sound.0 sound.1 line fits
 
-  -- what is kept of a line leads on to what is held after it
+  -- replaying what is kept of a line gives the state after it
   pub kept_on : (v : Voice) (h : Held T) (line : List ℕ) → IsSoundMap cmp texts h → (copy_held (after_input cmp texts h line).role).next < 2 ^ 64 → state_after cmp texts (state_held h) (kept_by cmp texts (input_reply cmp texts v) h line) ≡ state_held (after_input cmp texts h line)
   kept_on v h line sound fits = role_on v h.size h.window h.role sound.role (without_return line) fits
 
   pub map_sound : (v : Voice) (h : Held T) (line : List ℕ) → IsSoundMap cmp texts h → (copy_held (after_input cmp texts h line).role).next < 2 ^ 64 → IsSoundMap cmp texts (after_input cmp texts h line)
   map_sound v h line sound fits = record { two = sound.two; few = sound.few; role = role_sound v h.size h.window sound.two sound.few h.role sound.role (without_return line) fits }
 
-  -- of a line that a leader reads, the lines of its answer between the first and the last are kept
+  -- of a leader's answer to a line, the lines between the first and the last are kept
   module _ (v : Voice) (h : Held T) (line : List ℕ) (l : Leader T) (is : h.role ≡ Leading l) (sound : IsSoundMap cmp texts h) (fits : (copy_held (after_input cmp texts h line).role).next < 2 ^ 64) where
     abbrev bare : List ℕ
     bare = without_return line
@@ -287,7 +287,7 @@ module _ {T : Type 0} (cmp : T → T → Ordering) (texts : Texts T) (total : Is
     abbrev answer : List ℕ
     answer = input_reply cmp texts v h line
 
-    -- those lines of it, if this is the read that the line asks for
+    -- those lines, unless the line is a read
     abbrev unless_read : Option (Query T) → List (List ℕ) → List (List ℕ)
     unless_read q lines = option_map_or {U = List (List ℕ)} (λ q. []) q lines
 

@@ -1,4 +1,4 @@
--- How a run goes on that keeps what changed its map.
+-- The state of a run that keeps the changes of its map.
 use Rattle.std.proofs.Common.{Result, Ok, Err, IfErr, OnErr, OnSome, Option, Some, ◌≡◌, ◌≢◌, ℕ, ◌+◌, ◌-◌, ◌<◌, get_or, length, length-append, List, [], ◌∷◌, ◌++◌, refl, sym, ap, subst, ◌∙◌, arith, append_assoc, append-nil}
 use Rattle.std.specs.Io.KnownBytes.{Appends, Consumes, IsAtEnd, Keeps}
 use Rattle.std.proofs.KnownBytes.{Appends-kept, Appends-nil, Appends-trans, Consumes-nil, Consumes-trans, Keeps-trans}
@@ -24,7 +24,7 @@ use Rattle.indexset_keep.proofs.States.{leads_on, leads_still, may_lead_none, ma
 use Rattle.std.specs.declared.cmp.Ordering.{Ordering}
 use Rattle.indexset_bench.specs.Texts.{Texts}
 
--- ---- lines part by part
+-- ---- consecutive lines
 
 behind_any : (a : List ℕ) (x : ℕ) (xs : List ℕ) → IsWhole (x ∷ xs) → IsWhole (a ++ x ∷ xs)
 unfolding IsWhole
@@ -52,7 +52,7 @@ module _ {T : Type 0} (cmp : T → T → Ordering) (texts : Texts T) where
   unfolding lines_of left_by
   none_left t = refl
 
--- what holds of any fault holds of that of a result
+-- a property of each fault holds for the fault of a result
 pub on_err : {X : Type 0} (r : Result X KeepFault) (P : KeepFault → Type 0) → ((fault : KeepFault) → P fault) → IfErr r P
 on_err (Ok x) P all = tt
 on_err (Err fault) P all = all fault
@@ -81,7 +81,9 @@ module _ {T : Type 0} (cmp : T → T → Ordering) (texts : Texts T) where
   -- ---- a run
 
   module _ (reply cut : Held T → List ℕ → List ℕ) (t : Held T) {S : Type 0} (view : S → View) (recovers : S → Trees → Type 0) (old : S) (r w : Option (List ℕ)) (from : State T) where
-    -- whole lines have their answers, and what is kept leads to what was held then; further whole lines were carried out, and their answers wait, and lines that lead on
+    -- whole lines have their answers, and replaying what is kept gives the state after them;
+    -- further whole lines were executed, and their answers and the lines to be kept of them are
+    -- pending
     pub record Going (now : S) (r' w' : Option (List ℕ)) (waiting : List ℕ) (told : List (List ℕ)) (held : Held T) : Type 0 where
       pub middle : Option (List ℕ)
       pub between : Held T
@@ -92,7 +94,7 @@ module _ {T : Type 0} (cmp : T → T → Ordering) (texts : Texts T) where
       pub leads : Leads cmp texts view recovers old now from (state_held between)
 
     module _ (now : S) (r' w' : Option (List ℕ)) (waiting : List ℕ) (told : List (List ℕ)) (held : Held T) (g : Going now r' w' waiting told held) where
-      -- both parts of the lines
+      -- the lines of both parts
       abbrev all : List ℕ
       all = g.first.whole ++ g.more.whole
 
@@ -110,11 +112,11 @@ module _ {T : Type 0} (cmp : T → T → Ordering) (texts : Texts T) where
       left_all : held ≡ map_after cmp texts t all
       left_all = g.more.left ∙ ap (λ u. map_after cmp texts u g.more.whole) g.first.left ∙ sym (held_both cmp texts t g.first.whole g.more.whole g.first.is_whole)
 
-      -- what is held after the second part
+      -- the state after the second part
       second_left : held ≡ map_after cmp texts (map_after cmp texts t g.first.whole) g.more.whole
       second_left = g.more.left ∙ ap (λ u. map_after cmp texts u g.more.whole) g.first.left
 
-      -- a line was carried out
+      -- a line was executed
       answered : (r2 : Option (List ℕ)) (line : List ℕ) (waiting2 : List ℕ) (told2 : List (List ℕ)) (held2 : Held T) → HasNoEnd line → Consumes r' r2 (line ++ 10 ∷ [])
           → waiting2 ≡ waiting ++ reply held line → told2 ≡ told ++ kept_by cmp texts reply held line → held2 ≡ after_input cmp texts held line
           → state_after cmp texts (state_held held) (kept_by cmp texts reply held line) ≡ state_held (after_input cmp texts held line) → IsSoundMap cmp texts held2 → Going now r2 w' waiting2 told2 held2
@@ -163,11 +165,11 @@ module _ {T : Type 0} (cmp : T → T → Ordering) (texts : Texts T) where
         leads = g.leads;
       }
 
-      -- what is kept leads on to what is held
+      -- replaying what is kept gives the state
       leads_held : (now2 : S) → Leads cmp texts view recovers now now2 (state_held g.between) (state_held held) → Leads cmp texts view recovers old now2 from (state_held held)
       leads_held now2 it = leads_on cmp texts view recovers old now now2 from (state_held g.between) g.leads (state_held held) (settled_same g.between.role held.role) it
 
-      -- what waited was kept and written
+      -- the pending lines were kept, and the pending answers written
       pub put : (now2 : S) (w2 : Option (List ℕ)) → Leads cmp texts view recovers now now2 (state_held g.between) (state_held held) → Appends w' w2 waiting → (waiting2 : List ℕ) (told2 : List (List ℕ)) → waiting2 ≡ [] → told2 ≡ []
           → Going now2 r' w2 waiting2 told2 held
       put now2 w2 kept wrote waiting2 told2 no_answers no_lines = record {
@@ -186,7 +188,7 @@ module _ {T : Type 0} (cmp : T → T → Ordering) (texts : Texts T) where
         leads = leads_held now2 kept;
       }
 
-      -- all that came was kept and written, before such a rest
+      -- all was kept and written, before such a rest
       pub ended : (now2 : S) (r2 w2 w3 : Option (List ℕ)) (rest : List ℕ) → Consumes r' r2 rest → Keeps w' w2 → Leads cmp texts view recovers now now2 (state_held g.between) (state_held held) → Appends w2 w3 waiting
           → AnswersWhole cmp texts reply cut t view recovers old now2 r r2 w w3 from rest held
       ended now2 r2 w2 w3 rest read kept adds wrote = record {
@@ -198,7 +200,7 @@ module _ {T : Type 0} (cmp : T → T → Ordering) (texts : Texts T) where
         leads = subst (λ u. Leads cmp texts view recovers old now2 from (state_held u)) left_all (leads_held now2 adds);
       }
 
-      -- what a crash leaves, by what was held after each part
+      -- the states that a crash can leave are those after each part
       in_parts : (now2 : S) → MayLead cmp texts view recovers old now2 from (state_held g.between) (state_held held) → MayLead cmp texts view recovers old now2 from (state_held (map_after cmp texts t g.first.whole)) (state_held (map_after cmp texts (map_after cmp texts t g.first.whole) g.more.whole))
       in_parts now2 it = subst (λ u. MayLead cmp texts view recovers old now2 from (state_held (map_after cmp texts t g.first.whole)) (state_held u)) second_left (subst (λ u. MayLead cmp texts view recovers old now2 from (state_held u) (state_held held)) g.first.left it)
 
@@ -215,7 +217,7 @@ module _ {T : Type 0} (cmp : T → T → Ordering) (texts : Texts T) where
         crash = in_parts now (may_lead_none cmp texts view recovers old now now from (state_held g.between) g.leads (state_held held));
       }
 
-      -- what waited could not be kept, or not be written
+      -- the pending lines could not be kept, or the pending answers could not be written
       pub failed : (now2 : S) (r2 w2 w3 : Option (List ℕ)) (rest : List ℕ) (fault : KeepFault) → Consumes r' r2 rest → Keeps w' w2
           → (fault ≢ Run Write → MayLead cmp texts view recovers now now2 (state_held g.between) (state_held g.between) (state_held held) × Keeps w2 w3) → (fault ≡ Run Write → Leads cmp texts view recovers now now2 (state_held g.between) (state_held held))
           → AnswersSome cmp texts reply cut t view recovers old now2 r r2 w w3 from (fault ≢ Run Write)
@@ -254,7 +256,7 @@ module _ {T : Type 0} (cmp : T → T → Ordering) (texts : Texts T) where
           by (Journal error) unkept unwritten = lost _ (unkept (λ e. cc))
           by NodeSize unkept unwritten = lost _ (unkept (λ e. cc))
 
-    -- the writer was flushed, and a line carried out
+    -- the writer was flushed, and a line was executed
     pub carried : (now : S) (r' w' : Option (List ℕ)) (waiting : List ℕ) (told : List (List ℕ)) (held : Held T) → Going now r' w' waiting told held
         → (w2 r2 : Option (List ℕ)) (line waiting2 : List ℕ) (told2 : List (List ℕ)) (held2 : Held T) → Keeps w' w2 → HasNoEnd line → Consumes r' r2 (line ++ 10 ∷ [])
         → waiting2 ≡ waiting ++ reply held line → told2 ≡ told ++ kept_by cmp texts reply held line → held2 ≡ after_input cmp texts held line
@@ -262,7 +264,7 @@ module _ {T : Type 0} (cmp : T → T → Ordering) (texts : Texts T) where
     carried now r' w' waiting told held g w2 r2 line waiting2 told2 held2 kept none read told_reply tells after on sound2 =
         answered now r' w2 waiting told held (waited now r' w' waiting told held g w2 kept) r2 line waiting2 told2 held2 none read told_reply tells after on sound2
 
-    -- at first
+    -- the initial state
     pub begun : (waiting : List ℕ) (told : List (List ℕ)) → waiting ≡ [] → told ≡ [] → IsSoundMap cmp texts t → from ≡ state_held t → Going old r w waiting told t
     unfolding lines_of replies_to
     begun waiting told no_answers no_lines sound is = record {
@@ -320,13 +322,13 @@ module _ {T : Type 0} (cmp : T → T → Ordering) (texts : Texts T) where
           by Read kept numbers no_read = absurd (no_read refl)
           by Write kept numbers no_read = some _ (λ out. absurd (out refl))
 
-    -- all lines had their ends
+    -- all lines had line ends
     pub ended_whole : (now : S) (r' w' : Option (List ℕ)) (line : List ℕ) (held : Held T) (end : End) → end ≢ Cut → AnswersWhole cmp texts reply cut t view recovers old now r r' w w' from (rest_behind end line) held → HasNoEnd (rest_behind end line)
         → OnSome r (IsAtEnd r') → AnswersAll cmp texts reply cut t view recovers old now r r' w w' from
     ended_whole now r' w' line held Whole other a none at_end = all_answered now r' w' [] held a none w' at_end (Appends-nil w')
     ended_whole now r' w' line held Cut other a none at_end = absurd (other refl)
 
-    -- the last one lacked it, and was answered
+    -- the last line had no line end, and was answered
     pub ended_cut : (now : S) (r' w' w2 : Option (List ℕ)) (line passed : List ℕ) (held : Held T) → AnswersWhole cmp texts reply cut t view recovers old now r r' w w' from line held → HasNoEnd line → 0 < length line
         → OnSome r (IsAtEnd r') → passed ≡ line → Appends w' w2 (cut held passed) → AnswersAll cmp texts reply cut t view recovers old now r r' w w2 from
     ended_cut now r' w' w2 line passed held a none some at_end same wrote = all_answered now r' w' line held a none w2 at_end (subst (Appends w' w2) (ap (cut held) same ∙ sym (rest_some held line some)) wrote)

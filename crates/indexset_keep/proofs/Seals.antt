@@ -1,4 +1,4 @@
--- The line of a seal changes nothing.
+-- The line of a seal changes no state.
 use Rattle.std.proofs.Common.{None, Some, Global, Vec, ◌≡◌, ◌≢◌, ℕ, ◌+◌, ◌-◌, ◌<◌, ◌≤◌, List, [], ◌∷◌, ◌++◌, drop, get_or, length, take, refl, ap, sym, ◌∙◌, arith}
 use Rattle.std.proofs.lemmas.Bool.{eq-eqb, ne_eqb}
 use Rattle.std.proofs.lemmas.List.{drop-append-le, drop-map, drop-take, drop_all, drop_more, length-map, length-take-le, map_more}
@@ -29,7 +29,7 @@ module _ {T : Type 0} (cmp : T → T → Ordering) (texts : Texts T) where
   unfolding left_by
   sealed_alike s lines n = more_lines cmp texts s lines (seal_line n ∷ []) ∙ seal_still (state_after cmp texts s lines) n
 
-  -- lines and their seal behind others
+  -- lines and their seal appended to others
   pub appended : (before after told put : List (List ℕ)) (n : ℕ) (from to : State T) → after ≡ before ++ put → put ≡ told ++ seal_line n ∷ [] → LeadsTo cmp texts before from → state_after cmp texts from told ≡ to → LeadsTo cmp texts after to
   appended before after told put n from to is all was on =
       ap (state_after cmp texts (start_state 0)) (is ∙ ap (λ ls. before ++ ls) all)
@@ -38,13 +38,13 @@ module _ {T : Type 0} (cmp : T → T → Ordering) (texts : Texts T) where
       ∙ sealed_alike from told n
       ∙ on
 
-  -- lines and their seal in place of others
+  -- lines and their seal instead of others
   pub replaced : (after told put : List (List ℕ)) (n : ℕ) (to : State T) → after ≡ put → put ≡ told ++ seal_line n ∷ [] → LeadsTo cmp texts told to → LeadsTo cmp texts after to
   replaced after told put n to is all leads = ap (state_after cmp texts (start_state 0)) (is ∙ all) ∙ sealed_alike (start_state 0) told n ∙ leads
 
 -- ---- the hash of lines
 
--- a text in two parts
+-- the hash of a concatenation
 pub hashed : (h : DefaultHasher) (a b : List ℕ) → sip.write h (a ++ b) ≡ sip.write (sip.write h a) b
 unfolding sip.write
 hashed h a b = fold-append sip.write_byte h a b
@@ -81,7 +81,7 @@ seal_lacking seal (x ∷ xs) some = refl
 pub between_is : {X : Type 0} (lines : List X) (from i : ℕ) → from ≤ i → take (i - from) (drop from lines) ≡ drop from (take i lines)
 between_is lines from i le = sym (drop-take from (i - from) lines) ∙ ap (λ n. drop from (take n lines)) (omega (arith, le))
 
--- what is left from a line on, and what is behind the last seal with it
+-- the lines from a line on, and the lines after the last seal including it
 module _ (lines : List (Vec ℕ Global)) (i : ℕ) (item : Vec ℕ Global) (is : item ≡ get_or lines i item) (inside : i < length lines) where
   pub left_lines : lines_texts (drop i lines) ≡ item.items ∷ lines_texts (drop (i + 1) lines)
   left_lines = ap lines_texts (drop_more lines i item inside) ∙ ap (λ v. v.items ∷ lines_texts (drop (i + 1) lines)) (sym is)

@@ -1,4 +1,5 @@
--- A follower that began from nothing, or from what a leader held, holds lawful nodes and numbers of 64 bits after any lines.
+-- A follower that starts empty, or from a leader's state, holds lawful nodes and numbers of at most
+-- 64 bits after any lines.
 use Rattle.std.proofs.Common.{Option, None, Some, IfSome, ◌≡◌, ◌≢◌, ℕ, ◌+◌, ◌==◌, ◌<◌, ◌≤◌, ◌^◌, Bool, true, false, max, if◌then◌else◌, List, [], ◌∷◌, ◌++◌, length, refl, ap, sym, ◌∙◌, subst, arith, append_assoc, append-nil}
 use Rattle.std.below.core.specs.declared.int.u64.TheConstants.{MAX}
 use Rattle.std.proofs.Math.Nat.{max-eq_left, max-eq_right}
@@ -49,7 +50,7 @@ use Rattle.indexset_keep.proofs.Edited.{Nodes, SoundNodes, attached_sound, each_
 use Rattle.std.specs.declared.cmp.Ordering.{Ordering}
 use Rattle.std.specs.Cmp.{IsTotalOrder}
 
--- the greater of two numbers of 64 bits is one
+-- the greater of two 64-bit numbers has 64 bits
 pub max_fits : (d n : ℕ) → d < 2 ^ 64 → n < 2 ^ 64 → max d n < 2 ^ 64
 max_fits d n first second = at (nat_le n d) refl
   where
@@ -60,7 +61,7 @@ max_fits d n first second = at (nat_le n d) refl
 module _ {T : Type 0} (cmp : T → T → Ordering) (texts : Texts T) where
   -- ---- a copy
 
-  -- what the proof of an edit asks of the nodes
+  -- the property of nodes that the proof of an edit needs
   copy_nodes : (c : Copy T) → IsSoundCopy cmp texts c → SoundNodes cmp texts c.nodes
   copy_nodes c s = record { nodes = s.nodes; fit = each_apart (PairFits texts) c.nodes (all_each (PairFits texts) (concat c.nodes) s.fits) }
 
@@ -88,7 +89,7 @@ module _ {T : Type 0} (cmp : T → T → Ordering) (texts : Texts T) where
 module _ {T : Type 0} (texts : Texts T) where
   -- ---- early events
 
-  -- the numbers of an early event are of 64 bits
+  -- the numbers of an early event have at most 64 bits
   abbrev EarlyFits : Pair ℕ (Event T) → Type 0
   EarlyFits p = EventFits texts p.value
 
@@ -120,7 +121,7 @@ module _ {T : Type 0} (cmp : T → T → Ordering) (texts : Texts T) where
             let rest = All-filter (λ p. is_gt (by_key nat_cmp p (pair n e))) (EarlyFits texts) early fit in
             All-append (EarlyFits texts) low (pair n e ∷ high) first (All-cons (EarlyFits texts) (pair n e) high new rest)
 
-  -- what is held, and the events that are early
+  -- the nodes and the early events are sound
   record SoundTaken (t : Taken T) : Type 0 where
     held : IsSoundCopy cmp texts t.held
     early : All (EarlyFits texts) t.early
@@ -222,7 +223,7 @@ module _ {T : Type 0} (cmp : T → T → Ordering) (texts : Texts T) (total : Is
   lines_sound s (line ∷ lines) f = lines_sound (after_line cmp texts s line) lines (line_sound s line f)
 
 module _ {T : Type 0} (cmp : T → T → Ordering) (texts : Texts T) (total : IsTotalOrder cmp) where
-  -- ---- a follower leads
+  -- ---- a follower that becomes a leader
 
   pub leader_sound : (size d : ℕ) (c : Copy T) → 2 ≤ size → size < 2 ^ 64 → IsSoundCopy cmp texts c → d < 2 ^ 64 → can_lead cmp size c ≡ true → IsSound cmp texts (leader_of (promoted size c) d)
   leader_sound size d c two few s less can = record {

@@ -1,4 +1,4 @@
--- A run that begins behind what was kept before.
+-- A run that continues from kept lines.
 use Rattle.std.proofs.Common.{Result, Ok, Err, IfErr, Option, None, ◌≡◌, ℕ, ◌<◌, ◌^◌, true, List, [], ap, subst, sym, ◌∙◌}
 use Rattle.std.proofs.KnownBytes.{Appends-nil, Consumes-nil}
 use Rattle.indexset_lines.specs.Lines.{lines_of, whole_lines}
@@ -22,7 +22,7 @@ use Rattle.std.specs.Cmp.{IsTotalOrder}
 
 module _ {T : Type 0} (cmp : T → T → Ordering) (texts : Texts T) where
   module _ (reply cut : Held T → List ℕ → List ℕ) (t : Held T) {S : Type 0} (view : S → View) (recovers : S → Trees → Type 0) (old : S) (from : State T) where
-    -- it ended before the first line
+    -- it failed before the first line
     pub some_kept : (new : S) (r w : Option (List ℕ)) (IsOut : Type 0) → MayLead cmp texts view recovers old new from (state_held t) (state_held t) → AnswersSome cmp texts reply cut t view recovers old new r r w w from IsOut
     unfolding lines_of left_by replies_to
     some_kept new r w IsOut it = record {
@@ -75,7 +75,7 @@ if_err_map (Ok x) p f = tt
 if_err_map (Err e) p f = f e p
 
 module _ {T : Type 0} (cmp : T → T → Ordering) (texts : Texts T) (total : IsTotalOrder cmp) (spelled : AreWords texts) where
-  -- ---- the first map
+  -- ---- the initial map
 
   module _ (m : Manner) (lines : List (List ℕ)) (follower : State T) (role : Role T) (read : follower ≡ state_after cmp texts (start_state 0) lines) (began : role ≡ role_of m.size m.window m.leads follower) where
     pub role_is : role ≡ role_of m.size m.window m.leads (state_after cmp texts (start_state 0) lines)

@@ -1,4 +1,4 @@
--- The map of a run at first, and snapshots of a map.
+-- The initial map of a run, and snapshots of a map.
 use Rattle.std.proofs.Common.{Bool, true, false, cond, Option, None, Some, ◌≡◌, ℕ, ◌<◌, ◌≤◌, ◌^◌, List, [], ◌∷◌, length, refl, ap, sym, ◌∙◌}
 use Rattle.indexset_lines.specs.Run.{left_by}
 use Rattle.indexset_follow.specs.Copy.{Copy}
@@ -36,7 +36,7 @@ module _ {T : Type 0} (cmp : T → T → Ordering) (texts : Texts T) (spelled : 
   snapshot_on r sound few = let it = role_copy cmp texts r sound in snapshot_leads cmp texts spelled (start_state 0) (copy_held r) (done_held r) it.0 it.1 few
 
 module _ {T : Type 0} (cmp : T → T → Ordering) (texts : Texts T) (total : IsTotalOrder cmp) (spelled : AreWords texts) where
-  -- ---- the first role
+  -- ---- the initial role
 
   pub first_sound : (size window : ℕ) (leads : Bool) (lines : List (List ℕ)) → 2 ≤ size → size < 2 ^ 64 → (leads ≡ true → can_lead cmp size (state_after cmp texts (start_state 0) lines).held ≡ true) → IsSoundRole cmp texts (role_of size window leads (state_after cmp texts (start_state 0) lines))
   first_sound size window leads lines two few can = at leads can
@@ -58,7 +58,7 @@ module _ {T : Type 0} where
   first_settled size window false s = refl
 
 module _ {T : Type 0} (cmp : T → T → Ordering) (texts : Texts T) where
-  -- what lines led to is held again
+  -- a map that starts from lines has the state that replaying them gives
   pub again_held : (size window : ℕ) (leads : Bool) (lines : List (List ℕ)) (r : Role T) → LeadsTo cmp texts lines (settled r) → copy_held (role_of size window leads (state_after cmp texts (start_state 0) lines)) ≡ copy_held r
   again_held size window leads lines r led = ap (λ s. s.held) (first_settled size window leads (state_after cmp texts (start_state 0) lines)) ∙ ap (λ s. s.held) led
 
@@ -69,7 +69,7 @@ module _ {T : Type 0} (cmp : T → T → Ordering) (texts : Texts T) where
   again_leads window lines l led = ap (role_of l.pairs.size window true) led
 
 module _ {T : Type 0} where
-  -- ---- a follower that began without a window
+  -- ---- a follower that started without a window
 
   -- it holds no early event
   abbrev IsPlain : State T → Type 0
@@ -108,7 +108,7 @@ module _ {T : Type 0} (cmp : T → T → Ordering) (texts : Texts T) where
   lines_plain s it [] = it
   lines_plain s it (line ∷ lines) = lines_plain (after_line cmp texts s line) (line_plain s it line) lines
 
-  -- where no snapshot has begun, it is what the map of a run is at first
+  -- unless a snapshot has begun, it is the initial map of the run
   pub first_whole : (size window : ℕ) (leads : Bool) (lines : List (List ℕ)) → (state_after cmp texts (start_state 0) lines).coming ≡ None → (state_after cmp texts (start_state 0) lines).coming_done ≡ 0
       → state_after cmp texts (start_state 0) lines ≡ settled (role_of size window leads (state_after cmp texts (start_state 0) lines))
   first_whole size window leads lines coming done =

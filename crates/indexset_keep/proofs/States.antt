@@ -1,4 +1,4 @@
--- How what is kept goes on from state to state.
+-- Composition of the effects of consecutive calls on what is kept.
 use Rattle.std.proofs.Common.{◌≡◌, ◌⊎◌, inl, inr, ◌≤◌, List, [], ◌∷◌, ◌++◌, ℕ, length, refl, subst, ◌∙◌, arith}
 use Rattle.indexset_lines.specs.Run.{left_by}
 use Rattle.indexset_lines.proofs.CallerLemmas.{left_by-append}
@@ -40,13 +40,13 @@ no_items [] none = refl
 no_items (x ∷ xs) none = absurd (omega (arith, none))
 
 module _ {T : Type 0} (cmp : T → T → Ordering) (texts : Texts T) where
-  -- ---- what is kept
+  -- ---- the effects of calls
 
   module _ {S : Type 0} (view : S → View) (recovers : S → Trees → Type 0) where
     clean_before : (a b : S) → doubt (view a).is_clean ≤ doubt (view b).is_clean → IsClean (view b) → IsClean (view a)
     clean_before a b grows clean = omega (arith, grows, clean)
 
-    -- nothing was kept, and nothing changed
+    -- nothing was kept, and the state is unchanged
     pub leads_still : (a : S) (s t : State T) → s ≡ t → Leads cmp texts view recovers a a s t
     leads_still a s t is = record {
       clean = omega arith;
@@ -76,7 +76,7 @@ module _ {T : Type 0} (cmp : T → T → Ordering) (texts : Texts T) where
               still (inr led) = inr (led ∙ one it.1)
           left clean was db (inr led) = inr led
 
-      -- more could not be kept, or was
+      -- more could not be kept, or was kept
       pub may_lead_on : (to : State T) → MayLead cmp texts view recovers b c mid mid to → MayLead cmp texts view recovers a c from mid to
       may_lead_on to second = record {
         clean = omega (arith, first.clean, second.clean);
@@ -88,7 +88,7 @@ module _ {T : Type 0} (cmp : T → T → Ordering) (texts : Texts T) where
           left clean was db (inl (inr led)) = inl (inr led)
           left clean was db (inr led) = inr led
 
-      -- what is kept could not be put in another form
+      -- what is kept could not be replaced by a snapshot
       pub may_lead_kept : MayLead cmp texts view recovers b c mid mid mid → MayLead cmp texts view recovers a c from from mid
       may_lead_kept second = record {
         clean = omega (arith, first.clean, second.clean);
@@ -107,7 +107,7 @@ module _ {T : Type 0} (cmp : T → T → Ordering) (texts : Texts T) where
       pub may_lead_none : (more : State T) → MayLead cmp texts view recovers a b from mid more
       may_lead_none more = record { clean = first.clean; crash = λ clean was db found. inl (first.crash clean was db found) }
 
-      -- what could then not be kept is so from before on
+      -- a failure after a call is one from before the call on
       pub may_lead_behind : (to more : State T) → (IsSame mid to → mid ≡ to) → MayLead cmp texts view recovers b c mid to more → MayLead cmp texts view recovers a c from to more
       may_lead_behind to more one second = record {
         clean = omega (arith, first.clean, second.clean);
@@ -123,6 +123,6 @@ module _ {T : Type 0} (cmp : T → T → Ordering) (texts : Texts T) where
           left clean was db (inl (inr led)) = inl (inr led)
           left clean was db (inr led) = inr led
 
-    -- nothing could be kept of what is the same
+    -- nothing could be kept, and the state is unchanged
     pub may_lead_same : (a : S) (s t more : State T) → IsSame s t → MayLead cmp texts view recovers a a s t more
     may_lead_same a s t more same = record { clean = omega arith; crash = λ clean was db found. inl (inl (found, same)) }

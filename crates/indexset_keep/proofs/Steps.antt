@@ -1,4 +1,4 @@
--- The lines of the events that make their steps.
+-- The lines of the events that are applied.
 use Rattle.std.proofs.Common.{◌≡◌, ◌+◌, ◌∷◌, [], ap, cond, arith, map, refl, take, ◌∙◌}
 use Rattle.std.below.core.specs.declared.int.u64.TheConstants.{MAX}
 use Rattle.std.proofs.lemmas.Bool.{eq-eqb}
@@ -17,7 +17,7 @@ module _ {T : Type 0} (cmp : T → T → Ordering) (texts : Texts T) where
     pub kept_in_turn : event_kept cmp texts s e ≡ map (event_text texts) (take (step_count cmp s e) (e ∷ consecutive (s.held.next + 1) s.early))
     kept_in_turn = ap (λ b. cond b (map (event_text texts) (take (step_count cmp s e) (e ∷ consecutive (s.held.next + 1) s.early))) []) (eq-eqb (event_number e) s.held.next here)
 
-    -- the last number of all is that of no step
+    -- an event with the greatest number is not applied
     last_stays : s.held.next ≡ MAX → (event_taken cmp s e).held ≡ s.held
     unfolding caught_up apply_refusal
     last_stays end = rw (eq-eqb (event_number e) s.held.next here, eq-eqb s.held.next MAX end) refl

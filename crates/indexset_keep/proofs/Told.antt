@@ -1,4 +1,4 @@
--- The lines of answers that are kept.
+-- The lines of an answer that are kept.
 use Rattle.std.proofs.Common.{Option, None, Some, ◌≡◌, ◌≢◌, ℕ, ◌<◌, ◌≤◌, ◌^◌, Bool, true, false, cond, eqb, List, [], ◌∷◌, ◌++◌, map, refl, ap, sym, subst, ◌∙◌, arith, append_assoc, append-nil}
 use lib.Chars.{codes}
 use Rattle.std.below.core.specs.declared.int.u64.TheConstants.{MAX}
@@ -47,7 +47,7 @@ use Rattle.std.specs.declared.cmp.Ordering.{Ordering}
 use Rattle.std.specs.Cmp.{IsTotalOrder}
 
 module _ {T : Type 0} (texts : Texts T) where
-  -- ---- what is kept of a text, whatever follows it
+  -- ---- what is kept of a text, with any text after it
 
   -- these lines of the text are kept
   abbrev Keeps : List ℕ → List (List ℕ) → Type 0
@@ -122,7 +122,7 @@ module _ {T : Type 0} (texts : Texts T) (spelled : AreWords texts) where
       keeps_both texts (ended (node_text texts n)) (lines_for (node_text texts) ns) [] [] (passes texts (node_text texts n) (row_lacks texts spelled n (each_all (PairFits texts) n fit.0)) (rw (event, mark) refl)) (passes_nodes ns fit.1)
 
 module _ {T : Type 0} (texts : Texts T) where
-  -- ---- behind the number of a command
+  -- ---- after a command number
 
   module _ (n : ℕ) (small : n < 2 ^ 64) where
     number_apart : (c : ℕ) → Lacks c (codes "#") → Lacks c (decimal n) → Lacks c (35 ∷ decimal n)
@@ -137,14 +137,14 @@ module _ {T : Type 0} (texts : Texts T) where
     pub number_whole : (line : List ℕ) → HasNoEnd line → HasNoEnd (echo_text (Some n) ++ line)
     number_whole line none = subst HasNoEnd (sym (number_first line)) (All-append (λ x. x ≢ 10) (35 ∷ decimal n) (32 ∷ line) (number_apart 10 (lacks_tested 10 (codes "#") refl) (number_lacks 10 (omega arith) n small)) (All-cons (λ x. x ≢ 10) 32 line (omega arith) none))
 
-    -- a line that begins with a number of a command is not kept
+    -- a line that begins with a command number is not kept
     passes_first : (line : List ℕ) → HasNoEnd line → Keeps texts (ended (echo_text (Some n) ++ line)) []
     passes_first line none =
         let cut = number_cut line in
         let other = no_number 35 (decimal n) (omega arith) in
         passes texts (echo_text (Some n) ++ line) (number_whole line none) (rw (cut, other) refl)
 
-    -- and so a text is kept as without it, behind its first line
+    -- a command number before a text changes nothing of what is kept after its first line
     passes_number : (line more : List ℕ) (ls : List (List ℕ)) → HasNoEnd line → Keeps texts more ls → Keeps texts (echo_text (Some n) ++ (ended line ++ more)) ls
     passes_number line more ls none kept =
         let parts : ended (echo_text (Some n) ++ line) ++ more ≡ echo_text (Some n) ++ (ended line ++ more)
@@ -154,7 +154,7 @@ module _ {T : Type 0} (texts : Texts T) where
     passes_alone : (line : List ℕ) → HasNoEnd line → Keeps texts (echo_text (Some n) ++ ended line) []
     passes_alone line none = subst (λ t. Keeps texts t []) (append_assoc (echo_text (Some n)) line (10 ∷ [])) (passes_first line none)
 
--- the number of a caller is of 64 bits
+-- the command number has at most 64 bits
 abbrev pub EchoFits : Option ℕ → Type 0
 EchoFits None = Unit {0}
 EchoFits (Some n) = n < 2 ^ 64
@@ -179,9 +179,9 @@ module _ {T : Type 0} (cmp : T → T → Ordering) (texts : Texts T) (spelled : 
   keeps_reply echo small t g (Cut k) fits = keeps_change texts spelled echo small (change_reply cmp t (Cut k)) (change_fits cmp texts t g (Cut k)) (told_events cmp t (Cut k)) fits
   keeps_reply echo small t g Nodes fits = keeps_rows texts spelled echo small t.nodes (each_apart (PairFits texts) t.nodes g.held)
 
--- ---- the lines behind a reply
+-- ---- the lines after a reply
 
--- the line that tells which commands were done, where the command has a number
+-- the `done` line, if the command has a number
 abbrev pub done_lines : Option ℕ → ℕ → ℕ → List (List ℕ)
 done_lines None d next = []
 done_lines (Some n) d next = mark_line (Done d next) ∷ []
@@ -211,7 +211,7 @@ module _ {T : Type 0} (texts : Texts T) where
       let whole = All-append (λ x. x ≢ 10) (codes "next ") (decimal n) (lacks_tested 10 (codes "next ") refl) (number_lacks 10 (omega arith) n less) in
       passes texts (codes "next " ++ decimal n) whole (rw (cut, other) refl)
 
-  -- the reply that tells the next number
+  -- the reply with the next number
   pub next_keeps : (n : ℕ) → n < 2 ^ 64 → told_lines texts (whole_lines (ended (codes "next " ++ decimal n))) ≡ []
   unfolding lines_of
   next_keeps n less =
@@ -244,7 +244,7 @@ module _ {T : Type 0} (cmp : T → T → Ordering) (texts : Texts T) (total : Is
         let is_whole : IsWhole (command_text cmp texts l c) = subst IsWhole (sym end) (IsWhole-end ((front ++ done) ++ last)) in
         sym (ap whole_lines (append-nil (command_text cmp texts l c))) ∙ whole_lines-append [] (All-nil (λ x. x ≢ 10)) (command_text cmp texts l c) is_whole
 
-    -- its events are kept, and the line that tells which commands were done
+    -- its events and its `done` line are kept
     pub command_keeps : told_lines texts (whole_lines (command_text cmp texts l c)) ≡ map (event_text texts) (told_events cmp l.pairs c.change) ++ done_lines c.echo (done_by l.done c) next
     unfolding lines_of
     command_keeps =

@@ -6,7 +6,7 @@ use Rattle.indexset_journal.specs.declared.error.JournalError.TheVariants.{InUse
 use Rattle.indexset_keep.specs.declared.fault.KeepFault.{KeepFault}
 use Rattle.indexset_keep.specs.declared.fault.KeepFault.TheVariants.{Run, Journal, NodeSize}
 
--- another process has the file open, or the journal failed otherwise
+-- 8 if another process has the file open, 6 for each other error of the journal
 abbrev pub journal_status : JournalError → ℕ
 journal_status InUse = 8
 journal_status _ = 6

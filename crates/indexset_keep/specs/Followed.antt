@@ -1,4 +1,5 @@
--- The lines that a follower keeps of a line that it reads: those that lead one without a window where it went.
+-- The lines that a follower keeps of a line that it reads. Replaying them without a window gives
+-- its state.
 use Rattle.std.specs.Prelude.{ℕ, Option, ◌+◌, ◌-◌, ◌==◌, is_none, if◌then◌else◌, nat_lt, List, [], ◌∷◌, map, take}
 use Rattle.std.specs.Option.{option_map_or}
 use Rattle.indexset_lines.specs.Lines.{whole_lines}
@@ -15,17 +16,17 @@ use Rattle.std.specs.declared.cmp.Ordering.{Ordering}
 use Rattle.indexset_bench.specs.Texts.{Texts}
 
 module _ {T : Type 0} (cmp : T → T → Ordering) where
-  -- how many steps the event makes, with the early ones whose turn has come
+  -- the number of events that an event applies: itself and the early events after it
   abbrev pub step_count : State T → Event T → ℕ
   step_count s e = (after_event cmp s e).held.next - s.held.next
 
 module _ {T : Type 0} (cmp : T → T → Ordering) (texts : Texts T) where
-  -- the lines of the awaited event and of the early ones that are taken with it
+  -- the lines of the awaited event and of the early events that are applied after it
   abbrev pub event_kept : State T → Event T → List (List ℕ)
   event_kept s e = if event_number e == s.held.next then map (event_text texts) (take (step_count cmp s e) (e ∷ consecutive (s.held.next + 1) s.early)) else []
 
 module _ {T : Type 0} (texts : Texts T) where
-  -- a snapshot that is whole, with no sum
+  -- the lines of a complete snapshot, without a sum
   abbrev pub end_kept : ℕ → Option ℕ → ℕ → Copy T → List (List ℕ)
   end_kept count sum d c = if is_none (end_reason texts count sum c d) then whole_lines (unsummed_text texts c d) else []
 

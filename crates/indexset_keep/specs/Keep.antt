@@ -1,4 +1,4 @@
--- What a map keeps of its answers, and what a crash leaves of that.
+-- What a run keeps of its answers, and what a crash leaves of it.
 use Rattle.std.specs.Prelude.{◌≡◌, ◌⊎◌, ◌≤◌, ◌+◌, ◌-◌, ◌/◌, ◌&&◌, ◌||◌, nat_lt, Bool, Option, OnSome, ℕ, List, [], ◌++◌, length}
 use Rattle.std.specs.Io.KnownBytes.{Appends, Consumes, IsAtEnd}
 use Rattle.indexset_core.specs.Nodes.{concat}
@@ -17,29 +17,30 @@ use Rattle.std.specs.declared.cmp.Ordering.{Ordering}
 use Rattle.indexset_bench.specs.Texts.{Texts}
 
 module _ {T : Type 0} (cmp : T → T → Ordering) (texts : Texts T) where
-  -- what is held after whole lines
+  -- the map after whole lines
   abbrev pub map_after : Held T → List ℕ → Held T
   map_after h whole = left_by (after_input cmp texts) h (lines_of whole)
 
 module _ {T : Type 0} where
-  -- the state to which lines should lead then
+  -- the state that replaying the kept lines should give
   abbrev pub state_held : Held T → State T
   state_held h = settled h.role
 
--- what stands behind the last line end
+-- the bytes after the last line end
 abbrev pub rest_behind : End → List ℕ → List ℕ
 rest_behind Whole line = []
 rest_behind Cut line = line
 
 module _ {T : Type 0} where
-  -- the lines are more than 4,096 and than ten for each pair; or, beside one for each node, more than one for twenty pairs, and more than 1,500,000 less one for ten pairs
+  -- the kept lines are more than 4,096 and more than ten for each pair; or, without one for each
+  -- node, they are more than one for twenty pairs and, with one for ten pairs, more than 1,500,000
   abbrev pub is_long : ℕ → List (List (Pair T T)) → Bool
   is_long lines nodes =
       let pairs = length (concat nodes) in
       let events = lines - length nodes in
       (nat_lt 4096 lines && nat_lt pairs (lines / 10)) || (nat_lt (pairs / 20) events && nat_lt 1500000 (events + pairs / 10))
 
-  -- the same nodes, next number and greatest number of a command
+  -- the nodes, the next number and the greatest command number are the same
   pub record IsSame (s t : State T) : Type 0 where
     pub held : s.held ≡ t.held
     pub done : s.done ≡ t.done
@@ -48,17 +49,19 @@ module _ {T : Type 0} (cmp : T → T → Ordering) (texts : Texts T) where
   -- ---- lines that are kept
 
   module _ {S : Type 0} (view : S → View) (recovers : S → Trees → Type 0) (old new : S) where
-    -- a crash leaves lines that lead to this; or what it could leave before, where that is the same
+    -- the lines after a crash give the second state; or they are as before, and the states are the
+    -- same
     abbrev pub IsLeft : State T → State T → Trees → Type 0
     IsLeft from to db = (recovers old db × IsSame from to) ⊎ LeadsTo cmp texts (lines_in db) to
 
-    -- the lines led to the first, and now lead to the second
+    -- replaying the kept lines gave the first state before, and gives the second after
     pub record Leads (from to : State T) : Type 0 where
       pub clean : doubt (view old).is_clean ≤ doubt (view new).is_clean
       pub kept : IsClean (view new) → LeadsTo cmp texts (lines_in (view old).committed) from → LeadsTo cmp texts (lines_in (view new).committed) to
       pub crash : IsClean (view new) → LeadsTo cmp texts (lines_in (view old).committed) from → (db : Trees) → recovers new db → IsLeft from to db
 
-    -- the lines led to the first, and a crash leaves some that lead to the second, or to the third
+    -- replaying the kept lines gave the first state before, and gives the second or the third after
+    -- a crash
     pub record MayLead (from to more : State T) : Type 0 where
       pub clean : doubt (view old).is_clean ≤ doubt (view new).is_clean
       pub crash : IsClean (view new) → LeadsTo cmp texts (lines_in (view old).committed) from → (db : Trees) → recovers new db → IsLeft from to db ⊎ LeadsTo cmp texts (lines_in db) more
@@ -70,7 +73,8 @@ module _ {T : Type 0} (cmp : T → T → Ordering) (texts : Texts T) where
     abbrev pub answers_to : List ℕ → List ℕ
     answers_to whole = replies_to reply (after_input cmp texts) h (lines_of whole)
 
-    -- the reader gave whole lines and such a rest, and the writer got the answers to the lines; what is kept leads to what is held then
+    -- the reader returned whole lines and such a rest, and the answers to the lines were written;
+    -- replaying what is kept gives the state after them
     pub record AnswersWhole (rest : List ℕ) (now : Held T) : Type 0 where
       pub whole : List ℕ
       pub is_whole : IsWhole whole
@@ -79,7 +83,8 @@ module _ {T : Type 0} (cmp : T → T → Ordering) (texts : Texts T) where
       pub left : now ≡ map_after cmp texts h whole
       pub leads : Leads view recovers old new from (state_held (map_after cmp texts h whole))
 
-    -- the reader gave an input, to its end, and the writer got the text for it; what is kept leads to what is held then
+    -- the reader returned an input to its end, and the text for it was written; replaying what is
+    -- kept gives the state after its whole lines
     pub record AnswersAll : Type 0 where
       pub input : List ℕ
       pub read : Consumes reader reader' input
@@ -87,7 +92,9 @@ module _ {T : Type 0} (cmp : T → T → Ordering) (texts : Texts T) where
       pub written : Appends writer writer' (text_of reply (after_input cmp texts) cut h input)
       pub leads : Leads view recovers old new from (state_held (left_by (after_input cmp texts) h (whole_lines input)))
 
-    -- the reader gave whole lines that have their answers, whole lines that were carried out alone, and a rest: a crash leaves what leads to what was held after the first, or after both
+    -- the reader returned whole lines whose answers were written, further whole lines that were
+    -- executed, and a rest: after a crash, replaying what is kept gives the state after the first
+    -- part or after both
     pub record AnswersSome (IsOut : Type 0) : Type 0 where
       pub whole : List ℕ
       pub more : List ℕ
@@ -98,7 +105,8 @@ module _ {T : Type 0} (cmp : T → T → Ordering) (texts : Texts T) where
       pub written : IsOut → Appends writer writer' (answers_to whole)
       pub crash : MayLead view recovers old new from (state_held (map_after cmp texts h whole)) (state_held (map_after cmp texts (map_after cmp texts h whole) more))
 
-  -- the map begins with some lines; the reader gave an input, to its end, and the writer got the text for it
+  -- the map starts from some lines; the reader returned an input to its end, and the text for it
+  -- was written
   pub record AnswersFrom (reply cut : Held T → List ℕ → List ℕ) (first : List (List ℕ) → Held T) (reader reader' writer writer' : Option (List ℕ)) : Type 0 where
     pub lines : List (List ℕ)
     pub input : List ℕ

@@ -1,4 +1,4 @@
--- What a leader can hold.
+-- The states of a leader.
 use Rattle.std.specs.Prelude.{◌<◌, ◌≤◌, ◌^◌}
 use Rattle.std.specs.List.{All}
 use Rattle.indexset_core.specs.Nodes.{IsLawful, concat}
@@ -8,7 +8,7 @@ use Rattle.indexset_follow.specs.declared.leader.Leader.{Leader}
 use Rattle.std.specs.declared.cmp.Ordering.{Ordering}
 
 module _ {T : Type 0} (cmp : T → T → Ordering) (texts : Texts T) where
-  -- its nodes are lawful, and its numbers are of 64 bits
+  -- the nodes are lawful, and the numbers have at most 64 bits
   pub record IsSound (l : Leader T) : Type 0 where
     pub two : 2 ≤ l.pairs.size
     pub few : l.pairs.size < 2 ^ 64

@@ -15,11 +15,11 @@ use Rattle.indexset_keep.specs.Roles.{role_of}
 use Rattle.indexset_keep.specs.declared.manner.Manner.{Manner}
 
 module _ {T : Type 0} {k : key.Ghosts T} {o : ord.Ghosts T} {e : eq.Ghosts T} {p : partial.Ghosts T} {c : clone.Ghosts T} {d : display.Ghosts T} where
-  -- what it holds, and with which settings
+  -- the role of a map, with its settings
   abbrev pub map_held : Store T k o e p c d → Held T
   map_held m = held m.size m.window m.role
 
 module _ {T : Type 0} (cmp : T → T → Ordering) (texts : Texts T) where
-  -- what it holds at first, by the lines that are kept
+  -- the initial map, from the lines that are kept
   abbrev pub first_map : Manner → List (List ℕ) → Held T
   first_map m lines = held m.size m.window (role_of m.size m.window m.leads (state_after cmp texts (start_state 0) lines))

@@ -1,4 +1,4 @@
--- What a map holds, whatever its role, and what lines lead to.
+-- The state of a map in either role, and the state that lines give.
 use Rattle.std.specs.Prelude.{◌≡◌, ℕ, ◌<◌, ◌≤◌, ◌^◌, Bool, if◌then◌else◌, List}
 use Rattle.indexset_lines.specs.Lines.{whole_lines}
 use Rattle.indexset_follow.specs.Copy.{Copy, copy, unsummed_text}
@@ -18,32 +18,32 @@ module _ {T : Type 0} where
   copy_held (Following s) = s.held
   copy_held (Leading l) = copy l.pairs.nodes l.pairs.next
 
-  -- the greatest number of a command
+  -- the greatest command number
   abbrev pub done_held : Role T → ℕ
   done_held (Following s) = s.done
   done_held (Leading l) = l.done
 
-  -- a follower of what is held, without a window
+  -- the state of a role as that of a follower without a window
   abbrev pub settled : Role T → State T
   settled r = holding 0 (copy_held r) (done_held r)
 
 module _ {T : Type 0} (cmp : T → T → Ordering) (texts : Texts T) where
-  -- the lines lead a follower from nothing to this
+  -- replaying the lines from nothing gives this state
   abbrev pub LeadsTo : List (List ℕ) → State T → Type 0
   LeadsTo lines s = state_after cmp texts (start_state 0) lines ≡ s
 
 module _ {T : Type 0} (texts : Texts T) where
-  -- the lines that make a follower of nothing the same, with no sum
+  -- the lines of a snapshot of the role, without a sum
   abbrev pub snapshot_of : Role T → List (List ℕ)
   snapshot_of r = whole_lines (unsummed_text texts (copy_held r) (done_held r))
 
 module _ {T : Type 0} where
-  -- the role in which a map begins of what a follower holds
+  -- the initial role for a follower's state
   abbrev pub role_of : ℕ → ℕ → Bool → State T → Role T
   role_of size window leads s = if leads then Leading (leader_of (promoted size s.held) s.done) else Following (holding window s.held s.done)
 
 module _ {T : Type 0} (cmp : T → T → Ordering) (texts : Texts T) where
-  -- a map that the program can hold: its nodes are lawful, and its numbers are of 64 bits
+  -- a role that the program can have: its nodes are lawful, and its numbers have at most 64 bits
   abbrev pub IsSoundRole : Role T → Type 0
   IsSoundRole (Following s) = IsSoundFollower cmp texts s
   IsSoundRole (Leading l) = IsSound cmp texts l × (l.pairs.next < 2 ^ 64)

@@ -1,4 +1,4 @@
--- Seals of kept lines.
+-- Seals, the checksums of kept lines.
 use Rattle.std.specs.Prelude.{ℕ, ◌==◌, if◌then◌else◌, List, [], ◌∷◌, ◌++◌, Option, None, Some, codes}
 use Rattle.std.specs.Fmt.{decimal}
 use Rattle.std.specs.Hash.DefaultHasher as sip
@@ -12,7 +12,7 @@ use Rattle.indexset_events.specs.Spelling.{cut_at, number_of}
 abbrev pub seal_line : ℕ → List ℕ
 seal_line seal = codes "seal " ++ decimal seal
 
--- the seal that a line gives
+-- the seal of a seal line
 abbrev pub seal_read : List ℕ → Option ℕ
 seal_read line = option_and_then (λ cut. if bytes_eq cut.0 (codes "seal") then number_of cut.1 else None) (cut_at 32 line)
 
@@ -20,11 +20,12 @@ seal_read line = option_and_then (λ cut. if bytes_eq cut.0 (codes "seal") then 
 abbrev pub sum_of_text : List ℕ → ℕ
 sum_of_text text = sip.finish (sip.write sip.initial text)
 
--- the seal of lines behind another seal
+-- the seal of lines after another seal: a hash of that seal and the lines
 unfoldable pub seal_of : ℕ → List (List ℕ) → ℕ
 seal_of seal lines = sum_of_text (ended (seal_line seal) ++ lines_for (λ line. line) lines)
 
--- the last seal of lines that stand behind a seal and lines that have none yet, where each seal is that of the lines before it, and the last lines have one
+-- the last seal of the lines after a seal and after lines that have none yet; none unless each seal
+-- is that of the lines before it and the last line is a seal
 unfoldable pub seal_after : ℕ → List (List ℕ) → List (List ℕ) → Option ℕ
 seal_after seal behind [] = if is_filled behind then None else Some seal
 seal_after seal behind (line ∷ lines) = option_map_or (λ n. if n == seal_of seal behind then seal_after n [] lines else None) (seal_read line) (seal_after seal (behind ++ line ∷ []) lines)

@@ -1,4 +1,4 @@
--- What a follower can hold that began from nothing, or from what a leader held.
+-- The states of a follower that started empty, or from a leader's state.
 use Rattle.std.specs.Prelude.{◌<◌, ◌^◌, IfSome}
 use Rattle.std.specs.List.{All}
 use Rattle.indexset_core.specs.Nodes.{IsNodeList, concat}
@@ -10,13 +10,13 @@ use Rattle.indexset_bench.specs.Texts.{PairFits, Texts}
 use Rattle.std.specs.declared.cmp.Ordering.{Ordering}
 
 module _ {T : Type 0} (cmp : T → T → Ordering) (texts : Texts T) where
-  -- the nodes are lawful, and the numbers are of 64 bits
+  -- the nodes are lawful, and the numbers have at most 64 bits
   pub record IsSoundCopy (c : Copy T) : Type 0 where
     pub nodes : IsNodeList (by_key cmp) c.nodes
     pub fits : All (PairFits texts) (concat c.nodes)
     pub next : c.next < 2 ^ 64
 
-  -- what is held and what is coming are sound, and so are the numbers of early events
+  -- the nodes, the snapshot that has begun and the early events are sound
   pub record IsSoundFollower (s : State T) : Type 0 where
     pub held : IsSoundCopy s.held
     pub done : s.done < 2 ^ 64

@@ -1,4 +1,4 @@
--- What is kept of a line that a follower has read.
+-- What a follower keeps of a line that it has read.
 use Rattle.std.specs.Prelude.{ℕ, ◌-◌, List, [], ◌∷◌, take}
 use Rattle.indexset_follow.specs.declared.role.Role.{Role}
 use Rattle.indexset_journal.specs.Kept.{texts as lines_texts}
@@ -8,7 +8,7 @@ use Rattle.indexset_keep.specs.declared.followed.Tells.TheVariants.{Nothing, Lin
 use Rattle.indexset_bench.specs.Texts.{Texts}
 
 module _ {T : Type 0} (texts : Texts T) where
-  -- the lines that are kept, where `next` was awaited before, and a map is in this role after
+  -- the lines that are kept, from the number awaited before the line and the role after it
   abbrev pub lines_told : Tells → List ℕ → ℕ → Role T → List (List ℕ)
   lines_told Nothing line next r = []
   lines_told Line line next r = line ∷ []

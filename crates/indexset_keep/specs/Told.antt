@@ -14,40 +14,40 @@ use Rattle.indexset_keep.specs.Followed.{line_kept}
 use Rattle.std.specs.declared.cmp.Ordering.{Ordering}
 use Rattle.indexset_bench.specs.Texts.{Texts}
 
--- the mark tells which commands were done
+-- the mark is a `done` line
 abbrev pub is_done : Option Mark → Bool
 is_done None = false
 is_done (Some (Start n d)) = false
 is_done (Some (End count sum)) = false
 is_done (Some (Done d n)) = true
 
--- all but the first and the last
+-- the list without its first and last element
 abbrev pub inner : List (List ℕ) → List (List ℕ)
 inner lines = take (length lines - 2) (drop 1 lines)
 
 module _ {T : Type 0} (texts : Texts T) where
-  -- the line tells an event, or which commands were done
+  -- the line is an event or a `done` line
   abbrev pub is_told : List ℕ → Bool
   is_told line = is_some (event_of texts line) || is_done (mark_of line)
 
-  -- those of the lines that do
+  -- the events and `done` lines of a list of lines
   abbrev pub told_lines : List (List ℕ) → List (List ℕ)
   told_lines lines = filter is_told lines
 
-  -- those of the answer to a line of a leader: a read has none
+  -- what a leader keeps of its answer to a line: nothing of a read
   abbrev pub answer_kept : List ℕ → List ℕ → List (List ℕ)
   answer_kept line answer = option_map_or (λ q. []) (query_of texts line) (told_lines (whole_lines answer))
 
-  -- of the answer to a line of a leader, the lines between the first and the last: a read has none
+  -- the lines of a leader's answer between the first and the last: nothing of a read
   abbrev pub inner_kept : List ℕ → List ℕ → List (List ℕ)
   inner_kept line answer = option_map_or (λ q. []) (query_of texts line) (inner (whole_lines answer))
 
 module _ {T : Type 0} (cmp : T → T → Ordering) (texts : Texts T) where
-  -- of a line that a map reads in a role, where this is its answer
+  -- what is kept of a line in a role, from the answer to it
   abbrev pub kept_in : Role T → List ℕ → List ℕ → List (List ℕ)
   kept_in (Following s) line answer = line_kept cmp texts s line
   kept_in (Leading l) line answer = answer_kept texts line answer
 
-  -- of a line of an input, which these replies answer
+  -- what is kept of a line of an input, where `reply` gives the answers
   abbrev pub kept_by : (Held T → List ℕ → List ℕ) → Held T → List ℕ → List (List ℕ)
   kept_by reply h line = kept_in h.role (without_return line) (reply h line)

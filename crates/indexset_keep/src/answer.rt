@@ -1,4 +1,4 @@
-//! The answers to the lines of a reader, by a map that is kept.
+//! Answers the lines of a reader, and keeps what they change.
 
 ghost use Rattle.std.specs.Prelude.{◌≡◌, ◌≢◌, ◌<◌, length, Err, IfErr, IfOk, Ok, OnOk, OnSome};
 ghost use Rattle.std.specs.Io.KnownBytes.{Appends, IsAtEnd, Keeps};
@@ -20,7 +20,7 @@ use indexset_lines::run::Answers;
 use sqlite_trees::store::Store;
 use std::io::{BufRead, BufReader, Read, Write};
 
-/// A reader that says whether the next line is at hand.
+/// A reader that can report whether a whole line is buffered.
 pub trait HasLine {
     /// Returns whether the next line needs no read.
     fn has_line(&self) -> bool;
@@ -32,28 +32,30 @@ impl<R: Read> HasLine for BufReader<R> {
     }
 }
 
-/// Where the lines of a reader end.
+/// How the lines of a reader end.
 #[derive(Clone, Copy, Debug, PartialEq, Eq)]
 pub enum End {
-    /// Behind a line end.
+    /// With a line end.
     Whole,
-    /// Behind a last line that lacks its end.
+    /// With a last line that has no line end.
     Cut,
 }
 
-/// Returns whether a line asks for a snapshot in place of the kept lines.
+/// Returns whether a line asks to replace the kept lines by a snapshot.
 fn asks_to_compact(line: &[u8]) -> bool {
     line == b"compact".as_slice()
 }
 
-/// Answers each line of the reader, and keeps what changed the map before it writes the answers.
-/// Where no whole line is at hand, what all lines that have come changed is kept with one commit,
-/// before the reader is asked for more; and so it is where 4,096 lines wait to be kept. So each
-/// answer is out before the next read, and a commit keeps no more lines than these and the further
-/// ones of the last line carried out.
+/// Answers each line of the reader, and keeps what it changes before its answer is written.
 ///
-/// A fault ends the run at once, and nothing is written of the lines since the last commit. A last
-/// line that lacks its end changes nothing; where it is a read it is answered.
+/// Before a read that may block, and when 4,096 lines are pending, the pending lines are kept with
+/// one commit and the answers are written. A commit has at most 4,096 lines and the further ones of
+/// the last command. A last line without a line end changes nothing, and is answered if it is a
+/// read.
+///
+/// # Errors
+///
+/// The first fault, which ends the run. The answers since the last commit are not written.
 pub fn answer<T: Key, S: Store, R: BufRead + HasLine, W: Write>(
     kept: &mut Kept<S>,
     map: &mut Map<T>,
@@ -62,14 +64,14 @@ pub fn answer<T: Key, S: Store, R: BufRead + HasLine, W: Write>(
 ) -> Result<(), KeepFault>
     requires { IsSoundMap T.cmp T.texts (map_held map.old) }
 
-    // All was read and answered, and what is kept leads to what is held.
+    // All was read and answered, and replaying what is kept gives the state.
     ensures all { OnOk result (AnswersAll T.cmp T.texts (input_reply T.cmp T.texts map.old.voice)
         (held_cut T.cmp T.texts map.old.voice) (map_held map.old) S.view S.recovers kept.old.journal
         kept.new.journal (R.remaining reader.old) (R.remaining reader.new) (W.contents writer.old)
         (W.contents writer.new) (settled map.old.role)) }
 
-    // A crash leaves what leads to what was held after the lines whose answers were written, or
-    // after further ones. After a failed write nothing is said of what was written.
+    // After a crash, replaying what is kept gives the state after the lines whose answers were
+    // written, or after further ones. After `Write` it is not specified what was written.
     ensures some { IfErr result (λ fault. AnswersSome T.cmp T.texts (input_reply T.cmp T.texts
         map.old.voice) (held_cut T.cmp T.texts map.old.voice) (map_held map.old) S.view S.recovers
         kept.old.journal kept.new.journal (R.remaining reader.old) (R.remaining reader.new)
@@ -84,7 +86,7 @@ pub fn answer<T: Key, S: Store, R: BufRead + HasLine, W: Write>(
     Ok(())
 }
 
-/// Writes the answer to a last line that lacks its end, and flushes the writer.
+/// Writes the answer to a last line without a line end, and flushes the writer.
 fn answer_cut<T: Key, W: Write>(
     map: &mut Map<T>,
     writer: &mut W,
@@ -102,7 +104,7 @@ fn answer_cut<T: Key, W: Write>(
     flush(writer)
 }
 
-/// Answers each line that has its end, and leaves a last line that lacks it in `line`.
+/// Answers each line that has a line end, and leaves a last line without one in `line`.
 fn answer_whole<T: Key, S: Store, R: BufRead + HasLine, W: Write>(
     kept: &mut Kept<S>,
     map: &mut Map<T>,

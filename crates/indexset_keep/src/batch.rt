@@ -1,4 +1,4 @@
-//! Lines that were carried out, and of which nothing is kept yet.
+//! Executed lines that wait for the next commit.
 
 ghost use Rattle.std.specs.Prelude.{◌≡◌, ◌≢◌, ◌↔◌, ◌++◌, ◌<◌, ◌≤◌, ◌^◌, [], length, Err, IfErr, IsTrue, None, OnErr, OnOk};
 ghost use Rattle.std.specs.Io.KnownBytes.{Appends, Keeps};
@@ -27,20 +27,20 @@ use sqlite_trees::store::Store;
 use std::alloc::Global;
 use std::io::Write;
 
-/// How many lines a commit keeps at most, but for the further ones of the last line carried out.
+/// The number of pending lines at which a commit is made.
 const MOST: usize = 4_096;
 
-/// The answers to lines, which are not written yet, and what is to be kept of these lines.
+/// The answers to executed lines, and what is to be kept of these lines.
 #[derive(Drop)]
 pub struct Batch {
     /// The answers.
     pub answers: Vec<u8>,
-    /// The lines that are to be kept.
+    /// The lines to be kept.
     pub told: Vec<Vec<u8>>,
 }
 
 impl Batch {
-    /// Returns one of no lines.
+    /// Returns an empty batch.
     pub fn new(alloc: Global) -> Batch
         ensures answers { result.answers.items ≡ [] }
         ensures told { texts result.told.items ≡ [] }
@@ -51,14 +51,14 @@ impl Batch {
         }
     }
 
-    /// Returns whether as many lines wait to be kept as a commit keeps.
+    /// Returns whether the batch has as many lines as a commit keeps.
     pub fn is_full(&self) -> bool
         ensures { IsTrue result ↔ 4096 ≤ length self.now.told.items }
     {
         self.told.len() >= MOST
     }
 
-    /// Carries out a line. Its answer waits, and what is to be kept of it.
+    /// Executes a line, and adds its answer and what is to be kept of it.
     pub fn answer<T: Key>(&mut self, map: &mut Map<T>, line: &[u8]) -> Result<(), RunFault>
         ensures map { OnOk result (map_held map.new
             ≡ after_input T.cmp T.texts (map_held map.old) line.now) }
@@ -88,8 +88,8 @@ impl Batch {
         Ok(())
     }
 
-    /// Carries out a line of a leader. Of the answer to a read nothing is kept, and of another the
-    /// lines between the reply and the next number: these tell events, and which commands were done.
+    /// Executes a line of a leader. Of the answer to a read nothing is kept. Of another answer the
+    /// lines between the reply and the next number are kept: events and the `done` line.
     fn answer_leading<T: Key>(&mut self, map: &mut Map<T>, line: &[u8]) -> Result<(), RunFault>
         ensures map { OnOk result (map_held map.new
             ≡ after_input T.cmp T.texts (map_held map.old) line.now) }
@@ -111,7 +111,7 @@ impl Batch {
         Ok(())
     }
 
-    /// Carries out a line of a follower, of which this is kept.
+    /// Executes a line of a follower, of which this is kept.
     fn answer_following<T: Key>(
         &mut self,
         map: &mut Map<T>,
@@ -136,8 +136,8 @@ impl Batch {
         kept.push(map.alloc, &mut self.told, bare, next, &map.role)
     }
 
-    /// Keeps what waits to be kept, with one commit where there is any, and then puts a snapshot in
-    /// place of the kept lines where this is asked for or they are many.
+    /// Keeps the pending lines with one commit, and compacts the journal if asked to or if it is
+    /// long.
     fn keep<T: Key, S: Store>(
         &mut self,
         kept: &mut Kept<S>,
@@ -183,8 +183,7 @@ impl Batch {
         Ok(())
     }
 
-    /// Keeps what waits to be kept, and then writes the answers. Where that could not be kept,
-    /// nothing is written.
+    /// Keeps the pending lines, and then writes the answers. If that fails, no answer is written.
     pub fn put<T: Key, S: Store, W: Write>(
         &mut self,
         kept: &mut Kept<S>,

@@ -1,18 +1,18 @@
-//! What ends a run before its input does.
+//! Faults that end a run.
 
 use indexset_journal::JournalError;
 use indexset_lines::RunFault;
 use std::error::Error;
 use std::fmt;
 
-/// What ends a run before its input does.
+/// A fault that ends a run.
 #[derive(Clone, Copy, Debug, PartialEq, Eq)]
 pub enum KeepFault {
     /// Memory or event numbers ran out, or the reader or the writer failed.
     Run(RunFault),
     /// The lines could not be kept.
     Journal(JournalError),
-    /// A node that the kept lines lead to is larger than one of the leader.
+    /// A node of the kept lines is larger than the node size of the leader.
     NodeSize,
 }
 
@@ -20,8 +20,10 @@ impl KeepFault {
     ghost use Rattle.std.specs.Prelude.{◌≡◌};
     ghost use Rattle.indexset_keep.specs.Fault.{status_of};
 
-    /// Returns the exit status of this fault: that of a run, 8 where another process has the file
-    /// open, 6 of any other failure of the journal, or 7.
+    /// Returns the exit status of this fault.
+    ///
+    /// It is that of the run's fault, 8 if another process has the file open, 6 for any other error
+    /// of the journal, and 7 for `NodeSize`.
     pub fn status(self) -> u8
         ensures { result ≡ status_of self }
     {

@@ -26,7 +26,7 @@ pub enum Tells {
     Nothing,
     /// The line.
     Line,
-    /// Of these lines of events as many as there are steps.
+    /// As many of these lines of events as are applied.
     Steps(Vec<Vec<u8>>),
     /// A snapshot.
     Snapshot,
@@ -53,8 +53,8 @@ pub fn followed<T: Key>(
     }
 }
 
-/// Returns the line of the awaited event and those of the early ones whose turn then comes, or
-/// nothing for another event.
+/// Returns the lines of the awaited event and of the early events after it, or nothing for another
+/// event.
 fn steps<T: Key>(
     alloc: Global,
     follower: &Follower<T>,
@@ -80,7 +80,7 @@ fn steps<T: Key>(
     Ok(Tells::Steps(lines))
 }
 
-/// Returns a snapshot where these numbers end one that is whole.
+/// Returns `Snapshot` if these numbers end a complete snapshot.
 fn snapshot<T: Key>(
     alloc: Global,
     follower: &Follower<T>,
@@ -102,7 +102,7 @@ fn snapshot<T: Key>(
 }
 
 impl Tells {
-    /// Appends what is kept, once the line is read: `next` was awaited before.
+    /// Appends what is kept of a line that was read, where `next` was awaited before it.
     pub fn push<T: Key>(
         self,
         alloc: Global,

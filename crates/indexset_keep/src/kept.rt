@@ -1,4 +1,4 @@
-//! The lines that are kept of a map.
+//! The kept lines of a map.
 
 ghost use Rattle.std.specs.Prelude.{◌≡◌, ◌≢◌, ◌∷◌, ◌++◌, if◌then◌else◌, [], Err, IfErr, IfOk, OnErr, OnOk, Some};
 ghost use Rattle.sqlite_trees.specs.View.{IsClean};
@@ -19,35 +19,40 @@ use indexset_lines::RunFault;
 use sqlite_trees::store::Store;
 use std::alloc::Global;
 
-/// How many lines are kept, at least, before a snapshot takes their place.
+/// A journal of at most this many lines is not compacted for its lines per pair.
 const FEW: usize = 4_096;
 
-/// How many lines are kept for a pair.
+/// The number of lines for each pair above which a journal is compacted.
 const LINES_A_PAIR: usize = 10;
 
-/// How many events a start reads in some seconds.
+/// The number of events that a start reads in some seconds.
 const MANY: usize = 1_500_000;
 
-/// How many pairs of a snapshot a start reads while it reads an event.
+/// The number of snapshot pairs that are read in the time of an event.
 const PAIRS_AN_EVENT: usize = 10;
 
-/// For how many pairs an event is kept in any case.
+/// A journal with at most one event for this many pairs is not compacted for its events.
 const PAIRS_A_LINE: usize = 20;
 
-/// The lines that lead a follower to what a map holds, in a journal.
+/// A journal of lines that give the state of a map when a follower reads them.
 #[derive(Drop)]
 pub struct Kept<S: Store> {
     /// The journal.
     pub journal: Journal<S>,
-    /// How many lines it keeps.
+    /// How many lines it has.
     pub lines: usize,
     /// The last seal among them.
     pub seal: u64,
 }
 
 impl<S: Store + Drop> Kept<S> {
-    /// Opens the journal of a store, and returns its lines too. What was under way in the store is
-    /// undone. Fails with `Damaged` where a seal is not that of the lines before it.
+    /// Opens the journal of a store, and returns it with its lines.
+    ///
+    /// An open transaction of the store is rolled back.
+    ///
+    /// # Errors
+    ///
+    /// `Damaged` if a seal is not that of the lines before it, and the errors of `Journal::open`.
     pub fn open(alloc: Global, store: S) -> Result<(Self, Vec<Vec<u8>>), JournalError>
         ensures lines { IfOk result (λ it. IsClean (S.view it.0.journal)
             → lines_in (S.view it.0.journal).committed ≡ texts it.1.items) }
@@ -69,9 +74,11 @@ impl<S: Store + Drop> Kept<S> {
 }
 
 impl<S: Store> Kept<S> {
-    /// Returns whether more lines are kept than 4,096 and than ten for each pair; or, beside a line
-    /// for each node, as a snapshot has, more than one for twenty pairs, and more than 1,500,000
-    /// less one for ten pairs.
+    /// Returns whether the journal is to be compacted.
+    ///
+    /// It is if it has more than 4,096 lines and more than ten for each pair. It is also if its
+    /// events, the lines without one for each node, are more than one for twenty pairs and, with
+    /// one for ten pairs, more than 1,500,000.
     pub fn is_long<T: Key>(&self, role: &Role<T>) -> bool
         ensures { result ≡ is_long self.now.lines (copy_held role.now).nodes }
     {
@@ -81,8 +88,11 @@ impl<S: Store> Kept<S> {
             || events > pairs / PAIRS_A_LINE && events.saturating_add(pairs / PAIRS_AN_EVENT) > MANY
     }
 
-    /// Keeps more lines and their seal, with one commit, where there is a line. Where that fails, a
-    /// crash leaves all of them or none.
+    /// Appends lines and their seal with one commit, and empties the list. No lines need no commit.
+    ///
+    /// # Errors
+    ///
+    /// A crash leaves all of the new lines or none.
     pub fn append<T: Key>(
         &mut self,
         alloc: Global,
@@ -111,8 +121,9 @@ impl<S: Store> Kept<S> {
         Ok(())
     }
 
-    /// Puts the lines of a snapshot and their seal in place of the kept lines, with one commit. A
-    /// crash before leaves the old lines, or the snapshot.
+    /// Replaces the lines by those of a snapshot and their seal, with one commit.
+    ///
+    /// A crash during the call leaves the old lines, or the snapshot.
     pub fn compact<T: Key>(&mut self, alloc: Global, role: &Role<T>) -> Result<(), KeepFault>
         ensures leads { OnOk result (IsSoundRole T.cmp T.texts role.now → (from : State T)
             → Leads T.cmp T.texts S.view S.recovers self.old.journal self.new.journal from (settled
@@ -123,7 +134,7 @@ impl<S: Store> Kept<S> {
         ensures no_write { result ≢ Err (KeepFault.Run RunFault.Write) }
         ensures seal { OnOk result (self.new.seal ≡ seal_of 0 (snapshot_of T.texts role.now)) }
     {
-        // Their number fits.
+        // For the proof: the number of nodes has at most 64 bits.
         let _nodes = node_count(role);
         let mut lines = Vec::new(alloc);
         push_snapshot(alloc, &mut lines, role)?;
@@ -135,7 +146,7 @@ impl<S: Store> Kept<S> {
     }
 }
 
-/// Appends the line of the seal of lines behind those of another seal, and returns the seal.
+/// Appends the seal line of lines that follow another seal, and returns the seal.
 fn push_seal(alloc: Global, seal: u64, lines: &mut Vec<Vec<u8>>) -> Result<u64, RunFault>
     ensures lines { IfOk result (λ sealed. (sealed ≡ seal_of seal (texts lines.old.items))
         × (texts lines.new.items ≡ texts lines.old.items ++ seal_line sealed ∷ [])) }

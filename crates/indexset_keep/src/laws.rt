@@ -1,4 +1,4 @@
-//! What kept lines lead to, whatever the code.
+//! Theorems on kept lines.
 
 ghost use Rattle.std.specs.Prelude.{◌≡◌, ◌<◌, ◌≤◌, ◌^◌, ◌++◌, Bool, ℕ, List, length, true};
 ghost use Rattle.std.specs.List.{All};
@@ -17,9 +17,10 @@ ghost use Rattle.indexset_keep.specs.Told.{kept_by};
 
 use indexset_bench::key::Key;
 
-/// Let lines, whatever they are, lead a follower from nothing to what a map holds, in either role.
-/// With the lines behind them that are kept of a line that the map reads, they lead to what it
-/// holds after it.
+/// What is kept of a line takes the kept lines from the state before it to the state after it.
+///
+/// If replaying some lines gives the state of a map, in either role, replaying these lines and
+/// those that are kept of a line that the map reads gives the state after that line.
 pub fn kept_lines_lead_on<T: Key>()
     ensures { (v : Voice) (h : Held T) (line : List ℕ) (kept : List (List ℕ))
         → IsSoundMap T.cmp T.texts h → (copy_held (after_input T.cmp T.texts h line).role).next < 2
@@ -28,14 +29,15 @@ pub fn kept_lines_lead_on<T: Key>()
         T.texts h line).role) }
 {}
 
-/// The lines of a snapshot of a map lead to what it holds, and so may take the place of any lines
-/// that do.
+/// Replaying the lines of a snapshot of a map gives the state of the map.
+///
+/// So they may replace any lines that give this state.
 pub fn snapshots_lead_there<T: Key>()
     ensures { (r : Role T) → IsSoundRole T.cmp T.texts r → length (copy_held r).nodes < 2 ^ 64
         → LeadsTo T.cmp T.texts (snapshot_of T.texts r) (settled r) }
 {}
 
-/// Whatever lines a map begins with, and whatever lines it reads, it stays sound.
+/// A map that starts from any lines, and reads any lines, stays sound.
 pub fn maps_are_sound<T: Key>()
     ensures first { (size window : ℕ) (leads : Bool) (lines : List (List ℕ)) → 2 ≤ size
         → size < 2 ^ 64 → (leads ≡ true → can_lead T.cmp size (state_after T.cmp T.texts
@@ -46,9 +48,10 @@ pub fn maps_are_sound<T: Key>()
         → IsSoundMap T.cmp T.texts (after_input T.cmp T.texts h line) }
 {}
 
-/// Let lines lead to what a map holds. A map that begins with them, in either role, has its nodes,
-/// its next number and the greatest number of a command; and a leader of the same node size is the
-/// same leader.
+/// A map that starts from lines has the state that replaying them gives.
+///
+/// In either role it has the nodes, the next number and the greatest command number; a leader with
+/// the same node size is the same leader.
 pub fn a_restart_goes_on<T: Key>()
     ensures nodes { (size window : ℕ) (leads : Bool) (lines : List (List ℕ)) (r : Role T)
         → LeadsTo T.cmp T.texts lines (settled r)
@@ -64,11 +67,13 @@ pub fn a_restart_goes_on<T: Key>()
         ≡ role.Leading l }
 {}
 
-/// Let a leader answer some lines, and carry out further ones before a crash or after it. The
-/// events of the answered lines are the first of those of all. They are numbered from its next
-/// number without a gap, and lead from its nodes to those that are found after all lines. So a
-/// follower that began with its nodes and gets lines of these events, from before the crash and
-/// after it, with losses, repeats and in any order, holds what the first k lead to, for some k.
+/// The events that a leader emitted before a crash are a prefix of those after recovery.
+///
+/// Let a leader answer some lines, and execute further ones before or after a crash. The events of
+/// the answered lines are a prefix of the events of all lines. They are numbered from the leader's
+/// next number without a gap, and replaying them on its nodes gives the nodes after all lines. So a
+/// follower that starts with these nodes and reads lines of these events, with losses, repeats and
+/// in any order, has the nodes after the first k events, for some k.
 pub fn published_events_are_a_beginning<T: Key>()
     ensures first { (l : Leader T) (answered more : List (List ℕ))
         → events_led T.cmp T.texts l.pairs (answered ++ more)

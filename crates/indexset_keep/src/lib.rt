@@ -1,7 +1,7 @@
-//! A map that follows or leads, and keeps what changed it in a journal before it says so.
+//! A leader or follower that recovers from a crash.
 //!
-//! What is kept is what a follower reads: the lines of a snapshot, and after it those that tell
-//! events and which commands were done.
+//! It keeps what each line changes in a journal before it writes the answer. The journal has the
+//! lines that a follower reads: those of a snapshot, and after it events and `done` lines.
 #![tactic(auto)]
 
 pub mod answer;

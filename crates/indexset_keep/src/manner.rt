@@ -1,25 +1,25 @@
-//! How a map answers.
+//! The settings of a map.
 
 ghost use Rattle.std.specs.Prelude.{◌≡◌, ◌≤◌};
 
 use indexset_follow::others::Voice;
 
-/// How a map answers, and in which role it begins.
+/// The settings of a map, and its initial role.
 #[derive(Clone, Copy, Debug)]
 pub struct Manner {
     /// Which replies it writes.
     pub voice: Voice,
-    /// How many pairs a node holds at most while it leads.
+    /// The maximum number of pairs in a node of a leader.
     pub size: usize,
-    /// How far ahead of the awaited event a follower holds others.
+    /// The greatest distance from the awaited event at which a follower holds an event.
     pub window: u64,
-    /// Whether it leads from the first line on.
+    /// Whether the initial role is that of a leader.
     pub leads: bool,
     ghost two: { 2 ≤ size },
 }
 
 impl Manner {
-    /// Returns how many pairs a node holds at most while it leads.
+    /// Returns the maximum number of pairs in a node of a leader.
     pub fn node_size(&self) -> usize
         ensures value { result ≡ self.now.size }
         ensures two { 2 ≤ result }

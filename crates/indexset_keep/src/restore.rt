@@ -1,4 +1,4 @@
-//! The map that kept lines lead to.
+//! Restores a map from kept lines.
 
 ghost use Rattle.std.specs.Prelude.{◌≡◌, ◌≤◌, IfOk, IsTrue, None, true};
 ghost use Rattle.indexset_follow.specs.Follow.{start_state, state_after};
@@ -19,20 +19,23 @@ use indexset_follow::write::Nodes;
 use indexset_journal::JournalError;
 use std::alloc::Global;
 
-/// A follower that tells of each line.
+/// A follower that replies to each line.
 const TELLING: Voice = Voice {
     others: Others::Tell,
     is_quiet: false,
 };
 
-/// Returns whether a kept line was taken, by the reply to it. A seal says nothing to a follower.
+/// Returns whether a kept line was accepted, from the reply to it. A seal is not for the follower.
 fn is_taken(reply: &[u8], line: &[u8]) -> bool {
     let is_told = reply.starts_with(b"next ") || reply == b"held\n".as_slice();
     is_told || read_seal(line).is_some()
 }
 
-/// Returns a follower that has read these lines, with no window. Fails with `Damaged` where one
-/// was not taken, as where the keys of the map were others.
+/// Returns a follower without a window that has read these lines.
+///
+/// # Errors
+///
+/// `Damaged` if the follower does not accept a line, such as one with keys of another type.
 pub fn follow<T: Key>(alloc: Global, lines: &[Vec<u8>]) -> Result<Follower<T>, KeepFault>
     ensures follower { IfOk result (λ follower.
         follower ≡ state_after T.cmp T.texts (start_state 0) (texts lines.now)) }
@@ -57,9 +60,13 @@ pub fn is_settled<T: Key>(follower: &Follower<T>) -> bool
     follower.coming.is_none() && follower.coming_done == 0
 }
 
-/// Returns a role of the nodes that a follower holds: a leader that goes on with the number that it
-/// awaits, or a follower with this window. Takes no copy of the nodes. Fails with `NodeSize` where a
-/// leader would have a node of more than `size` pairs.
+/// Returns the initial role for the state of a follower, without copying the nodes.
+///
+/// A leader continues with the number that the follower awaits; a follower has this window.
+///
+/// # Errors
+///
+/// `NodeSize` if a leader would have a node of more than `size` pairs.
 pub fn begin<T: Key>(
     alloc: Global,
     follower: Follower<T>,

@@ -1,4 +1,4 @@
-//! What a map holds, whatever its role.
+//! The state of a map in either role.
 
 ghost use Rattle.std.specs.Prelude.{◌≡◌, ◌++◌, IfErr, OnOk, length};
 ghost use Rattle.indexset_core.specs.Nodes.{concat};
@@ -23,7 +23,7 @@ pub fn next_number<T: Key>(role: &Role<T>) -> u64
     }
 }
 
-/// Returns how many pairs there are.
+/// Returns the number of pairs.
 pub fn pair_count<T: Key>(role: &Role<T>) -> usize
     ensures { result ≡ length (concat (copy_held role.now).nodes) }
 {
@@ -33,7 +33,7 @@ pub fn pair_count<T: Key>(role: &Role<T>) -> usize
     }
 }
 
-/// Returns how many nodes there are.
+/// Returns the number of nodes.
 pub fn node_count<T: Key>(role: &Role<T>) -> usize
     ensures { result ≡ length (copy_held role.now).nodes }
 {
@@ -43,7 +43,7 @@ pub fn node_count<T: Key>(role: &Role<T>) -> usize
     }
 }
 
-/// Appends the lines of a snapshot, which has no sum: seals test kept lines.
+/// Appends the lines of a snapshot without a sum, which seals replace.
 pub fn push_snapshot<T: Key>(
     alloc: Global,
     lines: &mut Vec<Vec<u8>>,
@@ -58,7 +58,7 @@ pub fn push_snapshot<T: Key>(
     push_text_lines(alloc, lines, text.as_slice())
 }
 
-/// Writes the lines of a snapshot.
+/// Writes the lines of a snapshot without a sum.
 fn write_snapshot<T: Key>(text: &mut Vec<u8>, role: &Role<T>) -> Result<(), RunFault>
     ensures text { OnOk result (text.new.items ≡ text.old.items
         ++ unsummed_text T.texts (copy_held role.now) (done_held role.now)) }

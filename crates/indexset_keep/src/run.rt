@@ -21,8 +21,14 @@ use sqlite_trees::store::Store;
 use std::alloc::Global;
 use std::io::{BufRead, Write};
 
-/// Goes on from these lines, which are kept: makes the map that they lead to, puts a snapshot in
-/// their place where they are many or end within one, and answers each line of the reader.
+/// Restores the map of these kept lines, and answers each line of the reader.
+///
+/// A snapshot first replaces the kept lines if they are many or end within a snapshot.
+///
+/// # Errors
+///
+/// The first fault, which ends the run. After a crash, replaying what is kept gives the state after
+/// the lines whose answers were written, or after further ones.
 pub fn run<T: Key, S: Store, R: BufRead + HasLine, W: Write>(
     alloc: Global,
     manner: Manner,
@@ -31,22 +37,22 @@ pub fn run<T: Key, S: Store, R: BufRead + HasLine, W: Write>(
     reader: &mut R,
     writer: &mut W,
 ) -> Result<(), KeepFault>
-    // All was read and answered, and what is kept leads to what is held.
+    // All was read and answered, and replaying what is kept gives the state.
     ensures all { OnOk result (AnswersAll T.cmp T.texts (input_reply T.cmp T.texts manner.voice)
         (held_cut T.cmp T.texts manner.voice) (first_map T.cmp T.texts manner (texts lines.now))
         S.view S.recovers kept.old.journal kept.new.journal (R.remaining reader.old) (R.remaining
         reader.new) (W.contents writer.old) (W.contents writer.new) (state_after T.cmp T.texts
         (start_state 0) (texts lines.now))) }
 
-    // A crash leaves what leads to what was held after the lines whose answers were written, or
-    // after further ones. After a failed write nothing is said of what was written.
+    // After a crash, replaying what is kept gives the state after the lines whose answers were
+    // written, or after further ones. After `Write` it is not specified what was written.
     ensures some { IfErr result (λ fault. AnswersSome T.cmp T.texts (input_reply T.cmp T.texts
         manner.voice) (held_cut T.cmp T.texts manner.voice) (first_map T.cmp T.texts manner (texts
         lines.now)) S.view S.recovers kept.old.journal kept.new.journal (R.remaining reader.old)
         (R.remaining reader.new) (W.contents writer.old) (W.contents writer.new) (state_after T.cmp
         T.texts (start_state 0) (texts lines.now)) (fault ≢ KeepFault.Run RunFault.Write)) }
 {
-    // It fits.
+    // For the proof: the bounds of the node size.
     let _size = manner.node_size();
     let follower = follow::<T>(alloc, lines)?;
     let is_whole = is_settled(&follower);
@@ -56,7 +62,7 @@ pub fn run<T: Key, S: Store, R: BufRead + HasLine, W: Write>(
     answer(kept, &mut map, reader, writer)
 }
 
-/// Opens the journal of a store, and goes on from its lines, as `run` does.
+/// Opens the journal of a store, and does `run` with its lines.
 pub fn run_over<T: Key, S: Store + Drop, R: BufRead + HasLine, W: Write>(
     alloc: Global,
     manner: Manner,
@@ -73,7 +79,7 @@ pub fn run_over<T: Key, S: Store + Drop, R: BufRead + HasLine, W: Write>(
     run::<T, S, R, W>(alloc, manner, &mut kept, lines.as_slice(), reader, writer)
 }
 
-/// Puts a snapshot in place of the kept lines where they are many, or not whole.
+/// Replaces the kept lines by a snapshot if they are many, or end within a snapshot.
 fn shorten<T: Key, S: Store>(
     alloc: Global,
     kept: &mut Kept<S>,

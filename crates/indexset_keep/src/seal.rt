@@ -1,4 +1,4 @@
-//! Seals, by which damage to kept lines is noticed.
+//! Seals: checksums that detect damage to kept lines.
 
 ghost use Rattle.std.specs.Prelude.{◌≡◌, ◌⊎◌, Err, IfErr, IfOk, None, Some};
 ghost use Rattle.indexset_journal.specs.Kept.{texts};
@@ -11,11 +11,12 @@ use std::alloc::Global;
 use std::hash::{DefaultHasher, Hasher};
 use std::io::Write;
 
-/// How many bytes of lines are hashed together, at least.
+/// The minimum number of bytes that are hashed at once.
 const TOGETHER: usize = 65_536;
 
-/// Returns the seal of lines that are kept behind the seal of others: the SipHash-1-3 of that seal
-/// and these lines, with both keys 0.
+/// Returns the seal of lines that follow another seal.
+///
+/// It is the SipHash-1-3 of that seal and these lines, with both keys 0.
 pub fn seal_of(alloc: Global, seal: u64, lines: &[Vec<u8>]) -> Result<u64, RunFault>
     ensures seal { IfOk result (λ sealed. sealed ≡ seal_of seal (texts lines.now)) }
     ensures fault { IfErr result (λ fault. fault ≡ RunFault.Memory) }
@@ -46,7 +47,7 @@ pub fn seal_line(alloc: Global, seal: u64) -> Result<Vec<u8>, RunFault>
     Ok(line)
 }
 
-/// Returns the seal that a line gives, if it gives one.
+/// Returns the seal of a seal line, or `None` for another line.
 pub(crate) fn read_seal(line: &[u8]) -> Option<u64>
     ensures { result ≡ seal_read line.now }
 {
@@ -58,8 +59,11 @@ pub(crate) fn read_seal(line: &[u8]) -> Option<u64>
     }
 }
 
-/// Returns the last seal of lines. Fails with `Damaged` where a seal is not that of the lines before
-/// it, or the last lines have none.
+/// Returns the last seal of lines.
+///
+/// # Errors
+///
+/// `Damaged` if a seal is not that of the lines before it, or the last lines have no seal.
 pub fn last_seal(alloc: Global, lines: &[Vec<u8>]) -> Result<u64, JournalError>
     ensures seal { IfOk result (λ seal. last_seal (texts lines.now) ≡ Some seal) }
     ensures damaged { result ≡ Err JournalError.Damaged → last_seal (texts lines.now) ≡ None }

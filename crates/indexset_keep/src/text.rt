@@ -9,7 +9,7 @@ use indexset_events::parts::cut;
 use indexset_lines::RunFault;
 use std::alloc::Global;
 
-/// Appends the lines of a text that have their ends.
+/// Appends the lines of a text that have a line end.
 pub fn push_text_lines(alloc: Global, lines: &mut Vec<Vec<u8>>, text: &[u8]) -> Result<(), RunFault>
     ensures lines { OnOk result
         (texts lines.new.items ≡ texts lines.old.items ++ whole_lines text.now) }
@@ -23,7 +23,7 @@ pub fn push_text_lines(alloc: Global, lines: &mut Vec<Vec<u8>>, text: &[u8]) -> 
     Ok(())
 }
 
-/// Appends the lines of a text that have their ends, but for the first and the last.
+/// Appends the lines of a text that have a line end, without the first and the last.
 pub(crate) fn push_inner_lines(
     alloc: Global,
     lines: &mut Vec<Vec<u8>>,
@@ -49,7 +49,7 @@ pub(crate) fn push_inner_lines(
     Ok(())
 }
 
-/// Appends copies of the first `count` lines, or of all where they are fewer.
+/// Appends copies of the first `count` lines, or of all if there are fewer.
 pub fn push_first(
     alloc: Global,
     lines: &mut Vec<Vec<u8>>,

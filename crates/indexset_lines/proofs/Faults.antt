@@ -1,11 +1,11 @@
--- What the result of a failed call says, and what it is not.
+-- The results of failed calls.
 use Rattle.std.proofs.Common.{◌≡◌, ◌⊎◌, true, Result, Ok, Err, OnOk, refl, ap, inl, inr}
 use Rattle.std.proofs.lemmas.Bool.{false≢true}
 use Rattle.std.specs.Result.{IsErr, IsErrAnd, is_err}
 use Rattle.indexset_lines.specs.declared.fault.RunFault.{RunFault}
 use Rattle.indexset_lines.specs.declared.fault.RunFault.TheVariants.{Memory, Numbers, Read, Write}
 
--- a `?` hands on the error
+-- a `?` returns the error
 pub failed : {T E : Type 0} (r : Result T E) (e : E) → IsErr r × IsErrAnd r (λ f. f ≡ e) → r ≡ Err e
 failed (Ok x) e h = absurd h.1
 failed (Err f) e h = ap Err h.1

@@ -1,4 +1,4 @@
--- The lines of an input, and the replies to them, part by part.
+-- The lines of an input and their replies, for concatenations of inputs.
 use Rattle.std.proofs.Common.{◌≡◌, ◌≢◌, ℕ, suc, ◌-◌, ◌<◌, get_or, Bool, true, false, cond, eqb, List, [], ◌∷◌, ◌++◌, length, refl, sym, ap, ◌∙◌, arith, append_assoc, append-nil, eq-eqb, ne_eqb, ◌==◌, ◌||◌}
 use Rattle.std.proofs.lemmas.List.{get_or_push, length_push}
 use Rattle.std.proofs.lemmas.Bool.{eqb-false}
@@ -7,7 +7,7 @@ use Rattle.std.proofs.lemmas.List.Folds.{list_any_none}
 use Rattle.indexset_lines.specs.Lines.{HasNoEnd, IsWhole, before_first, has_end, onto_first, lines_of, rest_of, whole_lines}
 use Rattle.indexset_lines.specs.Run.{left_by, replies_to, rest_reply, text_of}
 
--- a line and its end go first
+-- the first line is the bytes before the first line end
 pub lines_of-line : (line rest : List ℕ) → HasNoEnd line → lines_of (line ++ 10 ∷ rest) ≡ line ∷ lines_of rest
 unfolding lines_of
 lines_of-line [] rest none = refl
@@ -15,12 +15,12 @@ lines_of-line (x ∷ xs) rest none =
     ap (λ b. cond b ([] ∷ lines_of (xs ++ 10 ∷ rest)) (onto_first x (lines_of (xs ++ 10 ∷ rest)))) (ne_eqb x 10 (All-head (λ y. y ≢ 10) x xs none))
     ∙ ap (onto_first x) (lines_of-line xs rest (All-tail (λ y. y ≢ 10) x xs none))
 
--- a line and its end
+-- one line with its end
 pub lines_of-end : (line : List ℕ) → HasNoEnd line → lines_of (line ++ 10 ∷ []) ≡ line ∷ []
 unfolding lines_of
 lines_of-end line none = lines_of-line line [] none
 
--- a line without an end
+-- one line without an end
 pub lines_of-last : (line : List ℕ) → HasNoEnd line → 0 < length line → lines_of line ≡ line ∷ []
 unfolding lines_of
 lines_of-last [] none some = absurd (omega arith)
@@ -37,7 +37,7 @@ onto_first-append : (x : ℕ) (ls ms : List (List ℕ)) → 0 < length ls → on
 onto_first-append x [] ms some = absurd (omega arith)
 onto_first-append x (l ∷ ls) ms some = refl
 
--- a byte begins a line
+-- a non-empty input has a line
 lines_of-some : (x : ℕ) (xs : List ℕ) → 0 < length (lines_of (x ∷ xs))
 unfolding lines_of
 lines_of-some x xs = at (eqb x 10)
@@ -46,7 +46,7 @@ lines_of-some x xs = at (eqb x 10)
     at true = omega arith
     at false = onto_first-some x (lines_of xs)
 
--- whole lines but the first byte, where there are more
+-- whole lines without their first byte, if more bytes follow
 IsWhole-tail : (x y : ℕ) (ys : List ℕ) → IsWhole (x ∷ y ∷ ys) → IsWhole (y ∷ ys)
 unfolding IsWhole
 IsWhole-tail x y ys is_whole some =
@@ -57,7 +57,7 @@ pub IsWhole-end : (xs : List ℕ) → IsWhole (xs ++ 10 ∷ [])
 unfolding IsWhole
 IsWhole-end xs some = get_or_push xs 10 0 (length (xs ++ 10 ∷ []) - 1) (omega (arith, length_push xs 10))
 
--- what follows whole lines is cut by itself
+-- the lines of whole lines and more are the lines of each
 pub lines_of-append : (whole part : List ℕ) → IsWhole whole → lines_of (whole ++ part) ≡ lines_of whole ++ lines_of part
 unfolding lines_of IsWhole
 lines_of-append [] part is_whole = refl
@@ -71,7 +71,7 @@ lines_of-append (x ∷ y ∷ ys) part is_whole = at (eqb x 10) (lines_of-append 
     at true rest = ap (λ l. [] ∷ l) rest
     at false rest = ap (onto_first x) rest ∙ onto_first-append x (lines_of (y ∷ ys)) (lines_of part) (lines_of-some y ys)
 
--- ---- whole lines, and what stands behind them
+-- ---- whole lines, and the bytes after them
 
 no_end_any : (xs : List ℕ) → HasNoEnd xs → has_end xs ≡ false
 no_end_any xs none = list_any_none (λ x. x == 10) xs (λ k d lt. ne_eqb (get_or xs k d) 10 (none k d lt))
@@ -84,7 +84,7 @@ any_end (x ∷ xs) none = at (eqb x 10) refl none (any_end xs)
     at true is e rest = absurd (cc)
     at false is e rest = All-cons (λ y. y ≢ 10) x xs (eqb-false x 10 is) (rest e)
 
--- before the first line end no line has its end
+-- bytes without a line end have no whole line
 no_whole : (xs : List ℕ) → has_end xs ≡ false → whole_lines xs ≡ []
 unfolding whole_lines
 no_whole [] none = refl
@@ -107,7 +107,7 @@ some_whole (x ∷ xs) some = at (eqb x 10) some (some_whole xs)
     at true e rest = omega arith
     at false e rest = before_some x (whole_lines xs) (rest e)
 
--- bytes as the last line, where there are any
+-- the bytes as the last line, if there are any
 abbrev last_line : List ℕ → List (List ℕ)
 last_line [] = []
 last_line (x ∷ xs) = (x ∷ xs) ∷ []
@@ -116,7 +116,7 @@ before_more : (x : ℕ) (ls ms : List (List ℕ)) → 0 < length ls → onto_fir
 before_more x [] ms some = absurd (omega (arith, some))
 before_more x (l ∷ ls) ms some = refl
 
--- the rest is the last line, where there is one
+-- the lines are the whole lines and the rest, if it is not empty
 pub lines_of-parts : (input : List ℕ) → lines_of input ≡ whole_lines input ++ last_line (rest_of input)
 unfolding lines_of whole_lines rest_of
 lines_of-parts [] = refl
@@ -149,7 +149,7 @@ module _ (rest : List ℕ) (none : HasNoEnd rest) where
   rest_alone [] e = refl
   rest_alone (x ∷ xs) e = rw e refl
 
-  -- whole lines and such a rest are told apart
+  -- whole lines followed by such a rest have a unique decomposition
   pub whole_lines-append : (whole : List ℕ) → IsWhole whole → whole_lines (whole ++ rest) ≡ lines_of whole
   unfolding whole_lines lines_of IsWhole
   whole_lines-append [] is_whole = no_whole rest (no_end_any rest none)
@@ -189,7 +189,7 @@ module _ {S : Type 0} (reply : S → List ℕ → List ℕ) (after : S → List 
   one_text s [] = refl
   one_text s (x ∷ xs) = sym (append-nil (reply s (x ∷ xs)))
 
-  -- a rest that is answered as a line
+  -- the case that the rest is answered as a line is
   pub text_of-uncut : (start : S) (input : List ℕ) → text_of reply after reply start input ≡ replies_to reply after start (lines_of input)
   text_of-uncut start input =
       ap (λ t. replies_to reply after start (whole_lines input) ++ t) (one_text (left_by after start (whole_lines input)) (rest_of input))

@@ -1,4 +1,4 @@
--- How a line is read, piece by piece.
+-- Reading a line, piece by piece.
 use Rattle.std.proofs.Common.{Option, true, false, cond, None, Some, IfSome, OnSome, ◌≡◌, ◌≢◌, ℕ, suc, ◌==◌, not, ◌||◌, ◌+◌, ◌<◌, ◌≤◌, List, [], ◌∷◌, ◌++◌, length, take, get_or, refl, sym, ap, subst, ◌∙◌, arith, rules, append_assoc, append-nil, eq-eqb, eqb-true, true≢false, length-take-le, get_or-take}
 use Rattle.std.proofs.lemmas.List.{take_more}
 use Rattle.std.proofs.lemmas.List.Elements.{All-append, All-from_get_or}
@@ -16,9 +16,9 @@ use Rattle.indexset_lines.specs.declared.line.Part.TheVariants.{Whole, Last, End
 use Rattle.indexset_lines.specs.Lines.{HasNoEnd}
 use Rattle.indexset_lines.specs.Reading.{Reads, Stops, Moves, Ends, TakesPiece}
 
--- ---- the first end among the bytes shown
+-- ---- the first line end among the buffered bytes
 
--- the place of the first that passes, or the length
+-- the index of the first element that passes, or the length
 pub position-or_len : (p : ℕ → Bool) (xs : List ℕ) → unwrap_or (position p xs) (length xs) ≡ position_or_len p xs
 position-or_len p xs = at (nat_lt (position_or_len p xs) (length xs)) refl
   where
@@ -30,7 +30,7 @@ position-or_len p xs = at (nat_lt (position_or_len p xs) (length xs)) refl
         omega arith
 
 module _ {X : Type 0} (p : X → Bool) where
-  -- no element of a concatenation passes if none of either part does
+  -- no element of a concatenation passes if no element of either part does
   pub none_in_both : (xs ys : List X) → list_any p xs ≡ false → list_any p ys ≡ false → list_any p (xs ++ ys) ≡ false
   none_in_both xs ys none also = list_any-append p xs ys ∙ rw (none, also) refl
 
@@ -38,7 +38,7 @@ module _ {X : Type 0} (p : X → Bool) where
   step false c n m l none more = omega (arith, more none)
   step true c n m l none more = absurd (cc)
 
-  -- the first that passes is behind a part of which none does
+  -- the index of the first element that passes, after a part of which none does
   pub position_or_len-behind : (xs ys : List X) → list_any p xs ≡ false → position_or_len p (xs ++ ys) ≡ length xs + position_or_len p ys
   position_or_len-behind [] ys none = search rules
   position_or_len-behind (x ∷ xs) ys none = step (p x) (list_any p xs) _ _ (length xs) none (position_or_len-behind xs ys)
@@ -47,7 +47,7 @@ module _ (shown : List ℕ) (n : ℕ) (first : n ≡ position_or_len (λ b. b ==
   pub first_end_within : n ≤ length shown
   first_end_within = rw first (prefix_len-le-length (λ b. not (b == 10)) shown)
 
-  -- there is none before it
+  -- there is no line end before it
   before_first_end : HasNoEnd (take n shown)
   before_first_end = All-from_get_or (λ x. x ≢ 10) (take n shown) 0 (λ k inside ten.
       let small : k < n = omega (arith, length-take-le n shown first_end_within) in
@@ -66,7 +66,7 @@ module _ (shown : List ℕ) (n : ℕ) (first : n ≡ position_or_len (λ b. b ==
     pub moves_on : Consumes old new (take n shown) → Moves old new before after []
     moves_on gone = record { piece = take n shown; no_end = before_first_end; line = line; read = subst (Consumes old new) (sym (append-nil (take n shown))) gone }
 
--- ---- a look that shows nothing, and one whose bytes find no room
+-- ---- an empty buffer, and bytes that memory runs out for
 
 module _ (r r' : Option (List ℕ)) (shown : List ℕ) where
   pub ends_there : (before : List ℕ) → IfSome r (λ xs. length shown ≡ 0 → xs ≡ []) → length shown ≡ 0 → Keeps r r' → Ends r r' before before
@@ -85,7 +85,7 @@ pub no_room_left : (r : Option (List ℕ)) (shown piece : List ℕ) (room len : 
 no_room_left None shown piece room len front within small = tt
 no_room_left (Some xs) shown piece room len front within small = omega (arith, starts_with_length xs shown front)
 
--- ---- pieces one after the other
+-- ---- consecutive pieces
 
 pub at_end-after : (r r1 r2 : Option (List ℕ)) (bs : List ℕ) → Consumes r r1 bs → OnSome r1 (IsAtEnd r2) → OnSome r (IsAtEnd r2)
 at_end-after None r1 r2 bs read end = tt
@@ -101,7 +101,7 @@ module _ (r r1 r2 : Option (List ℕ)) (before after : List ℕ) (far : Stops r 
       subst (Consumes r r2) (sym (append_assoc before moves.piece ending) ∙ ap (λ l. l ++ ending) (sym moves.line))
       (Consumes-trans r r1 r2 before (moves.piece ++ ending) far.1 moves.read)
 
-  -- more of the line may come
+  -- the line may continue
   pub stops_further : TakesPiece r1 r2 before after None → Stops r r2 after
   stops_further moves = (HasNoEnd-moved [] moves, subst (Consumes r r2) (append-nil after) (Consumes-moved [] moves))
 

@@ -1,4 +1,4 @@
--- How a run goes on, line by line.
+-- The state of a run, line by line.
 use Rattle.std.proofs.Common.{Option, OnSome, Bool, ◌≡◌, ◌≢◌, ◌<◌, ℕ, length, List, [], ◌∷◌, ◌++◌, refl, sym, ap, subst, ◌∙◌, arith, append_assoc, append-nil}
 use Rattle.std.proofs.lemmas.List.Elements.{All-nil}
 use Rattle.std.specs.Io.KnownBytes.{Appends, Consumes, IsAtEnd, Keeps}
@@ -23,7 +23,7 @@ module _ {S : Type 0} (reply : S → List ℕ → List ℕ) (after : S → List 
   abbrev text_so_far : List ℕ → List ℕ
   text_so_far whole = replies_to reply after begun (lines_of whole)
 
-  -- whole lines were read and answered, and what is held is what they leave
+  -- whole lines were read and answered, and the state is that after them
   pub record SoFar (reader reader' writer writer' : Option (List ℕ)) (held : S) : Type 0 where
     pub whole : List ℕ
     pub is_whole : IsWhole whole
@@ -39,7 +39,7 @@ module _ {S : Type 0} (reply : S → List ℕ → List ℕ) (after : S → List 
   pub flushed : (r r1 w w1 w2 : Option (List ℕ)) (held : S) → SoFar r r1 w w1 held → Keeps w1 w2 → SoFar r r1 w w2 held
   flushed r r1 w w1 w2 held far kept = record { whole = far.whole; is_whole = far.is_whole; read = far.read; written = Appends-kept w w1 w2 (text_so_far far.whole) far.written kept; left = far.left }
 
-  -- nothing was read, and nothing answered
+  -- nothing was read or answered
   pub nothing_read : (r w : Option (List ℕ)) → AnswersWholeLines reply after begun IsLinePart r r w w
   unfolding IsWhole lines_of replies_to
   nothing_read r w = record {
@@ -65,7 +65,7 @@ module _ {S : Type 0} (reply : S → List ℕ → List ℕ) (after : S → List 
     rest_some [] some = absurd (omega (arith, some))
     rest_some (x ∷ xs) some = refl
 
-  -- ---- whole lines and one more
+  -- ---- whole lines and another
 
   module _ (whole part line : List ℕ) (held : S) (is_whole : IsWhole whole) (one : lines_of part ≡ line ∷ []) (left : held ≡ left_by after begun (lines_of whole)) where
     text_of-more : text_so_far (whole ++ part) ≡ text_so_far whole ++ reply held line
@@ -83,7 +83,7 @@ module _ {S : Type 0} (reply : S → List ℕ → List ℕ) (after : S → List 
         ∙ ap (λ s. after s line) (sym left)
 
   module _ (r r1 r2 w w1 w2 : Option (List ℕ)) (held : S) (line : List ℕ) (far : SoFar r r1 w w1 held) where
-    -- a line that was answered
+    -- a line was answered
     pub further : (part : Part) (is_used_up : Bool) (passed : List ℕ) (held' : S) → part ≡ Whole is_used_up → passed ≡ line → Reads r1 r2 line part
         → Appends w1 w2 (reply held passed) → held' ≡ after held passed → SoFar r r2 w w2 held'
     further part is_used_up passed held' is same reads told next =
@@ -98,7 +98,7 @@ module _ {S : Type 0} (reply : S → List ℕ → List ℕ) (after : S → List 
           left = next ∙ ap (λ l. after held l) same ∙ sym (left_by-more far.whole (line ++ 10 ∷ []) line held far.is_whole one far.left);
         }
 
-    -- the last line was answered, which lacks its end
+    -- the last line, which has no end, was answered
     pub all_but_end : (cut : S → List ℕ → List ℕ) (part : Part) (passed : List ℕ) → part ≡ Last → passed ≡ line → Reads r1 r2 line part → Appends w1 w2 (cut held passed) → AnswersAll (text_of reply after cut begun) r r2 w w2
     all_but_end cut part passed is same reads told =
         let read = subst (Reads r1 r2 line) is reads in
@@ -110,7 +110,7 @@ module _ {S : Type 0} (reply : S → List ℕ → List ℕ) (after : S → List 
           written = subst (Appends w w2) (sym (text_with cut far.whole line far.is_whole read.0 ∙ ap (λ t. text_so_far far.whole ++ t) (rest_some cut line read.2 ∙ ap (λ s. cut s line) (sym far.left)))) (Appends-trans w w1 w2 (text_so_far far.whole) (cut held line) far.written cut_told);
         }
 
-    -- the reader stopped within a line
+    -- the reader failed within a line
     pub stopped : (IsRest : List ℕ → Type 0) → IsRest line → Consumes r1 r2 line → Keeps w1 w2 → AnswersWholeLines reply after begun IsRest r r2 w w2
     stopped IsRest is_rest read kept = record {
       whole = far.whole;
@@ -121,7 +121,7 @@ module _ {S : Type 0} (reply : S → List ℕ → List ℕ) (after : S → List 
       written = Appends-kept w w1 w2 (text_so_far far.whole) far.written kept;
     }
 
-    -- a line was read, and not answered
+    -- a line was read but not answered
     unanswered_rest : (rest : List ℕ) → IsLinePart rest → Consumes r1 r2 rest → Keeps w1 w2 → AnswersWholeLines reply after begun IsLinePart r r2 w w2
     unanswered_rest rest stops read kept = record {
       whole = far.whole;
@@ -137,7 +137,7 @@ module _ {S : Type 0} (reply : S → List ℕ → List ℕ) (after : S → List 
     unanswered Last other reads kept = unanswered_rest line (StopsAt-of_All line 10 reads.0) reads.1 kept
     unanswered End other reads kept = absurd (other refl)
 
-    -- a line was read whose numbers are lacking
+    -- a line was read whose events need more numbers than remain
     lacking_rest : (lacks : S → Type 0) (rest passed : List ℕ) → lines_of rest ≡ line ∷ [] → IsLinePart rest → Consumes r1 r2 rest → passed ≡ line → Keeps w1 w2 → lacks (after held passed) → LacksNumbers reply after begun lacks r r2 w w2
     unfolding unanswered_rest
     lacking_rest lacks rest passed one stops read same kept many =
@@ -149,7 +149,7 @@ module _ {S : Type 0} (reply : S → List ℕ → List ℕ) (after : S → List 
     lacking lacks Last passed other same reads kept many = lacking_rest lacks line passed (lines_of-last line reads.0 reads.2) (StopsAt-of_All line 10 reads.0) reads.1 same kept many
     lacking lacks End passed other same reads kept many = absurd (other refl)
 
-    -- nothing was left, and the writer was flushed
+    -- all was read, and the writer was flushed
     pub all_read : (cut : S → List ℕ → List ℕ) (part : Part) → part ≡ End → Reads r1 r2 line part → Keeps w1 w2 → AnswersAll (text_of reply after cut begun) r r2 w w2
     all_read cut part is reads kept =
         let read = subst (Reads r1 r2 line) is reads in
@@ -160,7 +160,7 @@ module _ {S : Type 0} (reply : S → List ℕ → List ℕ) (after : S → List 
           written = subst (Appends w w2) (sym (text_whole cut far.whole far.is_whole)) (Appends-kept w w1 w2 (text_so_far far.whole) far.written kept);
         }
 
-  -- nothing more was there to read
+  -- the reader had nothing left
   pub rest_read : (cut : S → List ℕ → List ℕ) (r r1 r2 w w1 : Option (List ℕ)) (held : S) → SoFar r r1 w w1 held → Keeps r1 r2 → OnSome r1 (IsAtEnd r2) → AnswersAll (text_of reply after cut begun) r r2 w w1
   rest_read cut r r1 r2 w w1 held far kept end = record {
     input = far.whole;
@@ -178,6 +178,6 @@ module _ {S : Type 0} (reply : S → List ℕ → List ℕ) (after : S → List 
   flushed_lacking lacks r r' w w1 w2 (a, many) kept =
       (record { whole = a.whole; rest = a.rest; is_whole = a.is_whole; is_rest = a.is_rest; read = a.read; written = Appends-kept w w1 w2 (text_so_far a.whole) a.written kept }, many)
 
--- a text that is the same of every input
+-- the two functions give the same text for each input
 pub texts_alike : (f h : List ℕ → List ℕ) → ((input : List ℕ) → f input ≡ h input) → (r r' w w' : Option (List ℕ)) → AnswersAll f r r' w w' → AnswersAll h r r' w w'
 texts_alike f h same r r' w w' a = record { input = a.input; read = a.read; at_end = a.at_end; written = subst (Appends w w') (same a.input) a.written }

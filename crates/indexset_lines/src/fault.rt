@@ -1,10 +1,10 @@
-//! What ends a run before its input does.
+//! Faults that end a run.
 
 use indexset_core::refusal::{Refusal, Refused};
 use std::error::Error;
 use std::fmt;
 
-/// What ends a run before its input does.
+/// A fault that ends a run.
 #[derive(Clone, Copy, Debug, PartialEq, Eq)]
 pub enum RunFault {
     /// Memory ran out.

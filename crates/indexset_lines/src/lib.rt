@@ -1,7 +1,7 @@
-//! Lines: read from a reader, answered one after another, and what ends such a run.
+//! Reads lines, has each answered, and reports faults.
 //!
-//! [`line`] reads lines, [`run`] has each answered by what implements [`Answers`], and [`RunFault`]
-//! says what ended a run before its input did.
+//! [`line`] reads lines. [`run`] has each answered by a type that implements [`Answers`].
+//! [`RunFault`] is the error of a run.
 #![tactic(auto)]
 
 mod fault;

@@ -1,4 +1,4 @@
-//! Lines of a reader.
+//! Reads the lines of a reader.
 
 ghost use Rattle.std.specs.Prelude.{◌⊎◌, ◌≡◌, ◌≢◌, ◌==◌, ◌+◌, ◌<◌, ◌≤◌, length, vec_len, vec_capacity, false, Ok, Err, IfOk, IfErr, IfSome, OnErr, OnSome, IsTrue};
 ghost use Rattle.std.specs.List.{position, position_or_len};
@@ -10,19 +10,24 @@ use crate::fault::RunFault;
 use crate::output::flush;
 use std::io::{BufRead, ErrorKind, Write};
 
-/// What a read of a line found.
+/// The result of reading a line.
 #[derive(Clone, Copy, Debug, PartialEq, Eq)]
 pub enum Part {
-    /// A line and its end. Where the reader's buffer is empty, the next look may read.
+    /// A line with its end. If the buffer is used up, the next read may block.
     Whole { is_used_up: bool },
-    /// A line without an end, the last.
+    /// The last line, which has no end.
     Last,
-    /// Nothing is left.
+    /// The reader is at its end.
     End,
 }
 
-/// Reads the next line, without its end. Within the line, the writer is flushed before more is
-/// read.
+/// Reads the next line, without its end, into `line`.
+///
+/// If the line is not complete in the reader's buffer, the writer is flushed before each read.
+///
+/// # Errors
+///
+/// `Memory`, `Read` or `Write`. Less than a line was consumed.
 pub fn next_line<R: BufRead, W: Write>(
     reader: &mut R,
     writer: &mut W,
@@ -45,7 +50,7 @@ pub fn next_line<R: BufRead, W: Write>(
     Err(RunFault::Read)
 }
 
-/// Moves to the line what the reader shows of it. Returns `None` where more of the line may come.
+/// Appends the buffered bytes of the line. Returns `None` if more of the line may follow.
 fn take_piece<R: BufRead>(reader: &mut R, line: &mut Vec<u8>) -> Result<Option<Part>, RunFault>
     requires { HasNoEnd line.old.items }
     ensures ok { IfOk result (TakesPiece (R.remaining reader.old) (R.remaining reader.new)
@@ -54,7 +59,7 @@ fn take_piece<R: BufRead>(reader: &mut R, line: &mut Vec<u8>) -> Result<Option<P
     ensures unchanged { OnErr result (line.new.items ≡ line.old.items) }
     ensures fault { IfErr result (λ fault. (fault ≡ RunFault.Memory) ⊎ (fault ≡ RunFault.Read)) }
 
-    // The fault is not `Memory` where the line had room for all that remained in the reader.
+    // `Memory` implies that the line had no space for all that remained in the reader.
     ensures no_room { result ≡ Err RunFault.Memory → IfSome (R.remaining reader.old)
         (λ left. vec_capacity line.old < vec_len line.old + length left) }
 {
@@ -90,8 +95,10 @@ fn take_piece<R: BufRead>(reader: &mut R, line: &mut Vec<u8>) -> Result<Option<P
     }
 }
 
-/// Returns how many bytes are before the first line end. It skips blocks of 32 bytes that have
-/// none, since `contains` compiles to vector instructions and `position` does not.
+/// Returns how many bytes are before the first line end.
+///
+/// Skips blocks of 32 bytes that have none: `contains` compiles to vector instructions, and
+/// `position` does not.
 fn line_len(bytes: &[u8]) -> usize
     ensures { result ≡ position_or_len (λ b. b == 10) bytes.now }
 {
@@ -102,7 +109,7 @@ fn line_len(bytes: &[u8]) -> usize
     skipped + line_len_bytewise(&bytes[skipped..])
 }
 
-/// Returns the same, a byte at a time.
+/// Returns how many bytes are before the first line end, testing each byte.
 fn line_len_bytewise(bytes: &[u8]) -> usize
     ensures value { result ≡ position_or_len (λ b. b == 10) bytes.now }
     ensures within { result ≤ length bytes.now }
@@ -117,7 +124,11 @@ fn first_line_end(bytes: &[u8]) -> Option<usize>
     bytes.iter().position(|b| *b == b'\n')
 }
 
-/// Returns whether nothing remains to read.
+/// Returns whether the reader is at its end.
+///
+/// # Errors
+///
+/// `Read`.
 pub fn is_at_end<R: BufRead>(reader: &mut R) -> Result<bool, RunFault>
     ensures unread { Keeps (R.remaining reader.old) (R.remaining reader.new) }
     ensures end { IfOk result (λ end. IsTrue end

@@ -10,7 +10,7 @@ use crate::line::{Part, is_at_end, next_line};
 use crate::output::flush;
 use std::io::{BufRead, Write};
 
-/// What answers lines, one after another.
+/// A type that answers lines.
 pub trait Answers {
     /// The state that a line reads and changes.
     ghost State: { Type 0 };
@@ -20,16 +20,20 @@ pub trait Answers {
     /// The reply to a line.
     ghost reply: { Self → Self.State → List ℕ → List ℕ };
 
-    /// The reply to a last line that lacks its end.
+    /// The reply to a last line that has no line end.
     ghost cut_reply: { Self → Self.State → List ℕ → List ℕ };
 
     /// The state after a line.
     ghost after: { Self.State → List ℕ → Self.State };
 
-    /// Too few event numbers remain.
+    /// Whether too few event numbers remain.
     ghost lacks_numbers: { Self.State → Type 0 };
 
-    /// Writes the reply to a line. Where memory or numbers run out, nothing is written.
+    /// Writes the reply to a line.
+    ///
+    /// # Errors
+    ///
+    /// `Memory` or `Numbers`: nothing is written. `Write`.
     fn answer<W: Write>(&mut self, writer: &mut W, line: &[u8]) -> Result<(), RunFault>
         ensures held { OnOk result (state self.new ≡ after (state self.old) line.now) }
         ensures alike { OnOk result (reply self.new ≡ reply self.old) }
@@ -44,8 +48,11 @@ pub trait Answers {
             → lacks_numbers (after (state self.old) line.now) }
         ensures no_read { result ≢ Err RunFault.Read };
 
-    /// Writes the reply to a last line that lacks its end. Where memory or numbers run out, nothing
-    /// is written.
+    /// Writes the reply to a last line that has no line end.
+    ///
+    /// # Errors
+    ///
+    /// `Memory` or `Numbers`: nothing is written. `Write`.
     fn answer_cut<W: Write>(&mut self, writer: &mut W, line: &[u8]) -> Result<(), RunFault>
         ensures told { OnOk result (Appends (W.contents writer.old) (W.contents writer.new)
             (cut_reply self.old (state self.old) line.now)) }
@@ -58,36 +65,40 @@ pub trait Answers {
         ensures no_read { result ≢ Err RunFault.Read };
 }
 
-/// Writes the reply to each line of the reader, and uses `line` as the buffer for one.
+/// Writes the reply to each line of the reader, with `line` as the buffer for a line.
 ///
-/// The writer is flushed where the reader's buffer is empty, so that each reply is out before the
-/// next read; at the end the caller flushes it. A fault ends the run at once. A line past the first
-/// 2^64 - 1 is a fault of the reader. After a failed write nothing is said of what was written.
+/// The writer is flushed when the reader's buffer is empty, so a reply is written before the run
+/// waits for the next line. The caller flushes the writer at the end.
+///
+/// # Errors
+///
+/// The first fault, which ends the run. A run that reads more than 2^64 - 1 lines fails with
+/// `Read`. After `Write` it is not specified what was written.
 pub fn answer_lines<A: Answers, R: BufRead, W: Write>(
     answers: &mut A,
     reader: &mut R,
     writer: &mut W,
     line: &mut Vec<u8>,
 ) -> Result<(), RunFault>
-    // The bytes that the reader gave, to its end, have their replies.
+    // The bytes that the reader returned, to its end, have their replies.
     ensures given_answered { OnOk result (AnswersAll
         (text_of (A.reply answers.old) A.after (A.cut_reply answers.old) (A.state answers.old))
         (R.remaining reader.old) (R.remaining reader.new)
         (W.contents writer.old) (W.contents writer.new)) }
 
-    // The whole lines that the reader gave before it failed have their replies.
+    // The whole lines that the reader returned before it failed have their replies.
     ensures read_failed { result ≡ Err RunFault.Read → AnswersWholeLines
         (A.reply answers.old) A.after (A.state answers.old) HasNoEnd
         (R.remaining reader.old) (R.remaining reader.new)
         (W.contents writer.old) (W.contents writer.new) }
 
-    // The lines before the failed one have their replies; some or all of it was read.
+    // The lines before the failed line have their replies; that line was read in part or whole.
     ensures memory_refused { result ≡ Err RunFault.Memory → AnswersWholeLines
         (A.reply answers.old) A.after (A.state answers.old) IsLinePart
         (R.remaining reader.old) (R.remaining reader.new)
         (W.contents writer.old) (W.contents writer.new) }
 
-    // The same, and with the failed line numbers are lacking.
+    // The same, and the events of the failed line need more numbers than remain.
     ensures numbers_refused { result ≡ Err RunFault.Numbers → LacksNumbers
         (A.reply answers.old) A.after (A.state answers.old) A.lacks_numbers
         (R.remaining reader.old) (R.remaining reader.new)
@@ -105,7 +116,7 @@ pub fn answer_lines<A: Answers, R: BufRead, W: Write>(
             Part::End => return Ok(()),
         }
     }
-    // No line may follow.
+    // The limit of lines is reached.
     if is_at_end(reader)? {
         Ok(())
     } else {

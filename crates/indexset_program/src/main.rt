@@ -1,4 +1,4 @@
-//! Keeps a set and a map of numbers by the commands of its input, and writes the reply to each.
+//! Executes commands to a set and a map of numbers, one from each line of standard input.
 #![tactic(auto)]
 
 use indexset_bench::{RunFault, run};

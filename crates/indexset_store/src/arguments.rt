@@ -1,4 +1,4 @@
-//! What the arguments of the program ask for.
+//! The arguments of the program.
 
 ghost use Rattle.std.specs.Prelude.{◌≤◌};
 
@@ -8,79 +8,80 @@ use indexset_keep::manner::Manner;
 use std::io::ErrorKind;
 use std::{env, io};
 
-/// How the program is called.
+/// The first line of the help, and the message for bad arguments.
 pub const USAGE: &str =
     "usage: indexset_store [--follow | --lead] [--keys numbers|text] [--keep FILE] \
 [--node-size N] [--window N] [--pass-others] [--quiet] | --help | --version";
 
-/// What the arguments mean.
+/// The help after its first line.
 pub const HELP: &str = "
-Keeps a map of numbers or texts, and answers each line of standard input on standard output.
+Serves a map of numbers or texts: reads lines from standard input, and writes the answer to each
+to standard output.
 
-  --follow       begin as a follower, which takes the events of another map (unless said)
-  --lead         begin as a leader, which carries out commands and prints their events
-  --keys KEYS    numbers (unless said), or text: keys and values are percent-encoded
-  --keep FILE    go on from this SQLite file, and keep each change there before it is answered
-  --node-size N  at most N pairs a node of a leader, 2 to 65535 (256 unless said)
-  --window N     as a follower, hold events up to N ahead of the awaited one (4096 unless said)
-  --pass-others  pass over lines that say nothing
-  --quiet        as a follower, reply only gap, unfit and what a request asks for
-  --help         print this
-  --version      print the version";
+  --follow       start as a follower, which applies the events of another map (default)
+  --lead         start as a leader, which executes commands and writes their events
+  --keys KEYS    type of keys and values: numbers, or text (percent-encoded). Default: numbers
+  --keep FILE    start from the map in this SQLite file, and commit each change before its answer
+  --node-size N  maximum number of pairs in a node of a leader, 2 to 65535. Default: 256
+  --window N     as a follower, hold events up to N ahead of the awaited one. Default: 4096
+  --pass-others  ignore lines that are not part of the protocol
+  --quiet        as a follower, write only gap, unfit and the answers to requests
+  --help         show this message
+  --version      show the version";
 
-/// The name and the version.
+/// The name and the version of the program.
 pub const VERSION: &str = "indexset_store 0.2.0";
 
-/// The node size unless one is given.
+/// The default node size.
 const NODE_SIZE: usize = 256;
 
-/// The window unless one is given.
+/// The default window.
 const WINDOW: u64 = 4_096;
 
 /// The greatest node size.
 const MOST: u64 = 65_535;
 
-/// How many pairs a node of a leader holds at most.
+/// The maximum number of pairs in a node of a leader.
 #[derive(Clone, Copy, Debug)]
 struct NodeSize {
     pairs: usize,
     ghost two: { 2 ≤ pairs },
 }
 
-/// What the program is to write.
+/// What the program writes.
 #[derive(Clone, Copy, Debug)]
 pub enum Asked {
     /// The answers to lines.
     Answers,
-    /// What the arguments mean.
+    /// The help.
     Help,
     /// The version.
     Version,
 }
 
-/// What keys and values are.
+/// The type of keys and values.
 #[derive(Clone, Copy, Debug)]
 pub enum Keys {
-    /// Numbers of 64 bits.
+    /// Numbers of at most 64 bits.
     Numbers,
     /// Texts, percent-encoded in each line.
     Text,
 }
 
-/// What is asked for.
+/// The settings of a run.
 #[derive(Drop)]
 pub struct Settings {
-    /// What is to be written.
+    /// What the program writes.
     pub asked: Asked,
-    /// What keys and values are.
+    /// The type of keys and values.
     pub keys: Keys,
-    /// The file in which changes are kept.
+    /// The file that keeps changes, if there is one.
     pub file: Option<String>,
-    /// How lines are answered.
+    /// The settings of the map.
     pub manner: Manner,
 }
 
-/// What the next argument gives.
+/// The option whose value is the next argument.
 #[derive(Clone, Copy, Debug)]
 enum Wanted {
     File,
@@ -89,7 +90,7 @@ enum Wanted {
     Window,
 }
 
-/// What the arguments say, each once at most.
+/// The options that were given, each at most once.
 #[derive(Drop)]
 struct Given {
     file: Option<String>,
@@ -100,12 +101,12 @@ struct Given {
     is_quiet: Option<bool>,
     node_size: Option<NodeSize>,
     window: Option<u64>,
-    /// The next argument gives this.
+    /// The option whose value is the next argument.
     wanted: Option<Wanted>,
 }
 
 impl Given {
-    /// Takes an argument. Returns whether it is one, and not said before.
+    /// Adds an argument. Returns `false` if it is unknown, has a bad value or was given before.
     fn take(&mut self, argument: String) -> bool {
         if let Some(wanted) = self.wanted.take() {
             return self.set(wanted, argument);
@@ -129,8 +130,7 @@ impl Given {
         }
     }
 
-    /// Sets what is wanted to what an argument gives. Returns whether it gives that, and it was not
-    /// set before.
+    /// Sets the value of an option. Returns `false` if it is a bad value or was given before.
     fn set(&mut self, wanted: Wanted, argument: String) -> bool {
         match wanted {
             Wanted::File => {
@@ -144,7 +144,7 @@ impl Given {
         }
     }
 
-    /// Returns the settings, or nothing where an argument lacks its value.
+    /// Returns the settings, or `None` if an option has no value.
     fn settings(self) -> Option<Settings> {
         if self.wanted.is_some() {
             return None;
@@ -169,7 +169,7 @@ impl Given {
     }
 }
 
-/// Returns what the argument behind this one gives.
+/// Returns the option of this name that has a value.
 fn wanted_by(word: &str) -> Option<Wanted> {
     if word == "--keep" {
         Some(Wanted::File)
@@ -184,7 +184,7 @@ fn wanted_by(word: &str) -> Option<Wanted> {
     }
 }
 
-/// Stores what an argument says. Returns whether it says something, and nothing was there.
+/// Stores a value. Returns `false` if there is none, or one was stored before.
 fn keep<T: Copy>(place: &mut Option<T>, said: Option<T>) -> bool {
     let is_new = place.is_none() && said.is_some();
     if is_new {
@@ -193,8 +193,11 @@ fn keep<T: Copy>(place: &mut Option<T>, said: Option<T>) -> bool {
     is_new
 }
 
-/// Returns what the arguments ask for, or nothing where one is unknown or doubled or lacks its
-/// value. Fails where memory runs out.
+/// Returns the settings, or `None` if an argument is unknown, given twice or without its value.
+///
+/// # Errors
+///
+/// An error of `env::args`.
 pub fn read_settings(rt: &HostRuntime) -> io::Result<Option<Settings>> {
     let mut arguments = match env::args(rt) {
         Ok(arguments) => arguments,
@@ -226,7 +229,7 @@ pub fn read_settings(rt: &HostRuntime) -> io::Result<Option<Settings>> {
     Ok(given.settings())
 }
 
-/// Returns what a word says that keys and values are.
+/// Returns the type of keys and values of this name.
 fn read_keys(word: &str) -> Option<Keys> {
     if word == "numbers" {
         Some(Keys::Numbers)
@@ -237,7 +240,7 @@ fn read_keys(word: &str) -> Option<Keys> {
     }
 }
 
-/// Returns the node size of a text, if it is one.
+/// Returns the node size of a text, or `None` if it is not one.
 fn read_node_size(text: &[u8]) -> Option<NodeSize> {
     let pairs = read_number(text)?;
     if pairs < 2 || pairs > MOST {

@@ -1,14 +1,8 @@
-//! Keeps a map of numbers, or of texts, that follows another by its events, or leads by commands and
-//! tells its events, and writes the answer to each line of its input.
+//! Serves a map of numbers or texts over standard input and output.
 //!
-//! The arguments are `--follow` or `--lead`, the role that it begins in (it follows unless said),
-//! `--keys`, what keys and values are: `numbers` (unless said) or `text`, percent-encoded in lines,
-//! `--node-size N`, how many pairs a node of a leader holds at most (2 to 65,535; 256 unless said),
-//! `--window N`, how far ahead of the awaited event a follower holds others (4,096 unless said),
-//! `--keep FILE`, a SQLite file from which it goes on, and in which each change is kept before it is
-//! answered, `--pass-others`, with which a line that means nothing is passed over in silence, and `--quiet`,
-//! with which a follower tells of lines that are no requests only what is missing or does not fit.
-//! `--help` and `--version` are answered on standard output.
+//! The map starts as a follower, which applies the events of another map, or as a leader, which
+//! executes commands and writes their events. The program writes the answer to each line that it
+//! reads. `--help` lists the arguments.
 #![tactic(auto)]
 
 mod arguments;
@@ -26,16 +20,16 @@ use sqlite::{Connection, File, FileStore};
 use std::io::{self, BufReader, BufWriter};
 use std::process::ExitCode;
 
-/// The exit status where an argument is unknown or doubled or lacks its value.
+/// The exit status for bad arguments.
 const BAD_ARGUMENTS: u8 = 5;
 
-/// The bytes that a read or a write takes at most: some thousand lines.
+/// The size of each buffer in bytes: some thousand lines.
 const BUFFERED: usize = 65_536;
 
-/// The table of a file: its rows are the lines that are kept.
+/// Creates the table of a file, whose rows are the lines that are kept.
 const TABLE: &str = "CREATE TABLE kept (number INTEGER PRIMARY KEY, line TEXT NOT NULL) STRICT";
 
-/// Returns the store of an open file, and makes the table where it has none.
+/// Returns the store of an open file, and creates the table if the file has none.
 fn with_table(conn: Connection<FileStore<File>>) -> Result<FileStore<File>, JournalError> {
     let mut conn = conn;
     if !conn.schema().tables.as_slice().is_empty() {
@@ -49,12 +43,12 @@ fn with_table(conn: Connection<FileStore<File>>) -> Result<FileStore<File>, Jour
     }
 }
 
-/// Opens the file, and makes it where it is missing. One that has tables stays as it is.
+/// Opens the file, or creates it if it does not exist. A file that has tables is unchanged.
 fn store_at(rt: &HostRuntime, path: &str) -> Result<FileStore<File>, JournalError> {
     with_table(Connection::open(rt, path)?)
 }
 
-/// Runs from standard input to standard output, and keeps what changes in a file.
+/// Runs over standard input and output, and keeps changes in a file.
 fn run_kept<T: Key>(rt: &HostRuntime, manner: Manner, path: &str) -> Result<(), KeepFault> {
     let alloc = rt.alloc();
     let reader = BufReader::with_capacity(alloc, BUFFERED, rt.reader());
@@ -65,7 +59,7 @@ fn run_kept<T: Key>(rt: &HostRuntime, manner: Manner, path: &str) -> Result<(), 
     run_over::<T, _, _, _>(alloc, manner, store, &mut reader, &mut writer)
 }
 
-/// Runs from standard input to standard output.
+/// Runs over standard input and output.
 fn run_alone<T: Key>(rt: &HostRuntime, manner: Manner) -> Result<(), RunFault> {
     let alloc = rt.alloc();
     let reader = BufReader::with_capacity(alloc, BUFFERED, rt.reader());
@@ -88,7 +82,7 @@ fn tell(rt: &HostRuntime, text: &str) -> Result<(), RunFault> {
     println!(rt; "{text}").map_err(|_| RunFault::Write)
 }
 
-/// Answers the lines of standard input, by a map of such keys and values.
+/// Answers the lines of standard input with a map of this type of keys and values.
 fn run<T: Key>(rt: &HostRuntime, settings: &Settings) -> Result<(), KeepFault> {
     match &settings.file {
         Some(path) => run_kept::<T>(rt, settings.manner, path.as_str())?,
@@ -97,7 +91,7 @@ fn run<T: Key>(rt: &HostRuntime, settings: &Settings) -> Result<(), KeepFault> {
     Ok(())
 }
 
-/// Does what is asked for.
+/// Runs as the settings say.
 fn answer(rt: &HostRuntime, settings: &Settings) -> Result<(), KeepFault> {
     match settings.asked {
         Asked::Answers => match settings.keys {

@@ -1,4 +1,4 @@
--- How a text is spelled as a word of a line, and read.
+-- The spelling of a text as a word of a line.
 pub mod Laws
 use Rattle.std.specs.Prelude.{◌≡◌, ℕ, ◌<◌, ◌==◌, ◌&&◌, ◌||◌, Bool, nat_lt, if◌then◌else◌, List, [], ◌∷◌, Option, None, Some}
 use Rattle.std.specs.Char.{digit_value}
@@ -11,11 +11,11 @@ use Rattle.percent_encoding.specs.Percent.{percent_decode, percent_encode_byte}
 abbrev pub AreBytes : List ℕ → Type 0
 AreBytes name = All (λ b. b < 256) name
 
--- the byte stands for itself: a digit, a letter, or one of -._~
+-- the byte is not escaped: it is a digit, a letter, or one of -._~
 unfoldable pub is_plain : ℕ → Bool
 is_plain b = nat_lt (digit_value b) 36 || b == 45 || b == 46 || b == 95 || b == 126
 
--- a byte of a text, or `%` and two upper-case hexadecimal digits
+-- the byte itself, or `%` and two upper-case hexadecimal digits
 unfoldable pub byte_text : ℕ → List ℕ
 byte_text b = if is_plain b then b ∷ [] else percent_encode_byte b
 
@@ -23,12 +23,12 @@ byte_text b = if is_plain b then b ∷ [] else percent_encode_byte b
 unfoldable pub name_text : List ℕ → List ℕ
 name_text name = flat_map byte_text name
 
--- the text of which this is the spelling
+-- the text that has this spelling, if any
 unfoldable pub name_of : List ℕ → Option (List ℕ)
 name_of text =
     let name = percent_decode text in
     if bytes_eq text (name_text name) && list_all (λ b. nat_lt b 256) name then Some name else None
 
--- the texts of texts
+-- the spellings of texts
 abbrev pub name_texts : Texts (List ℕ)
 name_texts = record { spelling = name_text; reading = name_of; InRange = AreBytes }

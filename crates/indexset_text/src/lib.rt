@@ -1,8 +1,8 @@
-//! Texts as keys and values: bytes, percent-encoded in a line.
+//! Texts as keys and values, percent-encoded in lines.
 //!
-//! [`Name`] is such a text. Letters, digits and `-._~` stand in a line as they are, and any other
-//! byte as `%` and two upper-case hexadecimal digits, so that each text has one spelling and is a
-//! word. `specs/Names.antt` says how it is spelled and read.
+//! A [`Name`] is a text. A line has letters, digits and `-._~` unchanged, and each other byte as
+//! `%` and two upper-case hexadecimal digits. So each text has one spelling, which is a word.
+//! `specs/Names.antt` defines it.
 #![tactic(auto)]
 
 mod name;

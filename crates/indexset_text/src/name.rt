@@ -1,4 +1,4 @@
-//! A text that is a key or a value.
+//! A text as a key or a value.
 
 ghost use Rattle.std.specs.Prelude.{◌≡◌, ℕ, List, Some, true, refl};
 ghost use Rattle.std.proofs.Common.{rules};
@@ -38,7 +38,7 @@ impl Model for Name {
     ghost inverse = { λ text. record { text = text } };
 }
 
-/// The bytes, those that may not stand in a line escaped.
+/// Displays the text percent-encoded.
 impl fmt::Display for Name {
     ghost output = { λ name. Some (name_text name) };
 

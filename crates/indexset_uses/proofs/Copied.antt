@@ -1,11 +1,12 @@
--- Events that are clones of a tree's, applied in turn to copies of its nodes.
+-- Events that are clones of a tree's events, applied in order to copies of its nodes.
 use Rattle.std.proofs.Common.{◌≡◌, List, [], ◌∷◌, Some, Ordering, ap, subst, unwrap_or}
 use Rattle.std.specs.List.{AllZip}
 use Rattle.std.proofs.lemmas.Option.{option_and_then_some}
 use Rattle.indexset.specs.Words.{replay, step, unassigned, AreCopies, ChangeEvent, IsClonedStep, IsEventClone}
 
 module _ {T : Type 0} (cmp : T → T → Ordering) (C : T → T → Type 0) where
-  -- the events fs are clones of others, which lead to the nodes after from nodes of which ms are copies
+  -- the events fs are clones of events whose replay takes nodes, of which ms are copies, to the
+  -- nodes after
   pub record IsOnTheWay (after ms : List (List T)) (fs : List (ChangeEvent T)) : Type 0 where
     pub nodes : List (List T)
     pub events : List (ChangeEvent T)
@@ -14,7 +15,7 @@ module _ {T : Type 0} (cmp : T → T → Ordering) (C : T → T → Type 0) wher
     pub led : replay cmp nodes events ≡ Some after
 
   module _ (after ms : List (List T)) where
-    -- at the end
+    -- all events were applied
     arrived : (ns : List (List T)) (es : List (ChangeEvent T)) → AreCopies cmp C ns ms → AllZip (IsEventClone C) es [] → replay cmp ns es ≡ Some after → AreCopies cmp C after ms
     arrived ns [] copied cloned led = subst (λ r. AreCopies cmp C r ms) (ap (λ o. unwrap_or o ns) led) copied
     arrived ns (e ∷ es) copied cloned led = absurd cloned
@@ -22,7 +23,7 @@ module _ {T : Type 0} (cmp : T → T → Ordering) (C : T → T → Type 0) wher
     pub at_end : IsOnTheWay after ms [] → AreCopies cmp C after ms
     at_end way = arrived way.nodes way.events way.copied way.cloned way.led
 
-    -- one more event
+    -- another event
     module _ (law : (ns ks mid new : List (List T)) (e f : ChangeEvent T) → AreCopies cmp C ns ks → IsEventClone C e f → step cmp ns e ≡ Some mid → IsClonedStep cmp C ks (unassigned f) new → AreCopies cmp C mid new) (new : List (List T)) (f : ChangeEvent T) (fs : List (ChangeEvent T)) (made : IsClonedStep cmp C ms (unassigned f) new) where
       stepped : (ns : List (List T)) (es : List (ChangeEvent T)) → AreCopies cmp C ns ms → AllZip (IsEventClone C) es (f ∷ fs) → replay cmp ns es ≡ Some after → IsOnTheWay after new fs
       stepped ns [] copied cloned led = absurd cloned

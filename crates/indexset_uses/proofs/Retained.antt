@@ -1,4 +1,4 @@
--- What a closure leaves that changes nothing.
+-- A closure that returns whether to retain an item, and does not change it.
 use Rattle.std.proofs.Common.{◌≡◌, Bool, cond, List, [], ◌∷◌, ◌∙◌}
 use Rattle.std.specs.List.{filter}
 use Rattle.std.specs.List.Retain.{RetainsInTurn}

@@ -1,4 +1,4 @@
--- Filters by key commute with commands.
+-- Filtering by key commutes with commands.
 use Rattle.std.proofs.Common.{◌≡◌, ℕ, suc, ◌+◌, Bool, true, false, cond, List, [], ◌∷◌, ◌++◌, length, map, get_or, take, drop, Ordering, not, refl, ap, sym, ◌∙◌, subst, arith, append-nil, append_assoc, length-append, slice_set, add-one}
 use Rattle.std.specs.declared.cmp.Ordering.TheVariants.{Less, Equal, Greater}
 use Rattle.std.proofs.lemmas.List.Elements.{filter-append, filter_passes, All-append, All-filter}
@@ -60,7 +60,7 @@ module _ {T : Type 0} (cmp : T → T → Ordering) (o : IsTotalOrder cmp) where
   around_gap : (l : List T) → IsAscending cmp l → (v : T) → All (λ x. is_eq (cmp x v) ≡ false) l → IsGapFor cmp l v (rank cmp l v)
   around_gap l up v none = gap_at cmp l v (rank cmp l v) (parted_by_item cmp o l up v) refl (λ lt d. none (rank cmp l v) d lt)
 
-  -- the part below a border, and the rest, are all
+  -- the items less than a border, and the others, are all items
   pub two_parts : (l : List T) → IsAscending cmp l → (b : T) → filter (λ x. is_lt (cmp x b)) l ++ filter (λ x. not (is_lt (cmp x b))) l ≡ l
   two_parts l up b =
       let k = count_by (λ x. is_lt (cmp x b)) l in
@@ -69,7 +69,7 @@ module _ {T : Type 0} (cmp : T → T → Ordering) (o : IsTotalOrder cmp) where
       let back : filter (λ x. not (is_lt (cmp x b))) l ≡ drop k l = filter_back (λ x. not (is_lt (cmp x b))) l k at.inside (λ i d low high. ap not (at.before i d low high)) (λ i d low high. ap not (at.after i d low high)) in
       rw (front, back) (take-append-drop k l)
 
-  -- a test that gives the same of equal items
+  -- a test that has the same result for equal items
   module _ (p : T → Bool) (same : (x v : T) → cmp x v ≡ Equal → p x ≡ p v) where
     others : (l : List T) (v : T) → p v ≡ false → All (λ x. is_eq (cmp x v) ≡ false) (filter p l)
     others l v fails k d lt = elim (is_eq (cmp (get_or (filter p l) k d) v)) as (λ b. is_eq (cmp (get_or (filter p l) k d) v) ≡ b → b ≡ false) [
@@ -103,7 +103,8 @@ module _ {T : Type 0} (cmp : T → T → Ordering) (o : IsTotalOrder cmp) where
     kept_command l up (Put v) = kept_put l up v
     kept_command l up (Cut v) = kept_cut l up v
 
-    -- what passes after some commands is what passed, after those commands of which the items pass
+    -- filtering the list after commands gives the list after filtering, with the commands whose
+    -- items pass
     pub kept_commands : (l : List T) → IsAscending cmp l → (cs : List (Command T)) → filter p (after_commands cmp l cs) ≡ after_commands cmp (filter p l) (filter (λ c. p (subject c)) cs)
     kept_commands l up [] = refl
     kept_commands l up (c ∷ cs) =
@@ -132,7 +133,7 @@ module _ {T : Type 0} (cmp : T → T → Ordering) (o : IsTotalOrder cmp) where
       rw (low, high) (ap (λ more. after_commands cmp (filter (λ x. is_lt (cmp x b)) l) (filter (λ c. is_lt (cmp (subject c) b)) cs) ∷ more)
       (parts_kept bs (filter upper l) (AllPairs-filter (λ x y. cmp x y ≡ Less) upper l up) (filter (λ c. upper (subject c)) cs)))
 
--- a list between others, of which all before it are below an item, and all behind it are above
+-- a list between two others, whose items are less than a value before it and greater after it
 module _ {T : Type 0} (cmp : T → T → Ordering) (v : T) (front s back : List T) (less : All (λ x. cmp x v ≡ Less) front) (more : All (λ x. cmp x v ≡ Greater) back) where
   around_filter : (test : Ordering → Bool) → filter (λ x. test (cmp x v)) (front ++ (s ++ back)) ≡ filter (λ x. test (cmp x v)) front ++ (filter (λ x. test (cmp x v)) s ++ filter (λ x. test (cmp x v)) back)
   around_filter test = filter-append (λ x. test (cmp x v)) front (s ++ back) ∙ ap (λ ys. filter (λ x. test (cmp x v)) front ++ ys) (filter-append (λ x. test (cmp x v)) s back)
@@ -179,7 +180,7 @@ module _ {T : Type 0} (cmp : T → T → Ordering) (shards : List (List T)) (k :
 pub one_for_two : {T : Type 0} (low high : List (List T)) (first second : List T) → concat (low ++ first ∷ second ∷ high) ≡ concat (low ++ (first ++ second) ∷ high)
 one_for_two low high first second = concat-append low (first ∷ second ∷ high) ∙ (ap (λ ys. concat low ++ ys) (sym (append_assoc first second (concat high))) ∙ sym (concat-append low ((first ++ second) ∷ high)))
 
--- the item is in its shard, where routing by the borders finds it
+-- the shard that routing by the borders finds has the item
 module _ {T : Type 0} (cmp : T → T → Ordering) (o : IsTotalOrder cmp) where
   parts_all : (P : T → Type 0) (bs l : List T) → All P l → All P (concat (parts cmp (λ x. x) bs l))
   parts_all P [] l all = subst (All P) (sym (append-nil l)) all
@@ -195,7 +196,7 @@ module _ {T : Type 0} (cmp : T → T → Ordering) (o : IsTotalOrder cmp) where
     | Greater ↦ λ e. o.trans v b x less (o.antisymm b x ∙ ap ordering_reverse e)
   ] refl)
 
-  -- the item is below all that stands behind the first border
+  -- the item is less than all items after the first border
   before_all : (b : T) (l : List T) (v : T) → cmp v b ≡ Less → (bs : List T) → All (λ x. cmp x v ≡ Greater) (concat (parts cmp (λ x. x) bs (filter (λ x. not (is_lt (cmp x b))) l)))
   before_all b l v less bs = parts_all (λ x. cmp x v ≡ Greater) bs (filter (λ x. not (is_lt (cmp x b))) l)
       (λ k d lt. past_border v b (get_or (filter (λ x. not (is_lt (cmp x b))) l) k d) less (filter_passes (λ x. not (is_lt (cmp x b))) l k d lt))

@@ -12,7 +12,7 @@ abbrev pub side_text : Side → List ℕ
 side_text Buy = codes "buy"
 side_text Sell = codes "sell"
 
--- the side of which this is the text
+-- the side that has this text
 abbrev pub side_of : List ℕ → Option Side
 side_of text = cond (bytes_eq text (codes "buy")) (Some Buy) (cond (bytes_eq text (codes "sell")) (Some Sell) None)
 

@@ -1,4 +1,4 @@
-//! A change log: the events that a copy of a tree elsewhere needs.
+//! A change log: the events that a replica of a tree needs.
 ghost use Rattle.std.specs.Prelude.{◌≡◌, ◌+◌, ◌≤◌, length, true, Some, IfOk, IfErr, OnErr, OnOk};
 ghost use Rattle.std.specs.Ordering.{nat_cmp};
 ghost use Rattle.indexset.specs.Words.{IsNumberedFrom, by_key, checked_put_events, concat, keep, pair, put, put_events, refusal_for, removal_events, replay, value_of, without};
@@ -13,8 +13,7 @@ use indexset::concurrent::set::BTreeSet;
 /// A logged set of numbers.
 pub type Numbers = BTreeSet<u64, Vec<u64>>;
 
-/// Inserts a number, and returns the events, at most three, that turn the nodes of a copy into the
-/// present ones.
+/// Inserts a number, and returns the events that a replica has to apply, at most three.
 pub fn put(tree: &mut Numbers, value: u64) -> Result<Vec<ChangeEvent<u64>>, Refused<u64>>
     ensures contents { IfOk result (λ _. concat tree.new.nodes
         ≡ put nat_cmp (concat tree.old.nodes) value) }
@@ -33,7 +32,7 @@ pub fn put(tree: &mut Numbers, value: u64) -> Result<Vec<ChangeEvent<u64>>, Refu
     Ok(events)
 }
 
-/// Inserts a number, and returns whether it is present, as it then always is.
+/// Inserts a number, and returns whether it is present, which is always `true`.
 pub fn hold(tree: &mut Numbers, value: u64) -> Result<bool, Refused<u64>>
     ensures contains { IfOk result (λ there. there ≡ true) }
     ensures contents { OnOk result (concat tree.new.nodes
@@ -68,7 +67,7 @@ pub fn take(tree: &mut Numbers, value: u64) -> Result<Vec<ChangeEvent<u64>>, Ref
 /// A logged map of prices by item.
 pub type Quotes = BTreeMap<u64, u64, Vec<Pair<u64, u64>>>;
 
-/// Sets the price of an item, and returns the price that is found for it, as it then always is.
+/// Sets the price of an item, and returns the price that a look-up finds, which is that price.
 pub fn quote(quotes: &mut Quotes, item: u64, price: u64) -> Result<Option<u64>, Refused<(u64, u64)>>
     ensures now { OnOk result (value_of nat_cmp (concat quotes.new.nodes) item ≡ Some price) }
     ensures contents { OnOk result (concat quotes.new.nodes

@@ -1,4 +1,4 @@
-//! Copies of trees: the events of a call, applied in turn.
+//! Replicas of trees: the events of a call, applied in order.
 ghost use Rattle.std.specs.Prelude.{◌≡◌, ◌+◌, ◌-◌, ◌<◌, ◌≤◌, List, length, slice_get, take, unwrap_or, Some, IfErr, IfSome, OnErr, OnOk};
 ghost use Rattle.std.specs.List.{AllZip};
 ghost use Rattle.indexset.specs.Words.{apply_refusal, replay, AreClonesEqual, AreCopies, IsEventClone};
@@ -9,10 +9,11 @@ use indexset::cdc::laws::replay_in_parts;
 use indexset::replica::Replica;
 use indexset::replica::laws::step_of_clones;
 
-/// Applies events one after the other, and stops at the first that fails. Where clones are
-/// identical, the copy then has the nodes that the applied events lead to. Where clones equal their
-/// sources, a copy that held copies of a tree's nodes holds copies of the nodes after the tree's
-/// events, if these are clones of them.
+/// Applies events in order, and stops at the first that fails.
+///
+/// If clones are identical to their sources, the replica then has the nodes after the applied
+/// events. If clones equal their sources, a replica that had copies of a tree's nodes has copies of
+/// the nodes after the tree's events, if these events are clones of those.
 pub fn apply_all<T: Ord + Clone + Drop>(
     copy: &mut Replica<T>,
     events: &[ChangeEvent<T>],

@@ -1,4 +1,4 @@
-//! A journal: the events of all calls on a set since it was empty, kept in one list.
+//! A journal: a list of the events of all calls to a set that was empty at first.
 ghost use Rattle.std.specs.Prelude.{◌≡◌, [], length, take, Some, IfErr, OnErr, OnOk};
 ghost use Rattle.std.specs.Ordering.{nat_cmp};
 ghost use Rattle.indexset.specs.Words.{IsNumberedFrom, concat, put, replay, without};
@@ -8,9 +8,14 @@ use indexset::base::refusal::{Refusal, Refused};
 use indexset::cdc::change::ChangeEvent;
 use indexset::cdc::laws;
 
-/// Inserts a number, and appends the events of the call to the journal, which keeps all before
-/// them. Whatever it returns, the journal replayed from nothing leads to the nodes of the set.
-/// Fails for memory alone: as many events as there are numbers fit in no list.
+/// Inserts a number, and appends the events of the call to the journal.
+///
+/// Replaying the journal from no nodes gives the nodes of the set, also after an error.
+///
+/// # Errors
+///
+/// Only `Memory`, since a list is full before event numbers run out. A failed call changes nothing,
+/// and returns the value in the error.
 pub fn insert(
     tree: &mut Numbers,
     journal: &mut Vec<ChangeEvent<u64>>,
@@ -29,8 +34,8 @@ pub fn insert(
     ensures unchanged { OnErr result (tree.new ≡ tree.old) }
     ensures memory { IfErr result (λ refused. refused.cause ≡ Refusal.Memory) }
 {
-    // A call returns at most three events: with room for three before it, none is lost, and there
-    // are numbers for them.
+    // A call returns at most three events. With space for three, none is lost, and there are
+    // numbers for them.
     laws::three_events::<u64>();
     if journal.reserve(3).is_err() {
         let cause = Refusal::Memory;

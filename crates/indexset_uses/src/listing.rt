@@ -1,4 +1,4 @@
-//! A paged listing: the elements page by page.
+//! A paged listing of the elements.
 ghost use Rattle.std.specs.Prelude.{◌≡◌, ◌<◌, ◌^◌, ◌+◌, length, IfOk};
 ghost use Rattle.std.specs.Int.{div_ceil};
 ghost use Rattle.std.specs.declared.ops.Bound.TheVariants.{Included, Excluded};
@@ -8,7 +8,7 @@ use indexset::BTreeSet;
 use std::alloc::{AllocError, Global};
 use std::ops::Bound;
 
-/// Returns the elements from a position on, a page of at most `size`.
+/// Returns a page: at most `size` elements from a position on.
 pub fn page(
     alloc: Global,
     set: &BTreeSet<u64>,

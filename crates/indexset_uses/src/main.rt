@@ -1,5 +1,5 @@
-//! What people build on the library, one file a use: small callers, each proved to meet its
-//! contract. The program prints what they return.
+//! Small programs over the library, one in each file, each proved to meet its contract. The program
+//! prints what they return.
 #![tactic(auto)]
 
 mod change_log;
@@ -111,7 +111,7 @@ fn show_counts(rt: &HostRuntime) -> Result<()> {
 fn show_counts_of(rt: &HostRuntime, low: &BTreeSet<u64>, high: &BTreeSet<u64>) -> Result<()> {
     println!(rt; "either: {:?}", counting::count_of_either(low, high))?;
     println!(rt; "both: {}", counting::count_of_both(low, high))?;
-    // One comparison picks one of two nodes, of 512 and 588 numbers, and ten find the place in
+    // One comparison finds one of two nodes, of 512 and 588 numbers, and ten find the position in
     // either.
     for key in [950, 899, 2000] {
         let (place, comparisons) = counting::place_of(high, key);

@@ -1,11 +1,11 @@
-//! An order book: prices that are bid and prices that are asked, each a set.
+//! An order book: bids and asks, each a set of prices.
 ghost use Rattle.std.specs.Prelude.{◌≡◌, ◌-◌, ◌≤◌, ◌<◌, ◌^◌, [], length, min, slice_get, drop, sum, take, Some, IfSome, OnSome, IfNone};
 ghost use Rattle.std.specs.List.{All};
 ghost use Rattle.indexset.specs.Words.{items};
 
 use indexset::BTreeSet;
 
-/// Removes the highest bid and the lowest ask, and returns them, if that bid is not below that ask.
+/// Removes the highest bid and the lowest ask and returns them, if the bid is at least the ask.
 pub fn take_match(bids: &mut BTreeSet<u64>, asks: &mut BTreeSet<u64>) -> Option<(u64, u64)>
     ensures bid { IfSome result (λ pair. slice_get (items bids.old) (length (items bids.old) - 1)
         ≡ Some pair.0) }
@@ -29,7 +29,7 @@ pub fn take_match(bids: &mut BTreeSet<u64>, asks: &mut BTreeSet<u64>) -> Option<
     Some((bid, ask))
 }
 
-/// Removes all prices, the lowest first, and returns their sum, up to `u64::MAX`.
+/// Removes all prices in ascending order, and returns their sum, which saturates.
 pub fn clear(asks: &mut BTreeSet<u64>) -> u64
     ensures sum { result ≡ min (sum (items asks.old)) (2 ^ 64 - 1) }
     ensures empty { items asks.new ≡ [] }

@@ -1,4 +1,4 @@
-//! Texts by name, and a copy of them kept elsewhere: a logged map from texts to texts.
+//! Texts by name, and a replica of them: a logged map from texts to texts.
 ghost use Rattle.std.specs.Prelude.{◌≡◌, ◌⊎◌, false, length, Some, IfErr, OnOk};
 ghost use Rattle.std.specs.Option.{option_copied};
 ghost use Rattle.std.specs.Ordering.{nat_cmp};
@@ -18,9 +18,13 @@ pub type Named = Pair<Text, Text>;
 /// Texts by name.
 pub type UniqueKey = BTreeMap<Text, Text>;
 
-/// Sets the text of a name, in a map and in a copy with the same nodes: both then have the same
-/// nodes again, and the copy holds the text. Where it fails, nothing changed, or the map has the
-/// text and the copy is behind.
+/// Sets the text of a name, in a map and in a replica that has the same nodes.
+///
+/// Both then have the same nodes, and the replica has the text.
+///
+/// # Errors
+///
+/// Nothing is changed, or the map has the text and the replica is behind.
 pub fn set_text(
     names: &mut UniqueKey,
     copy: &mut Replica<Named>,
@@ -43,9 +47,13 @@ pub fn set_text(
     apply_all(copy, events.as_slice())
 }
 
-/// Removes a name from a map and from a copy with the same nodes: both then have the same nodes
-/// again, and the copy does not hold the name. Where it fails, nothing changed, or the name is
-/// absent from the map and the copy is behind.
+/// Removes a name from a map and from a replica that has the same nodes.
+///
+/// Both then have the same nodes, and the replica does not have the name.
+///
+/// # Errors
+///
+/// Nothing is changed, or the name is absent from the map and the replica is behind.
 pub fn forget(names: &mut UniqueKey, copy: &mut Replica<Named>, name: &str) -> Result<(), Refusal>
     requires { copy.old.nodes ≡ names.old.nodes }
     ensures unchanged { OnOk result (copy.new.nodes ≡ names.new.nodes) }
@@ -63,7 +71,7 @@ pub fn forget(names: &mut UniqueKey, copy: &mut Replica<Named>, name: &str) -> R
     apply_all(copy, events.as_slice())
 }
 
-/// Returns the text of a name, looked up as it is: no key is made of it.
+/// Returns the text of a name, without making a key of the name.
 pub fn text_of<'a>(names: &'a UniqueKey, name: &str) -> Option<&'a Text>
     ensures { option_copied result ≡ value_of (slice_cmp nat_cmp) (concat names.now.nodes)
         name.now }
@@ -71,7 +79,7 @@ pub fn text_of<'a>(names: &'a UniqueKey, name: &str) -> Option<&'a Text>
     Some(&names.get(name)?.value)
 }
 
-/// Returns the text that a copy has of a name, in the same way.
+/// Returns the text that a replica has for a name, without making a key of the name.
 pub fn copied_text_of<'a>(copy: &'a Replica<Named>, name: &str) -> Option<&'a Text>
     ensures { option_copied result ≡ value_of (slice_cmp nat_cmp) (concat copy.now.nodes) name.now }
 {

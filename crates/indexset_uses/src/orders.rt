@@ -1,4 +1,4 @@
-//! Orders by customer: a multimap, in which a key has several values.
+//! Orders by customer: a multimap.
 ghost use Rattle.std.specs.Prelude.{◌≡◌, ℕ, false, length, nat_eq, IfErr, OnOk, OnErr};
 ghost use Rattle.std.specs.Ordering.{is_eq, nat_cmp};
 ghost use Rattle.indexset.specs.Words.{by_number, equal_pair, inserted_pair, insertion_refusal, concat, pair_removal_events, pairs_of, put, refusal_for, without_first};
@@ -10,7 +10,7 @@ use indexset::concurrent::multimap::BTreeMultiMap;
 /// Orders by customer.
 pub type Orders = BTreeMultiMap<u64, u64, Vec<MultiPair<u64, u64>>>;
 
-/// Files an order under its customer, behind those that the customer has.
+/// Inserts an order after the others of its customer.
 pub fn file(orders: &mut Orders, customer: u64, order: u64) -> Result<(), Refused<(u64, u64)>>
     ensures filed { OnOk result (concat orders.new.nodes ≡ put (by_number nat_cmp)
         (concat orders.old.nodes) (inserted_pair nat_cmp nat_eq orders.old customer order)) }
@@ -23,7 +23,7 @@ pub fn file(orders: &mut Orders, customer: u64, order: u64) -> Result<(), Refuse
     Ok(())
 }
 
-/// Removes an order of a customer, if there is one.
+/// Removes an order of a customer, if it is present.
 pub fn cancel(orders: &mut Orders, customer: u64, order: u64) -> Result<(), Refusal>
     ensures gone { OnOk result (pairs_of nat_cmp (concat orders.new.nodes) customer ≡ without_first
         (λ p. nat_eq p.value order) (pairs_of nat_cmp (concat orders.old.nodes) customer)) }

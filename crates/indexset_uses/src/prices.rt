@@ -1,4 +1,4 @@
-//! Prices: a map from items to what they cost.
+//! Prices: a map from items to prices.
 ghost use Rattle.std.specs.Prelude.{◌≡◌, ◌+◌, ◌-◌, ◌^◌, Some, None, IfErr, IfOk, OnErr, length, min, unwrap_or};
 ghost use Rattle.std.specs.Ordering.{nat_cmp};
 ghost use Rattle.std.specs.declared.ops.Bound.TheVariants.{Excluded, Unbounded};
@@ -9,7 +9,7 @@ use indexset::BTreeMap;
 use indexset::base::refusal::Refused;
 use std::ops::Bound;
 
-/// Writes a price, and returns the price that the item has then.
+/// Sets the price of an item, and returns the price that a look-up finds, which is that price.
 pub fn set_price(
     prices: &mut BTreeMap<u64, u64>,
     item: u64,
@@ -25,14 +25,14 @@ pub fn set_price(
     Ok(prices.get(&item).copied())
 }
 
-/// Returns the price of an item, where it has one.
+/// Returns the price of an item, if it has one.
 pub fn price_of(prices: &BTreeMap<u64, u64>, item: u64) -> Option<u64>
     ensures { result ≡ value_of nat_cmp prices.now.pairs item }
 {
     prices.get(&item).copied()
 }
 
-/// Returns the price of an item, which it has from now on: the usual one, where it has none.
+/// Returns the price of an item, after inserting the usual price if it has none.
 pub fn price_or(
     prices: &mut BTreeMap<u64, u64>,
     item: u64,
@@ -51,7 +51,7 @@ pub fn price_or(
     Ok(*price)
 }
 
-/// Raises each price by 10, up to `u64::MAX`.
+/// Increases each price by 10, up to `u64::MAX`.
 pub fn raise(prices: &mut BTreeMap<u64, u64>)
     ensures { prices.new.pairs ≡ written (λ pair. min (pair.value + 10) (2 ^ 64 - 1))
         prices.old.pairs 0 (length prices.old.pairs) }
@@ -63,7 +63,7 @@ pub fn raise(prices: &mut BTreeMap<u64, u64>)
     }
 }
 
-/// Removes the price of an item, and returns the price that it has then: none.
+/// Removes the price of an item, and returns what a look-up finds, which is `None`.
 pub fn forget(prices: &mut BTreeMap<u64, u64>, item: u64) -> Option<u64>
     ensures none { result ≡ None }
     ensures contents { prices.new ≡ without_entry nat_cmp prices.old item }
@@ -72,7 +72,7 @@ pub fn forget(prices: &mut BTreeMap<u64, u64>, item: u64) -> Option<u64>
     prices.get(&item).copied()
 }
 
-/// Returns how many of the items below one have a price.
+/// Returns how many items less than this one have a price.
 pub fn priced_below(prices: &BTreeMap<u64, u64>, item: u64) -> usize
     ensures { result ≡ length (pairs_within nat_cmp prices.now.pairs Unbounded (Excluded item)) }
 {

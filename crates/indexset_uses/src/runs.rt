@@ -1,4 +1,4 @@
-//! Commands to a map by name, carried out in turn.
+//! Lists of commands to a map by name.
 ghost use Rattle.std.specs.Prelude.{◌≡◌, ◌≢◌, ◌+◌, ◌*◌, ◌<◌, ◌≤◌, length, take, Some, IfNone, IfSome, OnSome, string_bytes};
 ghost use Rattle.std.specs.List.{fold, scan};
 ghost use Rattle.std.specs.Ordering.{nat_cmp};
@@ -16,8 +16,10 @@ use indexset_bench::logged::map::LoggedMapCommand;
 use indexset_bench::logged_run::{LogRun, run_logged};
 use std::alloc::Global;
 
-/// Carries out commands on a stock, up to the first that fails. The events lead from the nodes
-/// before the run to those after it, and the stock holds what the commands with a reply make of it.
+/// Executes commands on a stock, and stops at the first that fails.
+///
+/// Replaying the events on the nodes before the run gives those after it. The stock is as the
+/// commands with a reply left it.
 pub fn run_stock(
     alloc: Global,
     stock: &mut Stock,
@@ -41,9 +43,11 @@ pub fn run_stock(
     run_logged(alloc, stock, commands)
 }
 
-/// Carries out commands on a map by `String`, up to the first that fails. It holds what the
-/// commands with a reply make of it, and the events are numbered in turn. They lead from the nodes
-/// before the run to copies of those after it: the same texts and counts, each in its place.
+/// Executes commands on a map by `String`, and stops at the first that fails.
+///
+/// The map is as the commands with a reply left it, and the events are numbered without a gap.
+/// Replaying them on the nodes before the run gives copies of those after it: the same texts and
+/// counts at the same places.
 pub fn run_counts(
     alloc: Global,
     counts: &mut Counts,

@@ -1,4 +1,4 @@
-//! A stock of named things, and a copy of it kept elsewhere: a logged map whose keys are texts.
+//! A stock of named things, and a replica of it: a logged map whose keys are texts.
 ghost use Rattle.std.specs.Prelude.{◌≡◌, ◌⊎◌, length, Some, IfErr, OnOk};
 ghost use Rattle.std.specs.Ordering.{nat_cmp};
 ghost use Rattle.std.specs.Cmp.Lexicographic.{slice_cmp};
@@ -11,15 +11,19 @@ use indexset::base::refusal::Refusal;
 use indexset::concurrent::map::BTreeMap;
 use indexset::replica::Replica;
 
-/// How many there are of each name.
+/// The count of a name.
 pub type Count = Pair<Text, u64>;
 
-/// A stock by name. A clone of a `Text` is identical to it, so that a copy has the same nodes.
+/// A stock by name. A clone of a `Text` is identical to it, so a replica has the same nodes.
 pub type Stock = BTreeMap<Text, u64>;
 
-/// Sets how many there are of a name, in a stock and in a copy with the same nodes: both then have
-/// the same nodes again, and the copy holds the number. Where it fails, nothing changed, or the
-/// stock has the number and the copy is behind.
+/// Sets the count of a name, in a stock and in a replica that has the same nodes.
+///
+/// Both then have the same nodes, and the replica has the count.
+///
+/// # Errors
+///
+/// Nothing is changed, or the stock has the count and the replica is behind.
 pub fn set_count(
     stock: &mut Stock,
     copy: &mut Replica<Count>,
@@ -42,9 +46,13 @@ pub fn set_count(
     apply_all(copy, events.as_slice())
 }
 
-/// Removes a name from a stock and from a copy with the same nodes: both then have the same nodes
-/// again. Where it fails, nothing changed, or the name is absent from the stock and the copy is
-/// behind.
+/// Removes a name from a stock and from a replica that has the same nodes.
+///
+/// Both then have the same nodes.
+///
+/// # Errors
+///
+/// Nothing is changed, or the name is absent from the stock and the replica is behind.
 pub fn forget(stock: &mut Stock, copy: &mut Replica<Count>, name: &str) -> Result<(), Refusal>
     requires { copy.old.nodes ≡ stock.old.nodes }
     ensures unchanged { OnOk result (copy.new.nodes ≡ stock.new.nodes) }

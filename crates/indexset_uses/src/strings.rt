@@ -1,6 +1,6 @@
-//! Maps whose keys are `String`s. Their clones are other values of the same bytes, so the contracts
-//! say what the map holds and which numbers the events have, and of the items of events that they
-//! are clones.
+//! Maps whose keys are `String`s. A clone of a `String` has the same bytes, but is another value.
+//! So the contracts describe the contents of the map and the numbers of the events, and describe
+//! the items of events as clones.
 ghost use Rattle.std.specs.Prelude.{◌≡◌, ◌+◌, ◌≤◌, ◌⊎◌, ℕ, List, length, false, map, unwrap_or, None, Some, IfErr, IfOk, OnOk, OnErr, string_bytes};
 ghost use Rattle.std.specs.List.{AllZip};
 ghost use Rattle.std.specs.String.{string_cmp};
@@ -16,14 +16,15 @@ use indexset::concurrent::map::BTreeMap;
 use indexset::replica::Replica;
 use indexset::replica::laws::{clones, copies_keep};
 
-/// How many there are of each name.
+/// The count of a name.
 pub type Count = Pair<String, u64>;
 
 /// Counts by name.
 pub type Counts = BTreeMap<String, u64>;
 
-/// Sets the count of a name, and returns the events, at most three. They are numbered without a
-/// gap, and are those of the change with clones of its names.
+/// Sets the count of a name, and returns the events, at most three.
+///
+/// They are those of the change, with clones of its names, numbered without a gap.
 pub fn set_count(
     counts: &mut Counts,
     name: String,
@@ -49,9 +50,13 @@ pub fn set_count(
     Ok(events)
 }
 
-/// Sets the count of a name in a map and in a copy of it, whose nodes hold copies of the map's
-/// items: after it they do so again, and have the same counts by the same texts. Where it fails,
-/// nothing changed, or the map has the count and the copy is behind.
+/// Sets the count of a name in a map and in a replica whose nodes have copies of the map's items.
+///
+/// The replica then has copies again, with the same counts for the same texts.
+///
+/// # Errors
+///
+/// Nothing is changed, or the map has the count and the replica is behind.
 pub fn set_in_both(
     counts: &mut Counts,
     copy: &mut Replica<Count>,
@@ -82,8 +87,9 @@ pub fn set_in_both(
     apply_all(copy, events.as_slice())
 }
 
-/// Removes a name, and returns the events, at most three. They are numbered without a gap, and are
-/// those of the removal with clones of its names.
+/// Removes a name, and returns the events, at most three.
+///
+/// They are those of the removal, with clones of its names, numbered without a gap.
 pub fn forget(counts: &mut Counts, name: &String) -> Result<Vec<ChangeEvent<Count>>, Refusal>
     ensures contents { OnOk result (concat counts.new.nodes
         ≡ without_key string_cmp (concat counts.old.nodes) name.now) }
@@ -104,8 +110,10 @@ pub fn forget(counts: &mut Counts, name: &String) -> Result<Vec<ChangeEvent<Coun
     Ok(events)
 }
 
-/// Applies an event to a copy: its nodes are then those that the event leads to, with a clone for
-/// an item that it inserts, and it expects the next event.
+/// Applies an event to a replica.
+///
+/// The nodes are then those after the event, with a clone of an item that it inserts, and the
+/// replica expects the next event.
 pub fn follow(copy: &mut Replica<Count>, event: &ChangeEvent<Count>) -> Result<(), Refusal>
     ensures nodes { OnOk result (IsClonedStep (by_key string_cmp)
         (λ p q. (string_bytes q.key ≡ string_bytes p.key) × (q.value ≡ p.value)) copy.old.nodes

@@ -1,4 +1,4 @@
-//! An index from tags to the names of documents: a logged map in which a tag has many names.
+//! An index from tags to the names of documents: a logged multimap.
 ghost use Rattle.std.specs.Prelude.{◌≡◌, ◌+◌, ℕ, List, nat_eq, false, length, true, is_some, Some, IfErr, IfOk, OnOk, OnErr};
 ghost use Rattle.std.specs.Ordering.{is_eq, nat_cmp};
 ghost use Rattle.std.specs.Cmp.Lexicographic.{pointwise, slice_cmp};
@@ -14,11 +14,12 @@ use indexset::concurrent::multimap::{BTreeMultiMap, Range};
 /// A document under a tag.
 pub type Tagged = MultiPair<Text, Text>;
 
-/// Names of documents by tag.
+/// The names of documents by tag.
 pub type Tags = BTreeMultiMap<Text, Text>;
 
-/// Inserts a document under a tag, where it is absent, and returns the events. The tag then has it,
-/// and other tags have what they had.
+/// Inserts a document under a tag if it is absent, and returns the events.
+///
+/// The tag then has it, and other tags are unchanged.
 pub fn add(
     tags: &mut Tags,
     tag: Text,
@@ -46,8 +47,9 @@ pub fn add(
     Ok(events)
 }
 
-/// Removes the first of a tag's documents with this name, if any, and returns the events. The tag
-/// has its other documents, and other tags have what they had.
+/// Removes the first document of a tag that has this name, if any, and returns the events.
+///
+/// The other documents of the tag and all other tags are unchanged.
 pub fn remove(
     tags: &mut Tags,
     tag: &str,

@@ -1,4 +1,4 @@
-//! A follower: a copy of a set of numbers kept elsewhere, which takes over where the set is lost.
+//! A replica of a set of numbers that takes over after the set is lost.
 ghost use Rattle.std.specs.Prelude.{◌≡◌, ◌<◌, ◌≤◌, [], length, take, unwrap_or, Some, IfErr, IfOk};
 ghost use Rattle.std.specs.List.{All};
 ghost use Rattle.std.specs.Ordering.{nat_cmp};
@@ -10,9 +10,11 @@ use indexset::cdc::change::ChangeEvent;
 use indexset::cdc::laws::steps_lead_to_nodes;
 use indexset::replica::Replica;
 
-/// Returns a copy made of a snapshot, the nodes that a set had and the number of its next event,
-/// which then follows the set's events as they came. It holds what the longest prefix of all events
-/// leads to that the snapshot and the events in order make up.
+/// Returns a replica that starts from a snapshot and then follows events of the set, in any order.
+///
+/// The snapshot is nodes that the set had, and the number of its next event. The replica has the
+/// nodes after the longest prefix of all events that the snapshot and the events in `order`
+/// contain.
 pub fn resume(
     nodes: Vec<Vec<u64>>,
     next: u64,
@@ -35,9 +37,13 @@ pub fn resume(
     Ok(copy)
 }
 
-/// Returns a set that continues where the copy stopped: it has the copy's nodes, and its next event
-/// has the number that the copy expects. Fails where a node has more than `size` numbers, or memory
-/// runs out.
+/// Returns a set that continues from a replica.
+///
+/// It has the nodes of the replica, and its next event has the number that the replica expects.
+///
+/// # Errors
+///
+/// A node has more than `size` numbers, or memory runs out.
 pub fn promote(copy: Replica<u64>, size: usize) -> Result<Numbers, Refusal>
     requires { 2 ≤ size }
     ensures tree { IfOk result (λ tree. tree

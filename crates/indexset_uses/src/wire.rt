@@ -1,4 +1,4 @@
-//! Events sent as lines of text, and read back, of items whose type is our own.
+//! Events that are sent as lines of text, with items of a type of our own.
 ghost use Rattle.std.specs.Prelude.{◌≡◌, ⊤, Some, IfOk, refl};
 ghost use Rattle.indexset_uses.specs.Wire.{side_item, side_of, side_sound, side_text, side_told, side_word};
 
@@ -13,9 +13,9 @@ use std::fmt;
 /// A side of a market.
 #[derive(Clone, Copy, Debug, PartialEq, Eq, PartialOrd, Ord)]
 pub enum Side {
-    /// Who buys.
+    /// The buying side.
     Buy,
-    /// Who sells.
+    /// The selling side.
     Sell,
 }
 
@@ -66,7 +66,7 @@ impl Word for Side {
 /// The best price of each side.
 pub type Prices = BTreeMap<Side, i64, Vec<Pair<Side, i64>>>;
 
-/// Returns the event read from the line that one program sends of this one: it is the same.
+/// Returns the event that is read from the line of this one, which is the same event.
 pub fn resent<T: Spelled + Drop>(
     alloc: Global,
     event: &ChangeEvent<T>,

@@ -1,4 +1,4 @@
-//! Two files in memory, and the store of them.
+//! Two files in memory, and a store over them.
 
 use indexset_journal::JournalError;
 use sqlite::{Connection, FileStore, Files, Options};
@@ -6,11 +6,11 @@ use sqlite_disk::{Disk, Memory};
 use std::alloc::Global;
 use std::test::Fail;
 
-/// The statement that makes the table of lines.
+/// The statement that creates the table of lines.
 pub(crate) const TABLE: &str =
     "CREATE TABLE kept (number INTEGER PRIMARY KEY, line TEXT NOT NULL) STRICT";
 
-/// Returns two files that are new.
+/// Returns two new files.
 pub(crate) fn new_files(alloc: Global) -> Files<Memory> {
     Files {
         log: Memory::new(alloc),
@@ -26,7 +26,7 @@ pub(crate) fn file_of(alloc: Global, bytes: &[u8]) -> Result<Memory, Fail> {
     Ok(file)
 }
 
-/// Returns a file of these bytes, of which one is turned, by bits that go with its place.
+/// Returns a file of these bytes with one byte changed. The changed bits depend on the position.
 pub(crate) fn turned(alloc: Global, bytes: &[u8], at: usize) -> Result<Memory, Fail> {
     let mut copy = bytes.to_vec(alloc)?;
     if let Some(byte) = copy.get_mut(at) {
@@ -35,8 +35,13 @@ pub(crate) fn turned(alloc: Global, bytes: &[u8], at: usize) -> Result<Memory, F
     file_of(alloc, copy.as_slice())
 }
 
-/// Returns the store of two files, and makes the table of lines where they have none; new files get sums where that is
-/// asked. An `Err` returns the files.
+/// Returns the store of two files, and creates the table of lines if they have none.
+///
+/// New files have checksums if `has_sums`.
+///
+/// # Errors
+///
+/// The error, with the files.
 pub(crate) fn store_over<D: Disk + Drop>(
     alloc: Global,
     files: Files<D>,
@@ -61,7 +66,7 @@ pub(crate) fn store_over<D: Disk + Drop>(
     }
 }
 
-/// Copies the log of a store into the database.
+/// Copies the log of a store to the database.
 pub(crate) fn copied<D: Disk + Drop>(store: FileStore<D>) -> Result<FileStore<D>, JournalError> {
     let mut store = store;
     store.checkpoint()?;

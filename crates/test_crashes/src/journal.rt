@@ -1,5 +1,5 @@
-//! The journal over files in memory: what no contract says, as that calls succeed where nothing fails, and what the
-//! contracts say, on disks that fail.
+//! Tests of the journal over files in memory: that calls succeed if nothing fails, which no
+//! contract states, and the contracts on disks that fail.
 
 mod crashes;
 mod damage;

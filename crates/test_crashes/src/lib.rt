@@ -1,5 +1,5 @@
-//! Tests of what outlives a crash, over two files in memory of which calls fail, or bytes are lost or turned: the lines
-//! of a journal, and a map that is kept.
+//! Tests of crashes, over two files in memory whose calls fail, or whose bytes are lost or changed:
+//! of the journal, and of a map that is kept.
 #![tactic(auto)]
 
 #[cfg(test)]

@@ -1,4 +1,4 @@
-//! A key that counts the comparisons with it.
+//! A key that counts its comparisons.
 ghost use Rattle.std.proofs.Common.{rules};
 ghost use Rattle.std.specs.Prelude.{nat_eq};
 ghost use Rattle.std.specs.Cmp.{partial_order_from_own_ties};
@@ -8,7 +8,7 @@ ghost use Rattle.std.specs.Ordering.{nat_cmp, on, as_partial_cmp};
 use std::cell::Cell;
 use std::cmp::Ordering;
 
-/// Its order counts, in a cell that the keys share, how often it is asked.
+/// A key whose order counts comparisons in a cell that the keys share.
 #[derive(Clone, Drop)]
 pub struct Counted<'a> {
     pub key: u64,

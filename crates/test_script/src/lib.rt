@@ -1,6 +1,6 @@
-//! What the tests play on: scripts, whose lines are calls with their answers ([`script`]), and items that
-//! carry a tag, count, own a block, find no memory or answer wrongly. Keys that the plain family needs stand
-//! here too; what only the logged family plays stands in `test_script_logged`.
+//! The player of scripts, whose lines are calls with their answers ([`script`]), and the items of
+//! tests: with a tag, with counted comparisons, with an allocation, with clones that fail, and with
+//! wrong answers. `test_script_logged` has what only the logged family needs.
 #![tactic(auto)]
 
 pub mod counted;

@@ -1,8 +1,8 @@
-//! A key whose clones come in the other order.
+//! A key whose clones have the reverse order.
 
 use std::alloc::AllocError;
 
-/// A number whose clone is what it lacks to nine, or nought.
+/// A number whose clone is nine minus the number, or 0.
 #[derive(Debug, PartialEq, Eq, PartialOrd, Ord, Drop)]
 pub struct Mirrored {
     pub number: u64,

@@ -1,8 +1,8 @@
-//! An iterator that tells a wrong number of items.
+//! An iterator with a wrong size hint.
 ghost use Rattle.std.specs.Prelude.{◌+◌};
 ghost use Rattle.std.specs.Iterator.{at_most};
 
-/// Gives the numbers from the first down to 1, and tells that at least `claim` come.
+/// Yields the numbers from the first down to 1, with a lower bound of `claim` as size hint.
 #[derive(Drop)]
 pub struct Misled {
     pub first: u64,

@@ -6,7 +6,7 @@ use indexset_core::node::NodeLike;
 use indexset_core::refusal::Refusal;
 use std::alloc::Global;
 
-/// A node of these values, put in one after another.
+/// Returns a node of these values, inserted in order.
 pub fn node_of<T: Ord + Clone + Drop, Node: NodeLike<T>>(
     alloc: Global,
     values: &[T],

@@ -1,4 +1,4 @@
-//! Keys that own a block.
+//! Keys that own an allocation.
 ghost use Rattle.std.proofs.Common.{rules};
 ghost use Rattle.std.specs.Hash as fed;
 ghost use Rattle.std.specs.Prelude.{IfOk, ◌≡◌, nat_eq};
@@ -12,7 +12,7 @@ use std::fmt;
 use std::hash::{Hash, Hasher};
 use std::marker::Model;
 
-/// A number in a block of its own, so that a clone of it asks for memory.
+/// A number in an allocation of its own, so that a clone allocates.
 #[derive(Debug, Drop)]
 pub struct Owned {
     block: Box<u64>,
@@ -27,7 +27,7 @@ impl Model for Owned {
 }
 
 impl Owned {
-    /// The number in a new block.
+    /// Returns the number in a new allocation.
     pub fn new(alloc: Global, number: u64) -> Result<Self, AllocError>
         ensures { IfOk result (λ s. s ≡ number) }
     {
@@ -35,7 +35,7 @@ impl Owned {
         Ok(Owned { block })
     }
 
-    /// The number.
+    /// Returns the number.
     pub fn number(&self) -> u64
         ensures { result ≡ self.now }
     {

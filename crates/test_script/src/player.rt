@@ -1,17 +1,18 @@
-//! Plays scripts on the subjects that they name, and judges calls that are refused memory.
+//! Plays scripts on the subjects that they name, and checks calls whose allocation fails.
 //!
-//! The first statement of a script is `make SUBJECT SIZES..`: the others are played once for each node size,
-//! on a subject that is made anew. A statement is a call, its words, and behind `->` the words of its answer; a
-//! call that answers nothing has no `->`. Statements of one line are parted by `;`. A line that begins
-//! `each 0..4:` is played for each number from 0 to 3, and `each 4..0:` for each from 3 down to 0, which
-//! stands for `@` in its statements. A word `0..4` or `4..0` stands for these numbers. A line that begins with
-//! `#` is a title. A statement that begins with `bare` is a call that may ask for no memory.
+//! The first statement of a script is `make SUBJECT SIZES..`. The others are played once for each
+//! node size, on a new subject. A statement is a call, its words, and after `->` the words of its
+//! answer; a call without an answer has no `->`. `;` separates the statements of a line. A line
+//! that begins with `each 0..4:` is played for each number from 0 to 3, and with `each 4..0:` for
+//! each from 3 down to 0; `@` in its statements is the number. A word `0..4` or `4..0` is these
+//! numbers. A line that begins with `#` is a title. A statement that begins with `bare` is a call
+//! that must not allocate.
 //!
-//! In a sweep one request for memory is refused, and the player expects it. Where a call of the library is
-//! refused, the script is played anew up to that call, and both subjects must hold the same: what the call
-//! found. A call that leaves a prefix done is made up to there on the new one, part by part. Then the call is
-//! made again, and the script goes on, with the same answers. Where statements `leaves STATE` before the call
-//! name what it may leave, it must leave one of these states.
+//! In a sweep one allocation fails. If a call of the library fails, the script is played again up
+//! to that call on a new subject, and both subjects must be in the same state. For a call that may
+//! complete a prefix of its work, the parts of that prefix are done on the new subject first. Then
+//! the call is made again, and the script continues with the same answers. If statements `leaves
+//! STATE` precede the call, it must leave one of these states.
 
 use crate::script::{Stop, Subject, range};
 use crate::texts::Texts;
@@ -20,16 +21,17 @@ use std::alloc::{AllocError, Global};
 use std::fmt::Display;
 use std::str::SplitWhitespace;
 
-/// A subject that is made anew for each node size, and shown where a call is refused.
+/// A subject that is made for each node size, and whose state can be written.
 pub trait Swept: Subject + Drop {
-    /// An empty one, of nodes of at most so many items.
+    /// Returns an empty subject with at most `size` items in a node.
     fn make(alloc: Global, size: usize) -> Result<Self, Stop>;
 
-    /// Writes all that it holds.
+    /// Writes the whole state.
     fn show(&self, text: &mut String) -> Result<(), Stop>;
 
-    /// Does the part of this number of a call that leaves a prefix done where it is refused; whether there
-    /// is one.
+    /// Does one part, by its number, of a call that may complete a prefix of its work.
+    ///
+    /// Returns whether there is such a part.
     fn part(
         &mut self,
         name: &str,
@@ -38,12 +40,12 @@ pub trait Swept: Subject + Drop {
     ) -> Result<bool, Stop>;
 }
 
-/// Why a script was not played to its end.
+/// The reason why a script was not played to its end.
 #[derive(Drop)]
 pub enum Fault {
-    /// The player found no memory of its own.
+    /// An allocation of the player failed.
     Memory,
-    /// A statement answered otherwise, or a refused call left something else; the text says which.
+    /// A statement had another answer, or a failed call left another state. The text describes it.
     Otherwise(String),
 }
 
@@ -53,8 +55,7 @@ impl From<AllocError> for Fault {
     }
 }
 
-/// A script that was read: its subject, its node sizes, and its statements, a line each behind the number of
-/// their line.
+/// A script: its subject, its node sizes, and its statements, each after its line number.
 #[derive(Drop)]
 pub struct Script {
     alloc: Global,
@@ -64,7 +65,7 @@ pub struct Script {
     statements: String,
 }
 
-// Writes the statements of a line, each behind the line's number, with a number in place of each `@`.
+// Writes the statements of a line, each after the line number, with a number for each `@`.
 fn fill<D: Display>(
     statements: &mut String,
     number: usize,
@@ -110,14 +111,14 @@ fn expand(statements: &mut String, number: usize, line: &str) -> Result<(), Stop
     Ok(())
 }
 
-// What a subject holds.
+// Returns the state of a subject.
 fn shown<S: Swept>(alloc: Global, subject: &S) -> Result<String, Stop> {
     let mut text = String::new(alloc);
     subject.show(&mut text)?;
     Ok(text)
 }
 
-// A subject that is made anew; where memory is refused, a second time.
+// Returns a new subject. If the allocation fails, it is tried a second time.
 fn made<S: Swept>(alloc: Global, size: usize) -> Result<(S, bool), Stop> {
     match S::make(alloc, size) {
         Ok(subject) => Ok((subject, false)),
@@ -126,7 +127,7 @@ fn made<S: Swept>(alloc: Global, size: usize) -> Result<(S, bool), Stop> {
     }
 }
 
-// The fault of a line that can't be read.
+// Returns the fault of a line that cannot be read.
 fn unread(alloc: Global, number: usize, stop: Stop) -> Fault {
     if let Stop::Memory = stop {
         return Fault::Memory;
@@ -157,7 +158,7 @@ impl Script {
         Ok(script)
     }
 
-    // Takes a line over: the subject and the node sizes, or statements.
+    // Adds a line: the subject and the node sizes, or statements.
     fn take_line(&mut self, number: usize, line: &str) -> Result<(), Stop> {
         if line.starts_with('#') {
             return Ok(());
@@ -168,7 +169,7 @@ impl Script {
         }
     }
 
-    // Takes the subject and the node sizes over.
+    // Sets the subject and the node sizes.
     fn name(&mut self, words: &str) -> Result<(), Stop> {
         let mut words = words.split_whitespace();
         self.subject.push_str(words.next().unwrap_or(""))?;
@@ -179,12 +180,12 @@ impl Script {
         Ok(())
     }
 
-    /// The name of the subject.
+    /// Returns the name of the subject.
     pub fn subject(&self) -> &str {
         self.subject.as_str()
     }
 
-    /// Plays it once for each node size; whether a call was refused memory.
+    /// Plays the script once for each node size. Returns whether an allocation of a call failed.
     pub fn play<S: Swept>(&self) -> Result<bool, Fault> {
         let mut is_refused = false;
         for size in &self.sizes {
@@ -195,7 +196,7 @@ impl Script {
         Ok(is_refused)
     }
 
-    // Plays it on a subject of a node size.
+    // Plays the script on a subject of a node size.
     fn play_at<S: Swept>(&self, size: usize) -> Result<bool, Fault> {
         let (mut subject, mut is_refused) = match made::<S>(self.alloc, size) {
             Ok(made) => made,
@@ -210,7 +211,7 @@ impl Script {
         Ok(is_refused)
     }
 
-    // Plays a statement behind the number of its line; whether its call was refused memory.
+    // Plays a statement after its line number. Returns whether an allocation of its call failed.
     fn play_line<S: Swept>(
         &self,
         subject: &mut S,
@@ -230,7 +231,8 @@ impl Script {
         }
     }
 
-    // Makes the call of a statement, and where memory is refused to it, judges what it left and makes it again.
+    // Makes the call of a statement. If an allocation fails, checks the state that it left, and
+    // makes the call again.
     fn play_call<S: Swept>(
         &self,
         subject: &mut S,
@@ -255,13 +257,13 @@ impl Script {
         Ok(is_refused)
     }
 
-    // Whether the call of a statement may be refused memory.
+    // Returns whether an allocation of the call of a statement may fail.
     fn may_refuse(&self, texts: &Texts) -> bool {
         self.is_swept && !texts.call.trim().starts_with("bare ") && !texts.is_expected()
     }
 
-    // Whether a refused call left a state that is named; where none is, whether it left what it found, or did a
-    // part of what it does.
+    // Returns whether a failed call left one of the named states. If none is named, it must have
+    // changed nothing, or completed a prefix of its work.
     fn is_left<S: Swept>(
         &self,
         subject: &S,
@@ -287,7 +289,7 @@ impl Script {
         Ok(false)
     }
 
-    // A subject after so many statements.
+    // Returns a subject after the first `count` statements.
     fn replay<S: Swept>(&self, size: usize, count: usize) -> Result<S, Stop> {
         let mut subject = S::make(self.alloc, size)?;
         let mut texts = Texts::new(self.alloc);
@@ -301,7 +303,7 @@ impl Script {
         Ok(subject)
     }
 
-    // The fault of a statement that could not be played.
+    // Returns the fault of a statement that could not be played.
     fn fault(&self, size: usize, line: &str, stop: Stop) -> Fault {
         if let Stop::Memory = stop {
             return Fault::Memory;
@@ -314,7 +316,7 @@ impl Script {
         text.map_or(Fault::Memory, Fault::Otherwise)
     }
 
-    // The fault of a statement that answered otherwise.
+    // Returns the fault of a statement that had another answer.
     fn differs(&self, size: usize, line: &str, texts: &Texts) -> Fault {
         let (number, statement) = line.split_once(' ').unwrap_or(("0", line));
         let text = format!(in self.alloc;

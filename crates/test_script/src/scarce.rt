@@ -1,9 +1,9 @@
-//! A key whose clones run out.
+//! A key that can be cloned a limited number of times.
 
 use std::alloc::AllocError;
 use std::cell::Cell;
 
-/// It is cloned as often as the cell that the keys share says, and no more.
+/// A key that can be cloned as often as the cell says that the keys share.
 #[derive(Drop)]
 #[derive_where(PartialEq, Eq, PartialOrd, Ord)]
 pub struct Scarce<'a> {

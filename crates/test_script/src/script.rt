@@ -1,4 +1,4 @@
-//! What subjects of scripts read and write: the words of calls and of answers.
+//! The words of calls and of answers, which subjects of scripts read and write.
 
 use indexset_core::refusal::{Refusal, Refused};
 use std::alloc::{AllocError, AllocFailed, Global};
@@ -6,18 +6,18 @@ use std::fmt::Display;
 use std::ops::Bound;
 use std::str::{FromStr, SplitWhitespace};
 
-/// Why a call could not be made.
+/// The reason why a call could not be made.
 #[derive(Debug, Drop)]
 pub enum Stop {
-    /// The library refused it.
+    /// The library refused the call.
     Refused(Refusal),
-    /// The player found no memory of its own, for the words or the answer.
+    /// An allocation of the player failed, for the words or the answer.
     Memory,
-    /// The library refused it, and returned something else than it was given.
+    /// The library refused the call, and returned something other than its argument.
     Otherwise,
-    /// A word is missing, or is not what the call takes.
+    /// A word is missing, or the call does not take it.
     Word,
-    /// No call has this name, or it may not be made there.
+    /// No call has this name, or its precondition does not hold.
     NoCall,
 }
 
@@ -45,7 +45,7 @@ impl<X: Drop> From<Refused<X>> for Stop {
     }
 }
 
-/// What a script calls.
+/// A subject of scripts.
 pub trait Subject {
     /// Makes a call, and writes its answer.
     fn call(
@@ -96,8 +96,9 @@ where
     value.map(Bound::Excluded).map_err(|_| Stop::Word)
 }
 
-/// Writes what a walk gives at each of the words that are left. A macro, since nothing is known of
-/// `next` of an iterator of any type.
+/// Writes what an iterator yields for each of the remaining words.
+///
+/// It is a macro, because an iterator of any type has no contract for `next`.
 #[macro_export]
 macro_rules! walk {
     ($items:expr, $words:expr, $answer:expr, $tell:path) => {{
@@ -115,13 +116,13 @@ macro_rules! walk {
     }};
 }
 
-/// Whether a value is spelt like a word.
+/// Returns whether the text of a value is this word.
 pub fn is_spelt<D: Display>(alloc: Global, value: &D, word: &str) -> Result<bool, Stop> {
     let text = format!(in alloc; "{value}")?;
     Ok(text.as_str() == word)
 }
 
-/// What a call made, or its refusal, where this returned the value of a word.
+/// Returns the result of a call, or its refusal, which must return the value of a word.
 pub fn given<X: Drop, T: Display + Drop>(
     alloc: Global,
     word: &str,
@@ -139,12 +140,12 @@ pub fn given<X: Drop, T: Display + Drop>(
     }
 }
 
-/// The refusal of a call that tells no cause of its own.
+/// Returns the refusal of a call that has no cause.
 pub fn refused<X>(made: Result<X, AllocError>) -> Result<X, Stop> {
     made.map_err(|_| Stop::Refused(Refusal::Memory))
 }
 
-/// What stands before and behind the dots of a range.
+/// Returns the texts before and after the dots of a range.
 pub fn range(word: &str) -> Option<(u64, u64)> {
     let (from, to) = word.split_once("..")?;
     Some((from.parse().ok()?, to.parse().ok()?))

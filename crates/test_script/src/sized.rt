@@ -6,7 +6,7 @@ use indexset_map::BTreeMap;
 use indexset_set::BTreeSet;
 use std::alloc::Global;
 
-/// The set of these elements, inserted one after another.
+/// Returns the set of these elements, inserted in order.
 pub fn set_of<T: Ord + Copy + Drop>(
     alloc: Global,
     size: usize,
@@ -21,7 +21,7 @@ pub fn set_of<T: Ord + Copy + Drop>(
     Ok(set)
 }
 
-/// The map of these pairs, inserted one after another.
+/// Returns the map of these pairs, inserted in order.
 pub fn map_of<K: Ord + Copy + Drop, V: Copy + Drop>(
     alloc: Global,
     size: usize,

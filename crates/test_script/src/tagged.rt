@@ -1,8 +1,8 @@
-//! Items that an order calls equal, and that differ.
+//! Items that are equal by their order, but differ.
 
 use std::fmt;
 
-/// A key with a tag that its order does not read.
+/// A key with a tag that its order ignores.
 #[derive(Clone, Copy, Debug)]
 #[derive_where(PartialEq, Eq, PartialOrd, Ord, Hash)]
 pub struct Tagged {

@@ -1,4 +1,5 @@
-//! The texts of a statement: its call, the answer that it must give, and what a failed call may leave.
+//! The texts of a statement: its call, its expected answer, and the states that a failed call may
+//! leave.
 
 use crate::player::Swept;
 use crate::script::{Stop, Subject, spell};
@@ -6,17 +7,17 @@ use indexset_core::refusal::Refusal;
 use std::alloc::{AllocError, Global};
 use std::str::SplitWhitespace;
 
-/// The words of a statement, and what it answered.
+/// The words of a statement, and its answer.
 #[derive(Drop)]
 pub struct Texts {
     pub call: String,
     pub expected: String,
     pub answer: String,
-    // The states that the next call may leave where it fails, a line each.
+    // The states that the next call may leave if it fails, one in each line.
     states: String,
 }
 
-// The words, with the numbers of a range in its place.
+// The words, with the numbers of each range.
 fn spell_all(text: &mut String, words: &str) -> Result<(), AllocError> {
     text.clear();
     if !words.contains('.') {
@@ -29,7 +30,7 @@ fn spell_all(text: &mut String, words: &str) -> Result<(), AllocError> {
 }
 
 impl Texts {
-    /// Of no statement.
+    /// Returns the texts of no statement.
     pub fn new(alloc: Global) -> Texts {
         Texts {
             call: String::new(alloc),
@@ -39,14 +40,16 @@ impl Texts {
         }
     }
 
-    /// Takes the words of a statement over.
+    /// Sets the words of a statement.
     pub fn read(&mut self, statement: &str) -> Result<(), AllocError> {
         let (call, expected) = statement.split_once("->").unwrap_or((statement, ""));
         spell_all(&mut self.call, call)?;
         spell_all(&mut self.expected, expected)
     }
 
-    /// Keeps a state that the next call may leave where it fails, if the statement names one; whether it does.
+    /// Adds a state that the next call may leave if it fails, if the statement names one.
+    ///
+    /// Returns whether it does.
     pub fn take_state(&mut self) -> Result<bool, AllocError> {
         let Some(state) = self.call.trim().strip_prefix("leaves ") else {
             return Ok(false);
@@ -56,17 +59,17 @@ impl Texts {
         Ok(true)
     }
 
-    /// Forgets the states, once their call is made.
+    /// Removes the states, after their call is made.
     pub fn forget_states(&mut self) {
         self.states.clear();
     }
 
-    /// Whether the states that the call may leave are named.
+    /// Returns whether the states that the call may leave are named.
     pub fn has_states(&self) -> bool {
         !self.states.is_empty()
     }
 
-    /// Whether a state is one of those that are named.
+    /// Returns whether a state is one of the named states.
     pub fn is_named(&self, state: &str) -> bool {
         for named in self.states.lines() {
             if named.split_whitespace().eq(state.split_whitespace()) {
@@ -76,7 +79,7 @@ impl Texts {
         false
     }
 
-    /// Makes the call, and keeps its answer; whether memory was refused to it.
+    /// Makes the call, and stores its answer. Returns whether an allocation of the call failed.
     pub fn perform<S: Subject>(&mut self, subject: &mut S) -> Result<bool, Stop> {
         self.answer.clear();
         let mut words = self.call.split_whitespace();
@@ -95,7 +98,7 @@ impl Texts {
         }
     }
 
-    /// Whether the call answered as it must.
+    /// Returns whether the call had the expected answer.
     pub fn is_expected(&self) -> bool {
         if self.answer.as_str() == self.expected.as_str() {
             return true;
@@ -104,7 +107,7 @@ impl Texts {
         answer.eq(self.expected.split_whitespace())
     }
 
-    /// Has the subject do the part of the call of this number.
+    /// Does the part of the call that has this number.
     pub fn part<S: Swept>(&self, subject: &mut S, number: usize) -> Result<bool, Stop> {
         let mut words = self.call.split_whitespace();
         let name = words.next().unwrap_or("");

@@ -1,4 +1,4 @@
-//! Items that a script types, a word each.
+//! Items that are words of a script.
 ghost use Rattle.std.specs.Prelude.{IsTrue};
 ghost use Rattle.indexset_core.specs.Order.{IsAscending};
 
@@ -11,12 +11,12 @@ use std::hash::Hash;
 use std::ops::Bound;
 use std::str::SplitWhitespace;
 
-/// An item that a word names.
+/// An item that has a word.
 pub trait Word: Ord + Hash + Clone + Debug + Display + Drop {
     /// Reads an item.
     fn of(alloc: Global, word: &str) -> Result<Self, Stop>;
 
-    /// The item of a number, if there is one.
+    /// Returns the item of a number, if there is one.
     fn numbered(alloc: Global, number: u64) -> Result<Self, Stop>;
 }
 
@@ -81,7 +81,7 @@ pub fn item<T: Word>(alloc: Global, words: &mut SplitWhitespace<'_>) -> Result<T
     T::of(alloc, words.next().ok_or(Stop::Word)?)
 }
 
-/// Reads the items of the words that are left.
+/// Reads the items of the remaining words.
 pub fn items<T: Word>(alloc: Global, words: &mut SplitWhitespace<'_>) -> Result<Vec<T>, Stop> {
     let mut items = Vec::new(alloc);
     for word in words {
@@ -103,7 +103,7 @@ pub fn bound<T: Word>(alloc: Global, words: &mut SplitWhitespace<'_>) -> Result<
     Ok(Bound::Excluded(T::of(alloc, text.ok_or(Stop::Word)?)?))
 }
 
-/// Whether each item is below the next.
+/// Returns whether each item is less than the next.
 pub fn is_sorted<T: Ord>(items: &[T]) -> bool
     ensures { IsTrue result → IsAscending T.cmp items.now }
 {

@@ -1,10 +1,9 @@
-//! Calls of the player's own, of any tree and of a replica.
+//! Calls of the player, for any tree and for a replica.
 //!
-//! `quietly`, `numbers` and `count` before a call leave its events out of the answer, or tell only their
-//! numbers, or how many they are. `snapshot` makes the replica one of the tree's nodes, and `go_on 4` a tree
-//! of node size 4.
-//! `within 17` before a call tells how often it compares, where that is more than 17 times, and `clones 2`
-//! leaves two clones of items to be made.
+//! Before a call, `quietly` omits its events from the answer, `numbers` writes only their numbers,
+//! and `count` how many there are. `snapshot` makes a replica of the tree's nodes, and `go_on 4` a
+//! tree of node size 4. `within 17` before a call writes the number of its comparisons if it is
+//! more than 17. `clones 2` limits the clones of items to two more.
 
 use crate::meter::Meter;
 use std::alloc::Global;
@@ -18,7 +17,7 @@ pub trait Metering: Swept {
     fn meter(&self) -> &Meter;
 }
 
-/// A subject, with the calls of the player's own.
+/// A subject, with the calls of the player.
 #[derive(Drop)]
 pub struct Brief<S: Metering> {
     alloc: Global,
@@ -26,7 +25,7 @@ pub struct Brief<S: Metering> {
 }
 
 impl<S: Metering> Brief<S> {
-    /// What a call without words answers.
+    /// Returns the answer of a call without words.
     fn answer_of(&mut self, name: &str) -> Result<String, Stop> {
         let mut answer = String::new(self.alloc);
         self.subject
@@ -59,7 +58,8 @@ impl<S: Metering> Brief<S> {
         Ok(())
     }
 
-    /// Makes a call with a size, if there is one, the number of the next event and the nodes as they are.
+    /// Makes a call with a size, if there is one, the number of the next event, and the current
+    /// nodes.
     fn pass_on(&mut self, name: &str, size: &str, answer: &mut String) -> Result<(), Stop> {
         let next = self.answer_of("events_issued")?;
         let nodes = self.answer_of("nodes")?;
@@ -68,7 +68,7 @@ impl<S: Metering> Brief<S> {
             .call(name, &mut text.split_whitespace(), answer)
     }
 
-    /// Makes a call, and writes how often it compared where that is too often.
+    /// Makes a call, and writes the number of its comparisons if it is too large.
     fn call_within(
         &mut self,
         words: &mut SplitWhitespace<'_>,

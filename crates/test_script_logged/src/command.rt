@@ -1,4 +1,4 @@
-//! Commands to the logged trees, and the replies.
+//! Commands to the logged trees, and their replies.
 
 use crate::item::{Item, Source, Value, read_pair};
 use crate::run::{Command, Reply};

@@ -1,4 +1,4 @@
-//! Events that a script is told, and a replica that follows them.
+//! Events that calls return, and a replica that follows them.
 
 use crate::event::tell_events;
 use crate::item::{Item, Source};
@@ -16,7 +16,7 @@ use std::mem;
 use std::str::SplitWhitespace;
 use test_script::script::{Stop, read, tell, tell_option};
 
-/// Whether these are the same items.
+/// Returns whether these are the same items.
 fn are_same<T: Item>(items: &[T], others: &[T]) -> bool {
     items.len() == others.len()
         && items
@@ -25,7 +25,7 @@ fn are_same<T: Item>(items: &[T], others: &[T]) -> bool {
             .all(|(item, other)| item.is_same(other))
 }
 
-/// A replica, the events that it is to follow, and how many of them it has followed.
+/// A replica, its events, and how many of them it has applied.
 #[derive(Drop)]
 pub struct Copy<T: Item> {
     replica: Replica<T>,
@@ -35,7 +35,7 @@ pub struct Copy<T: Item> {
 }
 
 impl<T: Item> Copy<T> {
-    /// A replica without nodes, and no event.
+    /// Returns an empty replica, without events.
     pub fn new(alloc: Global) -> Self {
         Copy {
             replica: Replica::new(alloc, 0),
@@ -45,7 +45,7 @@ impl<T: Item> Copy<T> {
         }
     }
 
-    /// Writes the events of a call, each behind a comma, and keeps them for the replica.
+    /// Writes the events of a call, each after a comma, and stores them for the replica.
     pub fn tell_events(
         &mut self,
         answer: &mut String,
@@ -66,7 +66,7 @@ impl<T: Item> Copy<T> {
         self.tell_events(answer, events)
     }
 
-    /// Writes the answer of a call that does nothing where the item is there.
+    /// Writes the answer of a call that does nothing if the item is present.
     pub fn tell_checked(
         &mut self,
         answer: &mut String,
@@ -78,7 +78,7 @@ impl<T: Item> Copy<T> {
         }
     }
 
-    /// Applies the next event that was kept; whether there was one.
+    /// Applies the next stored event. Returns whether there was one.
     fn follow_next(&mut self) -> Result<bool, Stop> {
         let Some(event) = self.told.get(self.followed) else {
             return Ok(false);
@@ -88,7 +88,7 @@ impl<T: Item> Copy<T> {
         Ok(true)
     }
 
-    /// Applies the events that were kept.
+    /// Applies the stored events.
     fn follow_all(&mut self) -> Result<(), Stop> {
         for _ in self.followed..self.told.len() {
             self.follow_next()?;
@@ -96,13 +96,13 @@ impl<T: Item> Copy<T> {
         Ok(())
     }
 
-    /// Applies the events that were kept, and writes the nodes.
+    /// Applies the stored events, and writes the nodes.
     fn follow(&mut self, answer: &mut String) -> Result<(), Stop> {
         self.follow_all()?;
         tell_nodes(answer, self.replica.nodes())
     }
 
-    /// Applies the events that were kept; whether the replica then has these nodes.
+    /// Applies the stored events. Returns whether the replica then has these nodes.
     pub fn is_followed<N: NodeLike<T>>(&mut self, nodes: Nodes<'_, N>) -> Result<bool, Stop> {
         self.follow_all()?;
         let copies = self.replica.nodes();
@@ -114,20 +114,20 @@ impl<T: Item> Copy<T> {
         Ok(is_same)
     }
 
-    /// Makes the replica one of these nodes.
+    /// Makes the replica one of the nodes of the words.
     fn start(&mut self, source: &Source, words: &mut SplitWhitespace<'_>) -> Result<(), Stop> {
         let next = read(words)?;
         let nodes = read_nodes::<T, Vec<T>, Whole>(source, words)?;
         self.begin(nodes, next)
     }
 
-    /// Makes the replica one of these nodes, as those that were taken from it.
+    /// Makes the replica one of these nodes, such as those that were moved out of it.
     pub fn begin(&mut self, nodes: Vec<Vec<T>>, next: u64) -> Result<(), Stop> {
         self.replica = Replica::from_nodes(nodes, next)?;
         Ok(())
     }
 
-    /// The nodes of the replica, and the number that it awaits.
+    /// Moves the nodes out of the replica, and returns them with the awaited number.
     pub fn take(&mut self, alloc: Global) -> (Vec<Vec<T>>, u64) {
         let next = self.replica.next();
         let replica = mem::replace(&mut self.replica, Replica::new(alloc, 0));
@@ -148,7 +148,7 @@ impl<T: Item> Copy<T> {
         }
     }
 
-    /// Makes the calls of the replica.
+    /// Makes a call of the replica.
     pub fn call(
         &mut self,
         source: &Source,
@@ -197,7 +197,7 @@ impl<T: Item> Copy<T> {
         }
     }
 
-    /// Writes what it is.
+    /// Writes the state.
     pub fn show(&self, text: &mut String) -> Result<(), Stop> {
         tell_nodes(text, self.replica.nodes())?;
         let Copy { told, followed, .. } = self;

@@ -1,5 +1,6 @@
-//! Events in the words of a script: the number, the kind, the last item of the node, and what else is named:
-//! `7 insert 5 4 0`, `7 remove 5 4 0`, `7 create 5`, `7 drop 5`, `7 split 5 2` or `7 merge 5 9`.
+//! Events as words of a script: the number, the kind, the last item of the node, and the other
+//! fields: `7 insert 5 4 0`, `7 remove 5 4 0`, `7 create 5`, `7 drop 5`, `7 split 5 2` or `7 merge
+//! 5 9`.
 
 use crate::item::{Item, Source};
 use indexset_events::change::{ChangeEvent, Id};
@@ -38,7 +39,7 @@ pub fn tell_event<T: Item>(answer: &mut String, event: &ChangeEvent<T>) -> Resul
     Ok(told?)
 }
 
-/// Writes events, each behind a comma.
+/// Writes events, each after a comma.
 pub fn tell_events<T: Item>(answer: &mut String, events: &[ChangeEvent<T>]) -> Result<(), Stop> {
     for event in events {
         answer.push_str(",")?;
@@ -47,7 +48,7 @@ pub fn tell_events<T: Item>(answer: &mut String, events: &[ChangeEvent<T>]) -> R
     Ok(())
 }
 
-/// Reads an insertion into a node, or a removal from it.
+/// Reads an insert or remove event.
 fn read_edit<T: Item>(
     source: &Source,
     is_insertion: bool,
@@ -74,7 +75,7 @@ fn read_edit<T: Item>(
     }
 }
 
-/// Reads an event that cuts a node, or joins it with the next.
+/// Reads a split or merge event.
 fn read_cut<T: Item>(
     source: &Source,
     kind: &str,

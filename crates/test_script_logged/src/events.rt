@@ -21,7 +21,7 @@ impl<T: Item> Events<T> {
         Ok(self.events.push(event)?)
     }
 
-    /// Writes whether each event equals the one at a place; `!=` must tell the contrary.
+    /// Writes whether each event equals the one at a place. `!=` must have the opposite result.
     fn compare(&self, words: &mut SplitWhitespace<'_>, answer: &mut String) -> Result<(), Stop> {
         let place: usize = read(words)?;
         let one = self.events.get(place).ok_or(Stop::NoCall)?;

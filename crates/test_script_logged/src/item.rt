@@ -1,4 +1,4 @@
-//! Items in the words of a script. A pair is `1:a`, and one with a number `1:a #0`.
+//! Items as words of a script. A pair is `1:a`, and a numbered pair `1:a #0`.
 ghost use Rattle.std.specs.Prelude.{◌≡◌};
 ghost use Rattle.std.specs.Range.Bound.{bound_map};
 ghost use Rattle.indexset_core.specs.KeyRange.{are_ordered};
@@ -17,7 +17,7 @@ use test_script::owned::Owned;
 use test_script::script::{Stop, read};
 use test_script::tagged::Tagged;
 
-/// What items are made with.
+/// The allocator and the meter of items.
 #[derive(Drop)]
 pub struct Source {
     pub alloc: Global,
@@ -25,7 +25,7 @@ pub struct Source {
 }
 
 impl Source {
-    /// One whose items can be cloned at will.
+    /// Returns a source whose items can be cloned without limit.
     pub fn new(alloc: Global) -> Result<Source, Stop> {
         let meter = Meter {
             asked: Cell::new(0),
@@ -36,18 +36,18 @@ impl Source {
     }
 }
 
-/// An item that a script types.
+/// An item of a script.
 pub trait Item: Ord + Clone + Display + Drop {
     /// Reads the words of an item.
     fn read_item(source: &Source, words: &mut SplitWhitespace<'_>) -> Result<Self, Stop>;
 
-    /// Whether both are spelt alike, which is more than that they are equal.
+    /// Returns whether both have the same text. Equal items may have different texts.
     fn is_same(&self, other: &Self) -> bool;
 }
 
-/// A value that a script types.
+/// A value of a script.
 pub trait Value: Eq + Clone + Display + Drop {
-    /// The value of a word.
+    /// Returns the value of a word.
     fn of(word: &str) -> Result<Self, Stop>;
 }
 
@@ -63,12 +63,12 @@ impl Value for u64 {
     }
 }
 
-/// The item of a text.
+/// Returns the item of a text.
 pub fn item_of<T: Item>(source: &Source, text: &str) -> Result<T, Stop> {
     T::read_item(source, &mut text.split_whitespace())
 }
 
-/// Reads a key and a value, with a colon between.
+/// Reads a key and a value, separated by a colon.
 pub fn read_pair<K: Item, V: Value>(
     source: &Source,
     words: &mut SplitWhitespace<'_>,
@@ -157,7 +157,7 @@ impl<K: Item, V: Value> Item for MultiPair<K, V> {
     }
 }
 
-/// Reads the items that the words left are, one a word.
+/// Reads an item from each remaining word.
 pub fn read_items<T: Item>(
     source: &Source,
     words: &mut SplitWhitespace<'_>,
@@ -169,7 +169,7 @@ pub fn read_items<T: Item>(
     Ok(items)
 }
 
-/// Whether a range may be asked for. The meter does not count the comparison.
+/// Returns whether the bounds of a range are in order. The meter does not count the comparison.
 pub fn may_range<T: Item>(source: &Source, start: Bound<&T>, end: Bound<&T>) -> bool
     ensures { result ≡ are_ordered T.cmp (bound_map (λ x. x.now) start.entry)
         (bound_map (λ x. x.now) end.entry) }

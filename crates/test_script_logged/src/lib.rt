@@ -1,5 +1,5 @@
-//! What the scripts of the logged family are played on: logged sets, maps and multimaps, each with a replica
-//! that follows it, replicas alone, lists of commands, and the program. See [`test_script::player`].
+//! The subjects of the logged family: logged sets, maps and multimaps, each with a replica,
+//! replicas, lists of commands, and the program. See [`test_script::player`].
 #![tactic(auto)]
 
 pub mod brief;

@@ -41,7 +41,7 @@ impl<K: Item, V: Value, N: NodeLike<Pair<K, V>>, M: Maker<Pair<K, V>, N>> Maps<K
         self.copy = Copy::new(self.source.alloc);
     }
 
-    /// Replaces the map by an empty one of a node size, whose next event has a number.
+    /// Replaces the map by an empty map with a node size and the number of its next event.
     fn start(&mut self, name: &str, words: &mut SplitWhitespace<'_>) -> Result<(), Stop> {
         let size = read(words)?;
         let next = if name == "map" { 0 } else { read(words)? };
@@ -52,7 +52,8 @@ impl<K: Item, V: Value, N: NodeLike<Pair<K, V>>, M: Maker<Pair<K, V>, N>> Maps<K
         Ok(())
     }
 
-    /// Replaces the map by one of a node size, of the keys that the words left are, each with the value.
+    /// Replaces the map by one with a node size and the keys of the remaining words, each with the
+    /// value.
     fn fill(&mut self, words: &mut SplitWhitespace<'_>) -> Result<(), Stop> {
         let size = read(words)?;
         if size < 2 || N::limit() < size {
@@ -67,7 +68,7 @@ impl<K: Item, V: Value, N: NodeLike<Pair<K, V>>, M: Maker<Pair<K, V>, N>> Maps<K
         Ok(())
     }
 
-    /// Replaces the map by an empty one of the node size that a map has where none is named.
+    /// Replaces the map by an empty map of the default node size.
     fn start_anew(&mut self, name: &str) -> Result<(), Stop> {
         if N::limit() < DEFAULT_INNER_SIZE {
             return Err(Stop::NoCall);
@@ -80,7 +81,7 @@ impl<K: Item, V: Value, N: NodeLike<Pair<K, V>>, M: Maker<Pair<K, V>, N>> Maps<K
         Ok(())
     }
 
-    /// Replaces the map by that of nodes.
+    /// Replaces the map by one that is made of nodes.
     fn make_of_nodes(
         &mut self,
         words: &mut SplitWhitespace<'_>,

@@ -1,4 +1,4 @@
-//! Items that count the comparisons with them, and whose clones run out.
+//! Items that count their comparisons, and have a limited number of clones.
 ghost use Rattle.std.proofs.Common.{rules};
 ghost use Rattle.std.specs.Prelude.{nat_eq};
 ghost use Rattle.std.specs.Cmp.{partial_order_from_own_ties};
@@ -11,14 +11,14 @@ use std::cmp::Ordering;
 use std::fmt;
 use std::rc::Rc;
 
-/// What items share: how often two were compared, and how many clones of them can still be made.
+/// The state that items share: the number of comparisons, and the number of clones that remain.
 #[derive(Drop)]
 pub struct Meter {
     pub asked: Cell<u64>,
     pub clones: Cell<u64>,
 }
 
-/// A number that tells its meter of each comparison, and cannot be cloned where no clone is left there.
+/// A number whose comparisons and clones its meter counts. It cannot be cloned if no clone remains.
 #[derive(Drop)]
 pub struct Metered {
     key: u64,
@@ -26,7 +26,7 @@ pub struct Metered {
 }
 
 impl Metered {
-    /// The number, with this meter.
+    /// Returns the number, with this meter.
     pub fn new(key: u64, meter: &Rc<Meter>) -> Result<Metered, AllocError> {
         let meter = Rc::clone(meter)?;
         Ok(Metered { key, meter })

@@ -51,7 +51,7 @@ impl<K: Item, V: Value, N: NodeLike<MultiPair<K, V>>, M: Maker<MultiPair<K, V>, 
         self.copy = Copy::new(self.source.alloc);
     }
 
-    /// Replaces the map by an empty one of a node size, whose next event has a number.
+    /// Replaces the map by an empty map with a node size and the number of its next event.
     fn start(&mut self, name: &str, words: &mut SplitWhitespace<'_>) -> Result<(), Stop> {
         let size = read(words)?;
         let next = if name == "map" { 0 } else { read(words)? };
@@ -62,7 +62,8 @@ impl<K: Item, V: Value, N: NodeLike<MultiPair<K, V>>, M: Maker<MultiPair<K, V>, 
         Ok(())
     }
 
-    /// Replaces the map by one of a node size, of the keys that the words left are, each with the value.
+    /// Replaces the map by one with a node size and the keys of the remaining words, each with the
+    /// value.
     fn fill(&mut self, words: &mut SplitWhitespace<'_>) -> Result<(), Stop> {
         let size = read(words)?;
         if size < 2 || N::limit() < size {
@@ -77,7 +78,7 @@ impl<K: Item, V: Value, N: NodeLike<MultiPair<K, V>>, M: Maker<MultiPair<K, V>, 
         Ok(())
     }
 
-    /// Replaces the map by an empty one of the node size that a map has where none is named.
+    /// Replaces the map by an empty map of the default node size.
     fn start_anew(&mut self, name: &str) -> Result<(), Stop> {
         if N::limit() < DEFAULT_INNER_SIZE {
             return Err(Stop::NoCall);
@@ -90,7 +91,7 @@ impl<K: Item, V: Value, N: NodeLike<MultiPair<K, V>>, M: Maker<MultiPair<K, V>, 
         Ok(())
     }
 
-    /// Replaces the map by that of nodes.
+    /// Replaces the map by one that is made of nodes.
     fn make_of_nodes(
         &mut self,
         words: &mut SplitWhitespace<'_>,
@@ -234,8 +235,8 @@ impl<K: Item, V: Value, N: NodeLike<MultiPair<K, V>>, M: Maker<MultiPair<K, V>, 
         self.copy.tell_events(answer, events)
     }
 
-    /// Removes all pairs of a key, and writes how many they were: with those of the same call that was
-    /// refused before.
+    /// Removes all pairs of a key, and writes how many there were, with those that the same call
+    /// removed before it failed.
     fn remove_all(
         &mut self,
         name: &str,
@@ -260,7 +261,7 @@ impl<K: Item, V: Value, N: NodeLike<MultiPair<K, V>>, M: Maker<MultiPair<K, V>, 
         self.partial.end(answer)
     }
 
-    /// Removes all pairs of a key, and keeps the events.
+    /// Removes all pairs of a key, and stores the events.
     fn remove_all_cdc(&mut self, key: &K) -> Result<Result<usize, Refusal>, Stop> {
         let (events, removed) = match self.map.remove_all_cdc(key) {
             Ok((count, events)) => (events, Ok(count)),
@@ -270,7 +271,7 @@ impl<K: Item, V: Value, N: NodeLike<MultiPair<K, V>>, M: Maker<MultiPair<K, V>, 
         Ok(removed)
     }
 
-    /// Removes the first pair of the key of which all are removed; whether there was one.
+    /// Removes the first pair of the key whose pairs are removed. Returns whether there was one.
     fn remove_all_part(
         &mut self,
         name: &str,

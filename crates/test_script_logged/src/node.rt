@@ -1,4 +1,4 @@
-//! Nodes in the words of a script: `[1,2]`, or `[1:a #0,1:b #1]`.
+//! Nodes as words of a script: `[1,2]`, or `[1:a #0,1:b #1]`.
 
 use crate::item::{Item, Source, item_of};
 use indexset_core::node::NodeLike;
@@ -9,13 +9,13 @@ use std::str::SplitWhitespace;
 use test_script::nodes::node_of;
 use test_script::script::Stop;
 
-/// How nodes are made of items.
+/// Makes nodes of items.
 pub trait Maker<T, N>: Drop {
-    /// The node of these items.
+    /// Returns the node of these items.
     fn node_of(alloc: Global, items: Vec<T>) -> Result<N, Stop>;
 }
 
-/// The list itself, whatever its order.
+/// Uses the list itself, in any order.
 #[derive(Drop)]
 pub struct Whole;
 
@@ -25,7 +25,7 @@ impl<T> Maker<T, Vec<T>> for Whole {
     }
 }
 
-/// A node that takes one item after the other.
+/// Inserts one item after another.
 #[derive(Drop)]
 pub struct OneByOne;
 
@@ -59,7 +59,7 @@ pub fn tell_nodes<T: Item, N: NodeLike<T>>(answer: &mut String, nodes: &[N]) -> 
     Ok(())
 }
 
-/// The items of the text of a node.
+/// Returns the items of the text of a node.
 fn items_of<T: Item>(source: &Source, text: &str) -> Result<Vec<T>, Stop> {
     let inside = text.trim().strip_prefix('[').ok_or(Stop::Word)?;
     let inside = inside.strip_suffix(']').ok_or(Stop::Word)?;
@@ -72,7 +72,7 @@ fn items_of<T: Item>(source: &Source, text: &str) -> Result<Vec<T>, Stop> {
     Ok(items)
 }
 
-/// Reads the nodes that the words left are.
+/// Reads a node from each remaining word.
 pub fn read_nodes<T: Item, N: Drop, M: Maker<T, N>>(
     source: &Source,
     words: &mut SplitWhitespace<'_>,
@@ -103,22 +103,21 @@ pub fn read_node<T: Item, N: Drop, M: Maker<T, N>>(
     nodes.pop().ok_or(Stop::Word)
 }
 
-/// The text of a node.
+/// Returns the text of a node.
 pub fn node_text<T: Item, N: NodeLike<T>>(alloc: Global, node: &N) -> Result<String, Stop> {
     let mut text = String::new(alloc);
     tell_node(&mut text, node.iter().as_slice())?;
     Ok(text)
 }
 
-/// The texts of nodes.
+/// Returns the texts of nodes.
 pub fn nodes_text<T: Item, N: NodeLike<T>>(alloc: Global, nodes: &[N]) -> Result<String, Stop> {
     let mut text = String::new(alloc);
     tell_nodes(&mut text, nodes)?;
     Ok(text)
 }
 
-/// The stop of a call that was refused, with the text of what it returned written: this must be the text
-/// of what it was given.
+/// Returns the stop of a refused call, and writes what the call returned. It must be the argument.
 pub fn handed_back(
     answer: &mut String,
     given: &str,
@@ -134,7 +133,7 @@ pub fn handed_back(
     }
 }
 
-/// What was made, or the stop.
+/// Returns what a call made, or its stop.
 pub fn given_back<X, D: Display + Drop>(
     alloc: Global,
     answer: &mut String,
@@ -150,7 +149,7 @@ pub fn given_back<X, D: Display + Drop>(
     }
 }
 
-/// What was made of nodes, or the stop.
+/// Returns what a call made of nodes, or its stop.
 pub fn nodes_back<X, T: Item, N: NodeLike<T>>(
     alloc: Global,
     answer: &mut String,
@@ -166,7 +165,7 @@ pub fn nodes_back<X, T: Item, N: NodeLike<T>>(
     }
 }
 
-/// The same of one node.
+/// Returns what a call made of one node, or its stop.
 pub fn node_back<T: Item, N: NodeLike<T>>(
     alloc: Global,
     answer: &mut String,

@@ -1,4 +1,4 @@
-//! Events that are delivered to a replica in some order, in one call.
+//! Events that are delivered to a replica in any order, with one call.
 ghost use Rattle.std.specs.Prelude.{◌<◌, ◌↔◌, IsTrue};
 ghost use Rattle.std.specs.List.{All};
 
@@ -11,7 +11,7 @@ use std::alloc::Global;
 use std::str::SplitWhitespace;
 use test_script::script::Stop;
 
-/// Reads the places that the words left name.
+/// Reads a place from each remaining word.
 fn read_places(alloc: Global, words: &mut SplitWhitespace<'_>) -> Result<Vec<usize>, Stop> {
     let mut places = Vec::new(alloc);
     for word in words {
@@ -20,7 +20,7 @@ fn read_places(alloc: Global, words: &mut SplitWhitespace<'_>) -> Result<Vec<usi
     Ok(places)
 }
 
-/// The text of places.
+/// Returns the text of places.
 fn text_of(alloc: Global, places: &[usize]) -> Result<String, Stop> {
     let mut text = String::new(alloc);
     for place in places {
@@ -29,7 +29,8 @@ fn text_of(alloc: Global, places: &[usize]) -> Result<String, Stop> {
     Ok(text)
 }
 
-/// How many places of an order come before so many events of it, from this number on, have been applied.
+/// Returns how many places of an order are used until `count` events from the number `next` on are
+/// applied.
 fn places_of<T: Item>(
     events: &[ChangeEvent<T>],
     order: &[usize],
@@ -52,7 +53,7 @@ fn places_of<T: Item>(
     order.len()
 }
 
-/// What is left of an order once the call has applied what it has.
+/// Returns the rest of an order after the events that the call has applied.
 fn rest_of<'a, T: Item>(
     replica: &Replica<T>,
     events: &[ChangeEvent<T>],
@@ -64,14 +65,14 @@ fn rest_of<'a, T: Item>(
     order.split_at(done.min(order.len())).1
 }
 
-/// Whether all places are below a count.
+/// Returns whether all places are less than a count.
 fn are_below(places: &[usize], count: usize) -> bool
     ensures { IsTrue result ↔ All (λ place. place < count) places.now }
 {
     places.iter().all(|place| *place < count)
 }
 
-/// Delivers the events at the places that the words name, by one call.
+/// Delivers the events at the places of the words, with one call.
 pub fn deliver<T: Item>(
     alloc: Global,
     replica: &mut Replica<T>,
@@ -96,7 +97,7 @@ pub fn deliver<T: Item>(
     Ok(followed?)
 }
 
-/// Applies the next event that is in turn in the order that the words name; whether there is one.
+/// Applies the next awaited event in the order of the words. Returns whether there is one.
 pub fn deliver_part<T: Item>(
     alloc: Global,
     replica: &mut Replica<T>,

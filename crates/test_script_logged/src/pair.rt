@@ -1,11 +1,11 @@
-//! Pairs in the words of a script.
+//! Pairs as words of a script.
 
 use indexset_core::pair::Pair;
 use indexset_core::refusal::Refused;
 use std::fmt::Display;
 use test_script::script::{Stop, tell};
 
-/// The pair that a refused call returns, in one value.
+/// Returns the pair of a refused call as one value.
 pub fn shown_pair<X, K, V>(made: Result<X, Refused<(K, V)>>) -> Result<X, Refused<Pair<K, V>>> {
     match made {
         Ok(value) => Ok(value),
@@ -17,7 +17,7 @@ pub fn shown_pair<X, K, V>(made: Result<X, Refused<(K, V)>>) -> Result<X, Refuse
     }
 }
 
-/// Writes the pair at an end, or `none`.
+/// Writes the first or last pair, or `none`.
 pub fn tell_end<K: Display, V: Display>(
     answer: &mut String,
     end: Option<(&K, &V)>,

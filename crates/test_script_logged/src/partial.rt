@@ -1,11 +1,11 @@
-//! What a refused call has done, where it leaves a part of it done.
+//! The progress of a refused call that completed a part of its work.
 
 use indexset_core::refusal::Refusal;
 use std::alloc::Global;
 use test_script::script::Stop;
 
-/// What a call of these words has done before it was refused, and what it answered to that. The same call,
-/// made again, goes on from there.
+/// The progress of a call with these words before it was refused, and its answer so far. The same
+/// call, made again, continues from there.
 #[derive(Drop)]
 pub struct Partial {
     call: String,
@@ -15,7 +15,7 @@ pub struct Partial {
 }
 
 impl Partial {
-    /// Nothing.
+    /// Returns no progress.
     pub fn new(alloc: Global) -> Partial {
         Partial {
             call: String::new(alloc),
@@ -25,7 +25,7 @@ impl Partial {
         }
     }
 
-    /// Goes on with the call where it is the refused one, else begins anew.
+    /// Continues the call if it is the refused one, and otherwise resets the progress.
     pub fn begin(&mut self, name: &str, words: &str) -> Result<(), Stop> {
         let call = format!(in *self.call.allocator(); "{name} {words}")?;
         if call.as_str() != self.call.as_str() {
@@ -37,13 +37,13 @@ impl Partial {
         Ok(())
     }
 
-    /// Writes what the call has answered.
+    /// Writes the answer so far.
     pub fn tell(&self, answer: &mut String) -> Result<(), Stop> {
         answer.push_str(self.answer.as_str())?;
         Ok(answer.push_str(self.events.as_str())?)
     }
 
-    /// Writes what the call has answered; it is done.
+    /// Writes the answer, and resets the progress.
     pub fn end(&mut self, answer: &mut String) -> Result<(), Stop> {
         self.tell(answer)?;
         self.call.clear();
@@ -53,7 +53,7 @@ impl Partial {
         Ok(())
     }
 
-    /// Writes what the call has answered. It is done, unless memory was refused to it.
+    /// Writes the answer. Resets the progress, unless an allocation of the call failed.
     pub fn tell_end(&mut self, refused: Option<Refusal>, answer: &mut String) -> Result<(), Stop> {
         match refused {
             None => self.end(answer),
@@ -68,7 +68,7 @@ impl Partial {
         }
     }
 
-    /// Writes what it is.
+    /// Writes the state.
     pub fn show(&self, text: &mut String) -> Result<(), Stop> {
         let Partial {
             count,

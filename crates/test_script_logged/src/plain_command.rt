@@ -1,4 +1,4 @@
-//! Commands to the plain set and the plain map, and the replies.
+//! Commands to the plain set and the plain map, and their replies.
 
 use crate::command::tell_pair;
 use crate::item::{Item, Source, read_pair};
@@ -23,7 +23,7 @@ impl<T: Item> Command for SetCommand<T> {
     }
 }
 
-/// The command of this name to a set, of an item.
+/// Returns the command to a set that has this name and item.
 fn of_item<T: Item>(name: &str, item: T) -> Result<SetCommand<T>, Stop> {
     match name {
         "insert" => Ok(SetCommand::Insert(item)),
@@ -66,7 +66,7 @@ impl<K: Item> Command for MapCommand<K, char> {
     }
 }
 
-/// The command of this name to a map, of a key.
+/// Returns the command to a map that has this name and key.
 fn of_key<K: Item>(name: &str, key: K) -> Result<MapCommand<K, char>, Stop> {
     match name {
         "get" => Ok(MapCommand::Get(key)),

@@ -15,7 +15,7 @@ use std::str::SplitWhitespace;
 use test_script::player::Swept;
 use test_script::script::{Stop, Subject};
 
-/// A set that takes lists of commands.
+/// A set that executes lists of commands.
 #[derive(Drop)]
 pub struct SetRuns<T: Item> {
     source: Source,
@@ -98,7 +98,7 @@ impl<T: Item> Metering for SetRuns<T> {
     }
 }
 
-/// A map that takes lists of commands.
+/// A map that executes lists of commands.
 #[derive(Drop)]
 pub struct MapRuns<K: Item> {
     source: Source,

@@ -1,5 +1,5 @@
-//! Scripts of whole runs of the program. A text is one word, with `/` for the end of a line, `_` for a blank
-//! and `^` for a carriage return.
+//! Scripts of whole runs of the program. A text is one word, with `/` for a line end, `_` for a
+//! space and `^` for a carriage return.
 
 use crate::source::{Failing, FailingAfter, Interrupted};
 use indexset_bench::{RunFault, run};
@@ -16,7 +16,7 @@ pub struct Programs {
     alloc: Global,
 }
 
-/// Runs over a source that is read through a buffer.
+/// Runs over a source through a buffer.
 pub fn run_buffered<R: Read + Drop, W: Write>(
     alloc: Global,
     source: R,
@@ -28,7 +28,7 @@ pub fn run_buffered<R: Read + Drop, W: Write>(
     }
 }
 
-/// The bytes of a text, or none where there is no word.
+/// Returns the bytes of a text, or no bytes if there is no word.
 fn bytes_of(alloc: Global, words: &mut SplitWhitespace<'_>) -> Result<Vec<u8>, Stop> {
     let mut bytes = Vec::new(alloc);
     for byte in words.next().unwrap_or("").bytes() {
@@ -56,13 +56,13 @@ fn tell_bytes(answer: &mut String, bytes: &[u8]) -> Result<(), Stop> {
     Ok(())
 }
 
-/// Writes what a run wrote, and the word of the fault at which it ended.
+/// Writes the output of a run, and the word for the fault that ended it.
 fn tell_run(answer: &mut String, written: &[u8], told: Result<(), RunFault>) -> Result<(), Stop> {
     tell_bytes(answer, written)?;
     match told {
         Ok(()) => Ok(()),
         Err(RunFault::Memory) => Err(Stop::Refused(Refusal::Memory)),
-        // What it writes stands in memory of the player.
+        // The output is in memory of the player.
         Err(RunFault::Write) => Err(Stop::Memory),
         Err(fault) => tell(answer, fault.word()),
     }
@@ -76,7 +76,7 @@ impl Programs {
         tell_run(answer, written.as_slice(), told)
     }
 
-    /// Runs over memory that needs no buffer.
+    /// Runs over memory, without a buffer.
     fn run_unbuffered(&self, bytes: &[u8], answer: &mut String) -> Result<(), Stop> {
         let mut reader = bytes;
         let mut written = Vec::new(self.alloc);

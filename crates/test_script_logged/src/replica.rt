@@ -19,8 +19,8 @@ use std::str::SplitWhitespace;
 use test_script::player::Swept;
 use test_script::script::{Stop, Subject, read, tell, tell_option};
 
-/// A replica, read by its items and by keys of theirs, and events that may be delivered to it out of
-/// turn.
+/// A replica that is read by items and by keys, and events that may be delivered to it in any
+/// order.
 #[derive(Drop)]
 pub struct Replicas<T: Item, Q: Keyed<T>> {
     source: Source,
@@ -63,7 +63,7 @@ impl<T: Item, Q: Keyed<T>> Replicas<T, Q> {
         Ok(self.replica.apply(&event)?)
     }
 
-    /// Keeps an event to be delivered.
+    /// Stores an event to be delivered.
     fn keep(&mut self, words: &mut SplitWhitespace<'_>) -> Result<(), Stop> {
         self.events.push(read_event(&self.source, words)?)?;
         Ok(())

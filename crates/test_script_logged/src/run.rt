@@ -1,5 +1,5 @@
-//! Lists of commands in the words of a script: a command is its name and what it is of, as `put(1)`,
-//! `insert(1:a)` or `len`.
+//! Lists of commands as words of a script: a command is its name and its argument, such as
+//! `put(1)`, `insert(1:a)` or `len`.
 
 use crate::copy::Copy;
 use crate::item::{Item, Source};
@@ -10,26 +10,26 @@ use indexset_core::refusal::Refusal;
 use std::str::SplitWhitespace;
 use test_script::script::Stop;
 
-/// A command that a script types.
+/// A command of a script.
 pub trait Command: Drop {
-    /// The command of a name, and of these words.
+    /// Returns the command of a name and these words.
     fn of_name(source: &Source, name: &str, words: &mut SplitWhitespace<'_>) -> Result<Self, Stop>;
 }
 
-/// A reply that a script types.
+/// A reply of a script.
 pub trait Reply: Drop {
     /// Writes the reply.
     fn tell_reply(self, answer: &mut String) -> Result<(), Stop>;
 }
 
-/// The command of a word.
+/// Returns the command of a word.
 fn command_of<C: Command>(source: &Source, word: &str) -> Result<C, Stop> {
     let (name, rest) = word.split_once('(').unwrap_or((word, ""));
     let text = rest.strip_suffix(')').unwrap_or(rest);
     C::of_name(source, name, &mut text.split_whitespace())
 }
 
-/// The commands that the words left are.
+/// Returns the commands of the remaining words.
 pub fn read_commands<C: Command>(
     source: &Source,
     words: &mut SplitWhitespace<'_>,
@@ -41,7 +41,7 @@ pub fn read_commands<C: Command>(
     Ok(commands)
 }
 
-/// The command at a place among those that the words are, if there is one.
+/// Returns the command at a place among those of the words, if there is one.
 pub fn read_command<C: Command>(
     source: &Source,
     words: &mut SplitWhitespace<'_>,
@@ -55,7 +55,7 @@ pub fn read_command<C: Command>(
     Ok(commands)
 }
 
-/// Passes over so many words.
+/// Skips `count` words.
 pub fn skip_words(words: &mut SplitWhitespace<'_>, count: usize) {
     for _ in 0..count {
         let _ = words.next();
@@ -70,7 +70,7 @@ pub fn tell_replies<R: Reply>(answer: &mut String, replies: Vec<R>) -> Result<()
     Ok(())
 }
 
-/// The words that are left, with a blank between.
+/// Returns the remaining words, separated by spaces.
 pub fn words_left(source: &Source, words: &mut SplitWhitespace<'_>) -> Result<String, Stop> {
     let mut text = String::new(source.alloc);
     for word in words {
@@ -79,7 +79,7 @@ pub fn words_left(source: &Source, words: &mut SplitWhitespace<'_>) -> Result<St
     Ok(text)
 }
 
-/// Runs commands, and keeps the replies and the events.
+/// Runs commands, and stores the replies and the events.
 fn run_more<L: Logged>(
     source: &Source,
     tree: &mut L,
@@ -98,7 +98,7 @@ where
     Ok(run.refused)
 }
 
-/// Runs the commands that the words left are, and writes the replies and the events.
+/// Runs the commands of the remaining words, and writes the replies and the events.
 pub fn run<L: Logged>(
     source: &Source,
     tree: &mut L,
@@ -121,7 +121,7 @@ where
     partial.tell_end(refused, answer)
 }
 
-/// Runs the command of this number; whether there is one.
+/// Runs the command of this number. Returns whether there is one.
 pub fn run_part<L: Logged>(
     source: &Source,
     tree: &mut L,

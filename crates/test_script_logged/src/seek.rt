@@ -1,4 +1,4 @@
-//! Calls that seek an item of a replica: by an item, by a key, or by a position.
+//! Look-ups in a replica: by an item, by a key, or by a position.
 
 use crate::item::{Item, Source, Value, read_bound, read_range};
 use crate::trees::{copies_before, copies_up_to};
@@ -12,7 +12,7 @@ use std::ops::Bound;
 use std::str::SplitWhitespace;
 use test_script::script::{self, Stop, read, tell, tell_option};
 
-/// What a script seeks items by: an item, or the key of a pair.
+/// What a script looks items up by: an item, or the key of a pair.
 pub trait Keyed<T: Item>: Item + LookupKey<T> {
     /// Returns the rank of the key of an item.
     fn rank_of(replica: &Replica<T>, item: &T) -> usize;
@@ -59,7 +59,7 @@ impl<T: Ord, Q: LookupKey<T>> KeyRange<T> for Between<Q> {
     }
 }
 
-/// Makes a call that seeks by an item or by a position.
+/// Makes a look-up by an item or by a position.
 pub fn seek<T: Item>(
     replica: &Replica<T>,
     source: &Source,
@@ -85,7 +85,7 @@ pub fn seek<T: Item>(
     }
 }
 
-/// Makes a call that seeks by a key.
+/// Makes a look-up by a key.
 pub fn seek_by<T: Item, Q: Keyed<T>>(
     replica: &Replica<T>,
     source: &Source,
@@ -100,7 +100,7 @@ pub fn seek_by<T: Item, Q: Keyed<T>>(
     }
 }
 
-/// Writes what the replica has of a key.
+/// Writes what the replica has for a key.
 fn tell_of<T: Item, Q: Keyed<T>>(
     replica: &Replica<T>,
     name: &str,
@@ -140,7 +140,7 @@ fn tell_range<T: Item, Q: Keyed<T>>(
     tell_items(name == "range_back", answer, items)
 }
 
-/// Writes items, from the first on or from the last.
+/// Writes items, in ascending or descending order.
 fn tell_items<T: Item>(is_back: bool, answer: &mut String, items: Iter<'_, T>) -> Result<(), Stop> {
     if is_back {
         for item in items.rev() {

@@ -40,7 +40,7 @@ impl<T: Item, N: NodeLike<T>, M: Maker<T, N>> Sets<T, N, M> {
         self.copy = Copy::new(self.source.alloc);
     }
 
-    /// Replaces the set by an empty one, whose next event has the number.
+    /// Replaces the set by an empty set with the number of its next event.
     fn start(&mut self, words: &mut SplitWhitespace<'_>) -> Result<(), Stop> {
         let (size, next) = (read(words)?, read(words)?);
         if size < 2 || N::limit() < size {
@@ -50,8 +50,8 @@ impl<T: Item, N: NodeLike<T>, M: Maker<T, N>> Sets<T, N, M> {
         Ok(())
     }
 
-    /// Replaces the set by one of a node size, of the items that the words left are: without words by
-    /// an empty one of the size that is played.
+    /// Replaces the set by one with a node size and the items of the remaining words. Without words
+    /// the set is empty, with the node size of the script.
     fn fill(&mut self, words: &mut SplitWhitespace<'_>) -> Result<(), Stop> {
         let size = match words.next() {
             Some(word) => word.parse().map_err(|_| Stop::Word)?,
@@ -69,7 +69,7 @@ impl<T: Item, N: NodeLike<T>, M: Maker<T, N>> Sets<T, N, M> {
         Ok(())
     }
 
-    /// Replaces the set by an empty one of the node size that a set has where none is named.
+    /// Replaces the set by an empty set of the default node size.
     fn start_anew(&mut self, name: &str) -> Result<(), Stop> {
         if N::limit() < DEFAULT_INNER_SIZE {
             return Err(Stop::NoCall);
@@ -82,7 +82,7 @@ impl<T: Item, N: NodeLike<T>, M: Maker<T, N>> Sets<T, N, M> {
         Ok(())
     }
 
-    /// Replaces the set by that of nodes.
+    /// Replaces the set by one that is made of nodes.
     fn make_of_nodes(
         &mut self,
         words: &mut SplitWhitespace<'_>,
@@ -174,7 +174,7 @@ impl<T: Item, N: NodeLike<T>, M: Maker<T, N>> Sets<T, N, M> {
         self.copy.tell_cdc(answer, removed)
     }
 
-    /// Removes an item that is there by its place.
+    /// Removes a present item by its place.
     fn remove_at(
         &mut self,
         name: &str,

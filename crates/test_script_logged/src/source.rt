@@ -1,8 +1,8 @@
-//! Sources of bytes that fail, or that are interrupted.
+//! Readers that fail, or that are interrupted.
 
 use std::io::{self, ErrorKind, Read};
 
-/// Gives its bytes, and then fails.
+/// Returns its bytes, and then fails.
 #[derive(Drop)]
 pub struct Failing<'a> {
     pub bytes: &'a [u8],
@@ -18,7 +18,7 @@ impl Read for Failing<'_> {
     }
 }
 
-/// Gives five bytes a read, and fails once it was read so often.
+/// Returns five bytes at each read, and fails after a number of reads.
 #[derive(Drop)]
 pub struct FailingAfter<'a> {
     pub bytes: &'a [u8],
@@ -36,7 +36,7 @@ impl Read for FailingAfter<'_> {
     }
 }
 
-/// Is interrupted before each byte that it gives.
+/// Is interrupted before each byte that it returns.
 #[derive(Drop)]
 pub struct Interrupted<'a> {
     pub bytes: &'a [u8],

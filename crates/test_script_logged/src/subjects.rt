@@ -1,4 +1,4 @@
-//! The subjects by their names.
+//! The subjects by name.
 
 use crate::brief::{Brief, Metering};
 use crate::events::Events;
@@ -29,9 +29,10 @@ type MapsOf<const N: usize> = Maps<u64, char, ArrayNode<Letter, N>, OneByOne>;
 
 type MultiMapsOf<const N: usize> = MultiMaps<u64, char, ArrayNode<Numbered, N>, OneByOne>;
 
-/// Plays a script on the subject that it names, if it is one of the logged family; whether a call was
-/// refused memory. A name `logged_set+array_4` stands for a set in vectors, and then for one in nodes that
-/// hold four.
+/// Plays a script on the subject that it names, if it is one of the logged family.
+///
+/// Returns whether an allocation of a call failed. The name `logged_set+array_4` is a set of
+/// vectors, and then one of nodes with space for four items.
 pub fn play(script: &Script) -> Option<Result<bool, Fault>> {
     let mut parts = script.subject().split('+');
     let name = parts.next()?;

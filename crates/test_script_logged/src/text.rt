@@ -1,11 +1,11 @@
-//! What is written in one word.
+//! Output as one word.
 
 use std::alloc::Global;
 use std::fmt::Display;
 use std::str::SplitWhitespace;
 use test_script::script::{Stop, read, tell};
 
-/// Writes a text as one word, with a line for each blank.
+/// Writes a text as one word, with an underscore for each space.
 pub fn tell_text<D: Display>(alloc: Global, answer: &mut String, shown: &D) -> Result<(), Stop> {
     let text = format!(in alloc; "{shown}")?;
     for (place, word) in text.split(' ').enumerate() {
@@ -15,7 +15,7 @@ pub fn tell_text<D: Display>(alloc: Global, answer: &mut String, shown: &D) -> R
     Ok(())
 }
 
-/// Writes whether there is room for as many items as the next word says.
+/// Writes whether there is capacity for the number of items that the next word is.
 pub fn tell_room(
     capacity: usize,
     words: &mut SplitWhitespace<'_>,
@@ -25,7 +25,7 @@ pub fn tell_room(
     tell(answer, count <= capacity)
 }
 
-/// Writes the position where a search ended: behind `gap`, where it found nothing.
+/// Writes the position of a search, after `gap` if it found nothing.
 pub fn tell_position(answer: &mut String, position: Result<usize, usize>) -> Result<(), Stop> {
     match position {
         Ok(position) => Ok(write!(answer, " {position}")?),

@@ -1,4 +1,4 @@
-//! Where items stand in a logged set, a logged map and a replica.
+//! Positions of items in a logged set, a logged map and a replica.
 ghost use Rattle.std.specs.Prelude.{◌<◌, length, IfOk};
 ghost use Rattle.indexset_core.specs.Nodes.{node_at};
 ghost use Rattle.indexset_core.specs.Places.{IsPlace};
@@ -12,19 +12,19 @@ use indexset_replica::Replica;
 use std::ops::Bound;
 use std::ops::Bound::Included;
 
-/// The place before the first item that is not below this one.
+/// Returns the place before the first item that is at least this one.
 pub fn start_of<T: Ord + Clone + Drop, Node: NodeLike<T>>(
     tree: &BTreeSet<T, Node>,
     value: &T,
 ) -> (usize, usize)
     ensures { IsPlace tree.now.nodes result }
 {
-    // Tells that the nodes are lawful.
+    // For the proof: the nodes are lawful.
     let _nodes = tree.node_count();
     tree.place_from(Included(ByItem::new(value)))
 }
 
-/// Where an item stands: its node, and the place there.
+/// Returns the place of an item: its node, and the offset there.
 pub fn place_of<T: Ord + Clone + Drop, Node: NodeLike<T>>(
     tree: &BTreeSet<T, Node>,
     value: &T,
@@ -39,7 +39,7 @@ pub fn place_of<T: Ord + Clone + Drop, Node: NodeLike<T>>(
     tree.locate_by(&mut ByItem::new(value))
 }
 
-/// The position of an item, or where it is absent, how many are below it.
+/// Returns the position of an item, or if it is absent the number of items that are less than it.
 pub fn position_of<T: Ord + Clone + Drop, Node: NodeLike<T>>(
     tree: &BTreeSet<T, Node>,
     value: &T,
@@ -48,7 +48,7 @@ pub fn position_of<T: Ord + Clone + Drop, Node: NodeLike<T>>(
     tree.position_by(&mut ByItem::new(value))
 }
 
-/// How many items stand before a start.
+/// Returns the number of items before a start bound.
 pub fn items_before<T: Ord + Clone + Drop, Node: NodeLike<T>>(
     tree: &BTreeSet<T, Node>,
     start: Bound<&T>,
@@ -57,7 +57,7 @@ pub fn items_before<T: Ord + Clone + Drop, Node: NodeLike<T>>(
     tree.count_before(start.map(ByItem::new))
 }
 
-/// How many items are not past an end.
+/// Returns the number of items up to an end bound.
 pub fn items_up_to<T: Ord + Clone + Drop, Node: NodeLike<T>>(
     tree: &BTreeSet<T, Node>,
     end: Bound<&T>,
@@ -66,7 +66,7 @@ pub fn items_up_to<T: Ord + Clone + Drop, Node: NodeLike<T>>(
     tree.count_up_to(end.map(ByItem::new))
 }
 
-/// The pair of a key, which a comparator finds.
+/// Returns the pair of a key, which a comparator finds.
 pub fn pair_of<'a, K: Ord + Clone + Drop, V: Clone + Drop, Node: NodeLike<Pair<K, V>>>(
     map: &'a BTreeMap<K, V, Node>,
     key: &K,
@@ -75,7 +75,7 @@ pub fn pair_of<'a, K: Ord + Clone + Drop, V: Clone + Drop, Node: NodeLike<Pair<K
     map.get_key_value_by(&mut ByKey::new(key))
 }
 
-/// How many pairs stand before a start.
+/// Returns the number of pairs before a start bound.
 pub fn pairs_before<K: Ord + Clone + Drop, V: Clone + Drop, Node: NodeLike<Pair<K, V>>>(
     map: &BTreeMap<K, V, Node>,
     start: Bound<&K>,
@@ -84,7 +84,7 @@ pub fn pairs_before<K: Ord + Clone + Drop, V: Clone + Drop, Node: NodeLike<Pair<
     map.count_before(start.map(ByKey::new))
 }
 
-/// How many pairs are not past an end.
+/// Returns the number of pairs up to an end bound.
 pub fn pairs_up_to<K: Ord + Clone + Drop, V: Clone + Drop, Node: NodeLike<Pair<K, V>>>(
     map: &BTreeMap<K, V, Node>,
     end: Bound<&K>,
@@ -93,13 +93,13 @@ pub fn pairs_up_to<K: Ord + Clone + Drop, V: Clone + Drop, Node: NodeLike<Pair<K
     map.count_up_to(end.map(ByKey::new))
 }
 
-/// How many items of a replica stand before a start.
+/// Returns the number of items of a replica before a start bound.
 pub fn copies_before<T: Ord + Clone + Drop>(replica: &Replica<T>, start: Bound<&T>) -> usize {
     let _nodes = replica.nodes();
     replica.count_before(start.map(ByItem::new))
 }
 
-/// How many items of a replica are not past an end.
+/// Returns the number of items of a replica up to an end bound.
 pub fn copies_up_to<T: Ord + Clone + Drop>(replica: &Replica<T>, end: Bound<&T>) -> usize {
     let _nodes = replica.nodes();
     replica.count_up_to(end.map(ByItem::new))

@@ -1,4 +1,4 @@
-//! Scripts of the logged set in vectors.
+//! Scripts of the logged set whose nodes are vectors.
 
 use crate::brief::Metering;
 use crate::item::{Item, read_items, read_range};
@@ -11,7 +11,7 @@ use std::str::SplitWhitespace;
 use test_script::player::Swept;
 use test_script::script::{Stop, Subject, read};
 
-/// A logged set of nodes that are vectors, with the calls of such sets alone.
+/// A logged set whose nodes are vectors, with the calls that only such sets have.
 #[derive(Drop)]
 pub struct VecSets<T: Item> {
     pub sets: Sets<T, Vec<T>, Whole>,
@@ -30,7 +30,8 @@ impl<T: Item> VecSets<T> {
         Ok(())
     }
 
-    /// Replaces the set by that of the replica's nodes, whose next event is the one that this awaits.
+    /// Replaces the set by one of the replica's nodes, whose next event has the number that the
+    /// replica awaits.
     fn make_of_copy(&mut self, words: &mut SplitWhitespace<'_>) -> Result<(), Stop> {
         let size = read(words)?;
         if size < 2 {

@@ -1,8 +1,8 @@
-//! Plays a script that it reads from standard input (see `tests/scripts/README.md`), and writes the first line
-//! that fails.
+//! Plays a script that it reads from standard input (see `tests/scripts/README.md`), and writes the
+//! first line that fails.
 //!
-//! With the argument `swept` it expects that one request for memory is refused. As an exit status it tells
-//! what came: see [`Ending`].
+//! With the argument `swept` it expects that one allocation fails. The exit status is that of
+//! [`Ending`].
 #![tactic(auto)]
 
 mod plain;
@@ -12,14 +12,14 @@ use std::io::{self, ErrorKind};
 use std::process::ExitCode;
 use test_script::player::{Fault, Script};
 
-/// How a script ended.
+/// The outcome of a script.
 #[derive(Drop)]
 enum Ending {
-    /// Each statement answered as it must (0).
+    /// Each statement had its answer (0).
     Answered,
-    /// So they did, and a call was refused memory on the way (10).
+    /// Each statement had its answer, and an allocation of a call failed (10).
     Refused,
-    /// The player itself found no memory (11).
+    /// An allocation of the player failed (11).
     Before,
     /// A statement failed (12).
     Failed,
@@ -44,7 +44,7 @@ fn play(script: &Script) -> Option<Result<bool, Fault>> {
     }
 }
 
-// Plays the script of a text; whether a call was refused memory.
+// Plays the script of a text. Returns whether an allocation of a call failed.
 fn perform(rt: &HostRuntime, text: &str, is_swept: bool) -> Result<bool, Fault> {
     let script = Script::read(rt.alloc(), text, is_swept)?;
     match play(&script) {
@@ -57,7 +57,7 @@ fn perform(rt: &HostRuntime, text: &str, is_swept: bool) -> Result<bool, Fault> 
     }
 }
 
-// Reads the input, plays it, and writes why it failed.
+// Reads the input, plays it, and writes the reason for a failure.
 fn serve(rt: &HostRuntime) -> io::Result<Ending> {
     let mut is_swept = false;
     for word in env::args(rt)?.skip(1) {

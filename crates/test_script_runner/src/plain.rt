@@ -1,6 +1,6 @@
-//! Subjects of the plain family: what its scripts call. Sets and maps stand here over numbers, letters, texts,
-//! items that are equal and differ, and items that own a block, beside what both families stand on: nodes of
-//! either type, the index of lengths and the list that is cut into nodes.
+//! Subjects of the plain family: sets and maps of numbers, letters, texts, equal items that differ,
+//! and items that own an allocation. Also the base of both families: nodes of either type, the
+//! index of lengths and the list that is divided into nodes.
 
 mod entries;
 mod indexes;

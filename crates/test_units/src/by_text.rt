@@ -10,7 +10,7 @@ use std::test::Fail;
 
 type Named = Pair<Text, u64>;
 
-// Names that are sought, and their values.
+// Names to look up, and their values.
 const ROWS: [(&str, Option<u64>); 7] = [
     ("", None),
     ("apples", Some(5)),
@@ -26,18 +26,18 @@ fn named(alloc: Global, name: &str, value: u64) -> Result<Named, AllocError> {
     Ok(Pair { key, value })
 }
 
-// The value of a name in a map, and how many comparisons its look-up makes.
+// Returns the value of a name in a map, and the number of comparisons of the look-up.
 fn value_in(map: &BTreeMap<Text, u64>, name: &str) -> (Option<u64>, u64) {
-    // Tells that the names ascend.
+    // For the proof: the names ascend.
     let _nodes = map.node_count();
     let mut probe = Counting::new(OnKey::new(ByStr::new(name)));
     let value = map.get_by(&mut probe).map(|pair| pair.value);
     (value, probe.asked())
 }
 
-// The same in a replica.
+// Returns the same in a replica.
 fn value_of(replica: &Replica<Named>, name: &str) -> (Option<u64>, u64) {
-    // Tells that the names ascend.
+    // For the proof: the names ascend.
     let _nodes = replica.nodes();
     let mut probe = Counting::new(OnKey::new(ByStr::new(name)));
     let value = replica.get_by(&mut probe).map(|pair| pair.value);
@@ -53,7 +53,7 @@ fn names_in_a_logged_map(rt: HostRuntime) -> Result<(), Fail> {
     assert_eq!(rt; map.node_count(), 2);
     for (name, value) in ROWS {
         let (found, asked) = value_in(&map, name);
-        // Two nodes, nodes of two, and the name that is found: 2 + 2 + 1.
+        // Two nodes, two names in each, and the test for equality: 2 + 2 + 1.
         assert!(rt; found == value && asked <= 5, "of {name}: {asked}");
     }
     Ok(())
@@ -67,7 +67,7 @@ fn names_in_a_replica(rt: HostRuntime) -> Result<(), Fail> {
     replica.attach(vec![in alloc; named(alloc, "apples", 5)?, named(alloc, "pears", 3)?]?)?;
     for (name, value) in ROWS {
         let (found, asked) = value_of(&replica, name);
-        // Two nodes, nodes of two, and the name that is found: 2 + 2 + 1.
+        // Two nodes, two names in each, and the test for equality: 2 + 2 + 1.
         assert!(rt; found == value && asked <= 5, "of {name}: {asked}");
     }
     Ok(())

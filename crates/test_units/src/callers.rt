@@ -1,4 +1,4 @@
-//! Callers that write through what a map lends, and know the whole map afterwards.
+//! Callers that write through mutable references into a map, with contracts on the whole map.
 ghost use Rattle.std.specs.Prelude.{◌≡◌, ◌≤◌, map, Some, None, OnOk, OnErr, is_some, if◌then◌else◌};
 ghost use Rattle.std.specs.List.{fold};
 ghost use Rattle.std.specs.Ordering.{nat_cmp};
@@ -11,7 +11,7 @@ use indexset_core::refusal::Refused;
 use indexset_map::{BTreeMap, Entry};
 use std::ops::Bound;
 
-/// Writes 7 in place of the value of a key that is there.
+/// Replaces the value of a present key by 7.
 pub fn write_seven(m: &mut BTreeMap<u8, u32>, key: u8)
     ensures { m.new ≡ (if is_some (value_of nat_cmp m.old.pairs key) then with_value nat_cmp m.old
         key 7 else m.old) }
@@ -39,7 +39,7 @@ pub fn count_word(counts: &mut BTreeMap<u8, u32>, word: u8) -> Result<(), Refuse
     }
 }
 
-/// Counts each word in turn.
+/// Counts each word in order.
 pub fn count_words(counts: &mut BTreeMap<u8, u32>, words: &[u8]) -> Result<(), Refused<(u8, u32)>>
     ensures { OnOk result (counts.new.pairs ≡ fold counted counts.old.pairs words.now) }
 {
@@ -49,7 +49,7 @@ pub fn count_words(counts: &mut BTreeMap<u8, u32>, words: &[u8]) -> Result<(), R
     Ok(())
 }
 
-/// Takes a key out.
+/// Removes a key.
 pub fn take_out(m: &mut BTreeMap<u8, u32>, key: u8) -> Option<u32>
     ensures rest { m.new ≡ without_entry nat_cmp m.old key }
     ensures value { result ≡ value_of nat_cmp m.old.pairs key }
@@ -60,7 +60,7 @@ pub fn take_out(m: &mut BTreeMap<u8, u32>, key: u8) -> Option<u32>
     }
 }
 
-/// Writes 0 in place of the first value.
+/// Replaces the first value by 0.
 pub fn first_to_zero(m: &mut BTreeMap<u8, u32>)
     ensures { m.new ≡ with_written m.old 0 0 }
 {
@@ -80,7 +80,7 @@ pub fn add_ten(m: &mut BTreeMap<u8, u32>)
     }
 }
 
-/// The same by a walk over the values alone.
+/// Adds ten to each value, with an iterator over the values.
 pub fn add_ten_to_values(m: &mut BTreeMap<u8, u32>)
     ensures { m.new ≡ with_pairs m.old (map (raised 10) m.old.pairs) }
 {
@@ -90,7 +90,7 @@ pub fn add_ten_to_values(m: &mut BTreeMap<u8, u32>)
     }
 }
 
-/// Adds a hundred to the values of the keys from the first on that are below the second.
+/// Adds a hundred to the values of the keys from `from` on that are less than `below`.
 pub fn add_hundred(m: &mut BTreeMap<u8, u32>, from: u8, below: u8)
     requires { from ≤ below }
     ensures { m.new ≡ with_pairs m.old (map (raised_within (Included from) (Excluded below) 100)

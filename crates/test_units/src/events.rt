@@ -1,4 +1,4 @@
-//! Events without numbers, and numbers of events.
+//! Events without numbers, and event numbers.
 
 use indexset_core::multipair::MultiPair;
 use indexset_core::pair::Pair;
@@ -7,7 +7,7 @@ use indexset_events::spelling::Spelled;
 use std::alloc::Global;
 use std::test::Fail;
 
-/// Whether a number is shown in a width of three.
+/// Returns whether a number is displayed with a width of three.
 fn is_shown_in_width(alloc: Global, number: Id) -> bool {
     match format!(in alloc; "{number:>3}") {
         Ok(text) => text.as_str() == "  7",
@@ -35,7 +35,7 @@ fn numbers_one_after_another(rt: HostRuntime) {
     assert!(rt; next && !none && plain && told);
 }
 
-/// A split of the node of 9.
+/// Returns a split of the node of 9.
 fn split_at(split_index: usize) -> ChangeEventUnassigned<u64> {
     ChangeEventUnassigned::SplitNode {
         max_value: 9,
@@ -58,7 +58,7 @@ fn events_with_and_without_a_number(rt: HostRuntime) -> Result<(), Fail> {
     Ok(())
 }
 
-/// The creation of the node of a pair.
+/// Returns the creation of the node of a pair.
 fn creation_of(key: u64, value: char) -> ChangeEventUnassigned<Pair<u64, char>> {
     ChangeEventUnassigned::CreateNode {
         max_value: Pair { key, value },
@@ -72,7 +72,7 @@ fn events_of_pairs_are_compared_by_keys(rt: HostRuntime) {
     assert!(rt; same && event != creation_of(2, 'a'));
 }
 
-/// Whether the text is read as an event that is written by it again.
+/// Returns whether the text is read as an event that has this text.
 fn is_read<T: Spelled + Drop>(alloc: Global, text: &str) -> bool {
     match text.parse::<ChangeEvent<T>>() {
         Ok(event) => match format!(in alloc; "{event}") {

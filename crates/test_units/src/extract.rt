@@ -1,11 +1,11 @@
-//! What `extract_if` returns and leaves, and which elements it asks about.
+//! The items that `extract_if` yields and retains, and the elements that it calls the closure with.
 
 use indexset_map::BTreeMap;
 use indexset_set::BTreeSet;
 use std::alloc::Global;
 use std::test::Fail;
 
-// The numbers from 1 to 7, in nodes of 2.
+// Returns the numbers from 1 to 7, in nodes of 2.
 fn numbers(alloc: Global) -> Result<BTreeSet<u64>, Fail> {
     let mut set = BTreeSet::with_maximum_node_size(alloc, 2)?;
     for number in 1..=7 {
@@ -14,7 +14,7 @@ fn numbers(alloc: Global) -> Result<BTreeSet<u64>, Fail> {
     Ok(set)
 }
 
-// Ten times each of the numbers from 1 to 4, by the number, in nodes of 2.
+// Returns the numbers from 1 to 4, each with its tenfold as value, in nodes of 2.
 fn tens(alloc: Global) -> Result<BTreeMap<u64, u64>, Fail> {
     let mut map = BTreeMap::with_maximum_node_size(alloc, 2)?;
     for (key, value) in [(1, 10), (2, 20), (3, 30), (4, 40)] {
@@ -75,7 +75,8 @@ fn an_iterator_that_ended_stays_at_the_end(rt: HostRuntime) -> Result<(), Fail> 
     Ok(())
 }
 
-// Whether `extract_if` leaves what `retain` leaves, where the bits of the mask say what goes.
+// Returns whether `extract_if` retains what `retain` does. The bits of the mask are the removed
+// elements.
 fn leaves_what_retain_leaves(alloc: Global, mask: u64) -> Result<bool, Fail> {
     let mut set = numbers(alloc)?;
     let mut other = numbers(alloc)?;

@@ -1,4 +1,5 @@
-//! Worked figures of an index of the lengths 2, 2, 2, 4, and how many cells each answer reads.
+//! Worked examples of an index of the lengths 2, 2, 2, 4, and the number of cells that each call
+//! reads.
 ghost use Rattle.std.specs.Prelude.{◌≡◌, ◌<◌, ◌≤◌, ◌^◌, ◌∷◌, [], length, sum};
 ghost use Rattle.indexset_core.specs.Nodes.{node_lengths, vec_items};
 ghost use Rattle.indexset_index.specs.Fenwick.{cell_of};
@@ -11,7 +12,7 @@ use indexset_index::fenwick::sums::{find_in, prefix_in};
 use std::alloc::Global;
 use std::test::Fail;
 
-/// Cells that show how often they were read.
+/// Cells that count how often they are read.
 #[derive(Drop)]
 struct Watched<C> {
     cells: C,
@@ -35,7 +36,7 @@ impl<C: Cells> Cells for Watched<C> {
     }
 }
 
-/// The sum of the first `k` lengths, and how many cells were read.
+/// Returns the sum of the first `k` lengths, and the number of cells that were read.
 fn prefix(index: &Fenwick, k: usize) -> (usize, u64)
     requires { k ≤ length index.now.lengths }
 {
@@ -47,7 +48,7 @@ fn prefix(index: &Fenwick, k: usize) -> (usize, u64)
     (sum, cells.reads)
 }
 
-/// The node of a position and the offset in it, and how many cells were read.
+/// Returns the node of a position and the offset in it, and the number of cells that were read.
 fn find(index: &Fenwick, position: usize) -> (Option<(usize, usize)>, u64) {
     let mut cells = Watched {
         cells: index.cells(),
@@ -57,7 +58,7 @@ fn find(index: &Fenwick, position: usize) -> (Option<(usize, usize)>, u64) {
     (found, cells.reads)
 }
 
-/// What a cell holds.
+/// Returns the value of a cell.
 fn cell(index: &Fenwick, i: usize) -> usize
     requires one { 1 ≤ i }
     requires within { i ≤ length index.now.lengths }
@@ -66,7 +67,7 @@ fn cell(index: &Fenwick, i: usize) -> usize
     index.cells().read(i)
 }
 
-/// What the first four cells hold.
+/// Returns the values of the first four cells.
 fn four(index: &Fenwick) -> [usize; 4]
     requires { length index.now.lengths ≡ 4 }
 {
@@ -78,7 +79,7 @@ fn four(index: &Fenwick) -> [usize; 4]
     ]
 }
 
-// Whether the cells hold the sums of these lengths, and after each change to one of them.
+// Returns whether the cells have the sums of these lengths, also after each change to a length.
 fn holds_sums(index: &mut Fenwick) -> bool
     requires { index.old.lengths ≡ 2 ∷ 2 ∷ 2 ∷ 4 ∷ [] }
 {
@@ -118,7 +119,7 @@ fn searches_read_a_cell_for_each_digit(rt: HostRuntime) -> Result<(), Fail> {
     Ok(())
 }
 
-/// The node of the first position in nodes of these lengths, and the offset in it.
+/// Returns the node of the first position in nodes of these lengths, and the offset in it.
 fn find_first(alloc: Global, lengths: &[usize]) -> Result<Option<(usize, usize)>, Refusal>
     requires { sum lengths.now < 2 ^ 64 }
 {
@@ -134,7 +135,7 @@ fn empty_nodes_hold_no_position(rt: HostRuntime) -> Result<(), Fail> {
     Ok(())
 }
 
-// Whether two lengths are put into an empty index, and those of three nodes in their place.
+// Returns whether an empty index is filled with two lengths, and then with those of three nodes.
 fn is_rebuilt(index: &mut Fenwick, nodes: &[Vec<u8>]) -> bool
     requires empty { index.old.lengths ≡ [] }
     requires room { 1 ≤ index.old.room }

@@ -1,6 +1,7 @@
-//! Tests of what no script says: comparisons and cells counted, order kept by what a caller wrote wrong, texts,
-//! clones that fail, paths, and runs of the program over long texts, to writers that fail and at a terminal. The
-//! values are typed from the library's documents. The worked examples are scripts (`tests/scripts`).
+//! Tests that no script can express: numbers of comparisons and of cells, wrong implementations of
+//! traits, texts, clones that fail, paths, and runs of the program over long texts, to writers that
+//! fail and at a terminal. Expected values are from the documents of the library. The worked
+//! examples are scripts (`tests/scripts`).
 #![tactic(auto)]
 
 #[cfg(test)]

@@ -1,4 +1,4 @@
-//! A thousand commands in one list.
+//! Lists of a thousand commands.
 
 use indexset_bench::logged::set::LoggedSetCommand;
 use indexset_bench::logged_run::run_logged;

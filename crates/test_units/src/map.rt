@@ -1,4 +1,4 @@
-//! Worked examples of the map: rows in scripts, named by the call, and what a script cannot say.
+//! Tests of the map that no script can express.
 ghost use Rattle.std.specs.Prelude.{◌≤◌};
 
 use indexset_core::refusal::Refusal;
@@ -15,7 +15,7 @@ mod range_forms;
 mod shown;
 mod text;
 
-// Puts a pair, and lets it go where memory is refused.
+// Inserts a pair, and drops it if an allocation fails.
 fn put<K: Ord + Drop, V: Drop>(
     map: &mut BTreeMap<K, V>,
     key: K,
@@ -24,7 +24,7 @@ fn put<K: Ord + Drop, V: Drop>(
     Ok(map.insert(key, value)?)
 }
 
-// Five pairs whose keys lie apart.
+// Returns five pairs whose keys have gaps between them.
 fn five(alloc: Global, size: usize) -> Result<BTreeMap<u64, &'static str>, Refusal>
     requires { 2 ≤ size }
 {
@@ -35,7 +35,7 @@ fn five(alloc: Global, size: usize) -> Result<BTreeMap<u64, &'static str>, Refus
     )
 }
 
-// Whether a walk shows these pairs.
+// Returns whether an iterator yields these pairs.
 fn shows<V: Copy + PartialEq>(walk: IterMap<'_, u64, V>, pairs: &[(u64, V)]) -> bool {
     walk.map(|(key, value)| (*key, *value))
         .eq(pairs.iter().copied())

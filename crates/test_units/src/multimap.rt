@@ -1,4 +1,4 @@
-//! Pairs with numbers, alone and in events.
+//! Numbered pairs, also in events.
 
 use indexset_core::multipair::MultiPair;
 use indexset_core::node::NodeLike;

@@ -1,5 +1,6 @@
-//! Each function, method, associated function and trait implementation of the Rust crate that the library keeps, and
-//! each that it adds, named by its path: one that is missing does not compile. What takes a closure is called.
+//! The paths of each function, method, associated function and trait implementation that the
+//! library has of the Rust crate, and of each that it adds. A missing one does not compile. Calls
+//! that take a closure are called.
 
 mod base;
 mod events;
@@ -13,16 +14,16 @@ use std::hash::Hash;
 use std::iter::FusedIterator;
 use std::ops::Index;
 
-// An iterator from both ends, which stays at its end.
+// A double-ended and fused iterator.
 fn goes_both_ways<I: DoubleEndedIterator + FusedIterator>() {}
 
-// An iterator from the front, which stays at its end.
+// A fused iterator.
 fn goes_forward<I: Iterator + FusedIterator>() {}
 
-// What a `for` goes over.
+// A collection for a `for` loop.
 fn is_iterated<C: IntoIterator>() {}
 
-// What is cloned, compared, ordered and hashed.
+// A type with clones, comparisons, an order and hashes.
 fn is_ordered<T: Clone + Ord + Hash>() {}
 
 fn has_default<T: Default>() {}

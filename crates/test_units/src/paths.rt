@@ -1,5 +1,5 @@
-//! The crate that a user lists has everything by the paths of the Rust crate: here each type, trait
-//! and constant of it is named by its path, so that one that is missing does not compile.
+//! The paths of each type, trait and constant of the Rust crate, in the crate that a user lists. A
+//! missing one does not compile.
 
 use indexset::base::constants::DEFAULT_INNER_SIZE;
 use indexset::base::key_range::bounds_are_ordered;
@@ -14,7 +14,7 @@ use indexset::{BTreeMap, BTreeSet, IntoIterMap, IterMap, RangeMap};
 use std::ops::Bound;
 use std::test::Fail;
 
-// The types of the crate's root.
+// The types in the root of the crate.
 pub type Root<'a> = (
     (indexset::BTreeSet<u64>, indexset::BTreeMap<u64, char>),
     (indexset::Iter<'a, u64>, indexset::IntoIter<u64>),
@@ -98,7 +98,7 @@ fn each_path_of_the_rust_crate(rt: HostRuntime) -> Result<(), Fail> {
     Ok(())
 }
 
-// Whether the values between two bounds are these, the last first.
+// Returns whether the values between two bounds are these, in descending order.
 fn shows_backwards(range: RangeMap<'_, u64, char>, values: &[char]) -> bool {
     range
         .rev()

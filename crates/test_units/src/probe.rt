@@ -1,4 +1,4 @@
-//! The probes, the searches and the numbers of refusals, once each.
+//! The probes, the searches and the numbers of refusals.
 
 ghost use Rattle.std.specs.Prelude.{IfOk};
 ghost use Rattle.std.specs.Ordering.{nat_cmp};
@@ -49,7 +49,8 @@ fn a_probe_is_counted(rt: HostRuntime) {
     assert!(rt; none && less && equal && greater && probe.asked() == 3);
 }
 
-// Whether the searches for the first item not less and the first greater end where they must.
+// Returns whether the searches for the first item not less and for the first greater item are
+// right.
 fn finds_the_first() -> bool {
     let none = search::first_not_less(&[0_u64; 0], &mut ByItem::new(&4)) == 0;
     let greater = search::first_greater(&[4], &mut ByItem::new(&4)) == 1;
@@ -80,14 +81,14 @@ fn bounds_in_order(rt: HostRuntime) {
     }
 }
 
-/// A node of these numbers, put in one after another.
+/// Returns a node of these numbers, inserted in order.
 pub fn numbers(alloc: Global, values: &[u64]) -> Result<Vec<u64>, Refusal>
     ensures { IfOk result (λ node. IsAscending nat_cmp node.items) }
 {
     node_of(alloc, values)
 }
 
-// Whether 4 is found among 2, 4 and 6, the gaps of 5 and 7 are, and one question tells of 6.
+// Returns whether 4 is found among 2, 4 and 6, and the gaps of 5 and 7, and 6 takes one comparison.
 fn finds_in_a_slice(evens: &[u64]) -> bool
     requires { IsAscending nat_cmp evens.now }
 {

@@ -8,7 +8,7 @@ use std::test::Fail;
 use test_script_logged::program::run_buffered;
 use test_script_logged::source::Failing;
 
-/// Whether a run over a source that is read through a buffer ends so, and writes this text.
+/// Returns whether a run over a source through a buffer has this outcome, and writes this text.
 fn is_run<R: Read + Drop>(
     alloc: Global,
     source: R,
@@ -20,7 +20,7 @@ fn is_run<R: Read + Drop>(
     told == outcome && written.as_slice() == text
 }
 
-/// Takes nothing.
+/// A writer that takes no bytes.
 #[derive(Drop)]
 struct Full;
 
@@ -34,7 +34,7 @@ impl Write for Full {
     }
 }
 
-/// Fails once it took so many writes.
+/// A writer that fails after a number of writes.
 #[derive(Drop)]
 struct FullAfter {
     text: Vec<u8>,
@@ -56,7 +56,7 @@ impl Write for FullAfter {
     }
 }
 
-/// Takes what it is given, and can't pass it on.
+/// A writer that cannot be flushed.
 #[derive(Drop)]
 struct Stuck;
 
@@ -70,7 +70,7 @@ impl Write for Stuck {
     }
 }
 
-/// Writes thousands of lines, and the replies to them.
+/// Writes thousands of lines, and their replies.
 fn write_thousands(input: &mut Vec<u8>, output: &mut Vec<u8>) -> io::Result<()> {
     for n in 0..5000u64 {
         writeln!(input, "add {n}")?;
@@ -102,7 +102,7 @@ fn answers_a_line_of_a_megabyte(rt: HostRuntime) -> Result<(), Fail> {
     Ok(())
 }
 
-/// What a run over a line, to this writer, returns.
+/// Returns the result of a run over a line, to this writer.
 fn run_over_a_line<W: Write>(alloc: Global, writer: &mut W) -> Result<(), RunFault> {
     let mut reader: &[u8] = b"add 5\n";
     run(alloc, &mut reader, writer)
@@ -118,8 +118,10 @@ fn tells_a_failed_write(rt: HostRuntime) {
 /// The worked lines.
 const LINES: &[u8] = b"add 5\nadd 5\nrank 9\nat 1\n\nlen";
 
-/// Whether a run over the worked lines, of which so many writes succeed, writes all replies, or
-/// fails and writes a beginning of them. Each of the six replies is one write at least.
+/// Returns whether a run over the worked lines, of which `writes` writes succeed, writes all
+/// replies, or fails and writes a prefix of them.
+///
+/// Each of the six replies is at least one write.
 fn is_right_after(alloc: Global, writes: usize) -> bool {
     let whole = b"new\nold\n1\nnone\nbad\n1\n".as_slice();
     let mut reader = LINES;
@@ -150,7 +152,7 @@ fn tells_the_first_fault(rt: HostRuntime) {
     }
 }
 
-/// Whether a fault has this status and this word, and is shown as the word.
+/// Returns whether a fault has this status and this word, and is displayed as the word.
 fn is_told(alloc: Global, fault: RunFault, status: u8, word: &str) -> bool {
     match format!(in alloc; "{fault}") {
         Ok(shown) => shown.as_str() == word && fault.status() == status && fault.word() == word,

@@ -1,4 +1,4 @@
-//! Ranges as Rust writes them, of the logged collections and of a replica.
+//! Ranges in Rust's syntax, of the logged collections and of a replica.
 use indexset_core::multipair::MultiPair;
 use indexset_core::pair::Pair;
 use indexset_log::map::BTreeMap;

@@ -1,17 +1,17 @@
-//! How refusals are shown and passed on.
+//! The display and the conversion of refusals.
 
 use indexset_core::refusal::{Refusal, Refused};
 use std::alloc::Global;
 use std::error::Error;
 use std::test::Fail;
 
-/// What any error says.
+/// Returns the text of an error.
 fn told<E: Error>(alloc: Global, error: E) -> Result<String, Fail> {
     let text = format!(in alloc; "{error} ({error:?})")?;
     Ok(text)
 }
 
-/// Passes a refusal's cause on by `?`.
+/// Returns the cause of a refusal with `?`.
 fn cause_of(value: Result<(), Refused<u64>>) -> Result<(), Refusal> {
     value?;
     Ok(())

@@ -1,4 +1,4 @@
-//! Worked examples of the set: rows in scripts, named by the call, and what a script cannot say.
+//! Tests of the set that no script can express.
 
 use indexset_core::pair::Pair;
 use indexset_core::refusal::Refusal;
@@ -12,12 +12,12 @@ mod pairs;
 mod range_forms;
 mod traits;
 
-// Adds a value, and lets it go where memory is refused.
+// Inserts a value, and drops it if an allocation fails.
 fn add<T: Ord + Drop>(set: &mut BTreeSet<T>, value: T) -> Result<bool, Refusal> {
     Ok(set.insert(value)?)
 }
 
-// The pairs of these keys, each with the value 0, in nodes of two.
+// Returns the pairs of these keys with the value 0, in nodes of two.
 fn noughts(alloc: Global, keys: Range<u64>) -> Result<BTreeSet<Pair<u64, u64>>, Refusal> {
     let mut set = BTreeSet::with_maximum_node_size(alloc, 2)?;
     for key in keys {
@@ -26,7 +26,7 @@ fn noughts(alloc: Global, keys: Range<u64>) -> Result<BTreeSet<Pair<u64, u64>>, 
     Ok(set)
 }
 
-// Whether the set holds these keys with these values.
+// Returns whether the set has these keys with these values.
 fn has_pairs(set: &BTreeSet<Pair<u64, u64>>, pairs: &[(u64, u64)]) -> bool {
     let held = set.iter().map(|pair| (pair.key, pair.value));
     held.eq(pairs.iter().copied())

@@ -1,4 +1,4 @@
-//! What a look-up takes in the place of an item or a key, at each kind of item.
+//! Arguments of a look-up instead of an item or a key, for each kind of item.
 
 use indexset_core::lookup_key::LookupKey;
 use indexset_core::multipair::MultiPair;

@@ -1,4 +1,4 @@
-//! Searches of a list cut into nodes.
+//! Searches of a list that is divided into nodes.
 ghost use Rattle.std.specs.Prelude.{◌≡◌, ◌≤◌, IfOk};
 ghost use Rattle.std.specs.Ordering.{nat_cmp};
 ghost use Rattle.indexset_core.specs.Order.{IsAscending};
@@ -11,7 +11,7 @@ use indexset_spine::spot::Spot;
 use std::alloc::Global;
 use std::test::Fail;
 
-/// A spine of these values, each put behind the last.
+/// Returns a spine of these values, appended in order.
 fn spine_of(alloc: Global, size: usize, values: &[u64]) -> Result<Spine<u64>, Fail>
     requires { 2 ≤ size }
     ensures { IfOk result (λ spine. items spine ≡ values.now) }
@@ -24,7 +24,7 @@ fn spine_of(alloc: Global, size: usize, values: &[u64]) -> Result<Spine<u64>, Fa
     Ok(spine)
 }
 
-/// The numbers 2, 4, 6, 8 and 10 in nodes of two: [2] [4] [6] [8, 10].
+/// Returns the numbers 2, 4, 6, 8 and 10 in nodes of two: [2] [4] [6] [8, 10].
 fn evens(alloc: Global) -> Result<Spine<u64>, Fail>
     ensures { IfOk result (λ spine. IsAscending nat_cmp (items spine)) }
 {
@@ -32,7 +32,7 @@ fn evens(alloc: Global) -> Result<Spine<u64>, Fail>
     spine_of(alloc, 2, node.as_slice())
 }
 
-/// Where a search finds the value, and how many questions it asks.
+/// Returns where a search finds the value, and the number of comparisons.
 fn questions(spine: &Spine<u64>, value: u64) -> (Spot, u64)
     requires { IsAscending nat_cmp (items spine.now) }
 {
@@ -41,7 +41,7 @@ fn questions(spine: &Spine<u64>, value: u64) -> (Spot, u64)
     (spot, probe.asked())
 }
 
-/// The same, where the last item is asked for first.
+/// Returns the same for a search that compares with the last item first.
 fn questions_from_the_end(spine: &Spine<u64>, value: u64) -> (Spot, u64)
     requires { IsAscending nat_cmp (items spine.now) }
 {
@@ -50,8 +50,8 @@ fn questions_from_the_end(spine: &Spine<u64>, value: u64) -> (Spot, u64)
     (spot, probe.asked())
 }
 
-// Whether the even numbers and those around are found at these spots, by six questions at most: 3
-// for the node of four, 2 for the place of two, and 1 for whether the item is equal.
+// Returns whether the even numbers and those around them are found at these spots with at most six
+// comparisons: 3 for one of four nodes, 2 for one of two places, and 1 for equality.
 fn is_found_by_six(spine: &Spine<u64>) -> bool
     requires { IsAscending nat_cmp (items spine.now) }
 {
@@ -84,7 +84,8 @@ fn a_spot_by_few_questions(rt: HostRuntime) -> Result<(), Fail> {
     Ok(())
 }
 
-// Whether the place behind the last item takes one question, and an item before it seven at most.
+// Returns whether the place after the last item takes one comparison, and an item before it at most
+// seven.
 fn asks_for_the_last_first(spine: &Spine<u64>) -> bool
     requires { IsAscending nat_cmp (items spine.now) }
 {

@@ -1,10 +1,10 @@
-//! A person at a terminal, who types a line once the reply to the one before is on the screen.
+//! A user at a terminal, who types a line after the reply to the previous line is on the screen.
 
 use std::cell::Cell;
 use std::io::{self, ErrorKind, Read, Write};
 use test_script_logged::program::run_buffered;
 
-/// Gives a line at each read, and fails where the replies to the lines before are not out.
+/// Returns a line at each read, and fails unless the replies to the lines before are written.
 #[derive(Drop)]
 struct Keyboard<'a> {
     lines: &'a [u8],
@@ -26,7 +26,7 @@ impl Read for Keyboard<'_> {
     }
 }
 
-/// Holds what is written until it is flushed, and then shows it.
+/// Stores what is written until it is flushed, and then shows it.
 #[derive(Drop)]
 struct Screen<'a> {
     held: u64,

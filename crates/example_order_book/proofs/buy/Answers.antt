@@ -5,7 +5,7 @@ use Rattle.std.specs.Ordering.{is_le, nat_cmp}
 use Rattle.std.proofs.lemmas.Grind.{common_steps}
 use Rattle.example_order_book.proofs.buy.Goals as goal
 
--- no price is below 0
+-- no price is less than 0
 from_zero : (n : ℕ) → is_le (nat_cmp 0 n) ≡ true
 from_zero n = grind (arith, common_steps)
 

@@ -9,7 +9,7 @@ use Rattle.indexset.specs.Words.{pair_values, set_value, value_of, without_key}
 use Rattle.indexset.proofs.CallerLemmas.{sum_by_set_value, sum_by_without_key}
 use Rattle.example_order_book.proofs.take.Goals as goal
 
--- by good, and then by price
+-- the order by good, then by price
 abbrev by_parts : List ℕ × ℕ → List ℕ × ℕ → Ordering
 by_parts x y = ordering_then (slice_cmp nat_cmp x.0 y.0) (nat_cmp x.1 y.1)
 
@@ -20,7 +20,7 @@ plain : (o : Option ℕ) → unwrap_or o 0 ≡ unwrap_or (option_map (λ n. n) o
 plain None = refl
 plain (Some n) = refl
 
--- the offer goes, with all that it had
+-- the offer is removed, with its whole amount
 pub returns-then-offered-amount : goal.returns-then-offered-amount
 returns-then-offered-amount c =
     let old = c.args.offers.now.pairs in
@@ -30,7 +30,7 @@ returns-then-offered-amount c =
     let all = sum_by_without_key (λ n. n) by_parts total old c.len-len.ensures.ascending k in
     rw (gone, was, plain (value_of by_parts old k)) (omega (arith, all))
 
--- the offer keeps what is not taken
+-- the offer keeps the remaining amount
 pub returns : goal.returns
 returns c =
     let old = c.args.offers.now.pairs in

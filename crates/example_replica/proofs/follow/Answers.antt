@@ -5,7 +5,7 @@ use Rattle.std.specs.Ordering.{nat_cmp}
 use Rattle.indexset.specs.Words.{by_key, replay, step}
 use Rattle.example_replica.proofs.follow.Goals as goal
 
--- one event more leads one step on
+-- another event applies to the nodes so far
 pub loop-event-preserved : goal.loop-event-preserved
 loop-event-preserved c =
     let cmp = by_key (slice_cmp nat_cmp) in

@@ -1,4 +1,4 @@
--- The events so far lead to the nodes so far.
+-- Replaying the events so far gives the nodes so far.
 use Rattle.std.proofs.Common.{◌≡◌, Some, take}
 use Rattle.std.specs.Cmp.Lexicographic.{slice_cmp}
 use Rattle.std.specs.Ordering.{nat_cmp}

@@ -1,4 +1,4 @@
--- The copy has the nodes of the map.
+-- The replica has the nodes of the map.
 use Rattle.std.proofs.Common.{◌≡◌}
 use Rattle.example_replica.proofs.keep.Given as goal
 

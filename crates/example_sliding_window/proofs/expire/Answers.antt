@@ -5,12 +5,12 @@ use Rattle.std.specs.declared.cmp.Ordering.TheVariants.{Less, Equal, Greater}
 use Rattle.indexset.specs.Words.{items}
 use Rattle.example_sliding_window.proofs.expire.Goals as goal
 
--- no name is before the empty one
+-- no name is less than the empty name
 not_before : (name : List ℕ) → is_lt (slice_cmp nat_cmp name []) ≡ false
 not_before [] = refl
 not_before (x ∷ xs) = refl
 
--- before a second with the empty name is what has an earlier second
+-- what is less than a second with the empty name has an earlier second
 is_earlier : (second start : ℕ) (name : List ℕ) → is_lt (ordering_then (nat_cmp second start) (slice_cmp nat_cmp name [])) ≡ nat_lt second start
 is_earlier second start name = elim (nat_lt second start) as (λ b. is_lt (ordering_then (cond b Less (cond (second == start) Equal Greater)) (slice_cmp nat_cmp name [])) ≡ b) [
   | true ↦ refl

@@ -5,12 +5,12 @@ use Rattle.std.specs.declared.cmp.Ordering.TheVariants.{Less, Equal, Greater}
 use Rattle.indexset.specs.Words.{items}
 use Rattle.example_standings.proofs.rank.Goals as goal
 
--- no name is before the empty one
+-- no name is less than the empty name
 not_before : (name : List ℕ) → is_lt (slice_cmp nat_cmp name []) ≡ false
 not_before [] = refl
 not_before (x ∷ xs) = refl
 
--- before the score with the empty name are the better scores
+-- what is less than the score with the empty name has a better score
 is_better : (score other : ℕ) (name : List ℕ) → is_lt (ordering_then (nat_cmp score other) (slice_cmp nat_cmp name [])) ≡ nat_lt score other
 is_better score other name = elim (nat_lt score other) as (λ b. is_lt (ordering_then (cond b Less (cond (score == other) Equal Greater)) (slice_cmp nat_cmp name [])) ≡ b) [
   | true ↦ refl

@@ -5,7 +5,7 @@ use Rattle.indexset.specs.Words.{set_value, value_of}
 use Rattle.indexset.proofs.CallerLemmas.{put_value_there}
 use Rattle.example_word_count.proofs.count.Goals as goal
 
--- the word is there, and its count is written
+-- the word is present, and its count is written
 pub returns-in-Some : goal.returns-in-Some
 returns-in-Some c =
     let cmp = slice_cmp nat_cmp in

@@ -7,25 +7,25 @@ use indexset_core::refusal::Refusal;
 use indexset_events::change::ChangeEvent;
 use indexset_log::map::BTreeMap;
 
-/// A command to a logged map. The reply is `OldValue`, `Added` or `Out`, as said at each.
+/// A command to a logged map. The reply to each is `OldValue`, `Added` or `Out`.
 #[derive(Debug, Drop)]
 pub enum LoggedMapCommand<K, V> {
-    /// Inserts the pair, or replaces that of an equal key: `OldValue`, its value.
+    /// Inserts the pair, or replaces the pair of an equal key. `OldValue`: the old value.
     Insert(K, V),
-    /// Inserts the pair, unless the key is present: `Added`, whether it was inserted.
+    /// Inserts the pair unless the key is present. `Added`: whether it was inserted.
     CheckedInsert(K, V),
-    /// Takes the pair of the key out: `Out`, that pair.
+    /// Removes the pair of the key. `Out`: that pair.
     Remove(K),
 }
 
 /// The reply to a command.
 #[derive(Debug, PartialEq, Drop)]
 pub enum LoggedMapReply<K, V> {
-    /// The value that was there, where there was one.
+    /// The old value, if there was one.
     OldValue(Option<V>),
     /// Whether the pair was inserted.
     Added(bool),
-    /// The key and the value that were there, where they were.
+    /// The removed key and value, if the key was present.
     Out(Option<(K, V)>),
 }
 

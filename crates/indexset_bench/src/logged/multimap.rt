@@ -7,24 +7,24 @@ use indexset_core::refusal::Refusal;
 use indexset_events::change::ChangeEvent;
 use indexset_multi::multimap::BTreeMultiMap;
 
-/// A command to a multimap. The reply is `OldValue` or `Out`, as said at each.
+/// A command to a multimap. The reply to each is `OldValue` or `Out`.
 #[derive(Debug, Drop)]
 pub enum LoggedMultiCommand<K, V> {
-    /// Inserts the pair, or replaces the first of its key with an equal value: `OldValue`, that
-    /// value.
+    /// Inserts the pair, or replaces the first pair of its key that has an equal value. `OldValue`:
+    /// the old value.
     Insert(K, V),
-    /// Takes the first pair of the key out: `Out`, that pair.
+    /// Removes the first pair of the key. `Out`: that pair.
     RemoveSome(K),
-    /// Takes the first pair of the key with an equal value out: `Out`, that pair.
+    /// Removes the first pair of the key that has an equal value. `Out`: that pair.
     Remove(K, V),
 }
 
 /// The reply to a command.
 #[derive(Debug, PartialEq, Drop)]
 pub enum LoggedMultiReply<K, V> {
-    /// The value that was there, where there was one.
+    /// The old value, if there was one.
     OldValue(Option<V>),
-    /// The key and the value that were there, where they were.
+    /// The removed key and value, if there was such a pair.
     Out(Option<(K, V)>),
 }
 

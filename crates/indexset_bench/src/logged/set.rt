@@ -6,21 +6,21 @@ use indexset_core::refusal::Refusal;
 use indexset_events::change::ChangeEvent;
 use indexset_log::set::BTreeSet;
 
-/// A command to a logged set. The reply is `Old` or `Added`, as said at each.
+/// A command to a logged set. The reply to each is `Old` or `Added`.
 #[derive(Debug, Drop)]
 pub enum LoggedSetCommand<T> {
-    /// Inserts the value, or replaces the equal item: `Old`, that item.
+    /// Inserts the value, or replaces the equal item. `Old`: that item.
     Put(T),
-    /// Inserts the value, unless an equal item is present: `Added`, whether it was inserted.
+    /// Inserts the value unless an equal item is present. `Added`: whether it was inserted.
     PutChecked(T),
-    /// Takes the item equal to the value out: `Old`, that item.
+    /// Removes the item equal to the value. `Old`: that item.
     Remove(T),
 }
 
 /// The reply to a command.
 #[derive(Debug, PartialEq, Drop)]
 pub enum LoggedSetReply<T> {
-    /// The item that was there, where there was one.
+    /// The old item, if there was one.
     Old(Option<T>),
     /// Whether the value was inserted.
     Added(bool),

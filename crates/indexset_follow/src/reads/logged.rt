@@ -1,4 +1,4 @@
-//! Reads of a map that leads.
+//! Reads of a leader.
 
 use super::Reads;
 use super::nodes::WalkNodes;

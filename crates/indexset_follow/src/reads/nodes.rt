@@ -1,13 +1,13 @@
-//! Nodes that are walked over.
+//! Iteration over nodes.
 
 ghost use Rattle.std.specs.Prelude.{◌≡◌, [], ◌∷◌, MatchOption};
 ghost use Rattle.indexset_follow.specs.Reads.{PairNodes};
 
 use indexset_core::pair::Pair;
 
-/// Nodes that are walked over, one after another.
+/// An iterator over nodes.
 pub trait WalkNodes<'a, T> {
-    /// The nodes that are left.
+    /// The remaining nodes.
     ghost rest: { Self → PairNodes T };
 
     /// Returns the next node.

@@ -1,4 +1,4 @@
-//! What a line asks to read.
+//! Parses reads.
 
 ghost use Rattle.std.specs.Prelude.{◌≡◌, IfErr, IfOk};
 ghost use Rattle.indexset_follow.specs.Query.{keyed_query, numbered_query, query_of, word_query};
@@ -14,7 +14,7 @@ use std::alloc::Global;
 pub enum Query<T> {
     /// The pair of this key.
     Get(T),
-    /// How many pairs there are.
+    /// The number of pairs.
     Len,
     /// The pair of the least key.
     First,
@@ -22,11 +22,11 @@ pub enum Query<T> {
     Last,
     /// The pairs from one key to another, both included.
     Range(T, T),
-    /// How many keys are below this one.
+    /// How many keys are less than this one.
     Rank(T),
     /// The pair at this position.
     At(u64),
-    /// The pairs from a position on, so many at most.
+    /// The pairs from a position on, at most this many.
     Page(u64, u64),
     /// The nodes and the next number.
     Nodes,
@@ -34,15 +34,15 @@ pub enum Query<T> {
     Next,
     /// Whether events before this number are missing.
     Head(u64),
-    /// The lines that make another map the same.
+    /// A snapshot.
     Snapshot,
-    /// The next number, how many nodes there are, the sum, and the greatest number of a command.
+    /// The next number, the number of nodes, the sum, and the greatest command number.
     Sum,
-    /// The next number, once a snapshot is in place of the lines of a file that keeps them.
+    /// The next number, after a snapshot has replaced the lines of a journal.
     Compact,
 }
 
-/// Returns the read that the line asks for, if it asks for one.
+/// Returns the read of a line, or `None` if it is not one.
 pub fn read_query<T: Key>(alloc: Global, line: &[u8]) -> Result<Option<Query<T>>, RunFault>
     ensures query { IfOk result (λ query. query ≡ query_of T.texts line.now) }
     ensures fault { IfErr result (λ fault. fault ≡ RunFault.Memory) }
@@ -78,7 +78,7 @@ fn read_word<T>(word: &[u8]) -> Option<Query<T>>
     }
 }
 
-/// Returns the read of a word and a key behind it, or two.
+/// Returns the read of a word and one key or two.
 fn read_keyed<T: Key>(alloc: Global, word: &[u8], rest: &[u8]) -> Result<Option<Query<T>>, RunFault>
     ensures query { IfOk result (λ query. query ≡ keyed_query T.texts word.now rest.now) }
     ensures fault { IfErr result (λ fault. fault ≡ RunFault.Memory) }
@@ -95,7 +95,7 @@ fn read_keyed<T: Key>(alloc: Global, word: &[u8], rest: &[u8]) -> Result<Option<
     }
 }
 
-/// Returns the read of a word and a number behind it, or two.
+/// Returns the read of a word and one number or two.
 fn read_numbered<T>(word: &[u8], rest: &[u8]) -> Option<Query<T>>
     ensures { result ≡ numbered_query word.now rest.now }
 {

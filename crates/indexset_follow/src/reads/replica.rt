@@ -1,4 +1,4 @@
-//! Reads of nodes that follow.
+//! Reads of a follower.
 
 use super::Reads;
 use super::nodes::WalkNodes;

@@ -1,4 +1,4 @@
-//! Pairs that are walked over, written in one line.
+//! Writes pairs in one line.
 
 ghost use Rattle.std.specs.Prelude.{◌≡◌, List, [], ◌∷◌, OnOk, IfErr, MatchOption};
 ghost use Rattle.std.specs.Io.KnownBytes.{Appends};
@@ -13,9 +13,9 @@ use indexset_bench::key::Key;
 use indexset_bench::pair_text::EntryText;
 use std::io::Write;
 
-/// Pairs that are walked over, one after another.
+/// An iterator over pairs.
 pub trait Walk<'a, T> {
-    /// The pairs that are left.
+    /// The remaining pairs.
     ghost rest: { Self → List (Pair T T) };
 
     /// Returns the key and the value of the next pair.
@@ -24,7 +24,7 @@ pub trait Walk<'a, T> {
             (λ e. rest self.old ≡ pair e.0.now e.1.now ∷ rest self.new) };
 }
 
-/// Writes the pairs that are left in one line, or `none` where there is none.
+/// Writes the remaining pairs in one line, or `none`.
 pub fn write_row<'a, T: Key + 'a, P: Walk<'a, T> + Drop, W: Write>(
     writer: &mut W,
     pairs: P,

@@ -1,4 +1,4 @@
--- The spelling of a text is a word, and is read as that text alone.
+-- The spelling of a text is a word, and only that text has it.
 use Rattle.std.proofs.Common.{None, Some, ◌≡◌, ◌≢◌, ℕ, zero, suc, ◌<◌, ◌≤◌, Bool, true, false, cond, ◌&&◌, not, eqb, List, [], ◌∷◌, ◌++◌, refl, sym, ap, subst, ◌∙◌, arith, true≢false, ne_eqb}
 use Rattle.std.specs.Prelude.{nat_lt}
 use Rattle.std.proofs.lemmas.Bool.{eqb-false, eqb-true, lt-ltb, ltb-true}
@@ -19,7 +19,7 @@ use Rattle.percent_encoding.specs.declared.ascii_set.TheConstants.{NON_ALPHANUME
 
 -- ---- tests of all bytes
 
--- the test holds of each number below n
+-- the test holds for each number less than n
 abbrev pub table : (ℕ → Bool) → ℕ → Bool
 table test zero = true
 table test (suc n) = test n && table test n
@@ -44,7 +44,7 @@ same_is true false e = cc
 same_is false true e = cc
 same_is false false e = refl
 
--- ---- sets that escape what is not plain
+-- ---- sets that escape the bytes that are not plain
 
 pub record EscapesOthers (set : AsciiSet) : Type 0 where
   pub test : (b : ℕ) → should_percent_encode set b ≡ not (is_plain b)
@@ -56,7 +56,7 @@ no_less b k more = at (nat_lt b k) refl
     at true is = let less = ltb-true b k is in absurd (omega (arith, less, more))
     at false is = refl
 
--- what is no ASCII is not plain
+-- a byte that is not ASCII is not plain
 high_apart : (b : ℕ) → 128 ≤ b → is_plain b ≡ false
 unfolding is_plain
 high_apart b high =
@@ -66,7 +66,7 @@ high_apart b high =
     let wave = ne_eqb b 126 (λ e. omega (arith, e, high)) in
     rw (no_less b 48 (omega (arith, high)), no_less b 58 (omega (arith, high)), no_less b 65 (omega (arith, high)), no_less b 91 (omega (arith, high)), no_less b 97 (omega (arith, high)), no_less b 123 (omega (arith, high)), dash, dot, line, wave) refl
 
--- a set of ASCII tells by what is below 128
+-- a set of ASCII bytes is determined by the bytes less than 128
 by_ascii : (set : AsciiSet) → ((b : ℕ) → b < 128 → contains set b ≡ not (is_plain b)) → EscapesOthers set
 unfolding should_percent_encode
 by_ascii set inside = record { test = λ b. at b (nat_lt b 128) refl }
@@ -87,7 +87,7 @@ others_escaped set escapes (b ∷ name) = at (is_plain b) refl (others_escaped s
     at true is rest = percent_encode_kept set b name (tested ∙ ap not is) ∙ ap (λ t. b ∷ t) rest
     at false is rest = percent_encode_escaped set b name (tested ∙ ap not is) ∙ ap (λ t. percent_encode_byte b ++ t) rest
 
--- such a set
+-- the set of bytes that are escaped
 plain_set : AsciiSet
 plain_set = record { mask = 244577951340790884343731678625228914687 }
 
@@ -107,7 +107,7 @@ left_in c before after without x less = at (eqb x c) refl
     at true is = ap (contains after) (eqb-true x c is) ∙ without.removed
     at false other = without.others x less (eqb-false x c other)
 
--- all but letters and digits, without -._~
+-- a byte that is neither a letter nor a digit nor one of -._~
 abbrev kept : ℕ → Bool
 kept x = not (eqb x 126) && (not (eqb x 95) && (not (eqb x 46) && (not (eqb x 45) && contains NON_ALPHANUMERIC x)))
 
@@ -120,7 +120,7 @@ four_removed dash dot line wave a b c d = by_ascii wave at
         let inside : contains wave x ≡ kept x = left_in 126 line wave d x small ∙ (λ i. not (eqb x 126) && (left_in 95 dot line c x small ∙ (λ j. not (eqb x 95) && (left_in 46 dash dot b x small ∙ (λ k. not (eqb x 46) && left_in 45 NON_ALPHANUMERIC dash a x small k)) j)) i) in
         inside ∙ same_is (kept x) (not (is_plain x)) (in_table (λ x. same_bool (kept x) (not (is_plain x))) 128 x refl small)
 
--- ---- what is spelled is read
+-- ---- reading the spelling of a text
 
 bytes_tested : (name : List ℕ) → AreBytes name → list_all (λ b. nat_lt b 256) name ≡ true
 bytes_tested [] fit = refl
@@ -132,7 +132,7 @@ name_told name fit =
     let back : percent_decode (name_text name) ≡ name = ap percent_decode (sym (others_escaped plain_set plain_escapes name)) ∙ round_trip plain_set name refl fit in
     rw (back, (bytes_eq-Decides (name_text name) (name_text name)).1 refl, bytes_tested name fit) refl
 
--- ---- what is read is spelled
+-- ---- the spelling of a text that was read
 
 tested_bytes : (name : List ℕ) → list_all (λ b. nat_lt b 256) name ≡ true → AreBytes name
 tested_bytes [] e = All-nil (λ b. b < 256)
@@ -176,7 +176,7 @@ name_whole name fit = rw (spelled_lacks 10 refl no_end name, spelled_lacks 32 re
 pub name_words : AreWords name_texts
 name_words = record { told = name_told; sound = name_sound; whole = name_whole }
 
--- ---- a text is read by its bytes
+-- ---- a text as its bytes
 
 pub read_some : (text name spelled : List ℕ) → name ≡ percent_decode text → spelled ≡ name_text name → AreBytes name → text ≡ spelled → Some name ≡ name_of text
 unfolding name_of

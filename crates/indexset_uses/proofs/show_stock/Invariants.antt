@@ -1,4 +1,4 @@
--- The copy has the nodes of the stock.
+-- The replica has the nodes of the stock.
 use Rattle.std.proofs.Common.{◌≡◌}
 use Rattle.indexset_uses.proofs.show_stock.Given as goal
 

@@ -1,4 +1,4 @@
-//! What is written over std's `BTreeMap`.
+//! Idioms of std's `BTreeMap`.
 ghost use Rattle.std.specs.Prelude.{◌≡◌, if◌then◌else◌, ◌==◌, ◌&&◌, ◌+◌, ◌-◌, ◌^◌, [], ◌∷◌, not, nat_lt, IsTrue, Some, drop, length, min, slice_get, take, unwrap_or, MatchOption, OnOk, IfOk};
 ghost use Rattle.std.specs.Cmp.Lexicographic.{pointwise, slice_cmp};
 ghost use Rattle.std.specs.List.{All, filter, list_any};
@@ -13,12 +13,12 @@ use indexset::{BTreeMap, Entry};
 use std::alloc::{AllocError, Global};
 use std::ops::Bound;
 
-/// `BTreeMap::from([(1, 2), (3, 4)])`: with the allocator, and a `Result`.
+/// `BTreeMap::from([(1, 2), (3, 4)])`: takes the allocator, and returns a `Result`.
 pub fn two(alloc: Global) -> Result<BTreeMap<u64, u64>, Refusal> {
     BTreeMap::from(alloc, [(1, 2), (3, 4)])
 }
 
-/// `*counts.entry(word).or_insert(0) += 1`: what inserts can fail, and a sum has to fit.
+/// `*counts.entry(word).or_insert(0) += 1`: an insertion can fail, and the sum saturates.
 pub fn count(counts: &mut BTreeMap<u64, u64>, word: u64) -> Result<(), Refused<(u64, u64)>>
     ensures { OnOk result (value_of nat_cmp counts.new.pairs word
         ≡ Some (min (unwrap_or (value_of nat_cmp counts.old.pairs word) 0 + 1) (2 ^ 64 - 1))) }
@@ -85,7 +85,7 @@ pub fn known(map: &BTreeMap<u64, u64>, key: u64) -> u64
     map[&key]
 }
 
-/// `map.get("pears")` where a key is an owned text.
+/// `map.get("pears")`, where keys are owned texts.
 pub fn price(prices: &BTreeMap<Text, u64>, name: &str) -> Option<u64>
     ensures { result ≡ value_of (slice_cmp nat_cmp) prices.now.pairs name.now }
 {
@@ -119,7 +119,7 @@ pub fn raise(map: &mut BTreeMap<u64, u64>, key: u64, more: u64)
     }
 }
 
-/// `map.insert(k, v)`, which returns the value before.
+/// `map.insert(k, v)`, which returns the old value.
 pub fn swap(
     map: &mut BTreeMap<u64, u64>,
     key: u64,
@@ -152,10 +152,10 @@ pub fn has_value(map: &BTreeMap<u64, u64>, sought: u64) -> bool
 }
 
 // `for (k, v) in &mut map`, `for v in map.values_mut()` and `for (k, v) in map.range_mut(..)` are
-// refused: a walk lends from itself, and what it lends comes back before the next (the smallest
-// case is in docs/design.md). So it is
-// `let mut values = map.values_mut(); while let Some(value) = values.next() { .. }`, or with a
-// proof of what it writes as `raise` of `prices.rt`.
+// not supported: such an iterator lends from itself, and takes back what it lends before the next
+// (docs/design.md has the smallest case). Write `let mut values = map.values_mut(); while let
+// Some(value) = values.next() { .. }`; `raise` in `prices.rt` has the proof of what such a loop
+// writes.
 
 /// `map.values().copied().max()`.
 pub fn greatest(map: &BTreeMap<u64, u64>) -> Option<u64> {
@@ -169,7 +169,7 @@ pub fn keys_of(alloc: Global, map: &BTreeMap<u64, u64>) -> Result<Vec<u64>, Allo
     map.keys().copied().collect(alloc)
 }
 
-/// `map.range(..=k).next_back()`: the pair of the greatest key that is not above one.
+/// `map.range(..=k).next_back()`: the pair of the greatest key that is at most `k`.
 pub fn floor(map: &BTreeMap<u64, u64>, key: u64) -> Option<u64>
     ensures { let pairs = pairs_within nat_cmp map.now.pairs Unbounded (Included key) in
         result ≡ option_map (λ pair. pair.key) (slice_get pairs (length pairs - 1)) }
@@ -178,7 +178,7 @@ pub fn floor(map: &BTreeMap<u64, u64>, key: u64) -> Option<u64>
     Some(*found)
 }
 
-/// `map.range((Excluded(k), Unbounded)).next()`: the key after one.
+/// `map.range((Excluded(k), Unbounded)).next()`: the first key that is greater than `k`.
 pub fn next_key(map: &BTreeMap<u64, u64>, key: u64) -> Option<u64>
     ensures { result ≡ option_map (λ pair. pair.key)
         (slice_get (pairs_within nat_cmp map.now.pairs (Excluded key) Unbounded) 0) }
@@ -187,7 +187,7 @@ pub fn next_key(map: &BTreeMap<u64, u64>, key: u64) -> Option<u64>
     Some(*found)
 }
 
-/// `map.iter().rev().take(n)`: the last n pairs, from the back.
+/// `map.iter().rev().take(n)`: the last n pairs, in descending order.
 pub fn last_values(
     alloc: Global,
     map: &BTreeMap<u64, u64>,

@@ -1,4 +1,4 @@
-//! A crash after so many calls of the disk.
+//! Crashes after a number of calls of the disk.
 
 use super::support::{lines, opened, shown, store_of};
 use indexset_journal::{Journal, JournalError};
@@ -8,10 +8,10 @@ use sqlite_trees::store::{Reopen, Store};
 use std::alloc::Global;
 use std::test::Fail;
 
-/// What is kept after so many calls that succeeded.
+/// The lines after each number of successful calls.
 const TEXTS: [&[u8]; 6] = [b"", b"a b ", b"a b c ", b"d ", b"d e ", b""];
 
-/// Makes the calls one after another, up to the first that fails, and returns how many succeeded.
+/// Makes the calls in order, up to the first that fails, and returns how many succeeded.
 fn run<S: Store>(alloc: Global, journal: &mut Journal<S>) -> Result<usize, JournalError> {
     if journal
         .append(lines(alloc, &["a", "b"])?.as_slice())
@@ -34,8 +34,9 @@ fn run<S: Store>(alloc: Global, journal: &mut Journal<S>) -> Result<usize, Journ
     Ok(5)
 }
 
-/// Opens the journal of a store, and makes the calls. Returns how many succeeded and the store, or
-/// `None` where there was no journal.
+/// Opens the journal of a store, and makes the calls.
+///
+/// Returns how many succeeded and the store, or `None` if the journal could not be opened.
 fn run_on<S: Store + Drop>(alloc: Global, store: S) -> Result<Option<(usize, S)>, Fail> {
     let Ok((mut journal, found)) = opened(alloc, store) else {
         return Ok(None);
@@ -47,8 +48,9 @@ fn run_on<S: Store + Drop>(alloc: Global, store: S) -> Result<Option<(usize, S)>
     Ok(Some((done, journal.into_store())))
 }
 
-/// Crashes, and looks for the lines after so many calls, or after the next one too. The journal goes
-/// on from there.
+/// Crashes, and asserts that the lines are those after `done` calls or after the next call.
+///
+/// The journal then continues.
 fn is_found<S: Reopen + Drop>(alloc: Global, store: S, done: usize) -> Result<(), Fail> {
     let mut store = store;
     store.crash_and_reopen()?;
@@ -62,9 +64,9 @@ fn is_found<S: Reopen + Drop>(alloc: Global, store: S, done: usize) -> Result<()
     Ok(())
 }
 
-/// Runs over files of which each fails from its call with this number on, crashes, and opens the
-/// files again. Returns how many calls succeeded, or `None` where the files failed before there was
-/// a journal.
+/// Runs over files that fail from a call on, crashes, and opens the files again.
+///
+/// Returns how many calls succeeded, or `None` if the journal could not be opened.
 fn run_until(alloc: Global, log_calls: u64, db_calls: u64) -> Result<Option<usize>, Fail> {
     let files = Files {
         log: Fuse::new(Memory::new(alloc), log_calls),

@@ -1,4 +1,4 @@
-//! Files that are cut, and files of which a byte is turned.
+//! Truncated files, and files with a changed byte.
 
 use super::support::{lines, opened, shown, store_of};
 use crate::files::{copied, file_of, new_files, turned};
@@ -9,13 +9,13 @@ use sqlite_trees::store::Store;
 use std::alloc::Global;
 use std::test::Fail;
 
-/// What the files below have held after each commit.
+/// The lines of the files after each commit.
 const TEXTS: [&[u8]; 4] = [b"", b"first ", b"first second third ", b"fourth "];
 
-/// Of how many bytes one is turned, or is the end.
+/// The distance of the bytes that are changed, or at which a file is truncated.
 const STRIDE: usize = 797;
 
-/// Keeps three lines by two commits.
+/// Appends three lines with two commits.
 fn keep_three<S: Store + Drop>(alloc: Global, store: S) -> Result<S, JournalError> {
     let (mut journal, _none) = opened(alloc, store)?;
     journal.append(lines(alloc, &["first"])?.as_slice())?;
@@ -23,21 +23,21 @@ fn keep_three<S: Store + Drop>(alloc: Global, store: S) -> Result<S, JournalErro
     Ok(journal.into_store())
 }
 
-/// Keeps another line in place of all.
+/// Replaces all lines by another.
 fn keep_another<S: Store + Drop>(alloc: Global, store: S) -> Result<S, JournalError> {
     let (mut journal, _found) = opened(alloc, store)?;
     journal.replace(lines(alloc, &["fourth"])?.as_slice())?;
     Ok(journal.into_store())
 }
 
-/// Two files with three commits, of which the last is yet in the log alone.
+/// Returns two files with three commits, of which the last is only in the log.
 fn files(alloc: Global) -> Result<Files<Memory>, JournalError> {
     let store = keep_three(alloc, store_of(alloc, new_files(alloc), true)?)?;
     let store = keep_another(alloc, copied(store)?)?;
     Ok(store.close())
 }
 
-/// Returns the lines that files hold, or nothing where they are refused.
+/// Returns the lines of files, or `None` if the journal refuses them.
 fn lines_in(alloc: Global, log: Memory, db: Memory) -> Result<Option<Vec<u8>>, Fail> {
     let Ok(store) = store_of(alloc, Files { log, db }, true) else {
         return Ok(None);
@@ -48,8 +48,9 @@ fn lines_in(alloc: Global, log: Memory, db: Memory) -> Result<Option<Vec<u8>>, F
     }
 }
 
-/// Opens the files; whatever is found must be what they held after some commit. Returns whether they
-/// were refused.
+/// Opens files, and asserts that the lines are those after some commit.
+///
+/// Returns whether the files were refused.
 fn is_refused(alloc: Global, log: Memory, db: Memory) -> Result<bool, Fail> {
     let Some(text) = lines_in(alloc, log, db)? else {
         return Ok(true);

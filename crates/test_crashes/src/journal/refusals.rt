@@ -1,4 +1,4 @@
-//! Files that hold something other than lines, and numbers that end.
+//! Files that are not journals, and numbers that run out.
 
 use super::support::{lines, opened, shown};
 use crate::files::TABLE;
@@ -7,20 +7,20 @@ use sqlite::{Connection, MemStore};
 use std::alloc::Global;
 use std::test::Fail;
 
-/// A store in memory after these statements.
+/// Returns a store in memory after these statements.
 fn store_after(alloc: Global, statements: &str) -> Result<MemStore, JournalError> {
     let mut conn = Connection::open_in_memory(alloc)?;
     conn.execute_batch(statements)?;
     Ok(conn.into_store())
 }
 
-/// The error of an open of a store after these statements.
+/// Returns the error of opening a store after these statements.
 fn refusal(alloc: Global, statements: &str) -> Result<Option<JournalError>, JournalError> {
     let store = store_after(alloc, statements)?;
     Ok(opened(alloc, store).err())
 }
 
-/// A journal over a table with these rows.
+/// Returns a journal over a table with these rows.
 fn journal_of(
     alloc: Global,
     rows: &str,

@@ -7,7 +7,7 @@ use sqlite_disk::Disk;
 use sqlite_trees::store::Store;
 use std::alloc::Global;
 
-/// A cache that is quickly made.
+/// A small cache, which is fast to create.
 const SMALL: Options = Options {
     cache_pages: 20,
     spill_pages: 20,
@@ -15,7 +15,7 @@ const SMALL: Options = Options {
     seed: 1,
 };
 
-/// Copies the texts, a line each.
+/// Returns a line for each text.
 pub(crate) fn lines(alloc: Global, texts: &[&str]) -> Result<Vec<Vec<u8>>, JournalError> {
     let mut lines = Vec::new(alloc);
     for text in texts {
@@ -24,7 +24,7 @@ pub(crate) fn lines(alloc: Global, texts: &[&str]) -> Result<Vec<Vec<u8>>, Journ
     Ok(lines)
 }
 
-/// Returns the lines as one text, with a space behind each.
+/// Returns the lines as one text, with a space after each.
 pub(crate) fn shown(alloc: Global, lines: &[Vec<u8>]) -> Result<Vec<u8>, JournalError> {
     let mut text = Vec::new(alloc);
     for line in lines {
@@ -34,7 +34,7 @@ pub(crate) fn shown(alloc: Global, lines: &[Vec<u8>]) -> Result<Vec<u8>, Journal
     Ok(text)
 }
 
-/// Returns the store of two files, with the table of lines; new files get sums where that is asked.
+/// Returns the store of two files, with the table of lines. New files have checksums if `has_sums`.
 pub(crate) fn store_of<D: Disk + Drop>(
     alloc: Global,
     files: Files<D>,
@@ -46,7 +46,7 @@ pub(crate) fn store_of<D: Disk + Drop>(
     }
 }
 
-/// Opens a journal, and drops the store where that fails.
+/// Opens a journal, and drops the store on failure.
 pub(crate) fn opened<S: Store + Drop>(
     alloc: Global,
     store: S,

@@ -1,4 +1,4 @@
-//! Bytes that are turned, and bytes that cannot be read.
+//! Changed bytes, and bytes that cannot be read.
 
 use super::drill::{Drill, Part};
 use super::history::{COMMANDS, FURTHER};
@@ -9,16 +9,17 @@ use sqlite_disk::{Memory, Rot};
 use std::alloc::Global;
 use std::test::Fail;
 
-/// Of how many bytes of the log one is turned.
+/// The distance of the bytes of the log that are changed.
 const STRIDE: usize = 61;
 
-/// Of how many bytes one cannot be read: of each page one at least, since a page is read as a whole.
+/// The distance of the bytes that cannot be read: at least one in each page, which is read as a
+/// whole.
 const HALF: usize = 256;
 
 type Rotten = Rot<Memory>;
 
 impl Drill<'_> {
-    /// Returns the files with one byte turned.
+    /// Returns the files with one byte changed.
     fn turned(&self, part: Part, at: usize) -> Result<Files<Memory>, Fail> {
         let (log, db) = (self.bytes(Part::Log), self.bytes(Part::Database));
         match part {
@@ -33,9 +34,10 @@ impl Drill<'_> {
         }
     }
 
-    /// Turns each byte of a page of the database in turn, from its first one on, or bytes of the log. The files are
-    /// refused, or hold the map after all lines; with a turned byte of the log, after some of them. Returns how often
-    /// they are refused.
+    /// Changes each byte of a page of the database, or bytes of the log, one at a time.
+    ///
+    /// Asserts that the files are refused, or have the map after all lines, or with a changed byte
+    /// of the log after some of them. Returns how often they are refused.
     fn turn_each(&self, part: Part, from: usize) -> Result<usize, Fail> {
         let (count, stride, lines) = match part {
             Part::Log => (self.bytes(part).len() / STRIDE, STRIDE, 0),
@@ -51,7 +53,7 @@ impl Drill<'_> {
         Ok(refused)
     }
 
-    /// Returns the files, of which a byte cannot be read.
+    /// Returns the files with one byte that cannot be read.
     fn rotten(&self, part: Part, at: usize) -> Result<Files<Rotten>, Fail> {
         let log = file_of(self.alloc, self.bytes(Part::Log))?;
         let db = file_of(self.alloc, self.bytes(Part::Database))?;
@@ -65,8 +67,10 @@ impl Drill<'_> {
         })
     }
 
-    /// Runs over files of which a byte cannot be read. They hold the map after the lines that were answered, or more.
-    /// Returns whether the run ended before its lines did.
+    /// Runs over files with one byte that cannot be read.
+    ///
+    /// Asserts that they have the map after the lines that were answered, or more. Returns whether
+    /// the run failed.
     fn run_rotten(&self, part: Part, at: usize) -> Result<bool, Fail> {
         let Ended {
             answers,
@@ -84,7 +88,9 @@ impl Drill<'_> {
         Ok(told.is_err())
     }
 
-    /// Has a byte of each page of a file not be read, in turn. Returns how many runs ended before their lines did.
+    /// Runs with one byte that cannot be read, for a byte of each page of a file.
+    ///
+    /// Returns how many runs failed.
     fn lose_each(&self, part: Part) -> Result<usize, Fail> {
         let mut cut = 0usize;
         for step in 0..self.bytes(part).len() / HALF {
@@ -96,7 +102,7 @@ impl Drill<'_> {
     }
 }
 
-/// Returns a leader whose lines are in its files.
+/// Returns a leader, with its lines in files.
 fn leader(alloc: Global) -> Result<Drill<'static>, Fail> {
     let made = files_after(alloc, LEADER, COMMANDS)?;
     Drill::over(alloc, made, LEADER, COMMANDS)

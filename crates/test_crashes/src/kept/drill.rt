@@ -1,4 +1,4 @@
-//! A run of a map that is kept, and what its files may hold once it was cut off.
+//! A run of a map that is kept, and the possible contents of its files if it is cut off.
 
 use super::history::{Step, line_count, steps_of};
 use super::runs::{FOLLOWER, Way, files_after, run_over, without_log};
@@ -15,22 +15,22 @@ pub(crate) enum Part {
     Database,
 }
 
-/// A run over files, and the maps after its lines.
+/// A run over files, with the map after each line.
 #[derive(Drop)]
 pub(crate) struct Drill<'a> {
     pub(crate) alloc: Global,
     /// The files before the run.
     pub(crate) made: Files<Memory>,
-    /// How the map is run.
+    /// The settings of the run.
     pub(crate) way: Way,
     /// Its lines.
     pub(crate) text: &'a [u8],
-    /// The maps after none of the lines, the first, and so on.
+    /// The maps after no line, after the first line, and so on.
     steps: Vec<Step>,
 }
 
 impl<'a> Drill<'a> {
-    /// Returns a run over files that hold no line.
+    /// Returns a run over files without lines.
     pub(crate) fn over(
         alloc: Global,
         made: Files<Memory>,
@@ -66,7 +66,7 @@ impl<'a> Drill<'a> {
         })
     }
 
-    /// Returns the run over the files once their log is copied into the database.
+    /// Returns the run over the files after their log is copied to the database.
     pub(crate) fn settled(self) -> Result<Drill<'a>, Fail> {
         let Drill {
             alloc,
@@ -92,12 +92,12 @@ impl<'a> Drill<'a> {
         }
     }
 
-    /// Returns how many lines there are.
+    /// Returns the number of lines.
     pub(crate) fn line_count(&self) -> usize {
         line_count(self.text)
     }
 
-    /// Returns how many lines have these answers.
+    /// Returns the number of lines that have these answers.
     pub(crate) fn answered(&self, answers: &[u8]) -> Result<usize, Fail> {
         let mut steps = self.steps.iter();
         match steps.position(|step| step.answers.as_slice() == answers) {
@@ -106,7 +106,9 @@ impl<'a> Drill<'a> {
         }
     }
 
-    /// Opens files: the journal refuses them, with no answer, or they hold the map after so many of the lines, or more.
+    /// Opens files, and asserts that they have the map after `count` lines or more.
+    ///
+    /// An inner `Err` is the refusal of the journal.
     pub(crate) fn look<D: Disk + Drop>(
         &self,
         files: Files<D>,

@@ -1,4 +1,4 @@
-//! Each call of a file fails in turn, and each after it.
+//! Runs in which the calls of a file fail from some call on, for each call.
 
 use super::drill::{Drill, Part};
 use super::history::{COMMANDS, EVENTS, EVENTS_THEN_COMMANDS, FURTHER};
@@ -11,10 +11,10 @@ use std::test::Fail;
 
 type Burning = Fuse<Memory>;
 
-/// Calls that are more than any run makes.
+/// More calls than any run makes.
 const MANY: u64 = 10_000;
 
-/// How many calls of each file succeed.
+/// The number of calls of each file that succeed.
 #[derive(Clone, Copy, Debug)]
 struct Calls {
     log: u64,
@@ -22,7 +22,7 @@ struct Calls {
 }
 
 impl Calls {
-    /// Returns that so many calls of one of the files succeed, and each of the other one.
+    /// Returns that `count` calls of one file succeed, and all of the other file.
     fn of(part: Part, count: u64) -> Calls {
         match part {
             Part::Log => Calls {
@@ -42,7 +42,7 @@ fn has_failed(file: &mut Burning) -> bool {
     !file.may_be_used() || file.len().is_err()
 }
 
-/// Returns the files as they are on the disk.
+/// Returns copies of the files that do not fail.
 fn on_disk(alloc: Global, files: &Files<Burning>) -> Result<Files<Memory>, Fail> {
     Ok(Files {
         log: file_of(alloc, files.log.inner().bytes())?,
@@ -50,13 +50,13 @@ fn on_disk(alloc: Global, files: &Files<Burning>) -> Result<Files<Memory>, Fail>
     })
 }
 
-/// Returns whether files hold the same bytes.
+/// Returns whether the files have the same bytes.
 fn are_same(files: &Files<Memory>, others: &Files<Memory>) -> bool {
     files.log.bytes() == others.log.bytes() && files.db.bytes() == others.db.bytes()
 }
 
 impl Drill<'_> {
-    /// Returns copies of the files, of which so many calls succeed.
+    /// Returns copies of the files, with this number of calls that succeed.
     fn burning(&self, calls: Calls) -> Result<Files<Burning>, Fail> {
         Ok(Files {
             log: Fuse::new(file_of(self.alloc, self.made.log.bytes())?, calls.log),
@@ -64,7 +64,9 @@ impl Drill<'_> {
         })
     }
 
-    /// Runs over files of which so many calls succeed, and opens them again. Returns whether a call failed.
+    /// Runs over files with this number of calls that succeed, and opens them again.
+    ///
+    /// Returns whether a call failed.
     fn run_until(&self, calls: Calls) -> Result<bool, Fail> {
         let Ended {
             answers,
@@ -82,7 +84,7 @@ impl Drill<'_> {
         Ok(has_failed)
     }
 
-    /// Returns the files that a run has left: where its journal could not be opened, those that an open leaves.
+    /// Returns the files after a run, or after a failed open of its journal.
     fn left(&self, files: Option<Files<Burning>>, calls: Calls) -> Result<Files<Burning>, Fail> {
         match files {
             Some(files) => Ok(files),
@@ -90,7 +92,7 @@ impl Drill<'_> {
         }
     }
 
-    /// Looks that each line was answered.
+    /// Asserts that each line was answered.
     fn ends_well(&self, count: usize) -> Result<(), Fail> {
         if count == self.line_count() {
             Ok(())
@@ -99,7 +101,8 @@ impl Drill<'_> {
         }
     }
 
-    /// Opens files again, as a kill leaves them, and as a loss of power does, without what was not synced.
+    /// Opens files again, as a kill leaves them, and as a loss of power leaves them, without
+    /// unsynced writes.
     fn look_after(&self, files: Files<Burning>, count: usize) -> Result<(), Fail> {
         let mut files = files;
         let written = on_disk(self.alloc, &files)?;
@@ -113,7 +116,7 @@ impl Drill<'_> {
         Ok(())
     }
 
-    /// Has each call of one of the files fail in turn. Returns how many there are.
+    /// Runs with failures from each call of one of the files on. Returns the number of calls.
     fn fail_each(&self, part: Part) -> Result<u64, Fail> {
         for count in 0..MANY {
             if !self.run_until(Calls::of(part, count))? {

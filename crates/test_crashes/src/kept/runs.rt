@@ -13,19 +13,20 @@ use std::alloc::Global;
 use std::io::BufReader;
 use std::test::Fail;
 
-/// How many pairs a node of a leader holds at most.
+/// The maximum number of pairs in a node of a leader.
 pub(crate) const SIZE: usize = 4;
 
-/// How far ahead of the awaited event a follower holds others.
+/// How far ahead of the awaited event a follower holds events.
 pub(crate) const WINDOW: u64 = 64;
 
-/// Each line has its answer.
+/// A map that answers each line.
 pub(crate) const VOICE: Voice = Voice {
     others: Others::Tell,
     is_quiet: false,
 };
 
-/// A cache of few pages and a short log, so that pages are read again, and the log is copied into the database.
+/// A cache of few pages and a short log, so that pages are read again and the log is copied to the
+/// database.
 const NARROW: Options = Options {
     cache_pages: 2,
     spill_pages: 2,
@@ -33,49 +34,50 @@ const NARROW: Options = Options {
     seed: 1,
 };
 
-/// The first bytes of an empty file of SQLite with its smallest pages, so that few lines fill several.
+/// The first bytes of an empty SQLite file with the smallest pages, so that few lines fill several
+/// pages.
 const EMPTY: &[u8] = b"SQLite format 3\0\x02\0\x02\x02\0\x40\x20\x20\0\0\0\x02\0\0\0\x01\
 \0\0\0\0\0\0\0\0\0\0\0\x03\0\0\0\0\0\0\0\0\0\0\0\0\0\0\0\x01\0\0\0\0\0\0\0\0\0\0\0\0\0\0\0\0\
 \0\0\0\0\0\0\0\0\0\0\0\0\0\0\0\0\0\0\0\x02\0\x2e\x63\x01\x0d\0\0\0\0\x02\0\0";
 
-/// How many bytes such a page has.
+/// The size of such a page in bytes.
 pub(crate) const PAGE: usize = 512;
 
-/// How a map is run.
+/// The settings of a run.
 #[derive(Clone, Copy, Debug)]
 pub(crate) struct Way {
-    /// Whether it leads from the first line on.
+    /// Whether the map starts as a leader.
     pub(crate) leads: bool,
-    /// How many bytes of its lines are at hand at a time.
+    /// The number of bytes that a read returns.
     pub(crate) at_hand: usize,
 }
 
-/// A leader, which keeps each line alone.
+/// A leader that makes a commit for each line.
 pub(crate) const LEADER: Way = Way {
     leads: true,
     at_hand: 1,
 };
 
-/// A leader, which keeps a few lines with one commit.
+/// A leader that makes a commit for a few lines.
 pub(crate) const GROUPS: Way = Way {
     leads: true,
     at_hand: 40,
 };
 
-/// A follower, which keeps each line alone.
+/// A follower that makes a commit for each line.
 pub(crate) const FOLLOWER: Way = Way {
     leads: false,
     at_hand: 1,
 };
 
-/// A run that ended, and what it leaves.
+/// The outcome of a run.
 #[derive(Drop)]
 pub(crate) struct Ended<D: Disk> {
-    /// What it wrote.
+    /// The output.
     pub(crate) answers: Vec<u8>,
-    /// How it ended.
+    /// The result.
     pub(crate) told: Result<(), KeepFault>,
-    /// Its files, unless the journal could not be opened.
+    /// The files, unless the journal could not be opened.
     pub(crate) files: Option<Files<D>>,
 }
 
@@ -94,7 +96,7 @@ pub(crate) fn small_files(alloc: Global) -> Result<Files<Memory>, Fail> {
     })
 }
 
-/// Returns the files that a run with no fault leaves.
+/// Returns the files after a run without faults.
 pub(crate) fn files_after(alloc: Global, way: Way, text: &[u8]) -> Result<Files<Memory>, Fail> {
     let Ended {
         answers: _,
@@ -108,7 +110,7 @@ pub(crate) fn files_after(alloc: Global, way: Way, text: &[u8]) -> Result<Files<
     }
 }
 
-/// Copies the log of two files into the database.
+/// Copies the log of two files to the database.
 pub(crate) fn without_log(alloc: Global, files: Files<Memory>) -> Result<Files<Memory>, Fail> {
     match store_over(alloc, files, NARROW, false) {
         Ok(store) => Ok(copied(store)?.close()),

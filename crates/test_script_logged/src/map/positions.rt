@@ -11,7 +11,7 @@ use std::str::SplitWhitespace;
 use test_script::script::{self, Stop, read, tell, tell_option};
 
 impl<K: Item, V: Value, N: NodeLike<Pair<K, V>>, M: Maker<Pair<K, V>, N>> Maps<K, V, N, M> {
-    /// Makes the calls by positions, and those that look for the stored key.
+    /// Makes the calls by position, and those that return the stored key.
     pub(super) fn look_at(
         &self,
         name: &str,

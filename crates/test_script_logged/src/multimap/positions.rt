@@ -16,7 +16,7 @@ impl<K: Item, V: Value, N: NodeLike<MultiPair<K, V>>, M: Maker<MultiPair<K, V>, 
     N,
     M,
 > {
-    /// Makes the calls by positions.
+    /// Makes the calls by position.
     pub(super) fn look_at(
         &self,
         name: &str,

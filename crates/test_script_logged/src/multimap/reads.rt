@@ -1,4 +1,4 @@
-//! What is read of a multimap.
+//! Reads of a multimap.
 
 use super::MultiMaps;
 use crate::item::{Item, Value, may_range, read_range};
@@ -16,7 +16,7 @@ impl<K: Item, V: Value, N: NodeLike<MultiPair<K, V>>, M: Maker<MultiPair<K, V>, 
     N,
     M,
 > {
-    /// Makes the calls that read, and those of the replica.
+    /// Makes the reads, and the calls of the replica.
     pub(super) fn look(
         &mut self,
         name: &str,
@@ -79,7 +79,7 @@ impl<K: Item, V: Value, N: NodeLike<MultiPair<K, V>>, M: Maker<MultiPair<K, V>, 
         Ok(())
     }
 
-    /// Writes the pairs of a key; `raw_get` with their numbers.
+    /// Writes the pairs of a key, for `raw_get` with their numbers.
     fn tell_values(
         &self,
         name: &str,

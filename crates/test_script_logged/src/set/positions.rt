@@ -11,7 +11,7 @@ use std::str::SplitWhitespace;
 use test_script::script::{self, Stop, read, tell, tell_option};
 
 impl<T: Item, N: NodeLike<T>, M: Maker<T, N>> Sets<T, N, M> {
-    /// Makes the calls by positions.
+    /// Makes the calls by position.
     pub(super) fn look_at(
         &self,
         name: &str,

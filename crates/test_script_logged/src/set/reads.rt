@@ -1,4 +1,4 @@
-//! What is read of a logged set.
+//! Reads of a logged set.
 
 use super::Sets;
 use crate::item::{Item, may_range, read_range};
@@ -13,7 +13,7 @@ use std::str::SplitWhitespace;
 use test_script::script::{Stop, tell, tell_option};
 
 impl<T: Item, N: NodeLike<T>, M: Maker<T, N>> Sets<T, N, M> {
-    /// Makes the calls that read, and those of the replica.
+    /// Makes the reads, and the calls of the replica.
     pub(super) fn look(
         &mut self,
         name: &str,
@@ -66,7 +66,7 @@ impl<T: Item, N: NodeLike<T>, M: Maker<T, N>> Sets<T, N, M> {
         }
     }
 
-    /// Whether the nodes are few for the items.
+    /// Returns whether the number of nodes is within the bound.
     fn has_few_nodes(&self) -> bool {
         let neighbours = self.set.node_count().saturating_sub(1);
         let half = self.set.maximum_node_size() / 2;
@@ -118,7 +118,7 @@ impl<T: Item, N: NodeLike<T>, M: Maker<T, N>> Sets<T, N, M> {
         Ok(())
     }
 
-    /// Writes the items below an item.
+    /// Writes the items that are less than an item.
     fn tell_below(&self, item: &T, answer: &mut String) -> Result<(), Stop> {
         let end = start_of(&self.set, item);
         tell_forwards(answer, self.set.range_between((0, 0), end))
@@ -134,7 +134,7 @@ impl<T: Item, N: NodeLike<T>, M: Maker<T, N>> Sets<T, N, M> {
         self.tell_range(name, (start.as_ref(), end.as_ref()), answer)
     }
 
-    /// Writes the items of a range, or what it tells of their number.
+    /// Writes the items of a range, or their number as the iterator reports it.
     fn tell_range(
         &self,
         name: &str,
@@ -151,7 +151,7 @@ impl<T: Item, N: NodeLike<T>, M: Maker<T, N>> Sets<T, N, M> {
         }
     }
 
-    /// Writes what a walk gives at each of the words that are left.
+    /// Writes what an iterator yields for each of the remaining words.
     fn walk(&self, words: &mut SplitWhitespace<'_>, answer: &mut String) -> Result<(), Stop> {
         let mut items = Iter::new(&self.set);
         for word in words {
@@ -164,7 +164,7 @@ impl<T: Item, N: NodeLike<T>, M: Maker<T, N>> Sets<T, N, M> {
         Ok(())
     }
 
-    /// Writes what a walk over the nodes gives at each of the words that are left.
+    /// Writes what an iterator over the nodes yields for each of the remaining words.
     fn walk_nodes(&self, words: &mut SplitWhitespace<'_>, answer: &mut String) -> Result<(), Stop> {
         let mut nodes = self.set.iter_nodes();
         for word in words {
@@ -182,7 +182,7 @@ impl<T: Item, N: NodeLike<T>, M: Maker<T, N>> Sets<T, N, M> {
     }
 }
 
-/// Writes the items of a range, from the first on.
+/// Writes the items of a range in ascending order.
 pub(super) fn tell_forwards<T: Item, N: NodeLike<T>>(
     answer: &mut String,
     items: Range<'_, T, N>,
@@ -193,7 +193,7 @@ pub(super) fn tell_forwards<T: Item, N: NodeLike<T>>(
     Ok(())
 }
 
-/// Writes the items of a range, from the last on.
+/// Writes the items of a range in descending order.
 pub(super) fn tell_backwards<T: Item, N: NodeLike<T>>(
     answer: &mut String,
     items: Range<'_, T, N>,

@@ -1,12 +1,13 @@
-//! Entries of a map of numbers. Behind a call that lends a value, a word is written over it.
+//! Entries of a map of numbers. A word after a call that returns a mutable reference replaces the
+//! value.
 
 use indexset_core::refusal::Refused;
 use indexset_map::{BTreeMap, Entry};
 use std::str::SplitWhitespace;
 use test_script::script::{Stop, read, tell};
 
-// Writes the value that a call lends into the answer, and the next word, if there is one, over it. A refused
-// call returns the pair in the error.
+// Writes the value that a call refers to as its answer, and replaces it by the next word, if any. A
+// refused call returns the pair in the error.
 fn tell_lent(
     given: (u64, u64),
     lent: Result<&mut u64, Refused<(u64, u64)>>,
@@ -26,7 +27,7 @@ fn tell_lent(
     }
 }
 
-/// Puts a pair, where its key is absent.
+/// Inserts a pair if its key is absent.
 pub fn or_put(
     map: &mut BTreeMap<u64, u64>,
     name: &str,
@@ -49,7 +50,7 @@ pub fn or_put(
     }
 }
 
-/// Puts a key with the default value, where it is absent.
+/// Inserts a key with the default value if it is absent.
 pub fn or_default(
     map: &mut BTreeMap<u64, u64>,
     words: &mut SplitWhitespace<'_>,
@@ -59,7 +60,7 @@ pub fn or_default(
     tell_lent((key, 0), map.entry(key).or_default(), words, answer)
 }
 
-/// Adds a number to the value of a key, or puts the pair.
+/// Adds a number to the value of a key, or inserts the pair.
 pub fn modify(
     map: &mut BTreeMap<u64, u64>,
     words: &mut SplitWhitespace<'_>,
@@ -93,7 +94,7 @@ pub fn show(
     }
 }
 
-/// Writes the key that an entry shows, whatever it is.
+/// Writes the key of an entry of either kind.
 pub fn show_key(
     map: &mut BTreeMap<u64, u64>,
     words: &mut SplitWhitespace<'_>,
@@ -103,7 +104,7 @@ pub fn show_key(
     tell(answer, key)
 }
 
-/// Writes the key that a vacant entry gives back.
+/// Writes the key that a vacant entry returns.
 pub fn give_back(
     map: &mut BTreeMap<u64, u64>,
     words: &mut SplitWhitespace<'_>,
@@ -115,7 +116,7 @@ pub fn give_back(
     }
 }
 
-/// Puts a value by an entry, and tells the old one, or the one that it lends.
+/// Inserts a value with an entry, and writes the old value, or the inserted one.
 pub fn insert(
     map: &mut BTreeMap<u64, u64>,
     words: &mut SplitWhitespace<'_>,
@@ -129,7 +130,8 @@ pub fn insert(
     }
 }
 
-/// Writes over the value that an occupied entry lends, which ends with the entry or stays lent.
+/// Replaces the value of an occupied entry, through a reference that ends with the entry or
+/// outlives it.
 pub fn overwrite(
     map: &mut BTreeMap<u64, u64>,
     name: &str,
@@ -151,7 +153,7 @@ pub fn overwrite(
     Ok(())
 }
 
-/// Takes out what an occupied entry has.
+/// Removes the value or the pair of an occupied entry.
 pub fn remove(
     map: &mut BTreeMap<u64, u64>,
     name: &str,

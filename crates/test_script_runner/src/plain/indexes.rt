@@ -21,7 +21,7 @@ impl Indexes {
         Ok(())
     }
 
-    // An index of the three lengths that the words are.
+    // Makes an index of three lengths, the words.
     fn make_of_three(&mut self, words: &mut SplitWhitespace<'_>) -> Result<(), Stop> {
         let first: u32 = read(words)?;
         let second: u32 = read(words)?;

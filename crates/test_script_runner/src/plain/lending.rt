@@ -1,4 +1,4 @@
-//! A map of numbers whose entries and walks lend its values to write.
+//! A map of numbers whose values are written through entries and iterators.
 
 use crate::plain::maps::tell_nodes;
 use crate::plain::{entries, lent};
@@ -15,7 +15,7 @@ pub struct Lending {
     map: BTreeMap<u64, u64>,
 }
 
-// An empty map.
+// Returns an empty map.
 fn empty(alloc: Global, size: usize) -> Result<BTreeMap<u64, u64>, Stop> {
     if size < 2 {
         return Err(Stop::NoCall);
@@ -66,7 +66,7 @@ impl Subject for Lending {
 }
 
 impl Lending {
-    // A map of the pairs of the words, each inserted in turn.
+    // Makes a map of the pairs of the words, inserted in order.
     fn fill(&mut self, words: &mut SplitWhitespace<'_>) -> Result<(), Stop> {
         let mut map = empty(self.alloc, self.size)?;
         for word in words {
@@ -79,7 +79,7 @@ impl Lending {
         Ok(())
     }
 
-    // A map of so many numbers, each put by its entry.
+    // Makes a map of `count` numbers, each inserted with its entry.
     fn fill_by_entries(&mut self, count: u64) -> Result<(), Stop> {
         let mut map = empty(self.alloc, self.size)?;
         for key in 0..count {

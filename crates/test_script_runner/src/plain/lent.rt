@@ -1,4 +1,4 @@
-//! Values that calls of a map lend to write. `next=7` writes 7 over the value that comes next.
+//! Values that are written through mutable references. `next=7` replaces the next value by 7.
 
 use crate::plain::maps::pair;
 use indexset_core::key_range::bounds_are_ordered;
@@ -8,7 +8,7 @@ use std::str::SplitWhitespace;
 use test_script::script::{Stop, read_bound, tell};
 use test_script::word::{Word, item};
 
-/// Writes the value that is lent into the answer, and the next word over it.
+/// Writes the value as the answer, and replaces it by the next word.
 pub fn overwrite<V: Word>(
     alloc: Global,
     lent: Option<&mut V>,
@@ -26,8 +26,8 @@ pub fn overwrite<V: Word>(
     }
 }
 
-/// Keeps the keys of the words, writes their values over those that are there, and tells the pairs that it
-/// is asked for.
+/// Retains the keys of the words, replaces their values, and writes the pairs that the closure is
+/// called with.
 pub fn retain<K: Word, V: Word>(
     alloc: Global,
     map: &mut BTreeMap<K, V>,
@@ -55,7 +55,7 @@ pub fn retain<K: Word, V: Word>(
     Ok(told?)
 }
 
-// The name of a word, and the value that it writes, if it has one.
+// Returns the name of a word, and the value to write, if it has one.
 fn parts(word: &str) -> Result<(&str, Option<u64>), Stop> {
     match word.split_once('=') {
         Some((name, value)) => Ok((name, Some(value.parse().map_err(|_| Stop::Word)?))),
@@ -63,7 +63,7 @@ fn parts(word: &str) -> Result<(&str, Option<u64>), Stop> {
     }
 }
 
-// Tells the pair that is lent, and writes over its value.
+// Writes the pair as the answer, and replaces its value.
 fn put_pair(answer: &mut String, key: u64, value: &mut u64, new: Option<u64>) -> Result<(), Stop> {
     write!(answer, " {key}:{}", *value)?;
     if let Some(new) = new {
@@ -72,7 +72,7 @@ fn put_pair(answer: &mut String, key: u64, value: &mut u64, new: Option<u64>) ->
     Ok(())
 }
 
-// Tells the value that is lent, and writes over it.
+// Writes the value as the answer, and replaces it.
 fn put_value(answer: &mut String, value: Option<&mut u64>, new: Option<u64>) -> Result<(), Stop> {
     let Some(value) = value else {
         return tell(answer, "none");
@@ -84,7 +84,7 @@ fn put_value(answer: &mut String, value: Option<&mut u64>, new: Option<u64>) -> 
     Ok(())
 }
 
-// Walks over pairs that are lent, a word each.
+// Calls a mutable iterator over pairs once for each word.
 macro_rules! walk_pairs {
     ($walk:expr, $words:expr, $answer:expr) => {{
         let mut walk = $walk;
@@ -114,7 +114,7 @@ macro_rules! walk_pairs {
     }};
 }
 
-/// Walks over all pairs.
+/// Iterates over all pairs mutably.
 pub fn walk_all(
     map: &mut BTreeMap<u64, u64>,
     words: &mut SplitWhitespace<'_>,
@@ -123,7 +123,7 @@ pub fn walk_all(
     walk_pairs!(map.iter_mut(), words, answer)
 }
 
-/// Walks over the pairs between two keys.
+/// Iterates over the pairs between two keys mutably.
 pub fn walk_range(
     map: &mut BTreeMap<u64, u64>,
     words: &mut SplitWhitespace<'_>,
@@ -137,7 +137,7 @@ pub fn walk_range(
     walk_pairs!(map.range_mut((start.as_ref(), end.as_ref())), words, answer)
 }
 
-/// Walks over the values.
+/// Iterates over the values.
 pub fn walk_values(
     map: &mut BTreeMap<u64, u64>,
     words: &mut SplitWhitespace<'_>,
@@ -156,7 +156,7 @@ pub fn walk_values(
     Ok(())
 }
 
-/// Writes the pairs that a walk over positions lends.
+/// Writes the pairs of a mutable iterator over positions.
 pub fn tell_positions(
     map: &mut BTreeMap<u64, u64>,
     words: &mut SplitWhitespace<'_>,

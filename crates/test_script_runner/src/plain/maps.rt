@@ -1,4 +1,4 @@
-//! Two maps, of which most calls take the first. A pair is a word, as `1:a`.
+//! Two maps; most calls use the first. A pair is a word such as `1:a`.
 
 use crate::plain::lent;
 use crate::plain::walks::tell_pair;
@@ -27,7 +27,7 @@ pub fn pair<K: Word, V: Word>(alloc: Global, word: &str) -> Result<(K, V), Stop>
     Ok((K::of(alloc, key)?, V::of(alloc, value)?))
 }
 
-// Reads the pairs of the words that are left.
+// Reads the pairs of the remaining words.
 fn pairs<K: Word, V: Word>(
     alloc: Global,
     words: &mut SplitWhitespace<'_>,
@@ -39,7 +39,7 @@ fn pairs<K: Word, V: Word>(
     Ok(pairs)
 }
 
-// The first numbers, so many, each with itself and the step above the one before.
+// Returns `count` numbers, each with itself as value and greater by `step` than the one before.
 fn numbered<K: Word, V: Word>(alloc: Global, count: u64, step: u64) -> Result<Vec<(K, V)>, Stop> {
     let mut pairs = Vec::new(alloc);
     for number in 0..count {
@@ -49,7 +49,7 @@ fn numbered<K: Word, V: Word>(alloc: Global, count: u64, step: u64) -> Result<Ve
     Ok(pairs)
 }
 
-// What a call made, or its refusal, where this returned the pair of a word.
+// Returns the result of a call, or its refusal, which must return the pair of a word.
 fn given<X: Drop, K: Word, V: Word>(
     alloc: Global,
     word: &str,
@@ -68,7 +68,7 @@ fn given<X: Drop, K: Word, V: Word>(
     }
 }
 
-// An empty map.
+// Returns an empty map.
 fn empty<K: Word, V: Word>(alloc: Global, size: usize) -> Result<BTreeMap<K, V>, Stop> {
     if size < 2 {
         return Err(Stop::NoCall);
@@ -76,8 +76,8 @@ fn empty<K: Word, V: Word>(alloc: Global, size: usize) -> Result<BTreeMap<K, V>,
     Ok(BTreeMap::with_maximum_node_size(alloc, size)?)
 }
 
-// A refusal is told with what it returns: all, where the keys do not ascend, and none, where memory is
-// refused.
+// Writes a refusal with what it returns: all pairs if the keys do not ascend, and none if an
+// allocation fails.
 fn from_sorted<K: Word, V: Word>(
     alloc: Global,
     pairs: Vec<(K, V)>,
@@ -97,13 +97,13 @@ fn from_sorted<K: Word, V: Word>(
     }
 }
 
-/// Writes the pairs, with a bar between two nodes.
+/// Writes the pairs, with a bar between nodes.
 pub fn tell_nodes<K: Word, V: Word>(map: &BTreeMap<K, V>, answer: &mut String) -> Result<(), Stop> {
     let mut copy = map.clone()?;
     for _ in 0..copy.len() {
         let nodes = copy.node_count();
         tell_pair(answer, copy.pop_first())?;
-        // A node goes with its last pair, unless it is the only one.
+        // A node is removed with its last pair, unless it is the only node.
         if copy.node_count() < nodes {
             tell(answer, "|")?;
         }
@@ -196,7 +196,7 @@ impl<K: Word, V: Word> Maps<K, V> {
         Ok(())
     }
 
-    // A map of the pairs, each inserted in turn.
+    // Makes a map of the pairs, inserted in order.
     fn fill(&mut self, words: &mut SplitWhitespace<'_>) -> Result<(), Stop> {
         let mut map = empty(self.alloc, self.size)?;
         for word in words {
@@ -206,8 +206,8 @@ impl<K: Word, V: Word> Maps<K, V> {
         self.put(map)
     }
 
-    // A map of as many numbers as the second word says, each with itself and the third number above the one
-    // before, made by the call that is named.
+    // Makes a map with the named call. The second word is the number of pairs, and the third the
+    // step between keys; each value is its key.
     fn fill_by(&mut self, words: &mut SplitWhitespace<'_>) -> Result<(), Stop> {
         let name = words.next().ok_or(Stop::Word)?;
         let pairs = numbered(self.alloc, read(words)?, read(words)?)?;
@@ -291,7 +291,7 @@ impl<K: Word, V: Word> Maps<K, V> {
         tell_pair(answer, Some(self.map.pop_index(i)))
     }
 
-    // Calls that lend values to write.
+    // Makes the calls that return mutable references.
     fn write(
         &mut self,
         name: &str,

@@ -1,4 +1,4 @@
-//! A node of either type, and another, which `halve` makes.
+//! A node of either type, and the node that `halve` makes.
 
 use indexset_core::array_node::ArrayNode;
 use indexset_core::halve::halve_node;
@@ -12,7 +12,7 @@ use test_script::word::{Word, bound, is_sorted, item};
 
 /// A type of nodes.
 pub trait Kind<T: Word>: NodeLike<T> {
-    /// Halves a node by a function of vectors.
+    /// Halves a node with the function for vectors.
     fn halve_by_function(&mut self) -> Result<Self, Stop>;
 }
 
@@ -101,7 +101,7 @@ impl<T: Word, N: Kind<T>> Subject for Nodes<T, N> {
 }
 
 impl<T: Word, N: Kind<T>> Nodes<T, N> {
-    // A node of the words, each inserted in turn, with no room to spare if it asks for it.
+    // Makes a node of the words, inserted in order, without spare capacity if it asks for it.
     fn fill(&mut self, words: &mut SplitWhitespace<'_>) -> Result<(), Stop> {
         let mut items: Vec<T> = Vec::new(self.alloc);
         for word in words {
@@ -209,7 +209,7 @@ impl<T: Word, N: Kind<T>> Nodes<T, N> {
         }
     }
 
-    // The rank of a bound, from the start or from the end.
+    // Writes the rank of a bound, from the start or from the end.
     fn rank(&self, words: &mut SplitWhitespace<'_>, answer: &mut String) -> Result<(), Stop> {
         let bound = bound::<T>(self.alloc, words)?;
         let is_from_start = read(words)?;

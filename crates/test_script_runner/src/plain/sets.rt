@@ -1,4 +1,4 @@
-//! Two sets, of which most calls take the first.
+//! Two sets; most calls use the first.
 
 use indexset_core::refusal::{Refusal, Refused};
 use indexset_set::BTreeSet;
@@ -19,7 +19,7 @@ pub struct Sets<T: Word> {
     other: BTreeSet<T>,
 }
 
-// An empty set.
+// Returns an empty set.
 fn empty<T: Word>(alloc: Global, size: usize) -> Result<BTreeSet<T>, Stop> {
     if size < 2 {
         return Err(Stop::NoCall);
@@ -27,7 +27,7 @@ fn empty<T: Word>(alloc: Global, size: usize) -> Result<BTreeSet<T>, Stop> {
     Ok(BTreeSet::with_maximum_node_size(alloc, size)?)
 }
 
-// The first numbers, so many, each the step above the one before.
+// Returns `count` numbers, each greater by `step` than the one before.
 fn numbered<T: Word>(alloc: Global, count: u64, step: u64) -> Result<Vec<T>, Stop> {
     let mut numbers = Vec::new(alloc);
     for number in 0..count {
@@ -36,13 +36,13 @@ fn numbered<T: Word>(alloc: Global, count: u64, step: u64) -> Result<Vec<T>, Sto
     Ok(numbers)
 }
 
-// Writes the elements, with a bar between two nodes.
+// Writes the elements, with a bar between nodes.
 fn tell_nodes<T: Word>(set: &BTreeSet<T>, answer: &mut String) -> Result<(), Stop> {
     let mut copy = set.clone()?;
     for _ in 0..copy.len() {
         let nodes = copy.node_count();
         tell_option(answer, copy.pop_first())?;
-        // A node goes with its last element, unless it is the only one.
+        // A node is removed with its last element, unless it is the only node.
         if copy.node_count() < nodes {
             tell(answer, "|")?;
         }
@@ -138,7 +138,7 @@ impl<T: Word> Sets<T> {
         Ok(())
     }
 
-    // A set of the words, each inserted in turn.
+    // Makes a set of the words, inserted in order.
     fn fill(&mut self, words: &mut SplitWhitespace<'_>) -> Result<(), Stop> {
         let mut set = empty(self.alloc, self.size)?;
         for word in words {
@@ -147,8 +147,8 @@ impl<T: Word> Sets<T> {
         self.put(set)
     }
 
-    // A set of as many numbers as the second word says, each the third number above the one before, made by
-    // the call that is named.
+    // Makes a set with the named call. The second word is the number of elements, and the third the
+    // step between them.
     fn fill_by(&mut self, words: &mut SplitWhitespace<'_>) -> Result<(), Stop> {
         let name = words.next().ok_or(Stop::Word)?;
         let numbers = numbered(self.alloc, read(words)?, read(words)?)?;
@@ -176,8 +176,8 @@ impl<T: Word> Sets<T> {
         self.put(refused(items.into_iter().collect(self.alloc))?)
     }
 
-    // A refusal is told with what it returns: all, where they do not ascend, and none, where memory is
-    // refused.
+    // Writes a refusal with what it returns: all elements if they do not ascend, and none if an
+    // allocation fails.
     fn from_sorted(
         &mut self,
         words: &mut SplitWhitespace<'_>,
@@ -251,7 +251,7 @@ impl<T: Word> Sets<T> {
         Ok(())
     }
 
-    // Keeps the elements of the words, and writes those that it is asked for.
+    // Retains the elements of the words, and writes those that the closure is called with.
     fn retain(&mut self, words: &mut SplitWhitespace<'_>, answer: &mut String) -> Result<(), Stop> {
         let kept: Vec<T> = items(self.alloc, words)?;
         let mut told = Ok(());

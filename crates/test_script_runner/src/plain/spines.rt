@@ -1,7 +1,6 @@
-//! A list cut into nodes, another, and a plain list.
+//! Two lists that are divided into nodes, and a plain list.
 //!
-//! A spot is `start`, `end`, `at=3`, that of the item of this position, or `after=3`, the one behind three
-//! items.
+//! A spot is `start`, `end`, `at=3` for the item at this position, or `after=3` after three items.
 ghost use Rattle.std.specs.Prelude.{IfOk};
 ghost use Rattle.indexset_spine.specs.NodeList.{IsSpot};
 
@@ -25,7 +24,7 @@ pub struct Spines<T: Word> {
     list: Vec<T>,
 }
 
-// An empty spine.
+// Returns an empty spine.
 fn empty<T: Word>(alloc: Global, size: usize) -> Result<Spine<T>, Stop> {
     if size < 2 {
         return Err(Stop::NoCall);
@@ -33,7 +32,7 @@ fn empty<T: Word>(alloc: Global, size: usize) -> Result<Spine<T>, Stop> {
     Ok(Spine::new(alloc, size)?)
 }
 
-// The spot that a word names.
+// Returns the spot of a word.
 fn spot_of<T: Word>(spine: &Spine<T>, words: &mut SplitWhitespace<'_>) -> Result<Spot, Stop>
     ensures { IfOk result (λ spot. IsSpot spine.now.nodes spot) }
 {
@@ -63,7 +62,7 @@ fn tell_spot(answer: &mut String, spot: Option<Spot>) -> Result<(), Stop> {
     }
 }
 
-// Writes the items, with a bar between two nodes.
+// Writes the items, with a bar between nodes.
 fn tell_nodes<T: Word>(spine: &Spine<T>, answer: &mut String) -> Result<(), Stop> {
     let mut node = 0;
     for i in 0..spine.len() {
@@ -179,7 +178,7 @@ impl<T: Word> Subject for Spines<T> {
 }
 
 impl<T: Word> Spines<T> {
-    // A spine of the words, each put behind the last.
+    // Makes a spine of the words, appended in order.
     fn fill(&mut self, words: &mut SplitWhitespace<'_>) -> Result<(), Stop> {
         let mut spine = empty(self.alloc, self.size)?;
         for word in words {
@@ -239,7 +238,7 @@ impl<T: Word> Spines<T> {
         tell(answer, self.spine.replace(spot, item))
     }
 
-    // Writes over the item at a position, and tells the old one.
+    // Replaces the item at a position, and writes the old one.
     fn overwrite(
         &mut self,
         words: &mut SplitWhitespace<'_>,
@@ -263,8 +262,8 @@ impl<T: Word> Spines<T> {
         Ok(())
     }
 
-    // Writes the items of the words, as many as are kept from the first on, over every other item that is
-    // asked for; tells those.
+    // Replaces the items by those of the words, retains every other one, and none without a word.
+    // Writes the items that the closure is called with.
     fn retain(&mut self, words: &mut SplitWhitespace<'_>, answer: &mut String) -> Result<(), Stop> {
         let new: Vec<T> = items(self.alloc, words)?;
         let mut new = new.into_iter();

@@ -1,4 +1,4 @@
-//! What scripts of a map write of its pairs, cursors and walks.
+//! Output of pairs, cursors and iterators of a map.
 
 use indexset_map::{BTreeMap, CursorMap};
 use std::fmt::Display;
@@ -19,7 +19,7 @@ pub fn tell_pair<K: Display + Drop, V: Display + Drop>(
     Ok(())
 }
 
-/// What a cursor shows and where it goes, a word each.
+/// Makes the calls of a cursor, one for each word.
 pub fn follow<K: Word, V: Word>(
     mut cursor: CursorMap<'_, K, V>,
     words: &mut SplitWhitespace<'_>,
@@ -47,7 +47,7 @@ pub fn follow<K: Word, V: Word>(
     Ok(())
 }
 
-/// Walks over the keys.
+/// Iterates over the keys.
 pub fn walk_keys<K: Word, V: Word>(
     map: &BTreeMap<K, V>,
     words: &mut SplitWhitespace<'_>,
@@ -56,7 +56,7 @@ pub fn walk_keys<K: Word, V: Word>(
     walk!(map.keys(), words, answer, tell_option)
 }
 
-/// Walks over the values.
+/// Iterates over the values.
 pub fn walk_values<K: Word, V: Word>(
     map: &BTreeMap<K, V>,
     words: &mut SplitWhitespace<'_>,
@@ -65,7 +65,7 @@ pub fn walk_values<K: Word, V: Word>(
     walk!(map.values(), words, answer, tell_option)
 }
 
-/// Walks over the keys of a map that it owns.
+/// Iterates over the keys of a map by value.
 pub fn walk_owned_keys<K: Word, V: Word>(
     map: BTreeMap<K, V>,
     words: &mut SplitWhitespace<'_>,
@@ -74,7 +74,7 @@ pub fn walk_owned_keys<K: Word, V: Word>(
     walk!(map.into_keys(), words, answer, tell_option)
 }
 
-/// Walks over the values of a map that it owns.
+/// Iterates over the values of a map by value.
 pub fn walk_owned_values<K: Word, V: Word>(
     map: BTreeMap<K, V>,
     words: &mut SplitWhitespace<'_>,
@@ -83,7 +83,7 @@ pub fn walk_owned_values<K: Word, V: Word>(
     walk!(map.into_values(), words, answer, tell_option)
 }
 
-/// Walks over the pairs.
+/// Iterates over the pairs.
 pub fn walk_all<K: Word, V: Word>(
     map: &BTreeMap<K, V>,
     words: &mut SplitWhitespace<'_>,
@@ -92,7 +92,7 @@ pub fn walk_all<K: Word, V: Word>(
     walk!(map.iter(), words, answer, tell_pair)
 }
 
-/// Walks over the pairs of a map that it owns.
+/// Iterates over the pairs of a map by value.
 pub fn walk_owned<K: Word, V: Word>(
     map: BTreeMap<K, V>,
     words: &mut SplitWhitespace<'_>,

@@ -1,4 +1,4 @@
-//! Clones that fail, and iterators that tell a wrong number of pairs.
+//! Clones that fail, and iterators with a wrong size hint.
 use super::{put, shows};
 use indexset_core::refusal::Refusal;
 use indexset_map::BTreeMap;
@@ -9,7 +9,7 @@ use test_script::misled::Misled;
 use test_script::scarce::Scarce;
 use test_script::sized::map_of;
 
-// The keys 0 to 2, each with itself, two to a node.
+// Returns the keys 0 to 2, each with itself as value, in nodes of two.
 fn three(alloc: Global, clones: &Cell<u64>) -> Result<BTreeMap<Scarce<'_>, Scarce<'_>>, Refusal> {
     let mut map = BTreeMap::with_maximum_node_size(alloc, 2)?;
     for key in 0..3 {
@@ -18,18 +18,18 @@ fn three(alloc: Global, clones: &Cell<u64>) -> Result<BTreeMap<Scarce<'_>, Scarc
     Ok(map)
 }
 
-// Whether the keys are 0 to 2, each with itself.
+// Returns whether the keys are 0 to 2, each with itself as value.
 fn has_three(map: &BTreeMap<Scarce<'_>, Scarce<'_>>) -> bool {
     let pairs = map.iter().map(|(key, value)| (key.key, value.key));
     pairs.eq([(0, 0), (1, 1), (2, 2)])
 }
 
-// Whether a clone is refused, and the pairs stay.
+// Returns whether cloning fails, and leaves the pairs unchanged.
 fn refuses_a_clone(map: &BTreeMap<Scarce<'_>, Scarce<'_>>) -> bool {
     matches!(map.clone(), Err(Refusal::Memory)) && has_three(map)
 }
 
-// Whether a clone has the same pairs, in two nodes.
+// Returns whether a clone has the same pairs, in two nodes.
 fn is_cloned(map: &BTreeMap<Scarce<'_>, Scarce<'_>>) -> bool {
     match map.clone() {
         Ok(copy) => has_three(&copy) && copy.node_count() == 2,
@@ -50,12 +50,12 @@ fn clone_fails_at_each_key_and_value(rt: HostRuntime) -> Result<(), Fail> {
     Ok(())
 }
 
-// A key with the same letter for each.
+// Returns a key with the same letter for each key.
 fn with_letter(key: u64) -> (u64, char) {
     (key, 'a')
 }
 
-// Whether a map is made of three pairs, in place of which it is told of so many at least.
+// Returns whether a map is made of three pairs, with a size hint of at least `claim`.
 fn is_made(alloc: Global, claim: usize) -> bool {
     match BTreeMap::from_iter(alloc, Misled { first: 3, claim }.map(with_letter)) {
         Ok(map) => shows(map.iter(), &[(1, 'a'), (2, 'a'), (3, 'a')]),
@@ -63,7 +63,7 @@ fn is_made(alloc: Global, claim: usize) -> bool {
     }
 }
 
-// The same of `collect`.
+// Returns the same for `collect`.
 fn is_collected(alloc: Global, claim: usize) -> bool {
     let pairs = Misled { first: 3, claim }.map(with_letter);
     let collected: Result<BTreeMap<u64, char>, AllocError> = pairs.collect(alloc);
@@ -73,7 +73,7 @@ fn is_collected(alloc: Global, claim: usize) -> bool {
     }
 }
 
-// The same of `extend`, where one of the keys is there.
+// Returns the same for `extend`, with one of the keys present.
 fn is_extended(map: &mut BTreeMap<u64, char>, claim: usize) -> bool {
     let pairs = Misled { first: 3, claim }.map(with_letter);
     map.extend(pairs).is_ok() && shows(map.iter(), &[(1, 'a'), (2, 'a'), (3, 'a')])

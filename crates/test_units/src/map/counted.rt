@@ -1,4 +1,4 @@
-//! How often a call compares, told by keys that count.
+//! The number of comparisons of each call, with keys that count them.
 use super::put;
 use indexset_core::refusal::Refusal;
 use indexset_map::{BTreeMap, Entry};
@@ -8,7 +8,7 @@ use std::ops::Bound::{Excluded, Included};
 use std::test::Fail;
 use test_script::counted::Counted;
 
-// Many keys that count in the cell, put in from the greatest down: 19 nodes.
+// Returns many keys that count in the cell, inserted in descending order: 19 nodes.
 fn many(alloc: Global, asked: &Cell<u64>) -> Result<BTreeMap<Counted<'_>, u64>, Refusal> {
     let mut map = BTreeMap::with_maximum_node_size(alloc, 1024)?;
     for key in (0..10240).rev() {
@@ -17,12 +17,12 @@ fn many(alloc: Global, asked: &Cell<u64>) -> Result<BTreeMap<Counted<'_>, u64>, 
     Ok(map)
 }
 
-// Whether at most so many comparisons were made; the cell then counts anew.
+// Returns whether at most `most` comparisons were made, and resets the count.
 fn is_few(asked: &Cell<u64>, most: u64) -> bool {
     asked.replace(0) <= most
 }
 
-// Whether each look-up finds a key in few comparisons.
+// Returns whether each look-up finds a key within the bound.
 fn finds_in_few<'a>(map: &mut BTreeMap<Counted<'a>, u64>, key: u64, asked: &'a Cell<u64>) -> bool {
     let sought = Counted { key, asked };
     asked.set(0);
@@ -45,7 +45,7 @@ fn few_comparisons_in_many_nodes(rt: HostRuntime) -> Result<(), Fail> {
     Ok(())
 }
 
-// Whether a key indexes its value; the cell then tells the comparisons of that alone.
+// Returns whether indexing with a key gives its value. The cell then has only its comparisons.
 fn is_indexed(map: &BTreeMap<Counted<'_>, u64>, sought: &Counted<'_>) -> bool {
     if !map.contains_key(sought) {
         return false;
@@ -54,7 +54,7 @@ fn is_indexed(map: &BTreeMap<Counted<'_>, u64>, sought: &Counted<'_>) -> bool {
     map[sought] == sought.key
 }
 
-// Whether a key's rank, pair, cursor and value are found in few comparisons.
+// Returns whether the rank, pair, cursor and value of a key are found within the bound.
 fn ranks_in_few<'a>(map: &BTreeMap<Counted<'a>, u64>, key: u64, asked: &'a Cell<u64>) -> bool {
     let sought = Counted { key, asked };
     asked.set(0);
@@ -76,7 +76,7 @@ fn few_comparisons_of_rank(rt: HostRuntime) -> Result<(), Fail> {
     Ok(())
 }
 
-// Whether the place of a key, and what comes next, are found in few comparisons.
+// Returns whether the place of a key and the next pair are found within the bound.
 fn places_in_few<'a>(map: &BTreeMap<Counted<'a>, u64>, key: u64, asked: &'a Cell<u64>) -> bool {
     let sought = Counted { key, asked };
     asked.set(0);
@@ -116,7 +116,8 @@ fn few_comparisons_of_ranges(rt: HostRuntime) -> Result<(), Fail> {
     Ok(())
 }
 
-// Whether a key goes in with itself, in place of this value and in at most so many comparisons.
+// Returns whether a key is inserted with itself as value, returns this old value, and makes at most
+// `most` comparisons.
 fn is_put<'a>(
     map: &mut BTreeMap<Counted<'a>, u64>,
     put: Counted<'a>,
@@ -130,7 +131,7 @@ fn is_put<'a>(
     }
 }
 
-// Whether a key is put, removed and put again in few comparisons.
+// Returns whether a key is inserted, removed and inserted again within the bound.
 fn changes_in_few<'a>(
     map: &mut BTreeMap<Counted<'a>, u64>,
     key: u64,
@@ -141,11 +142,11 @@ fn changes_in_few<'a>(
     let is_replaced = is_put(map, Counted { key, asked }, Some(key), 17);
     let is_removed = map.remove(&sought) == Some(key) && is_few(asked, 17);
     let is_gone = map.remove_entry(&sought).is_none() && is_few(asked, 17);
-    // A new key is looked for before it goes in.
+    // A new key is looked up before it is inserted.
     is_replaced && is_removed && is_gone && is_put(map, sought, None, 35)
 }
 
-// Whether the half from a key on is cut off in few comparisons.
+// Returns whether the map is split at a key within the bound.
 fn splits_in_few<'a>(map: &mut BTreeMap<Counted<'a>, u64>, sought: &Counted<'a>) -> bool {
     sought.asked.set(0);
     match map.split_off(sought) {

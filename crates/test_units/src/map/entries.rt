@@ -1,9 +1,9 @@
-//! Entries: words counted, and those at both ends.
+//! Entries: counts of words, and the first and last entry.
 use super::five;
 use indexset_map::BTreeMap;
 use std::test::Fail;
 
-// Whether a word is counted.
+// Returns whether a word is counted.
 fn is_counted(counts: &mut BTreeMap<&'static str, u64>, word: &'static str) -> bool {
     let entry = counts.entry(word).and_modify(|n: &mut u64| {
         *n = n.saturating_add(1);
@@ -11,7 +11,7 @@ fn is_counted(counts: &mut BTreeMap<&'static str, u64>, word: &'static str) -> b
     entry.or_insert(1).is_ok()
 }
 
-// Whether each word is there once, with how often it came.
+// Returns whether each word is present with its count.
 fn counts_words(counts: &mut BTreeMap<&'static str, u64>) -> bool {
     for word in ["a", "b", "a", "c", "a", "b"] {
         if !is_counted(counts, word) {

@@ -1,4 +1,4 @@
-//! Values without an order, and pairs beside one another.
+//! Values without an order, and comparisons of pairs.
 use indexset_core::pair::Pair;
 use indexset_map::BTreeMap;
 use std::cmp::Ordering;

@@ -1,4 +1,4 @@
-//! Walks that lend values to write, over many nodes and over a range of names.
+//! Mutable iterators, over many nodes and over a range of names.
 ghost use Rattle.std.specs.Prelude.{◌≤◌};
 
 use super::put;
@@ -9,7 +9,8 @@ use std::ops::Bound;
 use std::test::Fail;
 use test_script::sized::map_of;
 
-// The keys from 0 up to, but not with, the end, each with itself, put in from the greatest down.
+// Returns the keys from 0 to below the end, each with itself as value, inserted in descending
+// order.
 fn selves(alloc: Global, size: usize, end: u64) -> Result<BTreeMap<u64, u64>, Refusal>
     requires { 2 ≤ size }
 {
@@ -20,12 +21,13 @@ fn selves(alloc: Global, size: usize, end: u64) -> Result<BTreeMap<u64, u64>, Re
     Ok(map)
 }
 
-// Whether a pair that a walk lends is this key with itself.
+// Returns whether a pair is this key with itself as value.
 fn is_self(pair: Option<(&u64, &mut u64)>, key: u64) -> bool {
     pair.is_some_and(|pair| *pair.0 == key && *pair.1 == key)
 }
 
-// Whether a walk over all lends the keys up to the end from the front, each with itself, and then none.
+// Returns whether a mutable iterator yields the keys to below the end from the front, each with
+// itself as value, and then `None`.
 fn lends_all(map: &mut BTreeMap<u64, u64>, end: u64) -> bool {
     let mut walk = map.iter_mut();
     for key in 0..end {
@@ -36,7 +38,7 @@ fn lends_all(map: &mut BTreeMap<u64, u64>, end: u64) -> bool {
     walk.next().is_none()
 }
 
-// The same from the back.
+// Returns the same from the back.
 fn lends_all_back(map: &mut BTreeMap<u64, u64>, end: u64) -> bool {
     let mut walk = map.iter_mut();
     for key in (0..end).rev() {
@@ -54,7 +56,7 @@ fn many_nodes_both_ways(rt: HostRuntime) -> Result<(), Fail> {
     Ok(())
 }
 
-// Adds 100 to the balances from B on and below Cheryl.
+// Adds 100 to the balances from `B` to below `Cheryl`.
 fn raise(balances: &mut BTreeMap<&'static str, u64>) {
     let mut walk = balances.range_mut((Bound::Included(&"B"), Bound::Excluded(&"Cheryl")));
     for _ in 0..4 {

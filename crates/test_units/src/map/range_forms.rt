@@ -1,9 +1,9 @@
-//! Ranges as Rust writes them.
+//! Ranges in Rust's syntax.
 use super::{five, shows};
 use indexset_map::BTreeMap;
 use std::test::Fail;
 
-// Whether a range of each form shows its pairs.
+// Returns whether a range of each form yields its pairs.
 fn reads_ranges(map: &BTreeMap<u64, &'static str>) -> bool {
     let from = shows(map.range(17..), &[(17, "d"), (41, "e")]);
     let to = shows(map.range(..3), &[(1, "a"), (2, "b")]);
@@ -13,7 +13,7 @@ fn reads_ranges(map: &BTreeMap<u64, &'static str>) -> bool {
     from && to && within && between && up_to
 }
 
-// Whether a range that lends values to write has the pairs of its form.
+// Returns whether a mutable range of each form yields its pairs.
 fn lends_ranges(map: &mut BTreeMap<u64, &'static str>) -> bool {
     let two = map.range_mut(2..=3).len() == 2;
     two && map.range_mut(41..).len() == 1

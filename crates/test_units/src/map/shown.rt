@@ -1,4 +1,4 @@
-//! Texts of iterators over a map, and clones of them: what each would still give.
+//! Debug texts of iterators over a map and of their clones: the remaining items.
 
 use indexset_map::BTreeMap;
 use std::alloc::Global;
@@ -6,18 +6,18 @@ use std::fmt::Debug;
 use std::test::Fail;
 use test_script::sized::map_of;
 
-// Whether the text for debugging is this one.
+// Returns whether the debug text is this one.
 fn has_text<T: Debug>(alloc: Global, value: &T, expected: &str) -> bool {
     matches!(format!(in alloc; "{value:?}"), Ok(text) if text.as_str() == expected)
 }
 
-// Whether an iterator has a text, and a clone of it the same.
+// Returns whether an iterator and its clone have this text.
 fn shows<I: Clone + Debug>(alloc: Global, walk: &I, expected: &str) -> bool {
     let is_cloned = matches!(walk.clone(), Ok(copy) if has_text(alloc, &copy, expected));
     is_cloned && has_text(alloc, walk, expected)
 }
 
-// Whether the iterator over pairs shows those that remain.
+// Returns whether the iterator over pairs shows the remaining pairs.
 fn shows_pairs(alloc: Global, map: &BTreeMap<u64, char>) -> bool {
     let mut pairs = map.iter();
     let is_shown = shows(alloc, &pairs, "[(1, 'a'), (2, 'b'), (3, 'c')]");
@@ -25,7 +25,7 @@ fn shows_pairs(alloc: Global, map: &BTreeMap<u64, char>) -> bool {
     is_shown && is_first && shows(alloc, &pairs, "[(2, 'b'), (3, 'c')]")
 }
 
-// The same of keys.
+// Returns the same for keys.
 fn shows_keys(alloc: Global, map: &BTreeMap<u64, char>) -> bool {
     let mut keys = map.keys();
     let is_shown = shows(alloc, &keys, "[1, 2, 3]");
@@ -33,7 +33,7 @@ fn shows_keys(alloc: Global, map: &BTreeMap<u64, char>) -> bool {
     is_shown && is_last && shows(alloc, &keys, "[1, 2]")
 }
 
-// The same of values.
+// Returns the same for values.
 fn shows_values(alloc: Global, map: &BTreeMap<u64, char>) -> bool {
     let mut values = map.values();
     let is_shown = shows(alloc, &values, "['a', 'b', 'c']");

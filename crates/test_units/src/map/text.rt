@@ -6,18 +6,18 @@ use indexset_core::text_probe::{ByStr, OnKey};
 use indexset_map::BTreeMap;
 use std::test::Fail;
 
-// The value of a name, and how many comparisons its look-up makes.
+// Returns the value of a name, and the number of comparisons of the look-up.
 fn value_of(map: &BTreeMap<Text, u64>, name: &str) -> (Option<u64>, u64) {
-    // Tells that the names ascend.
+    // For the proof: the names ascend.
     let _len = map.len();
     let mut probe = Counting::new(OnKey::new(ByStr::new(name)));
     let value = map.get_by(&mut probe).copied();
     (value, probe.asked())
 }
 
-// Whether the stored name and the value of a name are these.
+// Returns whether the stored name and the value of a name are these.
 fn has_pair(map: &BTreeMap<Text, u64>, name: &str, value: Option<u64>) -> bool {
-    // Tells that the names ascend.
+    // For the proof: the names ascend.
     let _len = map.len();
     match map.get_key_value_by(&mut OnKey::new(ByStr::new(name))) {
         Some((key, held)) => key.as_bytes() == name.as_bytes() && Some(*held) == value,
@@ -41,7 +41,7 @@ fn by_borrowed_text(rt: HostRuntime) -> Result<(), Fail> {
         ("quinces", None),
     ] {
         let (found, asked) = value_of(&map, name);
-        // One node, nodes of four, and the name that is found: 1 + 3 + 1.
+        // One node, four names in it, and the test for equality: 1 + 3 + 1.
         let few = asked <= 5;
         assert!(rt;
             found == value && has_pair(&map, name, value) && few,

@@ -28,7 +28,7 @@ fn events() {
     is_made_from::<ChangeEvent<MultiPair<u64, char>>, ChangeEvent<Pair<u64, char>>>();
 }
 
-// Each event, without its number.
+// Returns an event without its number.
 fn unassigned(event: ChangeEvent<u64>) -> ChangeEventUnassigned<u64> {
     match event {
         ChangeEvent::InsertAt {

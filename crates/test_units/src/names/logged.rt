@@ -1,4 +1,4 @@
-//! The logged set and map, with their iterators.
+//! The logged set and map, and their iterators.
 
 use super::{goes_both_ways, is_iterated};
 use indexset::base::pair::Pair;

@@ -1,4 +1,4 @@
-//! What the library adds to the crate.
+//! Calls that the library adds to those of the crate.
 
 use super::goes_both_ways;
 use indexset::base::array_node::ArrayNode;

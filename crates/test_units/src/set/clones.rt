@@ -1,4 +1,4 @@
-//! Clones that fail or come in another order.
+//! Clones that fail, or have another order.
 use super::add;
 use indexset_core::refusal::Refusal;
 use indexset_set::BTreeSet;
@@ -8,7 +8,7 @@ use std::test::Fail;
 use test_script::mirrored::Mirrored;
 use test_script::scarce::Scarce;
 
-// The keys 0, 1 and 2, which share the cell.
+// Returns the keys 0, 1 and 2, which share the cell.
 fn scarce(alloc: Global, clones: &Cell<u64>) -> Result<BTreeSet<Scarce<'_>>, Refusal> {
     let mut set = BTreeSet::with_maximum_node_size(alloc, 2)?;
     for key in 0..3 {
@@ -17,7 +17,7 @@ fn scarce(alloc: Global, clones: &Cell<u64>) -> Result<BTreeSet<Scarce<'_>>, Ref
     Ok(set)
 }
 
-// Whether the set holds the keys 0, 1 and 2.
+// Returns whether the set has the keys 0, 1 and 2.
 fn has_keys(set: &BTreeSet<Scarce<'_>>) -> bool {
     for i in 0..3 {
         if !matches!(set.get_index(i), Some(item) if item.key == i as u64) {
@@ -27,12 +27,12 @@ fn has_keys(set: &BTreeSet<Scarce<'_>>) -> bool {
     set.len() == 3
 }
 
-// Whether the set gives no clone, and stays.
+// Returns whether cloning the set fails, and leaves it unchanged.
 fn refuses_a_clone(set: &BTreeSet<Scarce<'_>>) -> bool {
     matches!(set.clone(), Err(Refusal::Memory)) && has_keys(set)
 }
 
-// Whether the set gives a clone of two nodes.
+// Returns whether a clone of the set has two nodes.
 fn gives_a_clone(set: &BTreeSet<Scarce<'_>>) -> bool {
     matches!(set.clone(), Ok(copy) if has_keys(&copy) && copy.node_count() == 2)
 }
@@ -50,7 +50,7 @@ fn clone_fails_at_each_element(rt: HostRuntime) -> Result<(), Fail> {
     Ok(())
 }
 
-// Whether the set holds the numbers 0, 5 and 8.
+// Returns whether the set has the numbers 0, 5 and 8.
 fn has_numbers(set: &BTreeSet<Mirrored>) -> bool {
     set.iter().eq(&[
         Mirrored { number: 0 },
@@ -59,7 +59,8 @@ fn has_numbers(set: &BTreeSet<Mirrored>) -> bool {
     ])
 }
 
-// Whether the clone holds what its elements' clones are, in order, and in nodes of the same size.
+// Returns whether the clone of the set has the clones of its elements in order, with the same node
+// size.
 fn gives_a_mirrored_clone(set: &BTreeSet<Mirrored>) -> bool {
     matches!(set.clone(), Ok(copy) if has_numbers(&copy) && copy.maximum_node_size() == 2)
 }

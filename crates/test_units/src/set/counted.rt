@@ -1,4 +1,4 @@
-//! How often a call compares, told by keys that count, and how often `retain_pairs` asks.
+//! The number of comparisons of each call, with keys that count them, and of calls of a closure.
 use super::{add, has_pairs, noughts};
 use indexset_core::pair::Pair;
 use indexset_core::refusal::Refusal;
@@ -9,7 +9,7 @@ use std::ops::Bound::{Excluded, Included};
 use std::test::Fail;
 use test_script::counted::Counted;
 
-// Many keys that count in the cell, put in from the greatest down: 19 nodes.
+// Returns many keys that count in the cell, inserted in descending order: 19 nodes.
 fn many(alloc: Global, asked: &Cell<u64>) -> Result<BTreeSet<Counted<'_>>, Refusal> {
     let mut set = BTreeSet::with_maximum_node_size(alloc, 1024)?;
     for key in (0..10240).rev() {
@@ -18,17 +18,17 @@ fn many(alloc: Global, asked: &Cell<u64>) -> Result<BTreeSet<Counted<'_>>, Refus
     Ok(set)
 }
 
-// Whether at most so many comparisons were made since this was last asked.
+// Returns whether at most `most` comparisons were made, and resets the count.
 fn is_few(asked: &Cell<u64>, most: u64) -> bool {
     asked.replace(0) <= most
 }
 
-// Whether an element is there and has the key.
+// Returns whether there is an element and it has the key.
 fn has_key(found: Option<&Counted<'_>>, key: u64) -> bool {
     matches!(found, Some(found) if found.key == key)
 }
 
-// Whether each call finds the key of a set that has no other gaps, by few comparisons.
+// Returns whether each call finds the key within the bound.
 fn finds_by_few(set: &BTreeSet<Counted<'_>>, sought: &Counted<'_>) -> bool {
     let Counted { key, asked } = *sought;
     asked.set(0);
@@ -51,7 +51,8 @@ fn few_comparisons_in_many_nodes(rt: HostRuntime) -> Result<(), Fail> {
     Ok(())
 }
 
-// Whether a key that is not the last is placed, and the next one found, by few comparisons.
+// Returns whether the place of a key that is not the last, and the next key, are found within the
+// bound.
 fn places_by_few(set: &BTreeSet<Counted<'_>>, sought: &Counted<'_>) -> bool {
     let Counted { key, asked } = *sought;
     asked.set(0);
@@ -72,18 +73,18 @@ fn few_comparisons_of_positions_and_upper_bounds(rt: HostRuntime) -> Result<(), 
     Ok(())
 }
 
-// Whether a key that is there is put in again and replaced by few comparisons.
+// Returns whether a present key is inserted again and replaced within the bound.
 fn puts_by_few<'a>(set: &mut BTreeSet<Counted<'a>>, sought: &Counted<'a>) -> bool {
     let Counted { key, asked } = *sought;
     asked.set(0);
     let is_old = matches!(add(set, Counted { key, asked }), Ok(false));
-    // An insert asks for the last element first.
+    // An insertion compares with the last element first.
     let is_put = is_old && is_few(asked, 18);
     let is_replaced = matches!(set.replace(Counted { key, asked }), Ok(Some(_)));
     is_put && is_replaced && is_few(asked, 17)
 }
 
-// Whether a key that is there is found alone, and then taken, by few comparisons.
+// Returns whether a range of one present key is found, and the key then taken, within the bound.
 fn takes_by_few<'a>(set: &mut BTreeSet<Counted<'a>>, sought: &Counted<'a>) -> bool {
     let asked = sought.asked;
     let key = sought.key.saturating_add(1);
@@ -95,7 +96,7 @@ fn takes_by_few<'a>(set: &mut BTreeSet<Counted<'a>>, sought: &Counted<'a>) -> bo
     is_within && is_taken && !set.remove(sought) && is_few(asked, 17)
 }
 
-// Whether the set splits in its middle by few comparisons.
+// Returns whether the set is split in its middle within the bound.
 fn splits_by_few<'a>(set: &mut BTreeSet<Counted<'a>>, sought: &Counted<'a>) -> bool {
     sought.asked.set(0);
     matches!(set.split_off(sought), Ok(rest) if rest.len() == 5119) && is_few(sought.asked, 17)
@@ -117,7 +118,7 @@ fn few_comparisons_of_calls_that_change(rt: HostRuntime) -> Result<(), Fail> {
     Ok(())
 }
 
-// Whether each pair is asked for once, and in order.
+// Returns whether the closure is called once for each pair, in order.
 fn asks_once_a_pair(set: &mut BTreeSet<Pair<u64, u64>>) -> bool {
     let mut asked = 0u64;
     set.retain_pairs(|key: &u64, value: &mut u64| -> bool {

@@ -5,12 +5,12 @@ use indexset_set::BTreeSet;
 use std::ops::Bound::{Excluded, Included, Unbounded};
 use std::test::Fail;
 
-// Whether the next pair has this value.
+// Returns whether the pair has this value.
 fn has_value(pair: Option<&Pair<u64, char>>, value: char) -> bool {
     matches!(pair, Some(pair) if pair.value == value)
 }
 
-// Whether ranges of the keys give their pairs, from either end.
+// Returns whether ranges of the keys yield their pairs, from either end.
 fn gives_ranges_of_keys(set: &BTreeSet<Pair<u64, char>>) -> bool {
     let mut middle = set.range_by_key((Included(&2), Excluded(&5)));
     let is_forward = has_value(middle.next(), 'b') && has_value(middle.next(), 'c');
@@ -29,7 +29,7 @@ fn bounds_on_the_keys_of_pairs(rt: HostRuntime) -> Result<(), Fail> {
     Ok(())
 }
 
-// Whether the values at two positions are written, and none past the end.
+// Returns whether the values at two positions are written, and none past the end.
 fn writes_values(set: &mut BTreeSet<Pair<u64, u64>>) -> bool {
     let Some(value) = set.value_mut(1) else {
         return false;
@@ -42,7 +42,7 @@ fn writes_values(set: &mut BTreeSet<Pair<u64, u64>>) -> bool {
     set.value_mut(5).is_none() && set.pair_mut(5).is_none()
 }
 
-// Whether a call that writes every value keeps the pairs that it is told to.
+// Returns whether a call that writes each value retains the right pairs.
 fn retains_what_it_writes(set: &mut BTreeSet<Pair<u64, u64>>) -> bool {
     set.retain_pairs(|key: &u64, value: &mut u64| -> bool {
         *value = value.saturating_add(1);

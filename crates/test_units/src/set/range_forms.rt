@@ -1,15 +1,15 @@
-//! Ranges as Rust writes them.
+//! Ranges in Rust's syntax.
 use indexset_set::{BTreeSet, Range};
 use std::ops::Bound::{Excluded, Unbounded};
 use std::test::Fail;
 use test_script::sized::set_of;
 
-// Whether the range gives these elements.
+// Returns whether the range yields these elements.
 fn gives(range: Range<'_, u64>, elements: &[u64]) -> bool {
     range.eq(elements)
 }
 
-// Whether ranges that are bounded at one side or at none give their elements.
+// Returns whether ranges with at most one bound yield their elements.
 fn gives_open_ranges(set: &BTreeSet<u64>) -> bool {
     let from = gives(set.range(3..), &[3, 5, 7]);
     let from_lent = gives(set.range(&4..), &[5, 7]);
@@ -21,7 +21,7 @@ fn gives_open_ranges(set: &BTreeSet<u64>) -> bool {
     from && from_lent && to && up_to && all && open && past
 }
 
-// Whether ranges that are bounded at both sides give their elements.
+// Returns whether ranges with two bounds yield their elements.
 fn gives_closed_ranges(set: &BTreeSet<u64>) -> bool {
     let between = gives(set.range(2..7), &[3, 5]);
     let within = gives(set.range(3..=7), &[3, 5, 7]);

@@ -1,4 +1,4 @@
-//! The standard library's traits of a set: what `derive`, `collect` and `extend` make of it.
+//! The standard library's traits of a set: `derive`, `collect` and `extend`.
 
 use indexset_set::BTreeSet;
 use std::alloc::{AllocError, Global};
@@ -13,12 +13,12 @@ struct Board {
     scores: BTreeSet<u64>,
 }
 
-// Whether the text for debugging is this one.
+// Returns whether the debug text is this one.
 fn has_text<T: Debug>(alloc: Global, value: &T, expected: &str) -> bool {
     matches!(format!(in alloc; "{value:?}"), Ok(text) if text.as_str() == expected)
 }
 
-// Whether a clone is equal.
+// Returns whether a clone is equal.
 fn has_equal_clone(board: &Board) -> bool {
     matches!(board.clone(), Ok(copy) if copy == *board)
 }
@@ -32,14 +32,15 @@ fn a_struct_with_a_set_derives(rt: HostRuntime) -> Result<(), Fail> {
     Ok(())
 }
 
-// Whether a walk that is cloned after its first element shows the rest.
+// Returns whether an iterator that is cloned after its first element shows the rest.
 fn shows_the_rest(alloc: Global, set: &BTreeSet<u64>) -> bool {
     let mut walk = set.iter();
     walk.next();
     matches!(walk.clone(), Ok(copy) if has_text(alloc, &copy, "[1, 2]"))
 }
 
-// Whether the iterators over 0 to 2 and 1 to 3, each after its first element, show the others.
+// Returns whether the iterators over 0 to 2 and 1 to 3, each after its first element, show the
+// others.
 fn shows_what_remains(alloc: Global, left: &BTreeSet<u64>, right: &BTreeSet<u64>) -> bool {
     let (mut either, mut both) = (left.union(right), left.intersection(right));
     let (mut left_alone, mut alone) = (left.difference(right), left.symmetric_difference(right));
@@ -52,7 +53,8 @@ fn shows_what_remains(alloc: Global, left: &BTreeSet<u64>, right: &BTreeSet<u64>
     shows_whole && shows_rest && shows_others && takes && stays
 }
 
-// Whether iterators over two sets show what remains, and one that owns a set how many.
+// Returns whether iterators over two sets show the remaining elements, and an iterator by value how
+// many remain.
 fn shows_another(alloc: Global, left: &BTreeSet<u64>) -> bool {
     let right: Result<BTreeSet<u64>, AllocError> = (1..4u64).collect(alloc);
     let Ok(right) = right else {
@@ -69,24 +71,24 @@ fn walks_have_texts(rt: HostRuntime) -> Result<(), Fail> {
     Ok(())
 }
 
-// Whether the set has these elements.
+// Returns whether the set has these elements.
 fn has_elements(set: &BTreeSet<u64>, elements: &[u64]) -> bool {
     set.iter().eq(elements)
 }
 
-// Whether a set is made of three elements, in place of which so many are told of at least.
+// Returns whether a set is made of three elements, with a size hint of at least `claim`.
 fn makes(alloc: Global, claim: usize) -> bool {
     let made = BTreeSet::from_iter(alloc, Misled { first: 3, claim });
     matches!(made, Ok(set) if has_elements(&set, &[1, 2, 3]))
 }
 
-// Whether they are collected.
+// Returns whether they are collected.
 fn collects(alloc: Global, claim: usize) -> bool {
     let collected: Result<BTreeSet<u64>, AllocError> = Misled { first: 3, claim }.collect(alloc);
     matches!(collected, Ok(set) if has_elements(&set, &[1, 2, 3]))
 }
 
-// Whether a set that holds 5 is extended by them.
+// Returns whether they extend a set of 5.
 fn extends(alloc: Global, claim: usize) -> bool {
     let Ok(mut set) = set_of(alloc, 2, &[5u64]) else {
         return false;

@@ -6,7 +6,7 @@ use Rattle.std.specs.Ordering.{nat_cmp}
 use Rattle.indexset.specs.Words.{by_number, replay, IsNumberedFrom}
 use Rattle.example_race.proofs.Race.enter.Goals as goal
 
--- the events of the call go on where those before it ended, of which the copy has the first
+-- the events of the call continue those before it, a prefix of which the replica has applied
 pub invariant_of-self-2 : goal.invariant_of-self-2
 invariant_of-self-2 c =
     let before = c.args.self.now in

@@ -2,7 +2,7 @@ use Rattle.std.proofs.Common.{◌≡◌, ◌+◌, ◌^◌, ◌≤◌, ◌<◌, �
 use Rattle.std.specs.Fmt.{decimal}
 use Rattle.indexset_bench.proofs.digits.fill_decimal.Given as goal
 
--- the digits of the rest and those that are written are the digits of the number
+-- the digits of the quotient and those written so far are the digits of the number
 abbrev pub invariant-loop-rest : goal.invariant-loop-rest
 invariant-loop-rest l = record {
   last : l.start ≤ 19;

@@ -1,4 +1,4 @@
--- The commands so far were answered and their events were told, and the tree is as they left it.
+-- The commands so far were answered, their events were collected, and the tree is as they left it.
 use Rattle.std.proofs.Common.{◌≡◌, ◌/◌, length}
 use Rattle.std.specs.Vec.Iter.{into_iter_items, into_iter_len}
 use Rattle.indexset_bench.proofs.LoggedRuns.{LogSoFar}

@@ -3,7 +3,7 @@ use Rattle.std.specs.Ordering.{nat_cmp}
 use Rattle.indexset_c.proofs.PairLemmas.{absent_entry}
 use Rattle.indexset_c.proofs.map_keys.indexset_map_remove.Goals as goal
 
--- a key that is not found is absent, and the map without it is the map
+-- a key without a value is absent, and removing it does not change the map
 pub returns-clause-unchanged : goal.returns-clause-unchanged
 returns-clause-unchanged c h =
     let m = c.deref_mut.result.now in

@@ -1,4 +1,4 @@
--- `into_box` makes the box that owns what the parts own.
+-- `into_box` returns a box that owns what the parts own.
 use Rattle.indexset_core.proofs.CallerLemmas.{some_held}
 use Rattle.indexset_ffi.proofs.Steps.{proved_at, token, B, R, args, boxed_at, box_ty, box_out, box_in, box_typed, ptr_typed, parts_typed, parts_out, parts_row, Stays, says, stay_dropped, walk_of, ends_at, heard, nothing, only, calls_at_last, lasts, triple_of, framed, ptr_val, alloc_all, pass_all, free_all, look_at, get, get_in, sets, env, enter, stop, fld, of_opd, and_then, no_more, first, blocks, exec, returns, whole, sub, ‵, raw, ◌⊛◌, some, later, prop, at_ret, ◌$◌, ◌∵◌, !, qed, move, drop, use1, split, split3, join, pick, rewrite, regoal, fsplit, fjoin, feq_i, suffices, await, done}
 use Rattle.indexset_ffi.specs.contracts.Parts.into_box as f
@@ -37,9 +37,9 @@ into_box_spec 𝓤 𝓛 𝓜 𝓡 wired X A LX LA g d drops met gone =
     let G = triple_of 𝓛 (closes.signature X A g d drops) (closes.spec X A g d drops 𝓛 𝓜.mem 𝓡.returns) in
     qed 𝓛 ((alive ⊛ ‵ (fsep ((parts_row E).own_val v us) ftrue)) ∷ (lives ⊛ lasting ⊛ raw (fact 𝓤 (is_some v.value ≡ true))) ∷ []) ∵ split ! $ move ! (1 ∷ []) $ fsplit ! $
     parts_out E ! v us (λ hv word_is fits.
-    -- [the handle; what the parts hold; nothing; the tokens; what is known]
+    -- [the handle; the contents of the parts; nothing; the tokens; the facts]
     move ! (4 ∷ []) $ split3 ! $ move ! (2 ∷ []) $ heard ! _ (λ there. let p = some_held v.value there in let x = p.0 in
-    -- [the two facts on lifetimes; the handle; what the parts hold; nothing; the tokens]
+    -- [the two facts on lifetimes; the handle; the contents of the parts; nothing; the tokens]
     move ! (3 ∷ []) $ rewrite ! 0 (λ (m : Option X.Denot). ‵ (holds (token E.al a) (R E) v.at m)) p.1 refl $
     let z : G.Ghost = ((κs, qs, tt, (a, (v.at, tt)), (hv ∷ [], (ptr_val v.at ∷ [], tt))), x) in
     regoal ! (λ (ws : List Val). prop (WpFn 𝓤 𝓛.H 𝓣.C 𝓣.Λ fn (ws ++ []) (W.post y))) word_is refl $

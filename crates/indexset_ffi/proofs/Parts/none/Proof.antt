@@ -1,4 +1,4 @@
--- `none` makes parts that own their allocator's handle alone.
+-- `none` returns parts that own only the handle of their allocator.
 use Rattle.indexset_ffi.proofs.Steps.{proved_at, handle_tells, P, args, boxed_at, parts_word, parts_typed, parts_in, parts_row, Stays, says, stay_dropped, walk_of, ends_at, Goes-dropped, nothing, null_ptr, alloc_all, pass_all, free_all, look_at, get, sets, enter, lit, of_opd, and_then, no_more, returns, agg, ‵, raw, ◌⊛◌, prop, ◌$◌, ◌∵◌, !, qed, move, drop, split, join, regoal, fsplit, fjoin, suffices, done}
 use Rattle.indexset_ffi.specs.contracts.Parts.none as f
 use Rattle.indexset_ffi.proofs.Parts.none.Statement.{statement}
@@ -35,6 +35,6 @@ none_spec 𝓤 𝓛 𝓜 𝓡 wired X A LX LA g d drops met gone =
     sets ! (agg ! (and_then ! (get ! refl) (and_then ! (get ! refl) (no_more !)))) refl (parts_typed E null_ptr hv fits) $
     returns ! (look_at ! 0 refl) $ free_all ! refl $
     suffices ! _ (ends_at 𝓛 S hs c y (parts_word null_ptr hv) made (tt, tt) (tt, tt)) $ says ! refl $
-    -- [the handle; nothing; the tokens; what is known of the lifetimes]
+    -- [the handle; nothing; the tokens; the facts on lifetimes]
     move ! (3 ∷ []) $ drop ! $ parts_in E ! made hv $
     nothing ! $ nothing ! $ fjoin ! $ join ! $ move ! (1 ∷ 0 ∷ []) $ join ! $ done !)))

@@ -1,4 +1,4 @@
--- `of` has a box taken apart, and the parts own what the box owned.
+-- `of` takes a box apart, and the parts own what the box owned.
 use Rattle.indexset_ffi.proofs.Steps.{proved_at, token, handle_tells, B, R, P, boxed_at, dropping, box_out, box_in, word, box_typed, ptr_typed, parts_word, parts_typed, parts_in, parts_row, Stays, says, stay_dropped, walk_of, ends_at, heard, nothing, only, calls_at, lasts, triple_of, framed, Ptr, RawPtr, alloc_all, pass_all, free_all, look_at, get, get_in, sets, lands_as, enter, stop, fld, of_opd, and_then, no_more, returns, whole, sub, agg, ‵, raw, ◌⊛◌, some, later, prop, ◌$◌, ◌∵◌, !, qed, move, drop, use1, split, split3, join, pick, rewrite, regoal, fsplit, fjoin, fpick, feq_l, suffices, await, done}
 use Rattle.indexset_ffi.specs.contracts.Parts.of as f
 use Rattle.indexset_ffi.proofs.Parts.of.Statement.{statement}
@@ -38,7 +38,7 @@ of_spec 𝓤 𝓛 𝓜 𝓡 wired X A LX LA g d drops dx met gone let_go =
     regoal ! (λ (ws : List Val). prop (WpFn 𝓤 𝓛.H 𝓣.C 𝓣.Λ fn (ws ++ []) (W.post y))) word_is refl $
     enter ! _ _ _ _ _ $ alloc_all ! (λ l. pass_all ! refl (box_typed E hv b o fits, tt) $
     sets ! (of_opd ! (get ! refl)) refl (box_typed E hv b o fits) $
-    -- [the box; nothing; the tokens; what is known of the lifetimes]
+    -- [the box; nothing; the tokens; the facts on lifetimes]
     fjoin ! $ move ! (1 ∷ 0 ∷ []) $ join ! $ join ! $ use1 𝓛 (raw (G.pre z)) (id⊢ 𝓤 _) $
     calls_at ! (framed 𝓤 𝓛.H 𝓜 𝓣) G (opened.met 𝓤 𝓛 𝓜 𝓡 (code.calls-std::boxed::Box::into_raw_with_allocator 𝓡.env wired) X A LX LA g d drops dx met gone let_go) z (and_then ! (get ! refl) (no_more !)) (λ u.
     use1 𝓛 (later (some (λ (r : Ptr × A.Denot). (alive ⊛ ‵ ((Tuple (RawPtr ∷ P E ∷ [])).own_val r (u ∷ []))) ⊛

@@ -3,7 +3,8 @@ use Rattle.indexset_core.specs.Nodes.{node_lengths, vec_items}
 use Rattle.indexset_ffi.specs.Cursors.{cursor_position}
 use Rattle.indexset_ffi.proofs.cursor.moved.Given as goal
 
--- what is left to go leads to where all leads from the first cursor
+-- moving on by the remaining count gives the same cursor as moving the first cursor by the whole
+-- count
 abbrev pub invariant-loop-at : goal.invariant-loop-at
 invariant-loop-at g l = cursor_position (node_lengths (vec_items l.nodes)) l.at + l.left ≡ cursor_position (node_lengths (vec_items l.nodes)) l.fn.from + l.fn.count
 

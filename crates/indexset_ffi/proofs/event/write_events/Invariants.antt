@@ -3,7 +3,7 @@ use Rattle.indexset_ffi.specs.Elements.{written}
 use Rattle.indexset_ffi.specs.Events.{record_of}
 use Rattle.indexset_ffi.proofs.event.write_events.Given as goal
 
--- the first places have the first records
+-- the first elements of the slice are the first records
 abbrev pub invariant-loop-i : goal.invariant-loop-i
 invariant-loop-i l = record {
   long : length l.out ≡ length l.fn.out;

@@ -39,7 +39,7 @@ returns-clause-absent c none =
     let zero : length es ≡ 0 = ap (λ l. length l) (none_told nat_cmp log.size log.nodes k gone) in
     (returns-clause-event_count c ∙ zero, kept_tree nat_cmp nat_cmp log new k gone e.changed)
 
--- where the key is not there, there is no event, and such a removal does not fail
+-- the removal of an absent key has no events, and does not fail
 pub returns-in_err-found-clause-no_event : goal.returns-in_err-found-clause-no_event
 returns-in_err-found-clause-no_event c none =
     let log = c.args.log.now in let k = c.args.key in

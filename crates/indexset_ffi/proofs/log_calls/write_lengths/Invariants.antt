@@ -3,7 +3,8 @@ use Rattle.indexset_core.specs.Nodes.{node_lengths, vec_items}
 use Rattle.indexset_ffi.specs.Elements.{written}
 use Rattle.indexset_ffi.proofs.log_calls.write_lengths.Given as goal
 
--- the first places have the lengths of the nodes that were walked, and the walk goes on behind them
+-- the first elements of the slice are the lengths of the nodes so far, and the iterator has the
+-- rest
 abbrev pub invariant-loop-count : goal.invariant-loop-count
 invariant-loop-count l = record {
   inside : l.count ≤ length l.fn.walk;

@@ -2,7 +2,7 @@ use Rattle.std.proofs.Common.{◌≡◌, ◌≤◌, ◌-◌, take}
 use Rattle.indexset_ffi.specs.Elements.{put_all}
 use Rattle.indexset_ffi.proofs.map_calls.put_each.Given as goal
 
--- the first pairs have gone in
+-- the first pairs were inserted
 abbrev pub invariant-loop-count : goal.invariant-loop-count
 invariant-loop-count l = record {
   inside : l.count ≤ l.room;

@@ -2,7 +2,7 @@ use Rattle.std.proofs.Common.{◌≡◌, length, map}
 use Rattle.indexset_ffi.specs.Elements.{value_or, written}
 use Rattle.indexset_ffi.proofs.map_calls.value_each.Given as goal
 
--- the first places have the values of the first keys
+-- the first elements of the slice are the values of the first keys
 abbrev pub invariant-loop-i : goal.invariant-loop-i
 invariant-loop-i l = record {
   long : length l.out ≡ length l.fn.out;

@@ -2,7 +2,8 @@ use Rattle.std.proofs.Common.{◌≡◌, ◌<◌, ◌≤◌, ◌-◌, length, dr
 use Rattle.indexset_ffi.specs.Elements.{written}
 use Rattle.indexset_ffi.proofs.next.write_numbers.Given as goal
 
--- the first places have what was walked, and while there is room the walk goes on behind it
+-- the first elements of the slices are the items so far, and unless a slice is full the iterator
+-- has the rest
 abbrev pub invariant-loop-count : goal.invariant-loop-count
 invariant-loop-count g l = record {
   inside : l.count ≤ length l.fn.walk;

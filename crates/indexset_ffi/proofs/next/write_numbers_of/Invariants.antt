@@ -2,7 +2,7 @@ use Rattle.std.proofs.Common.{◌≡◌, length, map}
 use Rattle.indexset_ffi.specs.Elements.{written}
 use Rattle.indexset_ffi.proofs.next.write_numbers_of.Given as goal
 
--- the first places have the keys and the values of the first items
+-- the first elements of the slices are the keys and the values of the first items
 abbrev pub invariant-loop-i : goal.invariant-loop-i
 invariant-loop-i g l = record {
   many : length l.keys ≡ length l.fn.keys;

@@ -3,7 +3,7 @@ use Rattle.indexset_core.specs.Nodes.{node_lengths, vec_items}
 use Rattle.indexset_ffi.specs.Elements.{written}
 use Rattle.indexset_ffi.proofs.replica_calls.write_lengths.Given as goal
 
--- the first places have the first lengths
+-- the first elements of the slice are the first lengths
 abbrev pub invariant-loop-i : goal.invariant-loop-i
 invariant-loop-i l = record {
   long : length l.out ≡ length l.fn.out;

@@ -4,7 +4,7 @@ use Rattle.indexset_spine.specs.NodeList.{items}
 use Rattle.indexset_ffi.specs.Elements.{element_at, written}
 use Rattle.indexset_ffi.proofs.set_calls.element_each.Given as goal
 
--- the first places have the elements at the first positions
+-- the first elements of the slice are the elements at the first positions
 abbrev pub invariant-loop-count : goal.invariant-loop-count
 invariant-loop-count l = record {
   inside : l.count ≤ l.room;

@@ -5,7 +5,7 @@ use Rattle.indexset_core.specs.Order.{keep}
 use Rattle.indexset_spine.specs.NodeList.{items}
 use Rattle.indexset_ffi.proofs.set_calls.insert_each.Given as goal
 
--- the first keys have gone in
+-- the first keys were inserted
 abbrev pub invariant-loop-count : goal.invariant-loop-count
 invariant-loop-count l = record {
   inside : l.count ≤ length l.keys;

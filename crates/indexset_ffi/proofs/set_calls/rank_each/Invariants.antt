@@ -5,7 +5,7 @@ use Rattle.indexset_spine.specs.NodeList.{items}
 use Rattle.indexset_ffi.specs.Elements.{written}
 use Rattle.indexset_ffi.proofs.set_calls.rank_each.Given as goal
 
--- the first places have the ranks of the first keys
+-- the first elements of the slice are the ranks of the first keys
 abbrev pub invariant-loop-i : goal.invariant-loop-i
 invariant-loop-i l = record {
   long : length l.out ≡ length l.fn.out;

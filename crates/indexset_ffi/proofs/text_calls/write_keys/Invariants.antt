@@ -5,7 +5,7 @@ use Rattle.indexset_ffi.specs.Elements.{written}
 use Rattle.indexset_ffi.specs.Text.{key_lengths, written_over}
 use Rattle.indexset_ffi.proofs.text_calls.write_keys.Given as goal
 
--- the first places have what was walked, and the walk goes on behind it
+-- the first elements of the slices are the items so far, and the iterator has the rest
 abbrev pub invariant-loop-count : goal.invariant-loop-count
 invariant-loop-count l = record {
   inside : l.count ≤ length l.fn.walk;

@@ -5,7 +5,7 @@ use Rattle.indexset_core.specs.Pairs.{set_value}
 use Rattle.indexset_ffi.proofs.TextLemmas.{put_set}
 use Rattle.indexset_ffi.proofs.text_edits.replace_value.Goals as goal
 
--- the key has a value, so that one is replaced
+-- the key has a value, which is replaced
 pub returns-in-Some-clause-ok : goal.returns-in-Some-clause-ok
 returns-in-Some-clause-ok c =
     let l = c.args.map.now.pairs in let k = c.args.key.now in

@@ -1,4 +1,4 @@
--- The lines so far and those of the events that are left are those of all.
+-- The lines so far and those of the remaining events are those of all.
 use Rattle.std.proofs.Common.{◌≡◌, ◌+◌, ◌++◌, length, map}
 use Rattle.indexset_bench.specs.PairText.{event_text}
 use Rattle.indexset_follow.specs.Early.{consecutive}

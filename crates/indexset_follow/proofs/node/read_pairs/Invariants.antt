@@ -1,4 +1,4 @@
--- The pairs so far and those of what is left are those of the text.
+-- The pairs so far and those of the rest are those of the text.
 use Rattle.std.proofs.Common.{◌≡◌, ◌++◌, length}
 use Rattle.std.specs.Option.{option_map}
 use Rattle.indexset_follow.specs.NodeLine.{pairs_of, words}

@@ -1,4 +1,5 @@
--- Whole lines have their answers, and those of further ones wait, and what is to be kept of these.
+-- Whole lines have their answers; the answers to further ones, and what is to be kept of them, are
+-- pending.
 use Rattle.std.proofs.Common.{◌≡◌}
 use Rattle.indexset_journal.specs.Kept.{texts}
 use Rattle.indexset_follow.specs.Store.{held_cut, input_reply}

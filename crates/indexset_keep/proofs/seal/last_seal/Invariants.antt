@@ -1,4 +1,5 @@
--- What is left has the last seal of all, behind the last seal so far and the lines that have none yet.
+-- The last seal of all lines is that of the rest, after the last seal so far and the lines that
+-- have none yet.
 use Rattle.std.proofs.Common.{◌≡◌, ◌≤◌, drop, take}
 use Rattle.indexset_journal.specs.Kept.{texts}
 use Rattle.indexset_keep.specs.Seal.{last_seal, seal_after}

@@ -1,4 +1,4 @@
--- What is hashed and what waits to be are the seal and the lines so far.
+-- The hashed text and the text to be hashed are the seal and the lines so far.
 use Rattle.std.proofs.Common.{◌≡◌, ◌++◌, take}
 use Rattle.std.specs.Hash.DefaultHasher as sip
 use Rattle.indexset_bench.specs.PairText.{ended, lines_for}

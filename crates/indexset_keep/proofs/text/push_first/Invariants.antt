@@ -1,4 +1,4 @@
--- The lines so far stand behind what was there.
+-- The lines so far were appended.
 use Rattle.std.proofs.Common.{◌≡◌, ◌++◌, take}
 use Rattle.indexset_journal.specs.Kept.{texts}
 use Rattle.indexset_keep.proofs.text.push_first.Given as goal

@@ -1,4 +1,5 @@
--- The lines so far, the line in hand and those of what is left, but for the last, are those between the ends of the text.
+-- The lines so far, the current line and the lines of the rest without the last are the inner lines
+-- of the text.
 use Rattle.std.proofs.Common.{◌≡◌, ◌++◌, length}
 use Rattle.indexset_journal.specs.Kept.{texts}
 use Rattle.indexset_lines.specs.Lines.{whole_lines}

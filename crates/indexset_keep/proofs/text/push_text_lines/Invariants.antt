@@ -1,4 +1,4 @@
--- The lines so far and those of what is left are those of the text.
+-- The lines so far and the lines of the rest are those of the text.
 use Rattle.std.proofs.Common.{◌≡◌, ◌++◌, length}
 use Rattle.indexset_journal.specs.Kept.{texts}
 use Rattle.indexset_lines.specs.Lines.{whole_lines}

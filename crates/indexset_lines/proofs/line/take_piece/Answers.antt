@@ -29,7 +29,7 @@ returns-else-is_whole-clause-ok g c =
     let gone = Consumes_shown _ _ _ _ shown len within c.in-Ok.ensures.front c.in-Ok.ensures.end filled.0 filled.1 c.consume-else-is_whole.ensures.bytes in
     moves_on shown len c.line_len-len.ensures _ _ _ _ line gone.0
 
--- an interrupted look reads nothing
+-- an interrupted read consumes nothing
 pub returns-then-eq : goal.returns-then-eq
 returns-then-eq g c = record {
   ok = record {

@@ -38,7 +38,7 @@ returns-clause-copies g c = λ equal ns after es copied cloned led.
     let none : drop c.loop-event.event-index events ≡ [] = drop_all c.loop-event.event-index events (omega arith) in
     at_end g.T.Ord.cmp g.T.Clone.is_clone after c.loop-event.copy.nodes (subst (IsOnTheWay g.T.Ord.cmp g.T.Clone.is_clone after c.loop-event.copy.nodes) none (c.loop-event.invariant.copies equal ns after es copied cloned led))
 
--- the copy awaits the event that it refused
+-- the replica expects the event that it refused
 pub returns-in_err-apply-clause-refusal : goal.returns-in_err-apply-clause-refusal
 returns-in_err-apply-clause-refusal g c =
     let events = c.args.events.now in

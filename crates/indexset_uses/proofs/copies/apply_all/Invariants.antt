@@ -1,4 +1,5 @@
--- The events so far lead to the nodes so far, and what is left to replay leads on to where all events lead.
+-- Replaying the events so far gives the nodes so far, and replaying the others gives the nodes
+-- after all events.
 use Rattle.std.proofs.Common.{◌≡◌, ◌+◌, List, Some, drop, take}
 use Rattle.std.specs.List.{AllZip}
 use Rattle.indexset.specs.Words.{replay, AreClonesEqual, AreCopies, IsEventClone}

@@ -3,7 +3,7 @@ use Rattle.std.specs.Ordering.{is_eq, nat_cmp}
 use Rattle.indexset.specs.Words.{items, rank}
 use Rattle.indexset_uses.proofs.counting.place_of.Goals as goal
 
--- the probe asks about the key
+-- the probe compares with the key
 pub returns-clause-absent : goal.returns-clause-absent
 returns-clause-absent c =
     subst (λ (probe : (ℕ × ℕ) × ℕ). IfErr c.locate_by-place.result (λ _. position (λ x. is_eq (nat_cmp x probe.0.0)) (items c.args.set.now) ≡ None))

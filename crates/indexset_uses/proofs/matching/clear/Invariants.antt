@@ -1,4 +1,4 @@
--- Each price that is removed leaves one less, and adds to the sum.
+-- Each removed price reduces the number of prices by one, and is added to the sum.
 use Rattle.std.proofs.Common.{◌≡◌, ◌+◌, ◌-◌, ◌^◌, ◌≤◌, length, min, sum}
 use Rattle.indexset.specs.Words.{items}
 use Rattle.indexset_uses.proofs.matching.clear.Given as goal

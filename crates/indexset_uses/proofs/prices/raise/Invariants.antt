@@ -1,4 +1,4 @@
--- The pairs before the iterator have 10 more, and the others wait.
+-- The values before the iterator were increased by 10, and the others are unchanged.
 use Rattle.std.proofs.Common.{◌+◌, ◌-◌, ◌^◌, min}
 use Rattle.indexset.specs.Words.{HasWritten, walk_back, walk_front}
 use Rattle.indexset_uses.proofs.prices.raise.Given as goal

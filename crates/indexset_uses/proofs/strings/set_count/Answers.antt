@@ -4,7 +4,7 @@ use Rattle.std.specs.String.{string_cmp}
 use Rattle.indexset.specs.Words.{by_key, numbered_from, pair, put_events}
 use Rattle.indexset_uses.proofs.strings.set_count.Goals as goal
 
--- the events are as many as those of which they are clones
+-- there are as many clones as events
 pub returns-clause-next : goal.returns-clause-next
 returns-clause-next c =
     let it = c.in_ok-events.ensures in

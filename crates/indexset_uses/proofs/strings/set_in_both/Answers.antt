@@ -5,7 +5,7 @@ on_ok : {U E A B : Type 0} (r : Result U E) → (A → B) → OnOk r A → OnOk 
 on_ok (Ok u) f h = f h
 on_ok (Err e) f h = tt
 
--- the events are clones of the map's, and lead to its nodes
+-- the events are clones of the map's events, and replaying those gives its nodes
 pub returns-clause-copies : goal.returns-clause-copies
 returns-clause-copies c =
     let done = c.in_ok-events.ensures in

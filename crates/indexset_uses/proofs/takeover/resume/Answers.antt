@@ -5,25 +5,25 @@ use Rattle.std.specs.Result.{IsErr, IsErrAnd}
 use Rattle.indexset.specs.Words.{replay, step, ChangeEvent, IsAt, IsPrefix, IsNodeList, ReplicaState}
 use Rattle.indexset_uses.proofs.takeover.resume.Goals as goal
 
--- where each step leads to nodes, events lead from nodes to nodes
+-- if each event applies to the nodes after those before it, replaying them gives nodes
 led : ((ns after : List (List ℕ)) (event : ChangeEvent ℕ) → step nat_cmp ns event ≡ Some after → IsNodeList nat_cmp after) → (ns after : List (List ℕ)) (es : List (ChangeEvent ℕ)) → IsNodeList nat_cmp ns → replay nat_cmp ns es ≡ Some after → IsNodeList nat_cmp after
 led law ns after [] good is = subst (λ r. IsNodeList nat_cmp r) (ap (λ o. unwrap_or o ns) is) good
 led law ns after (e ∷ es) good is =
     option_and_then_some (λ r. replay nat_cmp r es) (step nat_cmp ns e) after is (λ mid first rest. led law mid after es (law ns mid e first) rest)
 
--- what a call fails with where it passes on another failure
+-- the error of a call that returns the error of another
 told : {T E : Type 0} (r : Result T E) (cause memory : E) → cause ≡ memory → IsErr r × IsErrAnd r (λ e. e ≡ cause) → IfErr r (λ e. e ≡ memory)
 told (Ok x) cause memory same fails = tt
 told (Err e) cause memory same fails = fails.1 ∙ same
 
--- a snapshot has nodes that a replica takes
+-- a replica can be made of the nodes of a snapshot
 pub returns-in_err-copy-clause-memory : goal.returns-in_err-copy-clause-memory
 returns-in_err-copy-clause-memory c =
     let good = led c.steps_lead_to_nodes.ensures.step [] _ _ (record { filled = λ k d lt. omega arith; ascending = search rules }) c.requires.snapshot in
     let cause = c.in_err-copy.ensures.lawful good in
     told c.from_residual.result _ _ cause c.from_residual.ensures
 
--- the replica of the snapshot holds what the first events lead to
+-- the replica of the snapshot has the nodes after the first events
 pub returns-in_err-follow-clause-memory : goal.returns-in_err-follow-clause-memory
 returns-in_err-follow-clause-memory c =
     let made = c.in_ok-copy.ensures.replica in
@@ -37,7 +37,7 @@ returns-clause-delivered c =
     c.in_ok-follow.ensures.delivery (λ x y same. same) 0 c.args.next [] c.requires.feed
     (record { within = c.requires.within; nodes = c.requires.snapshot ∙ ap (λ r. Some r.nodes) (sym made); next = omega (arith, ap (λ r. r.next) made) })
 
--- what the first n events lead to is a beginning
+-- the state after the first n events is one after a prefix
 begins : (es : List (ChangeEvent ℕ)) (n : ℕ) (copy : ReplicaState ℕ) → IsAt nat_cmp 0 [] es n copy → IsPrefix nat_cmp 0 [] es copy
 begins es n copy at = subst (λ m. IsAt nat_cmp 0 [] es m copy) (omega (arith, at.next)) at
 

@@ -8,7 +8,7 @@ if_ok_map : {A E : Type 0} (r : Result A E) {P : A → Type 0} (Q : A → Type 0
 if_ok_map (Ok x) Q p f = f x p
 if_ok_map (Err e) Q p f = tt
 
--- a node with an item is there
+-- a node that has an item exists
 has_node : {T : Type 0} (ns : List (List T)) (k i : ℕ) → i < length (node_at ns k) → k < length ns
 has_node [] k i lt = absurd (omega arith)
 has_node (n ∷ ns) zero i lt = omega arith

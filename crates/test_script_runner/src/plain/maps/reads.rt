@@ -1,4 +1,4 @@
-//! Calls that read a map.
+//! Reads of a map.
 
 use super::{Maps, tell_nodes};
 use crate::plain::walks::{
@@ -33,7 +33,7 @@ impl<K: Word, V: Word> Maps<K, V> {
         }
     }
 
-    // Looks for the key of each word.
+    // Looks the key of each word up.
     fn look_for(
         &self,
         name: &str,
@@ -90,7 +90,7 @@ impl<K: Word, V: Word> Maps<K, V> {
         follow(self.map.upper_bound(bound.as_ref()), words, answer)
     }
 
-    // The first map beside the second.
+    // Compares the first map with the second.
     fn compare(&self, name: &str, answer: &mut String) -> Result<(), Stop> {
         let hashes = BuildHasherDefault::<FoldHasher>::new();
         match name {

@@ -1,4 +1,4 @@
-//! Calls that read a set.
+//! Reads of a set.
 
 use super::{Sets, tell_nodes};
 use indexset_core::key_range::bounds_are_ordered;
@@ -10,7 +10,8 @@ use test_script::script::{Stop, read, read_bound, tell, tell_option};
 use test_script::walk;
 use test_script::word::{Word, bound, item};
 
-// Writes each item of an iterator. A macro, since nothing is known of `next` of an iterator of any type.
+// Writes each item of an iterator. It is a macro, because an iterator of any type has no contract
+// for `next`.
 macro_rules! tell_each {
     ($items:expr, $answer:expr) => {{
         for item in $items {
@@ -60,7 +61,7 @@ impl<T: Word> Sets<T> {
         }
     }
 
-    // Looks for the element of each word.
+    // Looks the element of each word up.
     fn look_for(
         &self,
         name: &str,
@@ -89,7 +90,7 @@ impl<T: Word> Sets<T> {
         Ok(())
     }
 
-    // An element at a position that is there.
+    // Writes the element at a position that exists.
     fn at(
         &mut self,
         name: &str,
@@ -106,8 +107,8 @@ impl<T: Word> Sets<T> {
         tell(answer, self.set.pop_index(i))
     }
 
-    // Where a search finds the elements of the words, by no more questions than the number before them: the
-    // position, or `gap` and the position that it would have.
+    // Writes the result of a search for each word: its position, or `gap` and the position to
+    // insert it at. The number before the words is the maximum number of comparisons.
     fn locate(&self, words: &mut SplitWhitespace<'_>, answer: &mut String) -> Result<(), Stop> {
         let most = read(words)?;
         for word in words {
@@ -117,7 +118,7 @@ impl<T: Word> Sets<T> {
     }
 
     fn locate_one(&self, item: &T, most: u64, answer: &mut String) -> Result<(), Stop> {
-        // Tells that the elements ascend.
+        // For the proof: the elements ascend.
         let _len = self.set.len();
         let mut probe = Counting::new(ByItem::new(item));
         match self.set.locate_by(&mut probe) {
@@ -155,7 +156,7 @@ impl<T: Word> Sets<T> {
         }
     }
 
-    // The first set beside the second.
+    // Compares the first set with the second.
     fn compare(&self, name: &str, answer: &mut String) -> Result<(), Stop> {
         let hashes = BuildHasherDefault::<FoldHasher>::new();
         match name {
@@ -173,7 +174,7 @@ impl<T: Word> Sets<T> {
         }
     }
 
-    // What a cursor shows and where it goes, a word each.
+    // Makes the calls of a cursor, one for each word.
     fn cursor(&self, words: &mut SplitWhitespace<'_>, answer: &mut String) -> Result<(), Stop> {
         let mut cursor = self.set.cursor_at(read(words)?);
         for word in words {
@@ -238,7 +239,7 @@ impl<T: Word> Sets<T> {
         }
     }
 
-    // The first set with the second.
+    // Combines the first set with the second.
     fn combine(&self, name: &str, answer: &mut String) -> Result<(), Stop> {
         match name {
             "union" => tell_each!(self.set.union(&self.other), answer),

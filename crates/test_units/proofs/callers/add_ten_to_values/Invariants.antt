@@ -1,4 +1,4 @@
--- The values before the walk have 10 more, and the others wait.
+-- The values before the iterator were increased by 10, and the others are unchanged.
 use Rattle.std.proofs.Common.{◌-◌}
 use Rattle.indexset_map.specs.ValuesWalk.{values_walk}
 use Rattle.indexset_map.specs.ItemIter.{HasWritten, walk_back, walk_front}

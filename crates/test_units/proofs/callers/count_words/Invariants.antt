@@ -1,4 +1,4 @@
--- The words before this one are counted.
+-- The words before this one were counted.
 use Rattle.std.proofs.Common.{◌≡◌, take}
 use Rattle.std.specs.List.{fold}
 use Rattle.test_units.specs.Callers.{counted}

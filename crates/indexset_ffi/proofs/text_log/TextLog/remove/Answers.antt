@@ -10,7 +10,7 @@ use Rattle.indexset_ffi.specs.TextLogs.{ToldTree}
 use Rattle.indexset_ffi.proofs.LogLemmas.{kept_tree, mapped_none, none_told}
 use Rattle.indexset_ffi.proofs.text_log.TextLog.remove.Goals as goal
 
--- the key is not there, so the removal leaves the map as it is
+-- the key is absent, so the removal does not change the map
 pub returns-in_default-clause-absent : goal.returns-in_default-clause-absent
 returns-in_default-clause-absent c = λ _.
     let none = mapped_none entry_of _ (sym c.in_ok-found.ensures.answer ∙ c.in_default.is) in
@@ -22,7 +22,7 @@ returns-in_err-found-clause-refusal c =
     let e = err_from_is_err_and c.from_residual.result c.from_residual.ensures.1 in
     rw e.1 (e.2 ∙ (c.in_err-found.ensures.refusal ∙ ap (λ (s : ToldTree). refusal_of s.tree (key_removal (slice_cmp nat_cmp) s.tree c.args.key.now)) c.self.view_is))
 
--- where the key is not there, there is no event, and such a removal does not fail
+-- the removal of an absent key has no events, and does not fail
 pub returns-in_err-found-clause-no_event : goal.returns-in_err-found-clause-no_event
 returns-in_err-found-clause-no_event c none =
     let t = c.self.inside.tree in

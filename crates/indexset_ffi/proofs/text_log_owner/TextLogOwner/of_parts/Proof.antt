@@ -1,4 +1,4 @@
--- `of_parts` moves two fields, and what the parts own goes with them.
+-- `of_parts` moves two fields, with the ownership of the parts.
 use Rattle.indexset_ffi.proofs.Steps.{proved_at, ptr_typed, parts_word, parts_typed, parts_out, parts_in, parts_row, Stays, says, stay_dropped, walk_of, ends_at, Goes-dropped, nothing, alloc_all, pass_all, free_all, look_at, get, get_in, sets, enter, stop, fld, of_opd, and_then, no_more, returns, whole, sub, agg, ‵, raw, ◌⊛◌, prop, ◌$◌, ◌∵◌, !, qed, move, drop, use1, split, join, regoal, fsplit, fjoin, suffices, done}
 use Rattle.indexset_ffi.proofs.OwnerBoxes.{text_log_handle_box as E}
 use Rattle.indexset_ffi.specs.contracts.text_log_owner.TextLogOwner.{the_row}
@@ -32,6 +32,6 @@ of_parts_spec 𝓤 𝓛 𝓜 𝓡 wired =
     sets ! (agg ! (and_then ! (get ! refl) (and_then ! (get ! refl) (no_more !)))) refl (parts_typed E v.at hv fits) $
     returns ! (look_at ! 0 refl) $ free_all ! refl $
     suffices ! _ (ends_at 𝓛 f.ended hs c y w made (tt, tt) (tt, tt)) $ says ! refl $
-    -- [the handle; what is held; nothing; nothing]
+    -- [the handle; the contents; nothing; nothing]
     parts_in E ! v hv $ use1 𝓛 (‵ (the_row.own_val made (w ∷ []))) (id⊢ 𝓤 _) $ move ! (1 ∷ 2 ∷ []) $ drop ! $ drop ! $
     nothing ! $ nothing ! $ fjoin ! $ join ! $ nothing ! $ join ! $ done !)))

@@ -19,7 +19,7 @@ module _ {T : Type 0} where
   abbrev read : T × T → Pair T T
   read e = pair e.0 e.1
 
-  -- nothing was walked over
+  -- there were no pairs
   row_none : (texts : Texts T) (done : List (T × T)) (all : List (Pair T T)) (lead : List ℕ) → lead ≡ lead_after (map read done) → lead ≡ [] → map read done ++ [] ≡ all → (w w1 w2 : Option (List ℕ))
       → Appends w w1 (node_text texts (map read done)) → Appends w1 w2 (reply_ended Nothing) → Appends w w2 (row_text texts all)
   row_none texts [] all lead led none walked w w1 w2 far told = subst (λ ps. Appends w w2 (row_text texts ps)) walked (Appends-trans w w1 w2 [] (reply_ended Nothing) far told)

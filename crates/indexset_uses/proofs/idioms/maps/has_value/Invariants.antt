@@ -1,4 +1,4 @@
--- The values so far are others.
+-- No value so far is the one that is searched for.
 use Rattle.std.proofs.Common.{◌≡◌, ◌==◌}
 use Rattle.std.specs.List.{list_any}
 use Rattle.indexset_uses.proofs.idioms.maps.has_value.Given as goal

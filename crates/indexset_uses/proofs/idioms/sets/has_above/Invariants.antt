@@ -1,4 +1,4 @@
--- The elements so far are not above.
+-- No element so far is greater.
 use Rattle.std.proofs.Common.{◌≡◌, nat_lt}
 use Rattle.std.specs.List.{list_any}
 use Rattle.indexset.specs.Words.{items}
