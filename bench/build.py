@@ -1,13 +1,13 @@
 #!/usr/bin/env python3
-"""Builds what can be built here of the programs of the benchmark; each takes the same words.
+"""Builds the programs of the benchmark that can be built here; each takes the same words.
 
-A program that lacks something is named and left out. The Rust crate is built where INDEXSET_RS leads to a
-folder with its sources and a Cargo.toml.
+A program that cannot be built is named and left out. The Rust crate is built if INDEXSET_RS names a folder with its
+sources and a Cargo.toml.
 
     bench/build.py speed|rows
 
-proves and builds one of our own: that of bench/run, or the one that bench/durable.py times beside SQLite, which
-takes a file and lines of its own.
+proves and builds one of our own: that of bench/run, or the one that bench/durable.py compares with SQLite, which takes
+a file and lines of its own.
 """
 
 from __future__ import annotations
@@ -36,7 +36,7 @@ OURS = {
 
 
 def ran(*words: str, folder: pathlib.Path | None = None) -> bool:
-    """Whether a command ended well; what it says is shown where it did not."""
+    """Returns whether a command succeeded; prints its output if not."""
     done = subprocess.run(words, cwd=folder, stdout=subprocess.PIPE, stderr=subprocess.STDOUT, text=True)
     if done.returncode:
         print(done.stdout[-2000:])
@@ -44,8 +44,8 @@ def ran(*words: str, folder: pathlib.Path | None = None) -> bool:
 
 
 def laid(to: pathlib.Path, name: str) -> pathlib.Path:
-    """The folder of one of our programs, laid into a folder beside the crates that it uses. It is no crate of the
-    gate, which reads every file named .rt: its sources are named .rt.in."""
+    """Copies one of our programs into a folder beside the crates that it uses, and returns its folder. It is not a
+    crate of the gate, which reads every file named .rt: its sources are named .rt.in."""
     folder, below = OURS[name]
     lay.lay(to, [it for it in below.split() if it.startswith("indexset_")])
     crate = to / f"crates/indexset_{name}"
@@ -59,7 +59,7 @@ def laid(to: pathlib.Path, name: str) -> pathlib.Path:
 
 
 def ours(name: str) -> pathlib.Path | str:
-    """In out/, `rt` proves what changed since the last run, and builds it."""
+    """Builds a program. In out/, `rt` proves what changed since the last run."""
     if not shutil.which("rt"):
         return "needs `rt`"
     crate = laid(OUT, name)
@@ -98,7 +98,7 @@ def crate() -> pathlib.Path | str:
 
 
 def cpp(name: str, header: str, *words: str) -> pathlib.Path | str:
-    """A program of C++ for a library that has a header."""
+    """Builds a program of C++ for a library that has a header."""
     if not shutil.which("g++"):
         return "needs `g++`"
     if subprocess.run(["g++", "-E", "-x", "c++", "-include", header, os.devnull], capture_output=True).returncode:
@@ -113,12 +113,12 @@ def pb_ds() -> pathlib.Path | str:
 
 
 def absl() -> pathlib.Path | str:
-    """Debian's `libabsl-dev` has it."""
+    """Builds the program for Abseil, which is in Debian's `libabsl-dev`."""
     return cpp("absl", "absl/container/btree_set.h", "-labsl_throw_delegate", "-labsl_raw_logging_internal")
 
 
 def program(name: str) -> pathlib.Path | None:
-    """A program of the repository, or None where it is not built: `rt run` in its folder builds it."""
+    """Returns a program of the repository, or None if it is not built: `rt run` in its folder builds it."""
     made = TOP / f"crates/indexset_{name}/out/indexset_{name}"
     if not made.exists():
         print(f"indexset_{name} is left out: `rt run` in its folder builds it")
@@ -126,7 +126,7 @@ def program(name: str) -> pathlib.Path | None:
 
 
 def compilers() -> str:
-    """The compilers of the programs, with their versions and what they are told."""
+    """Returns the compilers of the programs, with their versions and flags."""
     asked = {
         "ours": (["rt", "version"], ""),
         "Rust crate and std": (["rustc", "--version"], ", optimised"),
@@ -142,7 +142,7 @@ def compilers() -> str:
 
 
 def built() -> dict[str, pathlib.Path]:
-    """The programs by name, ours first."""
+    """Returns the programs by name, ours first."""
     OUT.mkdir(exist_ok=True)
     found: dict[str, pathlib.Path] = {}
     for name, build in (("ours", speed), ("Rust crate", crate), ("std", std), ("pb_ds", pb_ds), ("absl", absl)):

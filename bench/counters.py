@@ -1,5 +1,5 @@
-"""The tables of what a call costs by counters: of the processor where `perf stat` reads them, else of
-cachegrind, which simulates them."""
+"""The tables of the cost of calls by counters: of the processor if `perf stat` can read them, otherwise of cachegrind,
+which simulates them."""
 
 from __future__ import annotations
 
@@ -15,7 +15,7 @@ from concurrent.futures import ThreadPoolExecutor
 from tables import Programs, shown, table
 
 ONCE = ["append, all above", "retain, every second"]  # of as many elements as there are keys, each an operation
-# So is it of these.
+# The same holds for these.
 WHOLE = [
     "iterate", "iterate from both ends", "map, iterate", "clone", "equality", "from", "from, ascending",
     "from_unsorted",
@@ -27,7 +27,7 @@ LOOK_UPS = [
     "texts, get", "first",
 ]
 ROWS = [*LOOK_UPS, *CHANGES, *WHOLE, *ONCE, SPLIT]
-COUNT = 100_000  # calls of a run, as many as a program prepares; changes of no more than there are keys
+COUNT = 100_000  # calls of a run, as many as a program prepares; changes of at most as many elements as there are keys
 WHAT = "instructions/misses of the first level/of the last level/mispredicted branches"
 # Each counter is the sum of events.
 OF_PERF = [["instructions:u"], ["L1-dcache-load-misses:u"], ["LLC-load-misses:u"], ["branch-misses:u"]]
@@ -38,7 +38,7 @@ Counter = Callable[[list[str]], Counts]  # of the words of a command
 
 
 def by_perf(command: list[str]) -> Counts:
-    """The mean of five runs; nothing where `perf` may not count."""
+    """Returns the mean of five runs; nothing if `perf` may not count."""
     events = ",".join(event for events in OF_PERF for event in events)
     done = subprocess.run(
         ["perf", "stat", "-r", "5", "-x", ";", "-e", events, *command], capture_output=True, text=True
@@ -70,12 +70,12 @@ def words(program: pathlib.Path, row: str, keys: int, count: int) -> list[str]:
 
 
 def has_row(program: pathlib.Path, row: str) -> bool:
-    """Whether a program has the words to run a row alone, and the row."""
+    """Returns whether a program can run a single row, and has the row."""
     return subprocess.run(words(program, row, 1000, 0), capture_output=True, text=True).stdout.startswith("called\n")
 
 
 def counts(row: str, keys: int) -> tuple[int, int]:
-    """How often a row is called, and how many operations these are."""
+    """Returns the number of calls of a row, and the number of their operations."""
     if row == SPLIT:
         return 1, 1
     if row in [*WHOLE, *ONCE]:
@@ -86,7 +86,7 @@ def counts(row: str, keys: int) -> tuple[int, int]:
 
 
 def cell(counter: Counter, counted: list[list[str]], program: pathlib.Path, row: str, keys: int) -> str:
-    """What one call counts: the difference between a run with calls and one without them."""
+    """Returns the counts of one call: the difference between a run with calls and one without them."""
     if not has_row(program, row):
         return "–"
     count, operations = counts(row, keys)
@@ -99,7 +99,7 @@ def cell(counter: Counter, counted: list[list[str]], program: pathlib.Path, row:
 
 
 def of_counters(programs: Programs, keys: list[int]) -> str | None:
-    """A table for each number of keys; None where nothing counts."""
+    """Returns a table for each number of keys; None if nothing can count."""
     is_real = has_counters()
     if not is_real and not shutil.which("valgrind"):
         print("counters need `perf stat` with counters, or `valgrind`")
@@ -110,7 +110,7 @@ def of_counters(programs: Programs, keys: list[int]) -> str | None:
         print(f"{name} is left out: its program runs no row alone")
     by = "`perf stat`" if is_real else "cachegrind"
     parts = [f"A call by {by}: {WHAT}.\n"]
-    # What cachegrind counts does not depend on what else runs.
+    # Other load does not change what cachegrind counts.
     with ThreadPoolExecutor(1 if is_real else os.cpu_count()) as pool:
         for k in keys:
             cells = pool.map(lambda it: cell(counter, counted, it[1], it[0], k), itertools.product(ROWS, able.values()))

@@ -1,19 +1,20 @@
 #!/usr/bin/env python3
-"""Times a map that is kept in a file, beside SQLite with the same commits, and Redis with its append-only file.
+"""Times a map that is kept in a file, and compares it with SQLite with the same commits, and Redis with its append-only
+file.
 
-usage: durable.py [--seconds S] [--rounds R] [--one-file] [--large] [--folder FOLDER]. Commands go out one after each
-answer, in groups that are answered together, and from a file at full speed; the rows of such commands, a seal behind
-each group, are kept by the journal in its process too (ours/rows). SQLite, by Python's module, gets the same rows in
-the same transactions, with synchronous=FULL, in this process and behind a pipe as the program is (rows_by_pipe.py); so
-does its own shell, by one statement a group; Redis syncs its file at each group (appendfsync always). The last two are
-left out where they are not installed. Each size of groups begins with empty files, unless one file is asked for, and
-what goes out is made before the clock starts. A disk is now quick and now slow, so they take turns: a rate is the
-median of R turns of S seconds. The files stand in a folder of the disk that is measured. Recovery is the time from the
-start of the program to its first answer, the least of three; `--large` times starts of large maps alone, in some
+usage: durable.py [--seconds S] [--rounds R] [--one-file] [--large] [--folder FOLDER]. Commands are sent one after the
+reply to the other, in groups that are answered together, and from a file at full speed. The journal also keeps the rows
+of such commands, with a checksum after each group, in its own process (ours/rows). SQLite, by Python's module, gets the
+same rows in the same transactions, with synchronous=FULL, in this process and behind a pipe like the program
+(rows_by_pipe.py); so does its own shell, by one statement per group; Redis syncs its file at each group (appendfsync
+always). The last two are left out if they are not installed. Each size of groups begins with empty files, unless one
+file is asked for, and the input is made before the clock starts. The speed of a disk varies, so they take turns: a rate
+is the median of R turns of S seconds. The files are in a folder of the disk that is measured. Recovery is the time from
+the start of the program to its first reply, the minimum of three; `--large` times only starts of large maps, in some
 minutes.
 
 It needs the built `indexset_store`, and for the journal `indexset_rows`, which `bench/build.py rows` builds, both
-proved where the figures are to be told.
+proved if the figures are to be published.
 """
 
 from __future__ import annotations
@@ -43,7 +44,7 @@ from rows_by_pipe import SEAL, TABLE, keep, opened as opened_rows  # noqa: E402
 
 ROWS = pathlib.Path(os.environ.get(FOLDER, TOP / "bench/out/crates/indexset_rows/out"), "indexset_rows").resolve()
 GROUPS = (1, 10, 100, 1000)  # commands
-KEY_BITS = 40  # of keys that hardly come twice, so that a command tells one event, and now and then a split
+KEY_BITS = 40  # of keys that hardly ever repeat, so that a command emits one event, and now and then a split
 PIPED = 300_000  # commands at full speed
 SHELL, SAY_KEPT = "sqlite3", "SELECT 'kept';\n"
 KEPT = (10**4, 10**5, 10**6)  # lines
@@ -52,23 +53,23 @@ MANY = 1_500_000  # events that are kept of a map, less one for ten pairs, or on
 
 
 class Timed(Protocol):
-    """What keeps commands."""
+    """A store of commands."""
 
     name: str
 
     def seconds(self, group: int, count: int) -> float:
-        """How long it takes to keep so many groups of so many commands."""
+        """Returns the time of keeping a number of groups of a number of commands."""
 
 
 class Sender:
-    """What commands are sent to."""
+    """A program that commands are sent to."""
 
     def made(self, group: int) -> Any:
-        """A group of so many."""
+        """Returns a group of a number of commands."""
         raise NotImplementedError
 
     def send(self, group: Any) -> None:
-        """Sends a group, and waits for its answers."""
+        """Sends a group, and waits for its replies."""
         raise NotImplementedError
 
     def seconds(self, group: int, count: int) -> float:
@@ -80,7 +81,7 @@ class Sender:
 
 
 def rates(timed: list[Timed], group: int, seconds: float, rounds: int) -> list[str]:
-    """The median rate of each, in groups."""
+    """Returns the median rate of each, in groups."""
     counts = [max(1, round(5 * seconds / it.seconds(group, 5))) for it in timed]
     found = [[group * count / it.seconds(group, count) for it, count in zip(timed, counts)] for _ in range(rounds)]
     return [f"{statistics.median(each):,.0f}" for each in zip(*found)]
@@ -95,7 +96,7 @@ def commands(count: int, chance: random.Random) -> list[str]:
 
 
 class Store(Sender):
-    """The program, which leads over a file."""
+    """The program, as the leader of a file."""
 
     name = "`indexset_store`"
 
@@ -127,7 +128,7 @@ class Store(Sender):
             left -= came.count(b"\nnext ")
 
     def piped(self, lines: Iterable[str]) -> float:
-        """The seconds of a run over lines from a file, with what it tells thrown away."""
+        """Returns the seconds of a run over lines from a file, with its output discarded."""
         with tempfile.TemporaryFile(dir=self.file.parent) as text:
             text.writelines(f"{it}\n".encode() for it in lines)
             text.seek(0)
@@ -136,11 +137,11 @@ class Store(Sender):
             return time.perf_counter() - began
 
     def recovery(self) -> float:
-        """The seconds from the start to the first answer, the least of three."""
+        """Returns the seconds from the start to the first reply, the minimum of three."""
         return min(self.piped(["next"]) for _ in range(3))
 
     def size(self) -> int:
-        """The bytes of the file with what its log holds."""
+        """Returns the bytes of the file and of its log."""
         copy = self.file.with_name("copy")
         shutil.rmtree(copy, ignore_errors=True)
         copy.mkdir()
@@ -153,7 +154,7 @@ class Store(Sender):
 
 
 class Served(Store):
-    """SQLite in WAL mode behind a pipe, which answers as the program does."""
+    """SQLite in WAL mode behind a pipe, with the replies of the program."""
 
     name = "SQLite, WAL, behind a pipe"
 
@@ -163,7 +164,7 @@ class Served(Store):
 
 
 class Journal:
-    """The journal in a process of its own, which makes rows as the program keeps them, and commits each group."""
+    """The journal in a process of its own, which makes rows as the program does, and commits each group."""
 
     name = "rows only: `indexset_journal`"
 
@@ -187,7 +188,7 @@ class Journal:
 
 
 class Rows(Sender):
-    """What gets rows as the program keeps them, a seal behind each group."""
+    """A store of rows as the program keeps them, with a checksum after each group."""
 
     def __init__(self, name: str) -> None:
         self.name, self.number, self.chance = f"rows only: {name}", 0, random.Random(1)
@@ -246,7 +247,7 @@ class Shell(Rows):
 
 
 class Remote(Sender):
-    """Redis, which syncs before it answers."""
+    """Redis, which syncs before it replies."""
 
     name = "Redis"
 
@@ -292,7 +293,7 @@ def row(name: str, cells: list[str]) -> None:
 
 @contextlib.contextmanager
 def opened(folder: pathlib.Path) -> Iterator[list[Timed]]:
-    """What keeps commands, each with empty files of its own."""
+    """Returns the stores of commands, each with empty files of its own."""
     with contextlib.ExitStack() as open_ones:
         found: list[Timed] = [open_ones.enter_context(Store(fresh(folder, "store")).running())]
         found.append(open_ones.enter_context(Served(fresh(folder, "served")).running()))
@@ -307,7 +308,7 @@ def opened(folder: pathlib.Path) -> Iterator[list[Timed]]:
 
 
 def answers(folder: pathlib.Path, seconds: float, rounds: int, has_one_file: bool) -> None:
-    """Commands a second, each kept before it is answered."""
+    """Returns the table of commands per second, each kept before the reply."""
     piped = Store(fresh(folder, "piped"))
     pace = f"{PIPED / piped.piped(commands(PIPED, piped.chance)):,.0f}"
     rows: dict[str, list[str]] = {}
@@ -333,7 +334,7 @@ def answers(folder: pathlib.Path, seconds: float, rounds: int, has_one_file: boo
 
 
 def recoveries(folder: pathlib.Path) -> None:
-    """Seconds to the first answer, and bytes."""
+    """Returns the table of seconds to the first reply, and bytes."""
     print()
     row(
         "Kept lines",
@@ -360,12 +361,13 @@ def recoveries(folder: pathlib.Path) -> None:
 
 
 def behind(pairs: int) -> int:
-    """Nearly as many puts of new keys as are kept behind a snapshot of so many pairs."""
+    """Returns nearly as many puts of new keys as are kept after a snapshot of a number of pairs."""
     return int(0.98 * max((MANY - pairs / 10) / 1.1, pairs / 19))
 
 
 def large_starts(folder: pathlib.Path) -> None:
-    """Seconds to the first answer of large maps: after a snapshot only, and with nearly as many events as are kept."""
+    """Returns the table of seconds to the first reply of large maps: after a snapshot only, and with nearly as many
+    events as are kept."""
     print()
     row("Pairs", ["compacted in", "seconds to the first answer", "events behind the snapshot", "seconds, three starts"])
     row("---:", ["---:"] * 4)
@@ -385,7 +387,7 @@ def large_starts(folder: pathlib.Path) -> None:
 
 
 def lines_of_snapshot(file: pathlib.Path) -> int:
-    """How many lines of a file are those of a snapshot, by its last number of nodes."""
+    """Returns the number of lines of the snapshot in a file, by its last number of nodes."""
     with sqlite3.connect(file.with_name("count") / "map.db") as found:
         (end,) = found.execute("SELECT line FROM kept WHERE line LIKE 'end %' ORDER BY number DESC LIMIT 1").fetchone()
     found.close()
@@ -393,7 +395,7 @@ def lines_of_snapshot(file: pathlib.Path) -> int:
 
 
 def lines_of(file: pathlib.Path) -> int:
-    """How many lines a copy of a file has."""
+    """Returns the number of lines of a copy of a file."""
     copy = file.with_name("count")
     shutil.rmtree(copy, ignore_errors=True)
     copy.mkdir()

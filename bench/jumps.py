@@ -1,13 +1,14 @@
 #!/usr/bin/env python3
-"""Counts what of a call lies badly: its code goes on into another block of 32 bytes, or a jump crosses the boundary.
+"""Counts the badly aligned code of a call: code that continues in another block of 32 bytes, and jumps across the
+boundary.
 
     bench/jumps.py ROW KEYS PROGRAM..
 
-Intel's processors take decoded code of one block a cycle, and those of 2015 to 2019 keep none of a block with a jump
-that crosses its boundary or ends there. So a short loop takes up to twice the time by where it lies, which is decided
-by what is linked before it. For each program of bench/build.py it prints, for one operation of the row, the
-instructions, the jumps, those that lie badly, and how often the code went on into another block, by callgrind and
-objdump. A comparison just before a jump counts with it where the processor joins the two.
+Intel's processors fetch decoded code of one block per cycle, and those of 2015 to 2019 cache none of a block with a
+jump that crosses its boundary or ends there. So a short loop takes up to twice the time depending on its address, which
+the code linked before it determines. For each program of bench/build.py it prints, for one operation of the row, the
+instructions, the jumps, the badly aligned ones, and how often the code continued in another block, by callgrind and
+objdump. A comparison just before a jump counts with it if the processor fuses the two.
 """
 
 from __future__ import annotations
@@ -32,8 +33,8 @@ JOINED = re.compile(r"cmp|test|add|sub|and|inc|dec")  # with a conditional jump 
 
 @dataclass
 class Code:
-    """The addresses of a program's jumps, of those that lie badly, and of instructions that others lead to across a
-    boundary."""
+    """Returns the addresses of a program's jumps, of the badly aligned ones, and of instructions that others continue
+    into across a boundary."""
 
     jumps: set[int]
     bad: set[int]
@@ -58,7 +59,7 @@ def code_of(program: pathlib.Path) -> Code:
 
 
 def executed(program: pathlib.Path, words: list[str]) -> Counter[int]:
-    """How often each instruction of the program itself ran, by its address."""
+    """Returns how often each instruction of the program itself ran, by its address."""
     found: Counter[int] = Counter()
     options = ["--dump-instr=yes", "--compress-pos=no", "--compress-strings=no"]
     with tempfile.NamedTemporaryFile("r") as out:
@@ -78,7 +79,7 @@ def executed(program: pathlib.Path, words: list[str]) -> Counter[int]:
 
 
 def cell(row: str, keys: int, program: pathlib.Path) -> str:
-    """What an operation executes: the difference between a run with calls and one without them."""
+    """Returns what an operation executes: the difference between a run with calls and one without them."""
     count, operations = counters.counts(row, keys)
     some, none = (executed(program, counters.words(program, row, keys, it)) for it in (count, 0))
     some.subtract(none)

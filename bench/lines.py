@@ -17,7 +17,7 @@ LINES, COMMANDS, KEYS = 2_000_000, 500_000, [1_000, 100_000, 1_000_000]
 
 
 def given(text: bytes) -> IO[bytes]:
-    """A file that holds a text, to be read from its start."""
+    """Returns a file with a text, to be read from its start."""
     file = tempfile.TemporaryFile()
     file.write(text)
     file.seek(0)
@@ -32,7 +32,7 @@ def seconds(program: pathlib.Path, text: bytes, *words: str) -> float:
 
 
 def piped(store: pathlib.Path, text: bytes) -> float:
-    """How long a leader and a follower take, the first's output being the second's input."""
+    """Returns the time of a leader and a follower, the first's output being the second's input."""
     with given(text) as lines:
         start = time.monotonic()
         one = subprocess.Popen([store, "--lead"], stdin=lines, stdout=subprocess.PIPE)
@@ -45,7 +45,7 @@ def piped(store: pathlib.Path, text: bytes) -> float:
 
 
 def commands(keys: int) -> bytes:
-    """All keys put in no order, and then puts and cuts."""
+    """Returns puts of all keys in random order, followed by puts and cuts."""
     draw = random.Random(1)
     lines = [b"put %d 1\n" % key for key in draw.sample(range(keys), keys)]
     for at in range(COMMANDS):
@@ -65,7 +65,7 @@ def least(times: int, call: Callable[[], float]) -> float:
 
 
 def of_each(program: pathlib.Path, times: int) -> list[list[str]]:
-    """What a line costs, by kind."""
+    """Returns the table of the cost of a line, by kind."""
     rows: list[list[str]] = []
     for line in ("len", "x", "add 7", "has 18446744073709551616"):
         text = f"{line}\n".encode() * LINES
@@ -75,7 +75,7 @@ def of_each(program: pathlib.Path, times: int) -> list[list[str]]:
 
 
 def paces(store: pathlib.Path, keys: int, times: int) -> dict[str, str]:
-    """How many events there are, and how many a second are printed, followed, and both."""
+    """Returns the table of the number of events, and the number per second that are printed, followed, and both."""
     text = commands(keys)
     events = events_of(store, text)
     count = events.count(b"\n")
@@ -89,7 +89,7 @@ def paces(store: pathlib.Path, keys: int, times: int) -> dict[str, str]:
 
 
 def of_lines(times: int) -> str | None:
-    """None where the programs are not built: `rt run` in their folders builds them."""
+    """Returns the tables; None if the programs are not built: `rt run` in their folders builds them."""
     program, store = build.program("program"), build.program("store")
     if not program or not store:
         return None

@@ -1,4 +1,4 @@
-"""Draws docs/speed.svg: times by number of keys, a panel a row, a line a library."""
+"""Draws docs/speed.svg: times by number of keys, a panel for each row, a line for each library."""
 
 from __future__ import annotations
 
@@ -23,12 +23,12 @@ PANELS = [
 ]
 COLOURS = ["#1f4e9c", "#c2571a", "#3f8f3f", "#8a3f8f", "#7a6a1f"]
 WIDTH, HEIGHT, LEFT, RIGHT, TOP, COLUMNS = 300, 200, 52, 34, 30, 3
-HEAD, FOOT = 64, 24  # what stands above the panels, and below them
+HEAD, FOOT = 64, 24  # the space above the panels, and below them
 SAID = (
     "Nanoseconds (ns) or microseconds (µs) an operation, by number of keys; lower is better."
     " Both scales are logarithmic."
 )
-LEAST = 0.1  # nanoseconds: what is less is drawn as this
+LEAST = 0.1  # nanoseconds: smaller times are drawn as this
 
 Points = list[tuple[int, float]]  # numbers of keys, each with its nanoseconds
 Shapes = list[str]
@@ -43,13 +43,13 @@ def keys_in_short(keys: int) -> str:
 
 
 def across(keys: list[int], x0: int) -> Callable[[int], float]:
-    """Where a number of keys stands in a panel."""
+    """Returns the place of a number of keys in a panel."""
     low, high = math.log10(min(keys)), math.log10(max(keys))
     return lambda k: x0 + LEFT + (math.log10(k) - low) / max(high - low, 1) * (WIDTH - LEFT - RIGHT)
 
 
 def scale(low: int, high: int, x0: int, y: Callable[[float], float]) -> Shapes:
-    """The lines across a panel at powers of ten."""
+    """Draws the lines across a panel at powers of ten."""
     out: Shapes = []
     for power in range(low, high + 1):
         at = y(10**power)
@@ -59,7 +59,7 @@ def scale(low: int, high: int, x0: int, y: Callable[[float], float]) -> Shapes:
 
 
 def panel(what: str, lines: list[Points], x0: int, y0: int) -> Shapes:
-    """A panel with the points of each library."""
+    """Draws a panel with the points of each library."""
     keys = [k for points in lines for k, _ in points]
     times = [t for points in lines for _, t in points]
     low = math.floor(math.log10(min(times)))
@@ -80,7 +80,7 @@ def panel(what: str, lines: list[Points], x0: int, y0: int) -> Shapes:
 
 
 def legend(names: list[str]) -> Shapes:
-    """What the picture shows, and the line of each library."""
+    """Draws the description of the picture, and the line of each library."""
     out = [f'<text x="20" y="20" font-size="13" font-weight="bold">{SAID}</text>']
     for at, (name, colour) in enumerate(zip(names, COLOURS)):
         x = 20 + 160 * at
@@ -91,7 +91,7 @@ def legend(names: list[str]) -> Shapes:
 
 
 def plot(names: list[str], keys: list[int], figures: Figures) -> str:
-    """The picture of figures in nanoseconds."""
+    """Returns the picture of figures in nanoseconds."""
 
     def points(name: str, what: str) -> Points:
         return [(k, max(figures[name][k][what], LEAST)) for k in keys if what in figures[name][k]]

@@ -1,10 +1,10 @@
 #!/usr/bin/env python3
-"""Keeps commands `put KEY VALUE` in a SQLite file in WAL mode, for times beside `indexset_store --keep`.
+"""Keeps commands `put KEY VALUE` in a SQLite file in WAL mode, to compare its times with `indexset_store --keep`.
 
     rows_by_pipe.py FILE
 
-All commands of its input that have come get a row each, and one for a seal, by one commit; then each is answered, by
-as many bytes as the program answers. It holds the pairs in a dict, without an order.
+All commands available on its input get a row each, and one for a checksum, by one commit; then each gets a reply, of as
+many bytes as the program's. It holds the pairs in a dict, without an order.
 """
 
 from __future__ import annotations
@@ -19,7 +19,7 @@ SEAL = "seal 11149498871045915152"
 
 
 def opened(file: str, mode: str) -> sqlite3.Connection:
-    """An empty file, each commit of which is on the disk when it returns."""
+    """Opens an empty file, each commit of which is on the disk when it returns."""
     kept = sqlite3.connect(file, isolation_level=None)
     kept.execute(f"PRAGMA journal_mode={mode}")
     kept.execute("PRAGMA synchronous=FULL")

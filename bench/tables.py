@@ -1,4 +1,5 @@
-"""The tables of sets beside other libraries, of their memory, of the logged family and replicas, and of node sizes."""
+"""The tables of sets compared with other libraries, of their memory, of the logged family and replicas, and of node
+sizes."""
 
 from __future__ import annotations
 
@@ -14,7 +15,7 @@ HELD = [(1_000, 1_000), (100_000, 10), (1_000_000, 2), (10_000_000, 1)]
 
 
 def read(text: str) -> Rows:
-    """The rows of what a program printed, under the name of the last line `over`."""
+    """Returns the rows that a program printed, under the name of the last line `over`."""
     rows: Rows = {}
     over = ""
     for line in text.splitlines():
@@ -32,13 +33,14 @@ def timed(program: pathlib.Path, what: str, keys: int) -> Rows:
 
 
 def turns(keys: int, times: int) -> int:
-    """How many runs a table takes: more of few keys, which take little time, one of 10,000,000, which take minutes."""
+    """Returns the number of runs of a table: more for few keys, which take little time, one for 10,000,000, which take
+    minutes."""
     return 10 * times if keys <= 100_000 else times if keys < 10_000_000 else 1
 
 
 def leasts(programs: Programs, what: str, keys: int, times: int) -> dict[str, Rows]:
-    """Of each program its rows, the least of some runs, in turn with the others': a processor that others use too is
-    now quick and now slow."""
+    """Returns the rows of each program, the minimum of some runs, in turn with the others': the speed of a shared
+    processor varies."""
     runs: dict[str, list[Rows]] = {name: [] for name in programs}
     for _ in range(turns(keys, times)):
         for name, program in programs.items():
@@ -47,7 +49,7 @@ def leasts(programs: Programs, what: str, keys: int, times: int) -> dict[str, Ro
 
 
 def held(program: pathlib.Path, keys: int, copies: int, order: str) -> int:
-    """The bytes of memory of a program that holds so many sets."""
+    """Returns the bytes of memory of a program that holds a number of sets."""
     words = [str(program), "hold", str(keys), str(copies), order]
     with subprocess.Popen(words, stdin=subprocess.PIPE, stdout=subprocess.PIPE, text=True) as it:
         assert it.stdout
@@ -70,7 +72,7 @@ def table(head: Sequence[str], lines: Sequence[Sequence[str]]) -> str:
 
 
 def of_sets(names: list[str], keys: list[int], figures: Figures, compilers: str) -> str:
-    """A table for each number of keys, a column for each library."""
+    """Returns a table for each number of keys, with a column for each library."""
     parts = [f"Nanoseconds an operation; lower is better. Compilers: {compilers}.\n"]
     for k in keys:
         lines = [[row, *(shown(figures[name][k].get(row)) for name in names)] for row in figures["ours"][keys[0]]]
@@ -94,12 +96,12 @@ def of_call(call: str) -> str:
 
 
 def of_logged_call(call: str, figure: float | None) -> str:
-    """What takes events is shown by how many it takes in a second."""
+    """Returns a cell: rows on events show the number of events per second."""
     return f"{1000 / figure:.1f}" if figure and call.endswith(PER_EVENT) else shown(figure)
 
 
 def of_logged(program: pathlib.Path, keys: list[int], times: int) -> str:
-    """A table for each number of keys, a column for each type and size of nodes."""
+    """Returns a table for each number of keys, with a column for each type and size of nodes."""
     found = {k: leasts({"ours": program}, "logged", k, times)["ours"] for k in keys}
     nodes = list(dict.fromkeys(row.partition(": ")[0] for row in found[keys[0]]))
     calls = list(dict.fromkeys(row.partition(": ")[2] for row in found[keys[0]]))
@@ -117,7 +119,7 @@ def logged_tables(nodes: list[str], calls: list[str], found: Mapping[int, Rows])
 
 
 def of_sizes(program: pathlib.Path, keys: list[int], times: int) -> str:
-    """A table for each number of keys, a column for each size of nodes."""
+    """Returns a table for each number of keys, with a column for each size of nodes."""
     parts = ["A set, maps, and a logged set and its replica, by the size of their nodes, nanoseconds an operation.\n"]
     for k in keys:
         rows = leasts({"ours": program}, "sizes", k, times)["ours"]

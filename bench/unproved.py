@@ -3,8 +3,8 @@
 
     bench/unproved.py PROGRAM [speed|rows]
 
-The crates of this checkout are compiled in a minute, without the checks that `rt try` puts in, and optimized as proved
-code is. `bench/versions.py` compares two such programs. Nothing is known of what one of them answers: it is for times.
+The crates of this checkout are compiled in a minute, without the checks that `rt try` adds, and optimized as proved
+code is. `bench/versions.py` compares two such programs. Nothing is known of their results: they are for timing only.
 """
 
 from __future__ import annotations

@@ -4,8 +4,8 @@
     bench/versions.py BEFORE AFTER [--minutes 5] [--processor 3] [--most 1.1]
 
 BEFORE and AFTER are programs that bench/build.py built from two commits, or both by bench/unproved.py. It prints each
-row's median over all rounds, of nodes of a `Vec` at 1,000 to 1,000,000 keys, where both have it, and by how much the
-second differs, the slowest first.
+row's median over all rounds, for nodes of a `Vec` at 1,000 to 1,000,000 keys, if both programs have it, and the
+difference of the second, the slowest first.
 """
 
 from __future__ import annotations
@@ -26,7 +26,7 @@ def timed(program: str, keys: int, processor: int) -> Rows:
 
 
 def rounds(programs: list[str], keys: int, seconds: float, processor: int) -> list[list[Rows]]:
-    """The rows of each program, round by round, at least once, until the time is over."""
+    """Returns the rows of each program, round by round, at least once, until the time is over."""
     runs: list[list[Rows]] = [[] for _ in programs]
     end = time.monotonic() + seconds
     while not runs[0] or time.monotonic() < end:

@@ -1,4 +1,4 @@
-"""The tables of the C library beside pb_ds, and of the Python package beside sortedcontainers."""
+"""The tables of the C library compared with pb_ds, and of the Python package compared with sortedcontainers."""
 
 from __future__ import annotations
 
@@ -20,7 +20,7 @@ Cells = dict[tuple[int, str], str]  # by number of keys and row: our figure, the
 
 
 def read(text: str) -> Cells:
-    """The cells of what the C program printed."""
+    """Returns the cells that the C program printed."""
     cells: Cells = {}
     for line in text.splitlines()[1:]:
         keys, row, ours, other = line.split()
@@ -29,7 +29,7 @@ def read(text: str) -> Cells:
 
 
 def read_python(text: str) -> Cells:
-    """The same of Python's; the rows stand in the order in which they were printed."""
+    """Returns the cells that Python's program printed; the rows are in the order in which they were printed."""
     lines = [line.split("\t") for line in text.splitlines()[1:]]
     return {(int(keys), row): f"{ours}/{other}" for keys, row, ours, other in lines}
 
@@ -57,7 +57,7 @@ def c_cells(keys: list[str]) -> Cells:
 
 
 def is_built(backend: str) -> bool:
-    """Whether the package is built so, and `sortedcontainers` is here."""
+    """Returns whether the package is built with a backend, and `sortedcontainers` is installed."""
     package = OUT / "python/out"
     has_module = any((package / "indexset").glob("_fast*")) or backend == "ctypes"
     if not (package / "indexset").is_dir() or not importlib.util.find_spec("sortedcontainers") or not has_module:
@@ -67,7 +67,7 @@ def is_built(backend: str) -> bool:
 
 
 def said(program: str, *words: str, backend: str) -> str:
-    """What a program of Python prints."""
+    """Returns the output of a program of Python."""
     where = {
         **os.environ,
         "PYTHONPATH": str(OUT / "python/out"),
@@ -79,12 +79,12 @@ def said(program: str, *words: str, backend: str) -> str:
 
 
 def python_cells(keys: list[str], backend: str) -> Cells | None:
-    """None where the package is not built so."""
+    """Returns the cells; None if the package is not built with the backend."""
     return read_python(said("bindings.py", *keys, backend=backend)) if is_built(backend) else None
 
 
 def of_kinds(count: int) -> str:
-    """The table of what is done with many items, with a column a kind."""
+    """Returns the table of operations on many items, with a column for each kind."""
     text = said(
         "kinds.py", str(count), "--kinds", *KINDS, "--parts", "list", "set", "dict", "key", "bytes", backend="extension"
     )
@@ -99,7 +99,7 @@ def of_kinds(count: int) -> str:
 
 
 def of_python(found: dict[str, Cells], keys: list[int]) -> str:
-    """The table of every row, with a column a backend and number of keys."""
+    """Returns the table of every row, with a column for each backend and number of keys."""
     head = ["Ours/`sortedcontainers`", *(f"{name}, {k:,}" for name in found for k in keys)]
     rows = list(dict.fromkeys(row for cells in found.values() for _, row in cells))
     return table(
@@ -108,7 +108,7 @@ def of_python(found: dict[str, Cells], keys: list[int]) -> str:
 
 
 def of_wrappers(keys: list[int]) -> str | None:
-    """The two tables, or None where nothing can be measured."""
+    """Returns the two tables, or None if nothing can be measured."""
     words = [str(k) for k in keys]
     in_c = c_cells(words)
     found = {name: cells for name in BACKENDS if (cells := python_cells(words, name)) is not None}

@@ -1,7 +1,7 @@
 #!/usr/bin/env bash
-# Builds both bindings, each in its folder out/, and runs their tests side by side; a tool that is not installed fails
-# (scripts/needs.py installs them). The last line counts them. With UNPROVED=1 in the environment, the library is one
-# that scripts/unproved.py builds in minutes, and the wheel is left out.
+# Builds both bindings, each in its folder out/, and runs their tests concurrently. A tool that is not installed is a
+# failure (scripts/needs.py installs them). The last line counts them. With UNPROVED=1 in the environment, the library
+# is one that scripts/unproved.py builds in minutes, and the test of the wheel is left out.
 #
 #     bindings/test.sh
 set -u

@@ -7,7 +7,7 @@ import pathlib
 from collections.abc import Iterator
 
 TOP = pathlib.Path(__file__).resolve().parent.parent
-APART = {".git", "crates", "out", "__pycache__"}  # folders with none, or with what is made
+APART = {".git", "crates", "out", "__pycache__"}  # folders without sources, or with generated files
 SUFFIXES = {
     ".py": "python", ".sh": "shell", ".js": "javascript",
     ".c": "c", ".h": "c", ".cpp": "c++", ".hpp": "c++",
@@ -16,7 +16,7 @@ INTERPRETERS = {b"#!/usr/bin/env python3": "python", b"#!/usr/bin/env bash": "sh
 
 
 def language(file: pathlib.Path) -> str:
-    """The language of a file, by its suffix or its first line; none of other files."""
+    """Returns the language of a file, by its suffix or its first line; empty for other files."""
     if file.suffix:
         return SUFFIXES.get(file.suffix, "")
     with open(file, "rb") as it:
@@ -24,12 +24,12 @@ def language(file: pathlib.Path) -> str:
 
 
 def files() -> Iterator[pathlib.Path]:
-    """The files of this repository but for its crates, folder by folder."""
+    """Yields the files of this repository except its crates, folder by folder."""
     for at, folders, names in os.walk(TOP):
         folders[:] = sorted(it for it in folders if it not in APART)
         yield from (pathlib.Path(at, it) for it in sorted(names))
 
 
 def of(*languages: str) -> list[pathlib.Path]:
-    """The files in some languages."""
+    """Returns the files in the given languages."""
     return [it for it in files() if language(it) in languages]

@@ -1,4 +1,4 @@
-"""What calls cost, from scripts/costs.txt: for `write_docs.py`, which puts it on the pages of contracts."""
+"""The costs of calls, from scripts/costs.txt: `write_docs.py` writes them to the pages of the reference."""
 
 from __future__ import annotations
 
@@ -6,7 +6,7 @@ import dataclasses
 import pathlib
 
 FILE = pathlib.Path(__file__).resolve().parent / "costs.txt"
-# What a page with costs says of them at its head.
+# The head of a page with costs explains them.
 ABOUT = (
     "*Cost*, at most: n is the length, n' that of the other collection, m the number of nodes, B the node size (1024"
     " unless given), L = digits(m) + digits(B) + 1 the comparisons of a look-up, digits being the bit length, and p the"
@@ -20,14 +20,14 @@ ABOUT = (
 
 @dataclasses.dataclass(frozen=True)
 class Cost:
-    """What a call costs."""
+    """The cost of a call."""
 
     comparisons: str
     moves: str
     allocates: str
 
     def text(self) -> str:
-        """The cost as one sentence, without a capital."""
+        """Returns the cost as one sentence, without a capital."""
         parts = [f"comparisons {self.comparisons}" * bool(self.comparisons), f"moves {self.moves}" * bool(self.moves)]
         parts.append("allocates" if self.allocates == "yes" else f"allocates {self.allocates}" * bool(self.allocates))
         return "; ".join(part for part in parts if part) + "."
@@ -35,7 +35,7 @@ class Cost:
 
 @dataclasses.dataclass(frozen=True)
 class Line:
-    """A line of the file: the cost of some calls, of those pages that have a call of the name."""
+    """A line of the file: the cost of some calls, of the pages that have a call of the name."""
 
     pages: list[str]
     calls: list[str]
@@ -43,7 +43,7 @@ class Line:
 
 
 def lines() -> list[Line]:
-    """The lines of the file."""
+    """Returns the lines of the file."""
     read = (
         text.split("|") for text in FILE.read_text(encoding="utf-8").splitlines() if text and not text.startswith("#")
     )
@@ -55,12 +55,12 @@ COSTS = {(page, call): line.cost for line in LINES for page in line.pages for ca
 
 
 def key_of(page: str, owner: str, name: str) -> tuple[str, str]:
-    """How the file names a call."""
+    """Returns the name of a call in the file."""
     return page, name if owner.startswith("BTree") else f"{owner}::{name}"
 
 
 def line(page: str, owner: str, name: str, complexity: str) -> str:
-    """The line of a page on the cost of a call, or nothing: what its docs say under `Complexity`, and its numbers."""
+    """Returns the line of a page on the cost of a call, or an empty string: its docs' `Complexity`, and its numbers."""
     cost = COSTS.get(key_of(page, owner, name))
     numbers = cost.text() if cost else ""
     said = f"{complexity} At most: {numbers}" if complexity and numbers else complexity or numbers
@@ -68,12 +68,12 @@ def line(page: str, owner: str, name: str, complexity: str) -> str:
 
 
 def has(page: str) -> bool:
-    """Whether a page has costs."""
+    """Returns whether a page has costs."""
     return any(of == page for of, _ in COSTS)
 
 
 def unknown(calls: set[tuple[str, str, str]]) -> list[str]:
-    """What the file names and is no call: each call is given by its page, its type and its name."""
+    """Returns the names in the file that are not calls: each call is given by its page, its type and its name."""
     named = {key_of(*call) for call in calls}
     return sorted(
         call for line in LINES for call in line.calls if not any((page, call) in named for page in line.pages)

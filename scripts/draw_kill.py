@@ -1,7 +1,7 @@
 #!/usr/bin/env python3
-"""Draws docs/kill.svg: a leader that is killed, the rows of its file, and what it answers when it is started again.
+"""Draws docs/kill.svg: a leader that is killed, the rows of its file, and its replies after a restart.
 
-All lines are those of a run, which this makes: it needs the built `indexset_store`.
+All lines are from a run, which this script makes: it needs the built `indexset_store`.
 """
 
 from __future__ import annotations
@@ -31,7 +31,7 @@ Lines = list[tuple[str, str]]  # (each with its colour)
 
 
 def talk(path: pathlib.Path, commands: tuple[str, ...], is_killed: bool) -> Lines:
-    """What is sent and answered, one command after another; at the end the program is killed, or its input ends."""
+    """Returns the commands and replies, in order; at the end the program is killed, or its input ends."""
     said: Lines = []
     words = [str(built("indexset_store")), "--keep", str(path), "--lead"]
     with subprocess.Popen(words, stdin=subprocess.PIPE, stdout=subprocess.PIPE, text=True, bufsize=1) as run:
@@ -52,7 +52,7 @@ def talk(path: pathlib.Path, commands: tuple[str, ...], is_killed: bool) -> Line
 
 
 def rows(path: pathlib.Path) -> Lines:
-    """What is kept, as SQLite itself reads it."""
+    """Returns the stored rows, as SQLite itself reads them."""
     with contextlib.closing(sqlite3.connect(path)) as base:
         return [
             (f"{number}  {line}", INK) for number, line in base.execute("SELECT number, line FROM kept ORDER BY number")

@@ -11,7 +11,7 @@ from collections.abc import Sequence
 CELL, HIGH, GAP = 32, 28, 18
 INK, SOFT, NODE, NEW, INDEX = "#222", "#777", "#e8eef8", "#fbe3b4", "#e3f1e3"
 
-Number = int | float  # (it is written as it stands: 24 and not 24.0)
+Number = int | float  # (written unchanged: 24 and not 24.0)
 Shapes = list[str]
 
 
@@ -33,12 +33,12 @@ def cell(x: Number, y: Number, words: int, fill: str, width: int = CELL) -> Shap
 
 
 def lefts(x: int, lists: list[list[int]]) -> list[int]:
-    """The left edges of the nodes of a row."""
+    """Returns the left edges of the nodes of a row."""
     return [x + sum(CELL * len(it) + GAP for it in lists[:at]) for at in range(len(lists))]
 
 
 def nodes(x: int, y: int, lists: list[list[int]], new: Sequence[int] = ()) -> Shapes:
-    """A row of nodes from x on."""
+    """Draws a row of nodes from x on."""
     out: Shapes = []
     for left, items in zip(lefts(x, lists), lists):
         for at, item in enumerate(items):
@@ -62,7 +62,7 @@ def arrow(x0: Number, y0: Number, x1: Number, y1: Number) -> Shapes:
 
 
 def two_levels(x: int, y: int) -> Shapes:
-    """A list of nodes with its index, a look-up by position and one by key."""
+    """Draws a list of nodes with its index, a look-up by position and one by key."""
     lists = [[2, 5, 7], [11, 13], [17, 19, 23, 29]]
     edges = lefts(x, lists)
     out = title(x, y, "A set: one ascending list, partitioned into nodes") + nodes(x, y + 80, lists)
@@ -84,7 +84,7 @@ def two_levels(x: int, y: int) -> Shapes:
 
 
 def a_set_that_changes(x: int, y: int) -> Shapes:
-    """A put into a full node."""
+    """Draws a put into a full node."""
     out = text(x, y + 26, "the set, node size 4", colour=SOFT)
     out += nodes(x, y + 36, [[0, 2, 4, 6]])
     out += arrow(x + 64, y + 66, x + 64, y + 121) + code(x + 74, y + 97, "put_cdc(3)")
@@ -92,7 +92,7 @@ def a_set_that_changes(x: int, y: int) -> Shapes:
 
 
 def an_event(x: int, y: int, number: int, words: Sequence[str], arrow_to: tuple[int, int]) -> Shapes:
-    """An event with its number, and an arrow from it."""
+    """Draws an event with its number, and an arrow from it."""
     out = [f'<rect x="{x}" y="{y}" width="236" height="44" rx="6" fill="#fff" stroke="{INK}"/>']
     out += title(x + 12, y + 27, number)
     out += text(x + 34, y + 19, words[0])
@@ -101,7 +101,7 @@ def an_event(x: int, y: int, number: int, words: Sequence[str], arrow_to: tuple[
 
 
 def a_replica(x: int, y: int) -> Shapes:
-    """The nodes of a replica, before the events and after each."""
+    """Draws the nodes of a replica, before the events and after each."""
     out = text(x, y + 26, "the replica, after each event", colour=SOFT)
     out += nodes(x, y + 36, [[0, 2, 4, 6]])
     out += nodes(x, y + 79, [[0, 2], [4, 6]])
@@ -109,7 +109,7 @@ def a_replica(x: int, y: int) -> Shapes:
 
 
 def a_change(x: int, y: int) -> Shapes:
-    """A put into a full node, its two events, and a replica that applies them."""
+    """Draws a put into a full node, its two events, and a replica that applies them."""
     middle, right = x + 262, x + 562
     out = title(x, y, "A logged set: a change, its events, a replica") + a_set_that_changes(x, y)
     out += text(middle, y + 26, "numbered events, in order", colour=SOFT)

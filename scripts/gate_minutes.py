@@ -1,10 +1,10 @@
 #!/usr/bin/env python3
-"""Runs a command, and writes how many minutes of processor time its proofs took, by crate, to a file.
+"""Runs a command, and writes the minutes of processor time of its proofs, by crate, to a file.
 
     scripts/gate_minutes.py out/minutes rt ci
 
-It ends as the command does. Each process of the prover below this one is read once a second until it ends, so that a
-figure lacks up to a second for each; the total is exact. `From` and `to` are minutes by the clock.
+It exits with the status of the command. Each process of the prover below this one is read once a second until it ends,
+so that a figure misses up to a second for each; the total is exact. `From` and `to` are minutes by the clock.
 """
 
 from __future__ import annotations
@@ -33,7 +33,7 @@ BEGAN = time.monotonic()
 
 @dataclasses.dataclass
 class Seen:
-    """What a process of the prover works on, the processor seconds that it has taken, and when it was seen."""
+    """The work of a process of the prover, its processor seconds so far, and the time of the last look."""
 
     work: kit.Work
     seconds: float = 0
@@ -41,11 +41,11 @@ class Seen:
     last: float = 0
 
 
-Processes = dict[tuple[int, int], Seen]  # by number and by when it began
+Processes = dict[tuple[int, int], Seen]  # by number and start
 
 
 def look(seen: Processes) -> None:
-    """Notes what each process of the prover has taken so far, with its copies that have ended."""
+    """Notes the time that each process of the prover has taken so far, with its copies that have ended."""
     for pid in map(int, filter(str.isdigit, os.listdir("/proc"))):
         with contextlib.suppress(OSError):
             it = processes.process(pid)
@@ -61,7 +61,7 @@ def shown(seconds: float) -> str:
 
 
 def table(seen: Processes, total: float) -> str:
-    """The minutes of each crate by kind and by the clock, those of all crates, and the total."""
+    """Returns the minutes of each crate by kind and by the clock, those of all crates, and the total."""
     sums: dict[kit.Work, float] = collections.defaultdict(float)
     for it in seen.values():
         sums[it.work] += it.seconds
@@ -76,7 +76,7 @@ def table(seen: Processes, total: float) -> str:
 
 
 def watched(command: list[str]) -> tuple[int, Processes]:
-    """Runs a command: its status, and the processes of the prover that were seen until it ended."""
+    """Runs a command. Returns its status, and the processes of the prover that were seen until it ended."""
     seen: Processes = {}
     is_over = threading.Event()
 

@@ -1,5 +1,5 @@
-"""The text of GLOSSARY.md: the terms, from the comment at the head of the words that indexset passes on, and each
-word that the contracts of collections use, with the comment beside its definition.
+"""The text of GLOSSARY.md: the terms, from the comment at the head of the words that indexset re-exports, and each word
+that the contracts of collections use, with the comment beside its definition.
 """
 
 from __future__ import annotations
@@ -26,7 +26,7 @@ ABOUT_WORDS = (
 
 @dataclasses.dataclass(frozen=True)
 class Code:
-    """The clauses of a page of contracts, and the source files that have them."""
+    """The clauses of a page of the reference, and the source files that have them."""
 
     clauses: str
     files: list[pathlib.Path]
@@ -34,14 +34,14 @@ class Code:
 
 @dataclasses.dataclass(frozen=True)
 class Word:
-    """A word of the contracts, and what its comment says, or else its short definition."""
+    """A word of the contracts, and its comment, or else its short definition."""
 
     name: str
     says: str
 
 
 def imported(files: Iterable[pathlib.Path]) -> Iterator[tuple[str, str]]:
-    """Each word that the sources import, with its file in `specs`."""
+    """Returns each word that the sources import, with its file in `specs`."""
     for file in files:
         text = file.read_text(encoding="utf-8")
         for crate, path, names in re.findall(r"use Rattle\.(indexset\w*)\.specs\.(\w+)\.\{(.*?)\}", text, re.S):
@@ -50,7 +50,7 @@ def imported(files: Iterable[pathlib.Path]) -> Iterator[tuple[str, str]]:
 
 
 def used(pages: Iterable[Code]) -> set[tuple[str, str]]:
-    """The words in the clauses, each with its file."""
+    """Returns the words in the clauses, each with its file."""
     found: set[tuple[str, str]] = set()
     for page in pages:
         words = set(re.findall(r"[^\W\d]\w*'*", page.clauses))
@@ -59,12 +59,12 @@ def used(pages: Iterable[Code]) -> set[tuple[str, str]]:
 
 
 def is_definition(line: str) -> bool:
-    """Whether a line defines a word: at the margin or in a module, and no field of a record."""
+    """Returns whether a line defines a word: at the margin or in a module, and not a field of a record."""
     return bool(re.match(r"(?:  )?(?:(?:abbrev|unfoldable) )?pub (?!use|mod)", line))
 
 
 def words_of(text: str) -> Iterator[Word]:
-    """The words of a specs file."""
+    """Returns the words of a specs file."""
     lines = text.splitlines()
     comment: list[str] = []
     for at, line in enumerate(lines):
@@ -81,25 +81,25 @@ def words_of(text: str) -> Iterator[Word]:
 
 
 def passed_on() -> set[str]:
-    """The words that indexset passes on."""
+    """Returns the words that indexset re-exports."""
     lists = re.findall(r"^(?:unfoldable )?pub use [\w.]+\.\{(.*?)\}", WORDS.read_text(encoding="utf-8"), re.M)
     return {name.strip() for names in lists for name in names.split(",")}
 
 
 def terms() -> list[str]:
-    """The table of terms and the paragraphs after it: a row is one line, and a paragraph is one."""
+    """Returns the table of terms and the paragraphs after it: a row is one line, and a paragraph is one."""
     head = WORDS.read_text(encoding="utf-8").split("\n\n")[0]
     text = "\n".join(line[3:] for line in head.split("-- Terms:\n--\n")[1].splitlines())
     return re.sub(r"(?<!\n)\n *(?![|\n ])", " ", text).splitlines()
 
 
 def row(it: Word, star: bool) -> str:
-    """A row of the glossary."""
+    """Returns a row of the glossary."""
     return f"|`{it.name}`{STAR * star}|{it.says}|"
 
 
 def text(pages: Iterable[Code], crates: Iterable[str]) -> str:
-    """The text of GLOSSARY.md, with the words of these crates."""
+    """Returns the text of GLOSSARY.md, with the words of these crates."""
     out = [
         "# Glossary", "", ABOUT, "", *terms(), "", "## Each word", "", ABOUT_WORDS, "", "|Word|Meaning|", "|---|---|",
     ]

@@ -1,8 +1,8 @@
-"""All that the tools of this repository use of the toolchain beyond the commands that `rt help` lists.
+"""The parts of the toolchain that the tools of this repository use beyond the commands that `rt help` lists.
 
-`rt` is a script over a module `rtlib`, which knows the crates of a repository, the words that the prover takes
-for each, and where what was built lies. That module may change with the toolchain: where it lacks what is used
-here, the tools stop with a sentence that says what.
+`rt` is a script over a module `rtlib`, which knows the crates of a repository, the words that the prover takes for
+each, and the places of built files. That module may change with the toolchain: if it does not have what is used here,
+the tools stop with a sentence that names the missing part.
 """
 
 from __future__ import annotations
@@ -27,22 +27,22 @@ import processes
 
 TOP = pathlib.Path(__file__).resolve().parent.parent
 USED = ("KIT", "PARTS", "RATTLE", "Crate", "crates_below", "guarded", "lock", "main")
-STAMP = "stamp"  # beside a built library: a sum of all that it was built from
+STAMP = "stamp"  # beside a built library: a sum of all sources that it was built from
 MEMORY = 4 << 30  # bytes that a check may take
 PROVED = "out/checked"  # in the folder of a static library: what its check proved, for its build
 PROVER = "rattle"  # the name of its process
 ALONE = "/rt-edit-"  # in the path of the folder in which `rt must-fail` tries an edit
-# What a check says of a function, and above that, what is open in it.
+# The output of a check for a function, and before that, what is open in it.
 FUNCTION = re.compile(r"fn (\S+): (.*)")
 OPEN = re.compile(r"note: (src/\S+:\d+:\d+: it is not proved .*)")
-# An error in a proof file, which stands in the folder of its function.
+# An error in a proof file, in the folder of its function.
 IN_PROOF = re.compile(r"(?:\./)?proofs/(\S+)/\w+\.antt:\d+:\d+: error: (.*)")
-# Such an error where the proof names what the code no longer has, and so says nothing of a contract.
+# Such an error if the proof names something that the code no longer has; it then does not concern a contract.
 STALE = re.compile(
     r"has no field|is not a field of|has no `|is not in scope|is no name|was not admitted"
     r"|was rejected, were not checked"
 )
-# What it says where it is asked for a function by a name that fits none, or several.
+# The output for a name that matches no function, or several.
 NO_FUNCTION = re.compile(r"`\w+` has no function `([^`]+)`")
 SEVERAL = re.compile(r"several functions are named `([^`]+)`: help: write one of (.*)")
 ENDED = re.compile(r"checked (\S+), \d+ of \d+")
@@ -50,7 +50,7 @@ UNREAD = re.compile(r"(?:\./)?(?:src|specs)/\S+:\d+:\d+: error|rattle: error|err
 
 
 class Crate(Protocol):
-    """A crate, as `rtlib` knows it."""
+    """A crate, as in `rtlib`."""
 
     name: str
     folder: str
@@ -74,25 +74,27 @@ Crates = list[Crate]
 
 
 class Linking(Protocol):
-    """What is used of the class of the crates: which files are linked into a crate's program."""
+    """The used part of the class of the crates: the files that are linked into a crate's program."""
 
     c_code: Callable[[Crate, str], list[str]]
 
 
 class Proving(Protocol):
-    """What is used of the class of the crates under `rt ci`: it runs the prover's commands, and judges their words."""
+    """The used part of the class of the crates under `rt ci`: it runs the prover's commands, and judges their
+    output."""
 
     prove: Callable[..., int]
 
 
 Key = tuple[str, ...]  # of a task of `rt ci`: a crate, and whether it is its proof or its tests
-Given = dict[Key, object]  # what tasks gave
-# What a task waits for, its work in lines, its memory, and a call that gets what others gave and how many jobs it has.
+Given = dict[Key, object]  # results of tasks
+# The tasks that a task waits for, its work in lines, its memory, and a call that gets their results and a number of
+# jobs.
 Task = tuple[list[Key], int, int, Callable[[Given, int], object]]
 
 
 class Command(Protocol):
-    """What is used of the script `rt`."""
+    """The used part of the script `rt`."""
 
     Crate: Proving
     in_lanes: Callable[[dict[Key, Task]], Given]
@@ -102,7 +104,7 @@ class Command(Protocol):
 
 
 class Module(Protocol):
-    """What is used of `rtlib`."""
+    """The used part of `rtlib`."""
 
     KIT: str
     PARTS: tuple[str, ...]
@@ -123,7 +125,7 @@ class Module(Protocol):
 
 
 def script() -> str:
-    """The file of the command `rt`."""
+    """Returns the file of the command `rt`."""
     command = shutil.which("rt")
     if not command:
         sys.exit("the toolchain's command `rt` is not on the path")
@@ -131,7 +133,7 @@ def script() -> str:
 
 
 def module() -> Module:
-    """The module `rtlib` that stands beside the command `rt`."""
+    """Returns the module `rtlib` beside the command `rt`."""
     sys.dont_write_bytecode = True
     sys.path.insert(0, os.path.dirname(script()))
     try:
@@ -145,12 +147,12 @@ def module() -> Module:
 
 
 def crates(top: pathlib.Path = TOP) -> Crates:
-    """The crates of a repository, each after those that it uses."""
+    """Returns the crates of a repository, each after those that it uses."""
     return module().crates_below(str(top / "crates"))
 
 
 def command() -> Command:
-    """The script `rt`, as a module."""
+    """Returns the script `rt`, as a module."""
     sys.dont_write_bytecode = True
     loader = importlib.machinery.SourceFileLoader("rt", script())
     spec = importlib.util.spec_from_loader("rt", loader)
@@ -165,10 +167,10 @@ def command() -> Command:
 def ci() -> int:
     """Runs `rt ci` with two changes.
 
-    A check of a static library also writes what it proved into the library's folder, for `library`: `rt ci` has that
-    written of a program only, and `rt lib` would prove it again, in 7.9 minutes of processor in place of 0.5.
+    A check of a static library also writes what it proved into the library's folder, for `library`: `rt ci` does so
+    only for a program, and `rt lib` would prove it again, in 7.9 minutes of processor time in place of 0.5.
 
-    `rt ci` shares the idle processors among all proofs that wait, and counts the tests of a crate that has none as one:
+    `rt ci` shares the idle processors among all proofs that wait, and counts the tests of a crate without tests as one:
     of four processors the first crate of a chain got one. Those tests are left for the end, when nothing waits.
     """
     rt = command()
@@ -189,7 +191,8 @@ def ci() -> int:
 
 
 def library(folder: pathlib.Path) -> int:
-    """Builds the static library of a crate from what a check under `ci` proved of it, or proves it without that."""
+    """Builds the static library of a crate from what a check under `ci` proved of it, or proves it if there is no such
+    check."""
     crate = next(it for it in crates(folder.parent.parent) if it.name == folder.name)
     if not (folder / PROVED).is_dir():
         return subprocess.run(["rt", "lib", "--jobs", str(len(os.sched_getaffinity(0)))], cwd=folder).returncode
@@ -202,32 +205,31 @@ def library(folder: pathlib.Path) -> int:
 
 
 def stamp(top: pathlib.Path) -> None:
-    """Writes the sums by which `rt` knows that the libraries of a repository are up to date: `rt ci` leaves
-    the libraries without."""
+    """Writes the sums that mark the libraries of a repository as up to date for `rt`: `rt ci` does not write them."""
     for crate in crates(top):
         if os.path.isdir(crate.rlib):
             pathlib.Path(crate.folder, "out/rlib/stamp").write_text(crate.stamp(), encoding="utf-8")
 
 
 def identity() -> str:
-    """The line by which the toolchain tells itself from another one."""
+    """Returns the line that identifies the toolchain."""
     return subprocess.run(["rt", "version"], capture_output=True, text=True, check=True).stdout.strip()
 
 
 def sources(crate: Crate) -> list[pathlib.Path]:
-    """The folders of a crate that a check reads."""
+    """Returns the folders of a crate that a check reads."""
     folders = [pathlib.Path(crate.folder, part) for part in module().PARTS]
     return [it for it in folders if it.is_dir()]
 
 
 def unbuilt(crate: Crate, built: Crate) -> list[str]:
-    """The libraries below a crate that are not built from the sources as they are, in the checkout of `built`."""
+    """Returns the libraries below a crate that are not built from the current sources, in the checkout of `built`."""
     there = {it.name: it for it in built.below()}
     return [it.name for it in crate.below() if it.name not in there or not is_built(it, there[it.name])]
 
 
 def is_built(crate: Crate, built: Crate) -> bool:
-    """Whether the library of a crate is there, and is built from these sources by this toolchain."""
+    """Returns whether the library of a crate exists, and is built from these sources by this toolchain."""
     file = pathlib.Path(built.rlib).parent / STAMP
     return os.path.isdir(built.rlib) and file.is_file() and file.read_text(encoding="utf-8") == crate.stamp()
 
@@ -244,19 +246,19 @@ def locked(crates: Crates) -> Iterator[None]:
 
 
 def at_once() -> int:
-    """How many checks the processors and the free memory carry."""
+    """Returns the number of checks that the processors and the free memory allow at a time."""
     return max(1, min(len(os.sched_getaffinity(0)), free_memory() // MEMORY))
 
 
 def free_memory() -> int:
-    """The free memory in bytes."""
+    """Returns the free memory in bytes."""
     found = re.search(r"MemAvailable:\s+(\d+)", pathlib.Path("/proc/meminfo").read_text(encoding="ascii"))
     return 1024 * int(found[1]) if found else 0
 
 
 @dataclasses.dataclass
 class Finding:
-    """What a check says of a function."""
+    """The result of a check for a function."""
 
     said: str = "nothing"
     open: list[str] = dataclasses.field(default_factory=list)
@@ -271,25 +273,25 @@ class Finding:
 
 @dataclasses.dataclass
 class Checked:
-    """What a check said, with its exit status and the processor seconds that it took."""
+    """The output of a check, with its exit status and its processor seconds."""
 
     said: str
     status: int
     seconds: float
 
     def unread(self) -> list[str]:
-        """The errors for which the prover was not asked."""
+        """Returns the errors for which the prover was not asked."""
         return [line for line in self.said.splitlines() if UNREAD.match(line)]
 
     def unknown(self) -> tuple[str, list[str]]:
-        """The name by which it was asked for a function and knows none, or knows these."""
+        """Returns the name that matches no function, or several, and these."""
         if it := NO_FUNCTION.search(self.said):
             return it[1], []
         it = SEVERAL.search(self.said)
         return (it[1], re.findall(r"`([^`]+)`", it[2])) if it else ("", [])
 
     def findings(self, crate: str) -> dict[str, Finding]:
-        """What was found of each function, by its whole name."""
+        """Returns the findings for each function, by its full name."""
         found: dict[str, Finding] = {}
         opens: list[str] = []
         for line in self.said.splitlines():
@@ -307,7 +309,7 @@ class Checked:
 
 
 def guard() -> list[str]:
-    """The words before a command by which it ends where this process does. The first call has to come from the main
+    """Returns the words before a command that make it end with this process. The first call must come from the main
     thread."""
     return module().guarded()
 
@@ -315,7 +317,7 @@ def guard() -> list[str]:
 def check(built: Crate, at: pathlib.Path, kept: pathlib.Path, flags: list[str], jobs: int) -> Checked:
     """Checks the sources in a folder as those of a crate, over the libraries of the crate's checkout.
 
-    Of the crate itself it takes what was kept in a folder by checks before it, and keeps there what it has checked.
+    Of the crate itself it uses what earlier checks kept in a folder, and keeps there what it has checked.
     """
     rtlib = module()
     flags = ["--jobs", str(jobs), "--incremental", str(kept), *flags]
@@ -330,14 +332,14 @@ def check(built: Crate, at: pathlib.Path, kept: pathlib.Path, flags: list[str], 
 
 @dataclasses.dataclass(frozen=True)
 class Work:
-    """The crate that a process of the prover works on, and what for: its proof, its tests or its edits."""
+    """The crate that a process of the prover works on, and the purpose: its proof, its tests or its edits."""
 
     crate: str
     kind: str
 
 
 def work_of(pid: int) -> Work | None:
-    """What a process of the prover works on; None of a copy of another one, and of what is no such process."""
+    """Returns the work of a process of the prover; None for a copy of another one, and for any other process."""
     it = processes.process(pid)
     if it.name != PROVER or processes.process(it.parent).name == PROVER:
         return None
@@ -349,7 +351,8 @@ def work_of(pid: int) -> Work | None:
 
 
 def timed(built: Crate, at: pathlib.Path) -> Iterator[tuple[str, float]]:
-    """The functions of the sources in a folder, each as its proof ends in a check by one job, with its seconds."""
+    """Returns the functions of the sources in a folder, each as its proof ends in a check by one job, with its
+    seconds."""
     rtlib = module()
     words = [*guard(), rtlib.RATTLE, "check", *built.words(["--jobs", "1", "--progress"], keeps=False)]
     now, last, is_first, ended = 0.0, 0.0, True, ""
@@ -369,7 +372,7 @@ def timed(built: Crate, at: pathlib.Path) -> Iterator[tuple[str, float]]:
 
 
 def main() -> int:
-    """`kit.py ci`, `kit.py stamp FOLDER` or `kit.py library FOLDER`."""
+    """Runs `kit.py ci`, `kit.py stamp FOLDER` or `kit.py library FOLDER`."""
     ask = argparse.ArgumentParser(description="What the tools use of the toolchain beyond the commands of `rt help`.")
     verbs = ask.add_subparsers(dest="verb", required=True)
     verbs.add_parser("ci", help="run `rt ci` over idle processors, and keep what it proves for `library`")

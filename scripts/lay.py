@@ -1,10 +1,10 @@
 #!/usr/bin/env python3
-"""Lays crates of this repository into a folder, as a repository of their own.
+"""Copies crates of this repository into a folder, as a repository of their own.
 
     scripts/lay.py FOLDER [CRATE..]
 
-With no names: those that stand above the line `# Tests` of crates.txt. Each comes with the libraries that it uses, and
-with what its program is run on; what was built, and the edits that must fail, stay here.
+With no names: those above the line `# Tests` of crates.txt. Each is copied with the libraries that it uses, and with
+the input of its program; built files, and the edits that must fail, are not copied.
 """
 
 from __future__ import annotations
@@ -18,18 +18,18 @@ TESTS = "# Tests"
 
 
 def listed(text: str) -> dict[str, str]:
-    """The lines of a list of crates, by name."""
+    """Returns the lines of a list of crates, by name."""
     lines = [line for line in text.splitlines() if line and not line.startswith("#")]
     return {line.split(":")[0].split()[0]: line for line in lines}
 
 
 def every(top: pathlib.Path = TOP) -> list[str]:
-    """The names of all crates."""
+    """Returns the names of all crates."""
     return [*listed((top / "crates.txt").read_text(encoding="utf-8"))]
 
 
 def with_those_below(names: list[str], lines: dict[str, str]) -> list[str]:
-    """Crates and the libraries of this repository that they use, in the order of the list."""
+    """Returns crates and the libraries of this repository that they use, in the order of the list."""
     wanted: list[str] = []
     left = list(names)
     while left:
@@ -41,7 +41,7 @@ def with_those_below(names: list[str], lines: dict[str, str]) -> list[str]:
 
 
 def copy(name: str, to: pathlib.Path, top: pathlib.Path = TOP) -> None:
-    """Copies a crate into a folder, in place of what lay there of it."""
+    """Copies a crate into a folder, in place of an earlier copy."""
     crate = to / "crates" / name
     for old in crate.iterdir() if crate.is_dir() else ():
         if old.name != "out":
@@ -51,7 +51,7 @@ def copy(name: str, to: pathlib.Path, top: pathlib.Path = TOP) -> None:
 
 
 def lay(to: pathlib.Path, names: list[str] | None = None, top: pathlib.Path = TOP) -> list[str]:
-    """Lays crates into a folder, in place of what lay there of them; returns all that it laid."""
+    """Copies crates into a folder, in place of earlier copies; returns all that it copied."""
     text = (top / "crates.txt").read_text(encoding="utf-8")
     lines = listed(text)
     laid = with_those_below(list(listed(text.partition(TESTS)[0])) if names is None else names, lines)

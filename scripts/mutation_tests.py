@@ -4,17 +4,17 @@
     scripts/mutation_tests.py [CRATE..]
 
 Each file crates/NAME/must-fail/*.edit makes a wrong body of a function, by a line `file: PATH` and pairs of lines
-`old: TEXT` and `new: TEXT`; an old text stands in its file exactly once. A proof rests on the contracts of what a
-function calls and not on their bodies, and the prover says of each function by itself why it is refused. So edits of
-different functions of a crate are tried together, in rounds. An edit is refused where the prover finds something
-open in a function that the edit is in: not where that function only calls one that is refused, and not where a proof
-only names what the edit took away. What is not refused so in a round is tried again, at last alone.
+`old: TEXT` and `new: TEXT`; an old text occurs in its file exactly once. A proof depends on the contracts of the
+functions that it calls and not on their bodies, and the prover reports for each function by itself why it is refused.
+So edits of different functions of a crate are tried together, in rounds. An edit is refused if the prover finds
+something open in a function that contains the edit: not if that function only calls one that is refused, and not if a
+proof only names what the edit removed. An edit that is not refused in a round is tried again, at last by itself.
 
-`rt must-fail` tries each alone, which took 67 minutes of processor where this took 20. Only the edited functions are
-proved, and what they call, over the built libraries below their crate. Those have to be there and up to date, and so
-has the crate's own, which shows that it is proved as it stands: `rt lib` in its folder leaves them in out/. What one
-round has proved of a crate is not proved again in the next ones. What the prover said is kept in out/edits.log. The
-last line is 'N passed, M failed'.
+`rt must-fail` tries each edit by itself, which took 67 minutes of processor time where this took 20. Only the edited
+functions are proved, and those that they call, over the built libraries below their crate. Those must exist and be up
+to date, and so must the crate's own, which shows that it is proved unchanged: `rt lib` in its folder leaves them in
+out/. What one round has proved of a crate is not proved again in later ones. The prover's output is kept in
+out/edits.log. The last line is 'N passed, M failed'.
 """
 
 from __future__ import annotations
@@ -44,7 +44,7 @@ IMPL = re.compile(r"impl\s*(?:(.*?)\s+for\s+)?(.*?)\s*$")
 
 @dataclasses.dataclass(frozen=True)
 class Change:
-    """A text of a file, and what stands in its place in a wrong body."""
+    """A text of a file, and its replacement in a wrong body."""
 
     path: str
     old: str
@@ -55,8 +55,8 @@ class Change:
 class Function:
     """An edited function: its module, the type and the trait that it is a method of, and its name.
 
-    The prover calls a method by its type's module, wherever its text stands, and tells types of one name
-    apart by their arguments. So `word`, by which it is asked, begins as the end of the name that is known.
+    The prover calls a method by its type's module, wherever its text is, and distinguishes types of one name by their
+    arguments. So `word`, by which it is asked, begins as the end of the known name.
     """
 
     module: list[str]
@@ -71,12 +71,12 @@ class Function:
         return "::".join([*self.module, self.owner, self.name])
 
     def has(self, name: str) -> bool:
-        """Whether a whole name is that of this function, or of a closure in it."""
+        """Returns whether a full name is that of this function, or of a closure in it."""
         within = rf"::fn::(?:{re.escape(self.owner)}[^:]*::)?{self.name}::" if self.owner else rf"::fn::{self.name}::"
         return f"::{name}".endswith(f"::{self.word}") or bool(re.search(within, name))
 
     def learns(self, checked: kit.Checked) -> bool:
-        """Takes another name where the prover knows no function, or several, by the one that it was asked by."""
+        """Takes another name if the prover knows no function, or several, by the present one."""
         word, names = checked.unknown()
         if word != self.word:
             return False
@@ -84,7 +84,7 @@ class Function:
         return self.word != word
 
     def nearest(self, names: list[str]) -> str:
-        """Of the names of several functions, the one whose module is this one's."""
+        """Returns, of the names of several functions, the one with this function's module."""
         parts = {it: it.split("::") for it in names}
         shared = {it: len(os.path.commonprefix([self.module, words[1:-1]])) for it, words in parts.items()}
         return max(names, key=lambda it: (parts[it][-2].split("+")[0] == self.owner, shared[it]))
@@ -92,14 +92,14 @@ class Function:
 
 @dataclasses.dataclass
 class Edit:
-    """A wrong body: its changes, and the functions that they are in."""
+    """A wrong body: its changes, and the functions that contain them."""
 
     name: str
     changes: list[Change]
     functions: list[Function]
 
     def finding(self, found: dict[str, kit.Finding]) -> kit.Finding:
-        """What was found of the edited functions, closures in them among these."""
+        """Returns the findings for the edited functions, closures in them included."""
         mine = [it for name, it in found.items() if any(function.has(name) for function in self.functions)]
         mine.sort(key=lambda it: (bool(it.open), it.is_refused()))
         return mine[-1] if mine else kit.Finding()
@@ -107,7 +107,7 @@ class Edit:
 
 @dataclasses.dataclass
 class Tally:
-    """What came of the edits of a crate."""
+    """The results of the edits of a crate."""
 
     crate: str
     passed: int = 0
@@ -121,7 +121,7 @@ class Unfit(Exception):
 
 
 def changes_in(text: str) -> list[Change]:
-    """The changes that a file of an edit lists."""
+    """Returns the changes that a file of an edit lists."""
     found: list[Change] = []
     path, old = "", ""
     for line in text.splitlines():
@@ -138,7 +138,7 @@ def changes_in(text: str) -> list[Change]:
 
 
 def applied(changes: list[Change], folder: pathlib.Path) -> dict[str, str]:
-    """The texts of the files that the changes make, by path."""
+    """Returns the texts of the files that the changes make, by path."""
     texts: dict[str, str] = {}
     for it in changes:
         if it.path not in texts and not (folder / it.path).is_file():
@@ -151,7 +151,7 @@ def applied(changes: list[Change], folder: pathlib.Path) -> dict[str, str]:
 
 
 def without_brackets(text: str) -> str:
-    """A text without what stands in angle brackets."""
+    """Returns a text without the parts in angle brackets."""
     text = text.replace("->", "")
     while (less := re.sub(r"<[^<>]*>", "", text)) != text:
         text = less
@@ -159,14 +159,14 @@ def without_brackets(text: str) -> str:
 
 
 def named(of_type: str) -> str:
-    """A type as the prover writes it in the name of a function."""
+    """Returns a type as the prover writes it in the name of a function."""
     of_type = re.sub(r"&\s*(?:'\w+ )?mut ", "RefMut ", of_type)
     of_type = re.sub(r"&\s*(?:'\w+ )?", "Ref ", of_type)
     return "".join(re.sub(r"\W", "", it.split("::")[-1]) for it in of_type.split())
 
 
 def owner(header: str) -> str:
-    """What the prover calls the impl or the trait with a header."""
+    """Returns the prover's name of the impl or the trait with a header."""
     header = without_brackets(" ".join(header.split())).partition(" where")[0]
     header = re.sub(r"^(?:unsafe )?(?:pub )?", "", header)
     if header.startswith("trait"):
@@ -176,7 +176,7 @@ def owner(header: str) -> str:
 
 
 def function_at(path: str, text: str, at: int) -> Function:
-    """The function around a place of a file."""
+    """Returns the function around a place of a file."""
     module = [it for it in pathlib.Path(path).with_suffix("").parts[1:] if it not in ("lib", "main", "mod")]
     lines = text[: at + len(text[at:].partition("\n")[0])].splitlines()
     heads = [it for line in lines if (it := FUNCTION.match(line))]
@@ -189,7 +189,7 @@ def function_at(path: str, text: str, at: int) -> Function:
 
 
 def read(file: pathlib.Path, folder: pathlib.Path) -> Edit:
-    """The edit that a file lists."""
+    """Returns the edit that a file lists."""
     changes = changes_in(file.read_text(encoding="utf-8"))
     functions: dict[str, Function] = {}
     for at, change in enumerate(changes):
@@ -205,7 +205,7 @@ def read(file: pathlib.Path, folder: pathlib.Path) -> Edit:
 
 
 def fit_together(edits: list[Edit], folder: pathlib.Path) -> bool:
-    """Whether edits are in different functions, and each old text stands once after those before it."""
+    """Returns whether edits are in different functions, and each old text occurs once after those before it."""
     functions = [function.key() for it in edits for function in it.functions]
     try:
         applied([change for it in edits for change in it.changes], folder)
@@ -215,7 +215,7 @@ def fit_together(edits: list[Edit], folder: pathlib.Path) -> bool:
 
 
 class Trial:
-    """The edits of a crate as they are tried."""
+    """The edits of a crate while they are tried."""
 
     def __init__(self, crate: kit.Crate, built: kit.Crate, kept: pathlib.Path, log: TextIO) -> None:
         self.crate, self.built, self.kept, self.log = crate, built, kept / crate.name, log
@@ -228,7 +228,7 @@ class Trial:
         print(f"{self.crate.name}/{name}: {why}", flush=True)
 
     def edits(self, picked: list[str]) -> list[Edit]:
-        """The edits of the crate that can be tried."""
+        """Returns the edits of the crate that can be tried."""
         found = []
         for file in sorted((self.folder / "must-fail").glob("*.edit")):
             try:
@@ -238,7 +238,7 @@ class Trial:
         return found
 
     def check(self, edits: list[Edit]) -> kit.Checked:
-        """What the prover says of a copy of the crate with these edits in it."""
+        """Returns the prover's output for a copy of the crate with these edits in it."""
         with tempfile.TemporaryDirectory(prefix="edits-") as room:
             for part in kit.sources(self.crate):
                 shutil.copytree(part, pathlib.Path(room, part.name))
@@ -250,7 +250,7 @@ class Trial:
         return checked
 
     def asked(self, functions: list[Function], room: pathlib.Path) -> kit.Checked:
-        """What the prover says of functions, each by a name that it knows."""
+        """Returns the prover's output for functions, each by a name that it knows."""
         while True:
             words = [word for it in functions for word in ("--only", it.word)]
             checked = kit.check(self.built, room, self.kept, words, self.jobs())
@@ -260,18 +260,18 @@ class Trial:
                 return checked
 
     def run(self, picked: list[str]) -> Tally:
-        """Tries all edits, as many at a time as fit together, and those that are left one by one."""
+        """Tries all edits, as many at a time as fit together, and the remaining ones one by one."""
         left, alone = self.edits(picked), list[Edit]()
         while left or alone:
             together = self.fitting(left) if left else [alone.pop(0)]
             left = [it for it in left if it not in together]
             kept = self.tried(together)
-            # (where none of a round was refused, they are tried one by one)
+            # (if none of a round was refused, they are tried one by one)
             (left if len(kept) < len(together) else alone).extend(kept)
         return self.tally
 
     def fitting(self, edits: list[Edit]) -> list[Edit]:
-        """As many of these edits as can be tried together."""
+        """Returns as many of these edits as can be tried together."""
         together = list[Edit]()
         for edit in edits:
             if fit_together([*together, edit], self.folder):
@@ -279,7 +279,7 @@ class Trial:
         return together
 
     def tried(self, edits: list[Edit]) -> list[Edit]:
-        """Tries edits together, and returns those that say nothing yet."""
+        """Tries edits together, and returns those without a result yet."""
         checked = self.check(edits)
         found = checked.findings(self.crate.name)
         refused = [it for it in edits if is_refused(it.finding(found), len(edits) == 1)]
@@ -293,12 +293,12 @@ class Trial:
 
 
 def is_refused(finding: kit.Finding, is_alone: bool) -> bool:
-    """Whether something of a function itself is open. Beside a refused callee that may be the callee's doing."""
+    """Returns whether something of a function itself is open. Beside a refused callee that may be due to the callee."""
     return finding.is_refused() and bool(finding.open) and (is_alone or not finding.has_refused_callee())
 
 
 def why_not(edit: Edit, finding: kit.Finding, checked: kit.Checked) -> str:
-    """Why an edit that was tried alone counts as not refused."""
+    """Returns why an edit that was tried by itself counts as not refused."""
     name = " and ".join(it.word for it in edit.functions)
     if checked.unread():
         return f"BAD EDIT: the prover cannot read the edited text: {checked.unread()[0][:200]}"
@@ -314,7 +314,7 @@ def why_not(edit: Edit, finding: kit.Finding, checked: kit.Checked) -> str:
 
 
 def stop_on_unbuilt(trials: list[Trial]) -> None:
-    """Stops where a crate, or a library below it, is not built from the sources as they are."""
+    """Stops if a crate, or a library below it, is not built from the current sources."""
     for it in trials:
         lacking = kit.unbuilt(it.crate, it.built)
         if it.crate.makes_rlib() and not kit.is_built(it.crate, it.built):
@@ -336,7 +336,7 @@ def arguments() -> argparse.Namespace:
 
 
 def trials_of(given: argparse.Namespace, kept: pathlib.Path, log: TextIO) -> list[Trial]:
-    """The crates with edits, those with most of them first."""
+    """Returns the crates with edits, those with most of them first."""
     built = {it.name: it for it in kit.crates(given.built or given.top)}
     crates = [it for it in kit.crates(given.top) if not given.crates or it.name in given.crates]
     if lacking := {*given.crates} - {it.name for it in crates}:
@@ -364,7 +364,7 @@ def main() -> int:
         runs: list[Future[Tally]] = []
 
         def share() -> int:
-            """The jobs of a check: its share of all, among the crates that are left."""
+            """Returns the jobs of a check: its share of all, among the remaining crates."""
             left = len(trials) - sum(it.done() for it in runs)
             return max(1, int(given.jobs) // max(1, left))
 

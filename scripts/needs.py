@@ -1,10 +1,10 @@
 #!/usr/bin/env python3
-"""Installs the packages of Debian that the gate needs and that are missing here, or says which they are and fails.
+"""Installs the packages of Debian that the gate needs and that are missing, or names them and fails.
 
     scripts/needs.py [--check]      `--check` installs nothing
 
-It asks `apt-get` once, and only where something is missing. The last line names what is missing, or says that all is
-there.
+It calls `apt-get` once, and only if something is missing. The last line names what is missing, or says that everything
+is installed.
 """
 
 from __future__ import annotations
@@ -17,7 +17,7 @@ import subprocess
 import sys
 import sysconfig
 
-# What each command is for is said by the script that runs it; each comes with its package.
+# The script that runs a command says what it is for; each comes with its package.
 COMMANDS = {
     "c++": "g++",
     "cc": "gcc",
@@ -45,7 +45,7 @@ MODULES = {"ensurepip": "python3-venv"}
 
 
 def missing() -> list[str]:
-    """The packages whose commands or files are missing."""
+    """Returns the packages whose commands or files are missing."""
     lacking = {package for command, package in COMMANDS.items() if not shutil.which(command)}
     lacking |= {package for file, package in FILES.items() if not os.path.exists(file)}
     lacking |= {package for module, package in MODULES.items() if not importlib.util.find_spec(module)}
@@ -54,7 +54,7 @@ def missing() -> list[str]:
 
 
 def install(packages: list[str]) -> None:
-    """Has `apt-get` install packages; what comes of it is seen by what is missing then."""
+    """Installs packages by `apt-get`; `missing` then shows the result."""
     if os.geteuid() != 0 or not shutil.which("apt-get"):
         return
     quiet = {**os.environ, "DEBIAN_FRONTEND": "noninteractive"}

@@ -1,4 +1,4 @@
-"""What the system says of a process."""
+"""The system's data on a process."""
 
 from __future__ import annotations
 
@@ -11,7 +11,7 @@ import pathlib
 class Process:
     """A process: its name, its parent, the tick at which it began, and its processor time so far.
 
-    The time is in seconds, with that of those of its children that have ended.
+    The time is in seconds, including that of its children that have ended.
     """
 
     name: str
@@ -21,7 +21,7 @@ class Process:
 
 
 def process(pid: int) -> Process:
-    """What the system says of a process."""
+    """Returns the system's data on a process."""
     head, _, rest = pathlib.Path(f"/proc/{pid}/stat").read_text(errors="replace").rpartition(")")
     words = rest.split()
     seconds = sum(map(int, words[11:15])) / os.sysconf("SC_CLK_TCK")
@@ -29,7 +29,7 @@ def process(pid: int) -> Process:
 
 
 def descends(pid: int, top: int) -> bool:
-    """Whether a process is one that another one has started, or one of its processes."""
+    """Returns whether a process is another one, or was started by it or its processes."""
     while pid not in (0, top):
         pid = process(pid).parent
     return pid == top

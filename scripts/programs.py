@@ -1,4 +1,4 @@
-"""Where the built programs of this repository lie."""
+"""The places of the built programs of this repository."""
 
 from __future__ import annotations
 
@@ -11,14 +11,14 @@ FOLDER = "INDEXSET_PROGRAMS"
 
 
 def proved(name: str) -> pathlib.Path | None:
-    """The program of a crate where `rt run` leaves it, if it is there and as new as the sources."""
+    """Returns the program of a crate where `rt run` leaves it, if it exists and is as new as the sources."""
     program = TOP / "crates" / name / "out" / name
     newest = max(source.stat().st_mtime for source in TOP.glob("crates/*/src/**/*.rt"))
     return program if program.exists() and program.stat().st_mtime >= newest else None
 
 
 def built(name: str) -> pathlib.Path:
-    """The program of a crate: in the folder that INDEXSET_PROGRAMS names, or where `rt run` leaves it."""
+    """Returns the program of a crate: in the folder that INDEXSET_PROGRAMS names, or where `rt run` leaves it."""
     if folder := os.environ.get(FOLDER):
         return pathlib.Path(folder, name).resolve()
     program = proved(name)

@@ -1,12 +1,12 @@
 #!/usr/bin/env python3
-"""Measures the processor seconds of each function's proof, and lists the dearest.
+"""Measures the processor seconds of each function's proof, and lists the most expensive ones.
 
     scripts/proof_seconds.py [CRATE..]
 
-Each crate is checked from nothing by one job, one crate after another, over the built libraries below it (as `rt check`
+Each crate is checked from scratch by one job, one crate after another, over the built libraries below it (as `rt check`
 of a crate above leaves them in out/). A figure is the processor time between two functions' ends. A file of lemmas is
-checked with the first function that uses it, and the front end with the first function, which has no figure for that.
-The figures of a crate are kept in out/seconds/CRATE.tsv, and `--kept` lists those of earlier runs.
+checked with the first function that uses it, and the front end with the first function, which has no figure for that
+reason. The figures of a crate are kept in out/seconds/CRATE.tsv, and `--kept` lists those of earlier runs.
 """
 
 from __future__ import annotations
@@ -24,7 +24,7 @@ Seconds = list[tuple[float, str]]
 
 
 def measured(built: kit.Crate, crate: kit.Crate, to: pathlib.Path) -> Seconds:
-    """The seconds of each function of a crate, which are kept in a file."""
+    """Returns the seconds of each function of a crate, and keeps them in a file."""
     found = [(seconds, name) for name, seconds in kit.timed(built, pathlib.Path(crate.folder))]
     to.parent.mkdir(parents=True, exist_ok=True)
     to.write_text("".join(f"{seconds:.2f}\t{name}\n" for seconds, name in found), encoding="utf-8")
@@ -32,7 +32,7 @@ def measured(built: kit.Crate, crate: kit.Crate, to: pathlib.Path) -> Seconds:
 
 
 def read(file: pathlib.Path) -> Seconds:
-    """The seconds that an earlier run kept."""
+    """Returns the seconds that an earlier run kept."""
     if not file.is_file():
         return []
     rows = [line.split("\t") for line in file.read_text(encoding="utf-8").splitlines()]

@@ -1,11 +1,11 @@
 #!/usr/bin/env python3
-"""Programs of one file each as one program, whose first argument says which of them runs.
+"""Builds programs of one file each as one program, whose first argument selects the one to run.
 
     scripts/together.py FOLDER [--edits]
 
-It lays the crates of this repository that the gate proves into a folder, as scripts/lay.py does, but those programs as
-one, whose modules they are, with their proofs: so what they use is read and compiled once, and not for each. With
-`--edits` the wrong bodies come too, those of the programs as ones of the modules.
+It copies the crates of this repository that the gate proves into a folder, as scripts/lay.py does, but those programs
+as modules of one crate, with their proofs: so what they use is read and compiled once, and not for each. With `--edits`
+the wrong bodies are copied too, those of the programs as ones of the modules.
 """
 
 from __future__ import annotations
@@ -44,19 +44,20 @@ fn main(rt: HostRuntime) -> Result<()> {{
 
 
 def is_of_one_file(crate: pathlib.Path) -> bool:
-    """Whether a crate is a program of one file, which takes no argument and defines no words of contracts."""
+    """Returns whether a crate is a program of one file, which takes no argument and defines no words of contracts."""
     files = [*(crate / "src").rglob("*.rt")] if (crate / FILE).is_file() else []
     has_more = any((crate / it).exists() for it in ("args", "specs"))
     return len(files) == 1 and not has_more and BEGIN in files[0].read_text(encoding="utf-8")
 
 
 def within(text: str) -> str:
-    """The file of a program as that of a module."""
+    """Returns the file of a program as that of a module."""
     return text.replace(ROOT, "", 1).replace(BEGIN, WITHIN, 1)
 
 
 def join(to: pathlib.Path, name: str, names: list[str]) -> str:
-    """Writes the crate of a program that is several ones, with their proofs; returns its line of the list of crates."""
+    """Writes the crate of a program that contains several, with their proofs; returns its line of the list of
+    crates."""
     lines = lay.listed((lay.TOP / "crates.txt").read_text(encoding="utf-8"))
     listed = {it: lines[it].split(":")[1].split() for it in names}
     crate = to / "crates" / name
@@ -85,7 +86,7 @@ def join_proofs(crate: pathlib.Path, name: str) -> None:
 
 
 def lay_edits(to: pathlib.Path, name: str, is_module: bool) -> None:
-    """Lays the wrong bodies of a crate beside its sources, or those of a program as ones of a module."""
+    """Copies the wrong bodies of a crate, those of a program as ones of a module."""
     folder = to / "crates" / (NAME if is_module else name) / "must-fail"
     folder.mkdir(exist_ok=True)
     for file in (lay.TOP / "crates" / name / "must-fail").glob("*.edit"):
@@ -95,7 +96,8 @@ def lay_edits(to: pathlib.Path, name: str, is_module: bool) -> None:
 
 
 def laid(to: pathlib.Path, name: str, names: list[str]) -> pathlib.Path:
-    """The folder of a program of this name, laid into a folder beside the libraries that those programs use."""
+    """Returns the folder of a program of this name, copied into a folder beside the libraries that those programs
+    use."""
     lay.lay(to, names)
     line = join(to, name, names)
     with open(to / "crates.txt", "a", encoding="utf-8") as it:
@@ -104,7 +106,7 @@ def laid(to: pathlib.Path, name: str, names: list[str]) -> pathlib.Path:
 
 
 def lay_all(to: pathlib.Path, has_edits: bool) -> list[str]:
-    """Lays the crates that the gate proves into a folder, the programs of one file as one; returns these."""
+    """Copies the crates that the gate proves into a folder, the programs of one file as one; returns these."""
     names = lay.lay(to)
     small = [it for it in names if is_of_one_file(lay.TOP / "crates" / it)]
     line = join(to, NAME, small)

@@ -1,17 +1,18 @@
 #!/usr/bin/env python3
-"""Builds in minutes what is not proved: the program of a crate, or the library for C.
+"""Builds in minutes, without proofs: the program of a crate, or the library for C.
 
     scripts/unproved.py [CRATE] [-o FILE] [--unchecked]
     scripts/unproved.py --library [-o FILE]
 
-CRATE is the folder of a program's crate, of this repository or of another one (the current folder). The program goes to
-CRATE/out/unproved/NAME, where it stays. It stops at an index out of bounds, an overflow or a bad access, as `rt try`
-does, but no `requires` or `ensures` is checked; with --unchecked it stops at none of them, and is as fast as a proved
-one. Where a check stops it, it prints a report of addresses; `rt try` on the same input names the check. At its start
-it writes a line to standard error that says that it is unproved, and the symbol `unproved` marks the file.
+CRATE is the folder of a program's crate, of this repository or of another one (the current folder). The program is
+written to CRATE/out/unproved/NAME, and stays there. It stops at an index out of bounds, an overflow or a bad access, as
+`rt try` does, but no `requires` or `ensures` is checked; with --unchecked it stops at none of them, and is as fast as a
+proved one. If a check stops it, it prints a report of addresses; `rt try` on the same input names the check. At its
+start it writes a line to standard error that says that it is unproved, and the symbol `unproved` marks the file.
 
-The library goes to crates/indexset_c/out/unproved/libindexset_c.a, and its symbol `unproved` marks it. `make -C
-bindings/c UNPROVED=1` makes the libraries of C of it, in bindings/c/out/unproved, whose `indexset_proved` is 0.
+The library is written to crates/indexset_c/out/unproved/libindexset_c.a, and its symbol `unproved` marks it.
+`make -C bindings/c UNPROVED=1` makes the libraries of C from it, in bindings/c/out/unproved, whose `indexset_proved` is
+0.
 """
 
 from __future__ import annotations
@@ -30,7 +31,7 @@ import lay  # noqa: E402
 FOLDER = pathlib.Path("out/unproved")
 LIBRARY = "indexset_c"
 EXPORT = re.compile(r'pub extern "C" fn (\w+)\(([^)]*)\)')
-# `rt try` compiles what `main` reaches, and no other code. This one is compiled, and never runs.
+# `rt try` compiles what `main` reaches, and no other code. This code is compiled, and never runs.
 MAIN = """
 fn any<T>() -> T {{
     any::<T>()
@@ -56,7 +57,7 @@ __attribute__((constructor)) static void tell(void) {{
 
 
 def mark(name: str, to: pathlib.Path, *flags: str) -> None:
-    """Compiles the object that says that a file is unproved."""
+    """Compiles the object that marks a file as unproved."""
     command = ["cc", "-O1", "-c", "-fPIC", *flags, "-x", "c", "-o", str(to), "-"]
     subprocess.run(command, input=MARK.format(name=name), text=True, check=True)
 
@@ -70,7 +71,7 @@ def program(crate: pathlib.Path, to: pathlib.Path, is_unchecked: bool) -> None:
 
 
 def calls(source: pathlib.Path) -> str:
-    """Calls of all that a crate exports to C."""
+    """Returns calls of all exports of a crate to C."""
     lines = []
     for file in sorted(source.glob("*.rt")):
         module = "" if file.stem == "lib" else f"{file.stem}::"
@@ -80,7 +81,7 @@ def calls(source: pathlib.Path) -> str:
 
 
 def as_program(room: pathlib.Path) -> pathlib.Path:
-    """The crate of the library for C, laid into a folder, with a `main` that calls each export."""
+    """Returns the crate of the library for C, copied into a folder, with a `main` that calls each export."""
     lay.lay(room, [LIBRARY])
     crates = room / "crates.txt"
     text = crates.read_text(encoding="utf-8")

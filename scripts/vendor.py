@@ -3,8 +3,8 @@
 
     scripts/vendor.py REPOSITORY [CRATE..]      with names: these crates and those below them
 
-A copy from an earlier call is replaced, and so is its line; what `rt` built of it (out/) stays, and `rt` proves again
-what differs. The other crates and lines of REPOSITORY stay as they are.
+A copy from an earlier call is replaced, and so is its line. The files that `rt` built (out/) stay, and `rt` proves
+again what differs. The other crates and lines of REPOSITORY are unchanged.
 """
 
 from __future__ import annotations
@@ -22,13 +22,13 @@ LICENSE = "LICENSE"
 
 
 def name_of(line: str) -> str:
-    """The crate that a line of crates.txt lists, or nothing."""
+    """Returns the crate that a line of crates.txt lists, or an empty string."""
     words = line.partition("#")[0].partition(":")[0].split()
     return words[0] if words else ""
 
 
 def merged(text: str, lines: dict[str, str]) -> str:
-    """A list of crates with these lines: each in the place of the line of its crate, the rest at the end."""
+    """Returns a list of crates with these lines: each in the place of the line of its crate, the rest at the end."""
     left = dict(lines)
     kept = [left.pop(name_of(line), line) for line in text.splitlines()]
     return "".join(f"{line}\n" for line in [*kept, *left.values()])

@@ -1,11 +1,11 @@
 #!/usr/bin/env python3
 """Writes the prototypes of the C header and the table of Python's calls from the exports of `crates/indexset_c`.
 
-    scripts/write_bindings.py [--check]      `--check` writes nothing, and fails where something is out of date
+    scripts/write_bindings.py [--check]      `--check` writes nothing, and fails if something is out of date
 
-In the header each prototype is written in its place: what stands around it is written by hand, and a new call needs
-its comment there first. A slice of an export is a pointer and a length in C. A handle is const where a clause says
-that what it leads to stays.
+In the header each prototype is written in its place; the rest of the header is written by hand, and a new call needs
+its comment there first. A slice of an export is a pointer and a length in C. A handle is const if a clause states that
+its collection is unchanged.
 """
 
 from __future__ import annotations
@@ -48,7 +48,7 @@ class Word:
         return self.kind.removeprefix("&").removeprefix("mut ").strip("[]")
 
     def length(self, words: list[Word]) -> str:
-        """The name of the length of a slice: it tells slices of one kind in a call apart."""
+        """Returns the name of the length of a slice, which distinguishes slices of one kind in a call."""
         if self.kind == "&[u8]":
             return f"{self.name}_len"
         many = sum(it.is_slice("mut ") == self.is_slice("mut ") for it in words if it.is_slice() or it.is_slice("mut "))
@@ -56,7 +56,7 @@ class Word:
         return f"{self.name.removesuffix('s')}_{what}" if many > 1 else what
 
     def in_c(self, words: list[Word]) -> str:
-        """The parameters of C that stand for it."""
+        """Returns its parameters in C."""
         base = self.base()
         const = "const " if self.stays or not self.kind.startswith("&mut ") else ""
         if base.endswith(("Handle", "Owner")):
@@ -70,7 +70,7 @@ class Word:
         return f"{const}{PLAIN[base]} *{self.name}{length}"
 
     def in_python(self) -> list[str]:
-        """The types of ctypes that stand for it."""
+        """Returns its types in ctypes."""
         if not self.kind.startswith("&"):
             return [IN_PYTHON[self.kind]]
         return ["c_char_p" if self.kind == "&[u8]" else "c_void_p", *["c_size_t"] * ("[" in self.kind)]
@@ -85,7 +85,7 @@ class Call:
     result: str
 
     def in_c(self) -> str:
-        """The prototype, laid out as clang-format does it."""
+        """Returns the prototype, in the layout of clang-format."""
         head = f"{PLAIN[self.result]} indexset_{self.name}("
         words = ", ".join(it.in_c(self.words) for it in self.words) or "void"
         lines = [head]
@@ -102,7 +102,7 @@ class Call:
 
 
 def calls() -> list[Call]:
-    """The exports, file by file."""
+    """Returns the exports, file by file."""
     found = []
     for file in sorted(EXPORTS.glob("*.rt")):
         for name, words, result, clauses in EXPORT.findall(file.read_text(encoding="utf-8")):
@@ -113,7 +113,7 @@ def calls() -> list[Call]:
 
 
 def header(exports: list[Call]) -> str:
-    """The text of the header, with the prototypes of these exports."""
+    """Returns the text of the header, with the prototypes of these exports."""
     by_name = {it.name: it for it in exports}
     text = HEADER.read_text(encoding="utf-8")
     shown = PROTOTYPE.findall(text)
@@ -123,7 +123,7 @@ def header(exports: list[Call]) -> str:
 
 
 def table(exports: list[Call]) -> str:
-    """The text of Python's table."""
+    """Returns the text of Python's table."""
     names = sorted({of for it in exports for line in [it.in_python()] for of in re.findall(r"c_\w+(?=[,\]])", line)})
     return "\n".join(
         [

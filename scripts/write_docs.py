@@ -39,13 +39,13 @@ PAGES = {
 COLLECTIONS = ("set", "map", "logged_set", "logged_map", "multimap", "replica")
 FOR_C = {"c": ("Calls of the C library", "indexset_c", "")}
 USES = {"uses": ("Proved callers", "indexset_uses", "")}  # a program, of which each function is shown
-INNER = ("inner", "inner/")  # what a crate of a type has for the crates above it alone
+INNER = ("inner", "inner/")  # what a crate of a type has only for the crates above it
 INTERNALS = "internals"  # the folder of pages of inner crates
 
 
 @dataclasses.dataclass(frozen=True)
 class Doc:
-    """A doc comment: what it says before its first heading, its examples, and its parts by their headings."""
+    """A doc comment: its text before the first heading, its examples, and its parts by their headings."""
 
     summary: str = ""
     examples: list[str] = dataclasses.field(default_factory=list)
@@ -63,7 +63,7 @@ class Call:
 
 
 def library_crates() -> list[str]:
-    """The crates of crates.txt that are neither programs nor tests nor what tests play on, in its order."""
+    """Returns the crates of crates.txt that are neither programs nor tests nor test drivers, in its order."""
     lines = (ROOT / "crates.txt").read_text(encoding="utf-8").splitlines()
     names = [line.split(":")[0].split()[0] for line in lines if line.strip() and not line.startswith("#")]
     names = [it for it in names if not it.startswith("test_")]
@@ -95,7 +95,7 @@ def is_open(file: pathlib.Path, src: pathlib.Path) -> bool:
 
 
 def passed_on(file: pathlib.Path, src: pathlib.Path) -> set[str]:
-    """The names that the module above passes on from this file."""
+    """Returns the names that the module above re-exports from this file."""
     parent = parent_of(file, src)
     if file.stem == "lib" or not parent.exists():
         return set()
@@ -153,7 +153,8 @@ def blocks(text: str) -> Iterator[str]:
 
 
 def doc_of(lines: list[str]) -> Doc:
-    """A doc comment by its lines. Without a heading `Errors`, that part is what the summary says of failures."""
+    """Returns a doc comment from its lines. Without a heading `Errors`, that part is the summary's sentences on
+    failures."""
     text = "\n".join(lines)
     fenced = re.compile(r"^```(?:rust)?\n(.*?)^```$", re.M | re.S)
     shown = ("\n".join(it for it in code.splitlines() if not it.startswith("# ")) for code in fenced.findall(text))
@@ -286,7 +287,7 @@ def shown(it: Call, page: Page, taken: dict[str, int], group: str = "") -> None:
 
 
 def add_ghosts(it: Call, page: Page, last: str) -> None:
-    """Adds the head of a trait, or ghost members; those of one owner stand together."""
+    """Adds the head of a trait, or ghost members; those of one owner are together."""
     lines = page.lines
     if it.owner not in ("", last):
         lines.extend([f"#### `{it.owner}`", ""])
@@ -299,7 +300,7 @@ def add_ghosts(it: Call, page: Page, last: str) -> None:
 
 
 def files_of(crate: str, part: str) -> Iterator[pathlib.Path]:
-    """The source files of a page: of a part of the crate, what the folder or the file of that name has."""
+    """Returns the source files of a page: for a part of the crate, those of the folder or the file of that name."""
     src = ROOT / "crates" / crate / "src"
     for file in source_files(crate):
         name = str(file.relative_to(src).with_suffix(""))
@@ -390,7 +391,7 @@ def listed(pages: Iterable[Page], is_inner: bool) -> Iterator[str]:
 
 
 def index(pages: dict[str, Page]) -> str:
-    """The text of the index of the types that a user meets."""
+    """Returns the text of the index of the user types."""
     shown = [page for name, page in pages.items() if not name.startswith(INTERNALS)]
     about = f"Each public call, written by `scripts/write_docs.py` from the sources. {ABOUT.format(up='../')}"
     names = ", ".join(f"[{page.title}](#{anchor_of(page.title, {})})" for page in shown)

@@ -1,5 +1,5 @@
 #!/usr/bin/env python3
-"""Tests scripts/mutation_tests.py on a made-up crate, whose prover reads what it says off the words of a body.
+"""Tests scripts/mutation_tests.py on a made-up crate, whose prover derives its output from the words of a body.
 
 The last line is 'N passed, M failed'.
 """
@@ -48,7 +48,7 @@ impl<T> Heap<T, Vec<T>> {
 }
 """
 NAMES = {"first": "made::heap::first", "place": "made::heap::NearProbe::place", "last": "made::Heap+T+Vec+T::last"}
-# What the prover says of a function whose body has a word.
+# The prover's output for a function whose body has a word.
 SAYS = {
     "wrong": "note: src/heap.rt:1:1: it is not proved that it holds (`returns`)\n"
     "fn {0}: no proof: expected answers in {1}",
@@ -61,7 +61,7 @@ SAYS = {
 
 
 class Prover:
-    """A prover that reads off a body what it says of its function, and notes what it was asked."""
+    """A prover that derives the output for a function from its body, and records what it was asked."""
 
     def __init__(self) -> None:
         self.asked: list[list[str]] = []
@@ -87,7 +87,7 @@ class Prover:
 
 
 def tried(changes: dict[str, str]) -> tuple[mutation_tests.Tally, str, Prover]:
-    """What comes of edits that put one word of the source for another, with what is said of them."""
+    """Returns the results of edits that replace one word of the source by another, with the output."""
     prover, said = Prover(), io.StringIO()
     with tempfile.TemporaryDirectory() as room:
         folder = pathlib.Path(room)
@@ -105,7 +105,7 @@ def tried(changes: dict[str, str]) -> tuple[mutation_tests.Tally, str, Prover]:
 
 
 def expect(changes: dict[str, str], passed: int, why: str = "", checks: int = 0) -> None:
-    """Asserts how many edits are refused, and what is said of one that is not."""
+    """Asserts the number of refused edits, and the output for one that is not refused."""
     tally, said, prover = tried(changes)
     assert (tally.passed, tally.failed) == (passed, len(changes) - passed), f"{tally}: {said}"
     assert why in said and bool(why) == bool(said), said

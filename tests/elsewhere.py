@@ -47,7 +47,7 @@ STDIN, STDOUT = "Ben\nAnn\nBen\nZoe\nBen\nAnn\n", "Ben 3, above 2\nAnn 2, above 
 
 
 def made(room: str) -> pathlib.Path:
-    """A repository with a program, and with an older copy of one of the crates."""
+    """Makes a repository with a program, and with an older copy of one of the crates."""
     repository = pathlib.Path(room, "mine")
     old = repository / "crates/indexset_core"
     for file, text in (("src/gone.rt", ""), ("out/kept", "")):
@@ -61,7 +61,7 @@ def made(room: str) -> pathlib.Path:
 
 
 def called(tool: str, *words: str | pathlib.Path) -> subprocess.CompletedProcess[str]:
-    """A run of a tool."""
+    """Runs a tool, and returns the run."""
     return subprocess.run([TOP / "scripts" / tool, *words], capture_output=True, text=True)
 
 

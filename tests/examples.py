@@ -4,25 +4,25 @@
     tests/examples.py [PART..]      with no names: all
 
 Examples in Rust are built with the tests of a crate, and these run too, since each build takes a minute: the parts
-`test_units` and, with what needs SQLite, `test_crashes`. `shell` is the blocks of shell, and what is asked of
-blocks without a run.
+`test_units` and, with those that need SQLite, `test_crashes`. `shell` is the blocks of shell, and the checks of blocks
+that need no run.
 
-Doc comments: an example stands between two lines ``` and is the body of a test, in which a line that
-starts with `# ` is not shown. Pages: each block of Rust, and each block of shell with the block of text
-after it, which must be its output. A block of Rust with a `use` or a `fn` at the margin is a module, any
-other the body of a test. A comment before the block,
+Doc comments: an example is between two lines ``` and is the body of a test, in which a line that starts with `# ` is
+not shown. Pages: each block of Rust, and each block of shell with the block of text after it, which must be its output.
+A block of Rust with a `use` or a `fn` at the margin is a module, any other the body of a test. A comment before the
+block,
 
     <!-- run with let mut board = BTreeSet::from_iter(alloc, [30, 10])?; -->
 
-gives the lines that go before a body, or the test of a module; `<!-- not run: why -->` leaves the block
-out; `<!-- the file PATH -->` says that the block is that file. A line `EXPRESSION // TEXT` asserts that the value is
-printed so by `{:?}`. A function of a page that has clauses must be, word for word, in the crate of proved callers or in
-a program of one file, and a block with a `main` must be the root of a program of this repository.
+is the lines before a body, or the test of a module; `<!-- not run: why -->` leaves the block out;
+`<!-- the file PATH -->` asserts that the block is that file. A line `EXPRESSION // TEXT` asserts that `{:?}` prints the
+value so. A function of a page that has clauses must be, word for word, in the crate of proved callers or in a program
+of one file, and a block with a `main` must be the root of a program of this repository.
 
-Where INDEXSET_PROGRAMS names a folder of built programs, `rt try` in a block of shell runs the program from there. That
+If INDEXSET_PROGRAMS names a folder of built programs, `rt try` in a block of shell runs the program from there. That
 folder, or else the one where `tests/run` builds programs, is the last on the path of blocks of shell.
 
-A test has `rt` and `alloc`. It has the names of `NAMES`, but in a module that imports its own.
+A test has `rt` and `alloc`. It has the names of `NAMES`, unless it is in a module that imports its own.
 """
 
 from __future__ import annotations
@@ -50,7 +50,7 @@ HOSTS = {
     "test_units": ["core", "spine", "set", "map", "events", "log", "multi", "replica"],
     "test_crashes": ["journal"],
 }
-WITH_PAGES = "test_units"  # the one that the blocks of pages go with
+WITH_PAGES = "test_units"  # the one that the blocks of pages are built with
 SHELL = "shell"
 PROGRAMS = ["example_leaderboard", "indexset_program", "indexset_store"]  # those that the blocks of shell run
 UNPROVED = TOP / "out/unproved"  # where tests/run builds programs
@@ -75,7 +75,7 @@ LISTS = ["anyhow", "bytes", "std_collections", "indexset"]
 
 @dataclasses.dataclass(frozen=True)
 class Block:
-    """A block of a page, with what the comment before it says."""
+    """A block of a page, with the text of the comment before it."""
 
     name: str
     language: str
@@ -87,7 +87,7 @@ class Block:
 
 @dataclasses.dataclass
 class Sources:
-    """The text of the module of examples: its root, its modules, and how many tests they have."""
+    """Returns the text of the module of examples: its root, its modules, and the number of their tests."""
 
     root: list[str]
     modules: dict[str, str]
@@ -95,7 +95,7 @@ class Sources:
 
 
 def doc_examples(file: pathlib.Path) -> Iterator[tuple[str, list[str]]]:
-    """The examples of a source file, each with the name of its item."""
+    """Returns the examples of a source file, each with the name of its item."""
     doc: list[str] | None = None
     found: list[list[str]] = []
     for line in file.read_text(encoding="utf-8").splitlines():
@@ -112,7 +112,7 @@ def doc_examples(file: pathlib.Path) -> Iterator[tuple[str, list[str]]]:
 
 
 def page_blocks(page: pathlib.Path) -> list[Block]:
-    """The blocks of a page, in order. Each starts and ends with a line ``` at the margin."""
+    """Returns the blocks of a page, in order. Each starts and ends with a line ``` at the margin."""
     text = page.read_text(encoding="utf-8")
     name = "_".join(page.relative_to(TOP).with_suffix("").parts).lower()
     found: list[Block] = []
@@ -127,7 +127,7 @@ def page_blocks(page: pathlib.Path) -> list[Block]:
 
 
 def asserted(line: str) -> str:
-    """A line that says what its expression prints, as an assertion."""
+    """Returns a line that shows the value of its expression, as an assertion."""
     says = re.fullmatch(r"( *)(\S.*?);? +// (.*)", line)
     if says is None or says[2].startswith("//"):
         return line
@@ -136,7 +136,7 @@ def asserted(line: str) -> str:
 
 
 def test_of(name: str, lines: list[str]) -> str:
-    """A test with these lines as its body."""
+    """Returns a test with these lines as its body."""
     body = "\n".join(f"    {asserted(it)}".rstrip() for it in lines)
     head = f"#[test]\nfn {name}(rt: HostRuntime) -> Result<(), std::test::Fail> {{\n"
     return f"{head}    let alloc = rt.alloc();\n{body}\n    Ok(())\n}}\n"
@@ -155,7 +155,7 @@ def add_rust(block: Block, sources: Sources) -> None:
 
 
 def written(host: str, blocks: list[Block]) -> Sources:
-    """The module of the examples that go with a crate of tests."""
+    """Returns the module of the examples of a crate of tests."""
     sources = Sources([HEAD, NAMES], {})
     for crate in HOSTS[host]:
         src = TOP / f"crates/indexset_{crate}/src"
@@ -172,7 +172,7 @@ def written(host: str, blocks: list[Block]) -> Sources:
 
 
 def unproved(blocks: list[Block]) -> list[str]:
-    """The functions with clauses that neither the crate of proved callers nor a program has word for word."""
+    """Returns the functions with clauses that neither the crate of proved callers nor a program has word for word."""
     files = [*(TOP / "crates" / PROVED / "src").rglob("*.rt"), *TOP.glob("crates/*/src/main.rt")]
     proved = "\n".join(file.read_text(encoding="utf-8") for file in files)
     found = []
@@ -185,26 +185,26 @@ def unproved(blocks: list[Block]) -> list[str]:
 
 
 def no_file(blocks: list[Block]) -> list[str]:
-    """The blocks that are not the file that they are said to be."""
+    """Returns the blocks that differ from the file that their comment names."""
     shown = [it for it in blocks if it.file]
     lines = {it.file: (TOP / it.file).read_text(encoding="utf-8").splitlines() for it in shown}
     return [f"{it.name}: not as {it.file} is" for it in shown if it.lines != lines[it.file]]
 
 
 def no_names(blocks: list[Block]) -> list[str]:
-    """The imports that a page shows in a block of text, and that tests do not have."""
+    """Returns the imports that a page shows in a block of text, and that tests do not have."""
     shown = [(it.name, line) for it in blocks if it.language == "text" for line in it.lines if line.startswith("use ")]
     return [f"{name}: tests do not have it: {line}" for name, line in shown if line not in NAMES.splitlines()]
 
 
 def no_program(blocks: list[Block]) -> list[str]:
-    """The blocks with a `main` that are no program of this repository."""
+    """Returns the blocks with a `main` that are not a program of this repository."""
     programs = [file.read_text(encoding="utf-8") for file in TOP.glob("crates/*/src/main.rt")]
     shown = [it for it in blocks if it.language == "rust" and any(line.startswith("fn main(") for line in it.lines)]
     return [f"{it.name}: no program of this repository" for it in shown if "\n".join(it.lines) + "\n" not in programs]
 
 
-# Stands for `rt` in the blocks of shell.
+# Replaces `rt` in the blocks of shell.
 BUILT = """#!/bin/sh
 program="{folder}/$(basename "$PWD")"
 if test "$*" = try && test -x "$program"; then exec "$program"; fi
@@ -213,7 +213,7 @@ exec {rt} "$@"
 
 
 def shell_environment(room: pathlib.Path) -> dict[str, str]:
-    """The environment of the blocks of shell."""
+    """Returns the environment of the blocks of shell."""
     folder = os.environ.get("INDEXSET_PROGRAMS")
     paths = f"{os.environ['PATH']}:{pathlib.Path(folder or UNPROVED).resolve()}"
     if not folder:
@@ -226,7 +226,7 @@ def shell_environment(room: pathlib.Path) -> dict[str, str]:
 
 
 def shell_faults(blocks: list[Block], room: str) -> tuple[int, list[str]]:
-    """How many blocks of shell print the block of text after them, and what the others print."""
+    """Returns the number of blocks of shell that print the block of text after them, and the output of the others."""
     environment = shell_environment(pathlib.Path(room))
     passed, faults = 0, []
     for block, after in zip(blocks, blocks[1:] + blocks[-1:]):
@@ -242,7 +242,7 @@ def shell_faults(blocks: list[Block], room: str) -> tuple[int, list[str]]:
 
 
 def add_libraries(lists: pathlib.Path, crate: str) -> None:
-    """Adds what examples use to the line of a crate."""
+    """Adds the libraries that examples use to the line of a crate."""
     text = lists.read_text(encoding="utf-8")
     wanted = [*LISTS, *(f"indexset_{it}" for it in HOSTS[crate])]
     line = next(it for it in text.splitlines() if it.startswith(f"{crate}:"))
@@ -251,7 +251,8 @@ def add_libraries(lists: pathlib.Path, crate: str) -> None:
 
 
 def run_tests(host: str, sources: Sources, room: pathlib.Path) -> tuple[int, list[str]]:
-    """Runs the tests of a crate with the examples as a module of it: how many passed, and what is wrong."""
+    """Runs the tests of a crate with the examples as a module of it. Returns the number of passed ones, and the
+    faults."""
     src = room / f"crates/{host}/src"
     with open(src / "lib.rt", "a", encoding="utf-8") as root:
         root.write("#[cfg(test)]\nmod examples;\n")

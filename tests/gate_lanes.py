@@ -1,5 +1,5 @@
 #!/usr/bin/env python3
-"""Tests which processors scripts/kit.py has `rt ci` give to a check, on tasks that prove nothing.
+"""Tests the number of processors that scripts/kit.py makes `rt ci` give to a check, on tasks that prove nothing.
 
 The last line is 'N passed, M failed'.
 """
@@ -21,7 +21,7 @@ MEMORY = 1 << 30  # of a check, in bytes
 
 
 def jobs_of(crates: dict[str, list[str]], tested: list[str]) -> tuple[kit.Given, dict[kit.Key, int]]:
-    """What the tasks of crates gave, each by its libraries, and the jobs of each, on four processors."""
+    """Returns the results of the tasks of crates, each with its libraries, and the jobs of each, on four processors."""
     rt: Any = kit.command()
     given, jobs = kit.Given(), dict[kit.Key, int]()
 

@@ -22,7 +22,7 @@ SECONDS = 3
 
 
 def named(room: str, crate: str) -> list[str]:
-    """A command that passes for the prover at work on a crate."""
+    """Returns a command that looks like the prover at work on a crate."""
     folder = pathlib.Path(room, crate)
     folder.mkdir()
     prover = shutil.copy(shutil.which("bash") or "", folder / kit.PROVER)

@@ -1,5 +1,5 @@
 #!/usr/bin/env python3
-"""Tests that each script says what it is for by `--help`, and refuses an argument that it does not know.
+"""Tests that each script describes itself by `--help`, and rejects an unknown argument.
 
 The scripts in bindings/python load the library, so they are not among these. The last line is 'N passed, M failed'.
 """
@@ -25,14 +25,14 @@ BEGINS = {"python": ["python3"], "shell": ["bash"]}
 
 
 def runnable() -> list[pathlib.Path]:
-    """The scripts that are run, and not only imported."""
+    """Returns the scripts that are run, and not only imported."""
     python = [it for it in by_language.of("python") if '__name__ == "__main__"' in it.read_text(encoding="utf-8")]
     apart = TOP / "bindings/python"
     return [it for it in [*by_language.of("shell"), *python] if apart not in it.parents]
 
 
 def ended(script: pathlib.Path, word: str) -> tuple[int | None, str]:
-    """The status of a script that is given a word, and what it wrote; None where it had to be stopped."""
+    """Returns the status of a script run with one argument, and its output; None if it had to be stopped."""
     words = [*BEGINS[by_language.language(script)], str(script), word]
     ran = subprocess.Popen(
         words,
@@ -51,7 +51,7 @@ def ended(script: pathlib.Path, word: str) -> tuple[int | None, str]:
 
 
 def wrong(script: pathlib.Path) -> str:
-    """What is wrong with the arguments of a script."""
+    """Returns the fault in the arguments of a script, or an empty string."""
     status, said = ended(script, "--help")
     if status != 0 or not said:
         return f"{script.relative_to(TOP)} --help ends with {status}: {said[-300:]}\n"

@@ -1,9 +1,9 @@
 #!/usr/bin/env python3
-"""Holds the scripts and the sources in C and C++ to the rules that stand beside them.
+"""Checks the scripts and the sources in C and C++ by the rules beside them.
 
 flake8 has its rules in setup.cfg, shellcheck in .shellcheckrc, clang-format and clang-tidy in files of their names. No
-line is longer than 120 characters. A tool that is not installed fails: scripts/needs.py installs it. The last line is
-'N passed, M failed'.
+line is longer than 120 characters. A tool that is not installed is a failure: scripts/needs.py installs it. The last
+line is 'N passed, M failed'.
 """
 
 from __future__ import annotations
@@ -33,20 +33,20 @@ FOLDERS = [
     TOP / "bench/cpp",
     pathlib.Path(sysconfig.get_path("include")),
 ]
-# The analyzer takes a minute for a test of templates, which runs under the sanitizers; of C it takes seconds.
+# The analyzer takes a minute for a test of templates, which runs under the sanitizers; for C it takes seconds.
 TIDY = {".c": ("-std=c11", ()), ".cpp": ("-std=c++20", ("--checks=-clang-analyzer-*",))}
 
 Command = list[str | pathlib.Path]
 
 
 def tidied(file: pathlib.Path) -> Command:
-    """The command that holds a file, and the headers that it includes, to the rules of clang-tidy."""
+    """Returns the command that checks a file, and the headers that it includes, by clang-tidy."""
     standard, words = TIDY[file.suffix]
     return ["clang-tidy", "--quiet", *words, file, "--", standard, *(f"-I{it}" for it in FOLDERS)]
 
 
 def commands() -> Iterator[Command]:
-    """The commands, those that take long first."""
+    """Yields the commands, those that take long first."""
     sources = [it for it in by_language.of("c", "c++") if it.suffix in TIDY]
     yield from map(tidied, sorted(sources, key=lambda it: it.suffix, reverse=True))
     yield ["flake8", *by_language.of("python")]
@@ -55,7 +55,7 @@ def commands() -> Iterator[Command]:
 
 
 def ran(command: Command) -> str:
-    """What a command complains of, without the lines of the sources, or that it is not installed."""
+    """Returns the complaints of a command, without the lines of the sources, or that it is not installed."""
     try:
         done = subprocess.run(command, cwd=TOP, stdout=subprocess.PIPE, stderr=subprocess.STDOUT, text=True)
     except FileNotFoundError:
@@ -67,7 +67,7 @@ def ran(command: Command) -> str:
 
 
 def wide_lines() -> str:
-    """The lines that are too long."""
+    """Returns the lines that are too long."""
     found = ""
     for file in by_language.of("python", "shell", "javascript", "c", "c++"):
         lines = file.read_text(encoding="utf-8").splitlines()

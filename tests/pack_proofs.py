@@ -1,5 +1,5 @@
 #!/usr/bin/env python3
-"""Tests scripts/pack_proofs on two small checkouts, with a file or two in the place of a built library.
+"""Tests scripts/pack_proofs on two small checkouts, with a file or two in place of a built library.
 
 The last line is 'N passed, M failed'.
 """
@@ -35,7 +35,7 @@ TOOL = TOP / "scripts/pack_proofs"
 
 
 def laid_out(top: pathlib.Path) -> pathlib.Path:
-    """A checkout of two crates, with no library built."""
+    """Makes a checkout of two crates, without built libraries."""
     lines = (TOP / "crates.txt").read_text(encoding="utf-8").splitlines(keepends=True)
     for name in NAMES:
         for part in ("src", "specs", "proofs"):
@@ -51,7 +51,7 @@ def library(top: pathlib.Path, name: str) -> pathlib.Path:
 
 
 def built(top: pathlib.Path) -> pathlib.Path:
-    """A checkout whose libraries pass for built."""
+    """Makes a checkout whose libraries look built."""
     laid_out(top)
     for name, (file, data) in ((name, it) for name in NAMES for it in TOLD.items()):
         to = library(top, name) / file
@@ -63,7 +63,8 @@ def built(top: pathlib.Path) -> pathlib.Path:
 
 @functools.cache
 def tool() -> Callable[[], int]:
-    """What scripts/pack_proofs runs, loaded once: the toolchain's module, which it loads, takes long to read."""
+    """Returns the `main` of scripts/pack_proofs, loaded once: the toolchain's module, which it loads, takes long to
+    read."""
     kit.identity = functools.cache(kit.identity)
     loader = importlib.machinery.SourceFileLoader("pack_proofs", str(TOOL))
     spec = importlib.util.spec_from_loader("pack_proofs", loader)
@@ -75,7 +76,7 @@ def tool() -> Callable[[], int]:
 
 
 def proved(*words: str | pathlib.Path) -> tuple[bool, str]:
-    """Whether scripts/pack_proofs ended well, and what it said."""
+    """Runs scripts/pack_proofs in this process. Returns whether it succeeded, and its output."""
     said = io.StringIO()
     with mock.patch("sys.argv", [str(TOOL), *map(str, words)]), contextlib.redirect_stdout(
         said
@@ -88,7 +89,7 @@ def proved(*words: str | pathlib.Path) -> tuple[bool, str]:
 
 
 def by_itself(*words: str | pathlib.Path) -> tuple[bool, str]:
-    """The same, of scripts/pack_proofs as a command."""
+    """Runs scripts/pack_proofs as a command. Returns whether it succeeded, and its output."""
     ran = subprocess.run([sys.executable, TOOL, *words], capture_output=True, text=True)
     if ran.returncode not in (0, 1):
         raise AssertionError(f"scripts/pack_proofs ended with status {ran.returncode}: {ran.stderr}")
@@ -96,7 +97,7 @@ def by_itself(*words: str | pathlib.Path) -> tuple[bool, str]:
 
 
 def packed(room: pathlib.Path) -> pathlib.Path:
-    """A pack of a checkout's two libraries."""
+    """Makes a pack of a checkout's two libraries."""
     file = room / "pack.tgz"
     well, said = proved("pack", file, "--of", built(room / "from"), "--crate", "indexset_index")
     assert well, said
@@ -104,7 +105,7 @@ def packed(room: pathlib.Path) -> pathlib.Path:
 
 
 def remade(file: pathlib.Path, change: Callable[[str, bytes], tuple[str, bytes]]) -> None:
-    """Writes a pack anew, with the names and the data of its entries changed."""
+    """Rewrites a pack, with the names and the data of its entries changed."""
     made = file.with_suffix(".new")
     with tarfile.open(file) as old, tarfile.open(made, "w:gz") as new:
         for entry in old.getmembers():
@@ -120,7 +121,7 @@ def remade(file: pathlib.Path, change: Callable[[str, bytes], tuple[str, bytes]]
 
 
 def is_refused(room: pathlib.Path, file: pathlib.Path, why: str) -> None:
-    """Asserts that a pack is refused for a reason, and that nothing of it is laid."""
+    """Asserts that a pack is refused for a reason, and that nothing of it is unpacked."""
     to = room / "to"
     if not to.exists():
         laid_out(to)
@@ -131,7 +132,7 @@ def is_refused(room: pathlib.Path, file: pathlib.Path, why: str) -> None:
 
 
 def of_manifest(key: str, value: object) -> Callable[[str, bytes], tuple[str, bytes]]:
-    """A change of what a pack says of itself."""
+    """Returns a change of the manifest of a pack."""
 
     def change(name: str, data: bytes) -> tuple[str, bytes]:
         if name != "manifest.json":

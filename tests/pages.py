@@ -1,10 +1,10 @@
 #!/usr/bin/env python3
 """Checks that the index of docs/reference names each public function that a caller of `indexset` meets.
 
-The crate `indexset` passes on modules and types: a module's functions count, with those of the modules
-within it, and the public functions of a type's own `impl` blocks, and a trait's. Each is to stand in the
-code of the index, those of the plain set and the plain map in the section of their type. Laws, and what is
-below the collections, stand elsewhere. The last line is 'N named, M missing'.
+The crate `indexset` re-exports modules and types: a module's functions count, with those of the modules within it, and
+the public functions of a type's own `impl` blocks, and a trait's. Each must be in the code of the index, those of the
+plain set and the plain map in the section of their type. Laws, and the crates below the collections, are elsewhere. The
+last line is 'N named, M missing'.
 """
 
 from __future__ import annotations
@@ -17,7 +17,7 @@ from collections.abc import Iterator
 from dataclasses import dataclass
 
 TOP = pathlib.Path(__file__).resolve().parent.parent
-# The page's heading under which the calls of a crate stand, for those that have one.
+# The page's heading for the calls of a crate, for those that have one.
 SECTIONS = {"indexset_set": "## [Set](set.md)", "indexset_map": "## [Map](map.md)"}
 BELOW = "indexset_core"
 
@@ -32,7 +32,7 @@ class Call:
 
 
 def passed_on() -> Iterator[tuple[str, str]]:
-    """The crate and the path of each module and item that `indexset` passes on."""
+    """Returns the crate and the path of each module and item that `indexset` re-exports."""
     text = (TOP / "crates/indexset/src/lib.rt").read_text(encoding="utf-8")
     for crate, path, names in re.findall(r"pub use (indexset_\w+)::((?:\w+::)*)(\w+|\{[^}]*\});", text):
         for name in re.findall(r"\w+", names):
@@ -40,14 +40,14 @@ def passed_on() -> Iterator[tuple[str, str]]:
 
 
 def module_files(crate: str, path: str) -> list[pathlib.Path]:
-    """The file of a module and those of the modules within it, none for a path that is no module's."""
+    """Returns the file of a module and those of the modules within it; none for a path that is not a module's."""
     place = TOP / "crates" / crate / "src" / path.replace("::", "/")
     file = place.with_suffix(".rt")
     return [file, *sorted(place.rglob("*.rt"))] if file.exists() else []
 
 
 def blocks(text: str) -> Iterator[tuple[str, list[str]]]:
-    """Each item of a file that holds functions, its head and its lines; free functions have no head."""
+    """Yields each item of a file that has functions, its head and its lines; free functions have no head."""
     head: str | None = None
     body: list[str] = []
     for line in text.splitlines():
@@ -63,7 +63,7 @@ def blocks(text: str) -> Iterator[tuple[str, list[str]]]:
 
 
 def owner_of(head: str) -> str:
-    """The type or trait of a block, or nothing where it implements a trait."""
+    """Returns the type or trait of a block, or an empty string if it implements a trait."""
     plain = head.replace("->", "")
     while re.search(r"<[^<>]*>", plain):
         plain = re.sub(r"<[^<>]*>", "", plain)
@@ -72,7 +72,7 @@ def owner_of(head: str) -> str:
 
 
 def calls_in(crate: str, file: pathlib.Path) -> Iterator[Call]:
-    """The public functions of a file."""
+    """Returns the public functions of a file."""
     for head, body in blocks(file.read_text(encoding="utf-8")):
         start = r"pub fn" if not head else r"    (?:final )?fn" if head.startswith("pub") else r"    pub fn"
         owner = owner_of(head) if head else file.stem
@@ -82,7 +82,7 @@ def calls_in(crate: str, file: pathlib.Path) -> Iterator[Call]:
 
 
 def calls() -> set[Call]:
-    """The public functions of what `indexset` passes on."""
+    """Returns the public functions that `indexset` re-exports."""
     found: set[Call] = set()
     for crate, path in passed_on():
         files = module_files(crate, path)
@@ -95,14 +95,14 @@ def calls() -> set[Call]:
 
 
 def code_of(text: str) -> set[str]:
-    """The words in the code of a text."""
+    """Returns the words in the code of a text."""
     fenced = re.findall(r"^```.*?^```", text, re.M | re.S)
     spans = re.findall(r"`([^`\n]+)`", re.sub(r"^```.*?^```", "", text, flags=re.M | re.S))
     return {word for part in fenced + spans for word in re.findall(r"\w+", part)}
 
 
 def section(page: str, call: Call) -> str:
-    """The part of the page where a call is to stand: for a free function all of it."""
+    """Returns the part of the page that must have a call: for a free function all of it."""
     heading = SECTIONS.get(call.crate)
     if heading is None or call.owner.islower():
         return page

@@ -1,9 +1,9 @@
 #!/usr/bin/env python3
-"""Plays the scripts below tests/scripts, each once: calls, each with the answer that it must give.
+"""Runs the scripts below tests/scripts, each once: calls, each with its expected result.
 
     tests/play.py [--jobs N] [WORD..]      with words: the scripts whose paths have one of them
 
-Run it once `test_script_runner` is built. A script that fails is named with its line and both answers. The last line is
+Run it once `test_script_runner` is built. A script that fails is named with its line and both results. The last line is
 'N passed, M failed'.
 """
 
@@ -25,7 +25,7 @@ from programs import built  # noqa: E402
 
 
 def played(player: pathlib.Path, script: pathlib.Path) -> str:
-    """What is wrong with the run of a script, or nothing."""
+    """Returns the fault in the run of a script, or an empty string."""
     try:
         done = subprocess.run([player], input=script.read_bytes(), capture_output=True, timeout=SECONDS)
     except subprocess.TimeoutExpired:

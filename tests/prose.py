@@ -3,9 +3,9 @@
 
     tests/prose.py [--sources]
 
-A link names a file of the repository, and a heading of that page; what is shown as code for a call of the reference, as
-a clause, is a word of that call. A path that is shown as code exists. No page has a phrase of `PHRASES`; with --sources
-the lines of sources that have one are counted, which is no fault. The version is the one of
+A link names a file of the repository, and a heading of that page; a clause that a link shows as code, for a call of the
+reference, is a word of that call. A path that is shown as code exists. No page has a phrase of `PHRASES`; with
+--sources the lines of sources that have one are counted, which is not a fault. The version is the one of
 bindings/python/pyproject.toml, which pkg-config, CMake and Python read. The last line is 'N pages, M faults'.
 """
 
@@ -18,7 +18,7 @@ import sys
 from collections.abc import Iterator
 
 TOP = pathlib.Path(__file__).resolve().parent.parent
-# Phrases that std, SQLite and PostgreSQL do not write: say what does what.
+# Phrases that std, SQLite and PostgreSQL do not use: name the subject and what it does.
 PHRASES = re.compile(
     r"\b(that is there|as far as there is room|go(?:es)? on|where there is|alone|whatever|by which|is of this version"
     r"|leads? to|stands?|tells?|told|says? nothing|lacks? its end|none of it|takes? out|let go|hands? back)\b",
@@ -27,24 +27,24 @@ PHRASES = re.compile(
 REFERENCE = TOP / "docs/reference"
 COMMENT = re.compile(r"(?://|--|#|/?\*|\"\"\").*")
 GENERATED = ("docs/reference", "docs/GLOSSARY.md")  # from comments in the sources
-OTHERS = ("CONTRIBUTING.md",)  # not held to the phrases yet
+OTHERS = ("CONTRIBUTING.md",)  # not checked for the phrases yet
 PAGES = ["*.md", "docs/**/*.md", "bindings/**/*.md", "crates/*/README.md", "examples/**/*.md", "tests/**/*.md"]
 
 
 def pages() -> list[pathlib.Path]:
-    """The pages for readers."""
+    """Returns the pages for readers."""
     found = {page for it in PAGES for page in TOP.glob(it)}
     return sorted(page for page in found if "out" not in page.relative_to(TOP).parts)
 
 
 def prose(page: pathlib.Path) -> str:
-    """The text of a page without its blocks, whose lines are left empty."""
+    """Returns the text of a page without its blocks, whose lines are left empty."""
     text = page.read_text(encoding="utf-8")
     return re.sub(r"^```.*?^```$", lambda block: "\n" * block[0].count("\n"), text, flags=re.M | re.S)
 
 
 def sections(page: pathlib.Path) -> dict[str, str]:
-    """The text below each heading of a page, by its anchor."""
+    """Returns the text below each heading of a page, by its anchor."""
     found: dict[str, str] = {}
     taken: dict[str, int] = {}
     lines, text = prose(page).splitlines(), page.read_text(encoding="utf-8").splitlines()
@@ -58,7 +58,7 @@ def sections(page: pathlib.Path) -> dict[str, str]:
 
 
 def lost_links(page: pathlib.Path, sections_of: dict[pathlib.Path, dict[str, str]]) -> Iterator[str]:
-    """The links of a page to no file or heading, or to a call that lacks the word that they show."""
+    """Yields the links of a page to no file or heading, or to a call without the word that they show."""
     for shown, link in re.findall(r"\[([^\[\]]*)\]\(([^)\s]+)\)", prose(page)):
         path, _, anchor = link.partition("#")
         if ":" in path:
@@ -77,14 +77,14 @@ def lost_links(page: pathlib.Path, sections_of: dict[pathlib.Path, dict[str, str
 
 
 def lost_paths(page: pathlib.Path) -> Iterator[str]:
-    """The paths from the top of the repository that a page shows as code, and that are not there."""
+    """Yields the paths from the top of the repository that a page shows as code, and that do not exist."""
     for path in re.findall(r"`((?:bench|bindings|crates|docs|examples|scripts|tests)/[\w./-]+)`", prose(page)):
         if not (TOP / path).exists() and not {"NAME", "out"} & {*path.split("/")}:
             yield f"{page.relative_to(TOP)}: no such path: {path}"
 
 
 def phrases_of(page: pathlib.Path) -> Iterator[str]:
-    """The lines of a page that have a phrase which is not to be written."""
+    """Yields the lines of a page that have one of the phrases."""
     if str(page.relative_to(TOP)).startswith((*GENERATED, *OTHERS)):
         return
     for number, line in enumerate(prose(page).splitlines(), 1):
@@ -93,7 +93,7 @@ def phrases_of(page: pathlib.Path) -> Iterator[str]:
 
 
 def phrases_in_sources() -> Iterator[str]:
-    """The sources with comments that have such a phrase, and how many lines do."""
+    """Yields the sources with comments that have one of the phrases, and the number of such lines."""
     for file in sorted(it for form in ("*.rt", "*.antt", "*.py", "*.h", "*.hpp") for it in TOP.rglob(form)):
         if "out" not in file.relative_to(TOP).parts:
             lines = file.read_text(encoding="utf-8").splitlines()
@@ -103,7 +103,7 @@ def phrases_in_sources() -> Iterator[str]:
 
 
 def other_versions() -> Iterator[str]:
-    """The places that name another version than pyproject.toml."""
+    """Yields the places that name another version than pyproject.toml."""
     lines = (TOP / "bindings/python/pyproject.toml").read_text(encoding="utf-8")
     version = re.findall(r'^version = "(.*)"$', lines, re.M)[0]
     major, minor, patch = map(int, version.split("."))

@@ -1,8 +1,8 @@
 #!/usr/bin/env python3
-"""Tests that what scripts/checked.py builds stops at each fault.
+"""Tests that programs built by scripts/checked.py stop at each fault.
 
-It builds a crate of tests, and says of each whether it came out as its name says. The last line is
-'N passed, M failed'.
+It builds a crate of tests, and reports for each whether its result is the one that its name states. The last line is 'N
+passed, M failed'.
 """
 
 from __future__ import annotations
@@ -50,7 +50,7 @@ fn {name}(rt: HostRuntime) -> Result<(), std::test::Fail> {{
 }}
 """
 ALL = "item(&list, 1) == 20 && next(254) == 255 && half(6, 1) == 3 && ratio(6, 2) == 3 && first(&list) == 10"
-# What each test asserts, and of which list.
+# The assertion of each test, and its list.
 PASSES = {"all_within": (ALL, "[10, 20]")}
 STOPS = {
     "asserts_what_is_wrong": ("item(&list, 1) == 21", "[10, 20]"),
@@ -63,7 +63,7 @@ STOPS = {
 
 
 def written(room: pathlib.Path) -> pathlib.Path:
-    """The folder of the crate, below a folder."""
+    """Makes the crate in a folder, and returns the crate's folder."""
     crate = room / "crates/faults"
     (crate / "src").mkdir(parents=True)
     (room / "HANDLES").write_text("Handles allowed: none.\n", encoding="utf-8")

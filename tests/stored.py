@@ -1,9 +1,9 @@
 #!/usr/bin/env python3
-"""Runs the programs of one file, which scripts/together.py lays as one, on what is stored beside each.
+"""Runs the programs of one file, which scripts/together.py combines into one, on the input stored beside each.
 
     tests/stored.py PROGRAM..
 
-Each PROGRAM is that one, as a compiler built it. The last line is 'N passed, M failed'.
+Each PROGRAM is that one, built by a compiler. The last line is 'N passed, M failed'.
 """
 
 from __future__ import annotations
@@ -23,7 +23,7 @@ SECONDS = 120
 
 
 def differs(command: list[str], crate: pathlib.Path, folder: pathlib.Path) -> str:
-    """How a program differs, by what it writes or its status, from what is stored in the folder of its crate."""
+    """Returns the difference of a program's output or status from those stored in the folder of its crate."""
     names = ("stdin", "stdout", "args", "status")
     stored = {it: (crate / it).read_bytes() if (crate / it).exists() else b"" for it in names}
     words = [*command, *stored["args"].decode().split()]

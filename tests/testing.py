@@ -1,4 +1,4 @@
-"""Runs the tests that a script has."""
+"""Runs the tests of a script."""
 
 from __future__ import annotations
 
@@ -7,7 +7,8 @@ from collections.abc import Callable, Mapping
 
 
 def run(about: str, tests: Mapping[str, Callable[[], None]]) -> int:
-    """Runs tests by name, each of which fails by an assertion; the status. The last line is 'N passed, M failed'."""
+    """Runs tests by name, each of which fails by an assertion; returns the status. The last line is 'N passed, M
+    failed'."""
     argparse.ArgumentParser(description=about).parse_args()
     failed = 0
     for name, test in tests.items():

@@ -1,4 +1,4 @@
-// Times the calls of the B-trees of Abseil on u64 keys; rows.hpp says by which words.
+// Times the calls of the B-trees of Abseil on u64 keys; rows.hpp documents the arguments.
 #include "rows.hpp"
 #include <absl/container/btree_map.h>
 #include <absl/container/btree_set.h>

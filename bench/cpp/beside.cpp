@@ -1,5 +1,5 @@
-// CPU nanoseconds a call of the C library beside pb_ds's tree of order statistics, and of its map from texts
-// beside std's map and Abseil's, in random order: the least of 101 runs, or of 5 from 10,000 keys on.
+// CPU nanoseconds per call of the C library compared with pb_ds's tree of order statistics, and of its map from texts
+// compared with std's map and Abseil's, in random order: the minimum of 101 runs, or of 5 from 10,000 keys on.
 //
 // After `make -C bindings/c`:
 //   mkdir -p bench/out
@@ -26,7 +26,7 @@ using Peer = tree<uint64_t, null_type, std::less<uint64_t>, rb_tree_tag, tree_or
 using Numbers = std::vector<uint64_t>;
 using Texts = std::vector<std::string>;
 
-static uint64_t sum; // of all answers, so that no call is left out
+static uint64_t sum; // of all results, so that no call is optimized away
 
 template <typename Item, typename Call>
 static double cost(const std::vector<Item> &items, Call call) {

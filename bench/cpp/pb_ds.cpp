@@ -1,4 +1,4 @@
-// Times the calls of the order-statistics tree of libstdc++ (pb_ds) on u64 keys; rows.hpp says by which words.
+// Times the calls of the order-statistics tree of libstdc++ (pb_ds) on u64 keys; rows.hpp documents the arguments.
 #include "rows.hpp"
 #include <ext/pb_ds/assoc_container.hpp>
 #include <ext/pb_ds/tree_policy.hpp>

@@ -1,10 +1,9 @@
-// What the programs of C++ have in common: they time the calls of an ordered set and map of u64 keys. One
-// line a row: its name, a tab, nanoseconds an operation. `rows KEYS` prints the rows; `hold KEYS COPIES
-// ascending|mixed` makes that many sets, prints a line and waits for one, so that its memory can be read;
-// `calls KEYS ROW COUNT` prepares 100,000 calls and makes the first COUNT of them, so that what one costs is
-// the difference between two runs.
+// Shared by the programs in C++: they time the calls of an ordered set and map of u64 keys. Each row is a line: its
+// name, a tab, nanoseconds per operation. `rows KEYS` prints the rows; `hold KEYS COPIES ascending|mixed` makes that
+// many sets, prints a line and waits for one, so that its memory can be read; `calls KEYS ROW COUNT` prepares 100,000
+// calls and makes the first COUNT of them, so that the cost of one is the difference between two runs.
 //
-// A library is a type with these members; a row for which it has no call is left out.
+// A library is a type with these members; rows for which it has no call are left out.
 //
 //   Set, Map, TextMap          its set, its map, and its map from texts
 //   has_positions              whether it has `find_by_order` and `order_of_key`
@@ -31,7 +30,7 @@ using Texts = std::vector<std::string>;
 
 static volatile uint64_t sink;
 
-// The i-th of distinct keys in no order.
+// The i-th of distinct keys in random order.
 static uint64_t key(uint64_t i) {
     i = (i + 1) * 0x9e3779b97f4a7c15u;
     i = (i ^ (i >> 30)) * 0xbf58476d1ce4e5b9u;
@@ -47,7 +46,7 @@ static Keys listed(uint64_t count, Value value) {
     return list;
 }
 
-// The lists that the measures walk: keys to insert, the same in another order, absent ones, positions.
+// The lists that the measures iterate over: keys to insert, the same in another order, absent ones, positions.
 struct Lists {
     Keys mixed, sought, absent, positions;
 
@@ -118,7 +117,7 @@ template <class Map, class List>
     return sum;
 }
 
-// One more in each value, key by key.
+// Adds one to each value, key by key.
 template <class Map>
 [[gnu::noinline]] static uint64_t written(Map &map, const Keys &keys) {
     for (auto key : keys) map.find(key)->second += 1;
@@ -132,7 +131,7 @@ template <class Set>
     return sum;
 }
 
-// A walk that takes from both ends in turn.
+// Iterates from both ends in turn.
 template <class Set>
 [[gnu::noinline]] static uint64_t walked_from_both_ends(const Set &set) {
     uint64_t sum = 0;
@@ -155,7 +154,7 @@ template <class Set>
     return sum;
 }
 
-// An output iterator that adds what it is given.
+// An output iterator that sums the assigned values.
 struct Adding {
     uint64_t *sum;
 
@@ -201,7 +200,7 @@ static void measure_look_ups(typename Library::Set &set, const Lists &lists) {
     }
 }
 
-// The upper half of a set's elements moves to an empty set.
+// Moves the upper half of a set's elements to an empty set.
 template <class Library>
 static void split(typename Library::Set &set, typename Library::Set &upper) {
     if constexpr (Library::has_split) {
@@ -250,7 +249,7 @@ static void measure_ends(const Keys &ascending) {
     row("pop_first", keys, [&] { return popped_from_the_front(copy); });
 }
 
-// The first elements, so many times.
+// Reads the first elements, a number of times.
 template <class Set>
 [[gnu::noinline]] static uint64_t firsts(const std::vector<Set> &sets, uint64_t count) {
     uint64_t sum = 0;
@@ -342,7 +341,7 @@ static void hold(uint64_t keys, uint64_t copies, bool is_mixed) {
 
 static constexpr uint64_t PREPARED = 100000; // calls, of which a run makes the first ones
 
-// What a row asks for.
+// The arguments of a row.
 static Keys prepared(const std::string &name, uint64_t keys, uint64_t count) {
     bool is_insert = name == "insert" || name == "map, insert" || name == "texts, insert";
     bool is_remove = name == "remove" || name == "texts, remove";
@@ -356,7 +355,7 @@ static Keys prepared(const std::string &name, uint64_t keys, uint64_t count) {
     return list;
 }
 
-// Does the work as often as there are keys.
+// Runs a function once for each key.
 template <class Work>
 static uint64_t times(const Keys &asked, Work work) {
     uint64_t sum = 0;
@@ -367,7 +366,7 @@ static uint64_t times(const Keys &asked, Work work) {
     return sum;
 }
 
-// Whether the library has the row, of a set.
+// Makes the calls of a row of a set. Returns whether the library has the row.
 template <class Library>
 static bool call_set(const std::string &name, uint64_t keys, const Keys &asked) {
     using Set = typename Library::Set;
@@ -391,7 +390,7 @@ static bool call_set(const std::string &name, uint64_t keys, const Keys &asked) 
     return false;
 }
 
-// The same of a set of ascending keys.
+// Makes the calls of a row of a set of ascending keys. Returns whether the library has the row.
 template <class Library>
 static bool call_whole(const std::string &name, uint64_t keys, uint64_t count) {
     using Set = typename Library::Set;
@@ -417,7 +416,7 @@ static bool call_whole(const std::string &name, uint64_t keys, uint64_t count) {
     return name != "equality" || Library::has_equality;
 }
 
-// The first elements of copies of a set of ascending keys.
+// Reads the first elements of copies of a set of ascending keys.
 template <class Set>
 static bool call_first(uint64_t keys, uint64_t count) {
     Set set;
@@ -426,7 +425,7 @@ static bool call_first(uint64_t keys, uint64_t count) {
     return true;
 }
 
-// The same of a map.
+// Makes the calls of a row of a map. Returns whether the library has the row.
 template <class Map>
 static bool call_map(const std::string &name, uint64_t keys, const Keys &asked) {
     Map map;
@@ -438,7 +437,7 @@ static bool call_map(const std::string &name, uint64_t keys, const Keys &asked) 
     return false;
 }
 
-// The same of a map from texts.
+// Makes the calls of a row of a map from texts. Returns whether the library has the row.
 template <class Map>
 static bool call_texts(const std::string &name, uint64_t keys, const Keys &asked) {
     Map map;
@@ -450,7 +449,7 @@ static bool call_texts(const std::string &name, uint64_t keys, const Keys &asked
     return false;
 }
 
-// Whether the library has the row.
+// Makes the calls of a row. Returns whether the library has the row.
 template <class Library>
 static bool call(const std::string &name, uint64_t keys, uint64_t count) {
     Keys asked = prepared(name, keys, count);

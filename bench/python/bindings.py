@@ -1,9 +1,9 @@
-"""CPU nanoseconds an operation of the Python package beside `sortedcontainers`, in random order: the least of
-some runs, with the loop over the operations, and without the end of what they made. Each row of both is measured
-in turn, in each second run the other one first, with the same keys, and without the collection of garbage.
+"""CPU nanoseconds per operation of the Python package compared with `sortedcontainers`, in random order: the minimum of
+some runs, including the loop over the operations, without the release of their results. Each row of both is measured in
+turn, in each second run the other one first, with the same keys, and without garbage collection.
 
 After `bindings/test.sh`:  PYTHONPATH=bindings/python/out python3 bench/python/bindings.py 1000 100000 1000000
-INDEXSET_BACKEND=ctypes has it go by ctypes.
+With INDEXSET_BACKEND=ctypes it uses ctypes.
 """
 from __future__ import annotations
 
@@ -25,7 +25,7 @@ TURNS, ENOUGH = 4, 2.0  # how often reads are repeated, those that end soon more
 class Row(NamedTuple):
     name: str
     call: Callable[[], object]  # all its operations
-    operations: int  # how many they are
+    operations: int  # their number
     reads: bool = True  # whether it changes nothing, so that it can be repeated
 
 
@@ -38,7 +38,7 @@ class Keys:
         self.drawn = rng.sample(self.keys, len(self.keys))
         self.positions = [rng.randrange(count) for _ in self.keys]
         self.texts, self.sought = ([f"key {key}" for key in items] for items in (self.keys, self.drawn))
-        # A string keeps its hash: neither side is the one that computes it.
+        # A string keeps its hash: neither side computes it.
         each(hash, self.texts)
         each(hash, self.sought)
         self.some = min(count, 10000)
@@ -56,7 +56,7 @@ def cost(call: Callable[[], object]) -> float:
 
 
 def in_turn(rows: Sequence[Row], backwards: bool) -> list[float]:
-    """The least cost of each of some rows, which are measured in turn."""
+    """Returns the minimum cost of each of some rows, which are measured in turn."""
     costs: list[list[float]] = [[] for _ in rows]
     for turn in range(20 * TURNS if rows[0].reads else 1):
         for i in sorted(range(len(rows)), reverse=backwards):
@@ -90,7 +90,7 @@ def slices(held: Any, items: Iterable[int]) -> None:
         held[item : item + SLICE]
 
 
-# These two ask for the order at last, so that no change is left to make.
+# These two read the order at the end, so that no change is pending.
 
 
 def set_at(held: Any, items: Iterable[object]) -> None:
@@ -128,7 +128,7 @@ def drain(iterable: Iterable[object]) -> None:
 
 
 def of_set(lib: ModuleType, of: Keys) -> Iterator[Row]:
-    """The rows of a set."""
+    """Yields the rows of a set."""
     held, count, some = lib.SortedSet(), len(of.keys), of.positions[: of.some]
     yield Row("add", partial(each, held.add, of.keys), count, False)
     yield Row("in", partial(contains, held, of.drawn), count)
@@ -168,7 +168,7 @@ def of_text(lib: ModuleType, of: Keys) -> Iterator[Row]:
 def of_a_list(
     held: Any, name: str, added: Sequence[int], sought: Sequence[int], positions: Sequence[int]
 ) -> Iterator[Row]:
-    """The rows of a list, which is empty at first."""
+    """Yields the rows of a list, which is empty at first."""
     count = len(added)
     yield Row(f"{name}: add", partial(each, held.add, added), count, False)
     yield Row(f"{name}: in", partial(contains, held, sought), count)
@@ -183,19 +183,19 @@ def of_list(lib: ModuleType, of: Keys) -> Iterator[Row]:
 
 
 def of_repeats(lib: ModuleType, of: Keys) -> Iterator[Row]:
-    """Those of a list in which each number stands ten times."""
+    """Yields the rows of a list in which each number occurs ten times."""
     rng, often = random.Random(len(of.keys)), list(of.keys[: len(of.keys) // 10]) * 10
     added, sought = rng.sample(often, len(often)), rng.sample(often, len(often))
     yield from of_a_list(lib.SortedList(), "list of repeats", added, sought, of.positions[: len(often)])
 
 
 def of_plain(lib: ModuleType, of: Keys) -> Iterator[Row]:
-    """A dict beside both."""
+    """Yields the row of a dict, for comparison."""
     yield Row("in, of a dict", partial(contains, dict.fromkeys(of.keys), of.drawn), len(of.keys))
 
 
 def compare(rows: Rows, libraries: tuple[ModuleType, ModuleType], count: int, times: int) -> None:
-    """Prints each row, with the least nanoseconds an operation of some runs."""
+    """Prints each row, with the minimum nanoseconds per operation of some runs."""
     found: dict[str, list[list[float]]] = {}
     for turn in range(times):
         of = Keys(count)

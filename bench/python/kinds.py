@@ -1,6 +1,6 @@
-"""CPU nanoseconds an item of the Python package beside `sortedcontainers`, by kind of item: collections that are built
-from many items, calls on one item, and what is done by blocks; and the bytes an item that a collection takes beside its
-items. Each row of both is measured in turn, the least of some runs, without the collection of garbage.
+"""CPU nanoseconds per item of the Python package compared with `sortedcontainers`, by kind of item: collections that
+are built from many items, calls on one item, and operations by blocks; and the bytes per item of a collection, without
+its items. Each row of both is measured in turn, the minimum of some runs, without garbage collection.
 
 After `bindings/test.sh`:  PYTHONPATH=bindings/python/out python3 bench/python/kinds.py 1000 100000 1000000
 """
@@ -26,7 +26,7 @@ SOME = 20000  # of the calls on one item
 
 
 class Thing:
-    """An object of a class of one's own."""
+    """An object of a user's class."""
 
     __slots__ = ("number",)
 
@@ -38,7 +38,7 @@ class Thing:
 
 
 FIRST = datetime(2020, 1, 1)
-# What makes an item of each kind of a number below 2**40.
+# Makes an item of each kind from a number below 2**40.
 KINDS: dict[str, Callable[[int], Any]] = {
     "int": int,
     "float": float,
@@ -53,14 +53,14 @@ KINDS: dict[str, Callable[[int], Any]] = {
 
 
 class Items:
-    """Items of a kind: in order, and in another one."""
+    """Returns items of a kind: in order, and in another one."""
 
     def __init__(self, kind: str, count: int) -> None:
         rng = random.Random(count)
         numbers = sorted({rng.getrandbits(40) for _ in range(count)})
         order = list(range(len(numbers)))
         rng.shuffle(order)
-        # Made in a random order: what is next to another in memory is not next to it in the order.
+        # Made in a random order: neighbours in memory are not neighbours in the order.
         made: list[Any] = [None] * len(order)
         for at in order:
             made[at] = KINDS[kind](numbers[at])
@@ -76,7 +76,7 @@ class Items:
 
 class Row(NamedTuple):
     name: str
-    make: Callable[[], Any]  # what the call is given
+    make: Callable[[], Any]  # makes the argument of the call
     call: Callable[[Any], object]
     operations: int
 
@@ -172,7 +172,7 @@ def of_dict(lib: ModuleType, it: Items) -> Iterator[Row]:
 
 
 def of_key(lib: ModuleType, it: Items) -> Iterator[Row]:
-    """Items that are ordered by a function: here by themselves."""
+    """Yields the rows of items that a function orders: here the identity."""
     count, some, make = len(it.ordered), len(it.some), partial(lib.SortedKeyList, key=itself)
     held = make(it.drawn)
     same = lambda: held  # noqa: E731
@@ -222,7 +222,7 @@ def compare(libs: tuple[ModuleType, ModuleType], kind: str, count: int, parts: l
 
 
 class Heap(ctypes.Structure):
-    """What `mallinfo2` of glibc says: the bytes in use are `uordblks` and, of large pieces, `hblkhd`."""
+    """The result of `mallinfo2` of glibc: the bytes in use are `uordblks` and, for large blocks, `hblkhd`."""
 
     _fields_ = [
         (name, ctypes.c_size_t)
@@ -238,7 +238,7 @@ def in_use() -> int:
 
 
 def weigh(lib: ModuleType, cls: str, items: Any, one_by_one: bool) -> float:
-    """The bytes of the heap that a collection takes, an item."""
+    """Returns the heap bytes per item of a collection."""
     make = getattr(lib, cls)
     before = in_use()
     held = make() if one_by_one else make(items)
@@ -247,7 +247,7 @@ def weigh(lib: ModuleType, cls: str, items: Any, one_by_one: bool) -> float:
 
 
 def weights(libs: tuple[ModuleType, ModuleType], kind: str, count: int) -> None:
-    """Prints the bytes an item of both, beside the items themselves."""
+    """Prints the bytes per item of both, without the items themselves."""
     it = Items(kind, count)
     for name, (cls, of) in MADE.items():
         items: Any = getattr(it, of or "drawn")

@@ -1,9 +1,10 @@
-//! Times the calls of a set and a map of u64 in Rust: of std, or of the crate `indexset` where the
-//! feature says so. One line a row: its name, a tab, nanoseconds an operation.
+//! Times the calls of a set and a map of u64 in Rust: of std, or of the crate `indexset` with its
+//! feature. Each row is a line: its name, a tab, nanoseconds per operation.
 //!
-//! `rows KEYS` prints the rows; `hold KEYS COPIES ascending|mixed` makes that many sets, prints a line,
-//! and waits for one, so that its memory can be read; `calls KEYS ROW COUNT` prepares 100,000 calls and makes
-//! the first COUNT of them, so that what one costs is the difference between two runs.
+//! `rows KEYS` prints the rows; `hold KEYS COPIES ascending|mixed` makes that many sets, prints a
+//! line, and waits for one, so that its memory can be read; `calls KEYS ROW COUNT` prepares 100,000
+//! calls and makes the first COUNT of them, so that the cost of one is the difference between two
+//! runs.
 
 #[cfg(feature = "of_the_crate")]
 use indexset::{BTreeMap, BTreeSet};
@@ -14,7 +15,7 @@ use std::hint::black_box;
 use std::io::BufRead;
 use std::time::Instant;
 
-/// The i-th of distinct keys in no order.
+/// The i-th of distinct keys in random order.
 fn key(i: u64) -> u64 {
     let i = i.wrapping_add(1).wrapping_mul(0x9e37_79b9_7f4a_7c15);
     let i = (i ^ (i >> 30)).wrapping_mul(0xbf58_476d_1ce4_e5b9);
@@ -68,7 +69,7 @@ fn looked_up(map: &BTreeMap<u64, u64>, keys: &[u64]) -> u64 {
     keys.iter().filter_map(|key| map.get(key)).fold(0u64, |sum, value| sum.wrapping_add(*value))
 }
 
-/// One more in each value, key by key.
+/// Adds one to each value, key by key.
 #[inline(never)]
 fn written(map: &mut BTreeMap<u64, u64>, keys: &[u64]) {
     for key in keys {
@@ -206,7 +207,7 @@ fn measure_whole(mixed: &[u64], keys: u64) {
     black_box(made.len());
 }
 
-/// The first elements, so many times.
+/// Reads the first elements, a number of times.
 #[inline(never)]
 fn firsts(sets: &[BTreeSet<u64>], count: u64) -> u64 {
     let mut sum = 0u64;
@@ -218,7 +219,7 @@ fn firsts(sets: &[BTreeSet<u64>], count: u64) -> u64 {
     sum
 }
 
-/// The first elements of some sets, and a set of which every second element goes.
+/// Reads the first elements of some sets, and of a set from which every second element is removed.
 fn measure_kept(keys: u64) {
     let mut set: BTreeSet<u64> = BTreeSet::new();
     insert_all(&mut set, 0..keys);
@@ -316,10 +317,10 @@ fn hold(keys: u64, copies: u64, is_mixed: bool) {
     black_box(sets.len());
 }
 
-/// The calls that are prepared.
+/// The number of prepared calls.
 const PREPARED: u64 = 100_000;
 
-/// What a row asks for.
+/// Returns the arguments of a row.
 fn prepared(name: &str, keys: u64, count: u64) -> Vec<u64> {
     let mut list: Vec<u64> = (0..PREPARED)
         .map(|i| match name {
@@ -367,7 +368,7 @@ fn call_set(name: &str, keys: u64, asked: &[u64]) -> bool {
     true
 }
 
-/// Calls of a set of ascending keys.
+/// Makes the calls of a row of a set of ascending keys.
 fn call_whole(name: &str, keys: u64, count: u64) -> bool {
     let mut set: BTreeSet<u64> = BTreeSet::new();
     insert_all(&mut set, 0..keys);
@@ -391,7 +392,7 @@ fn call_whole(name: &str, keys: u64, count: u64) -> bool {
     true
 }
 
-/// The first elements of clones of a set of ascending keys.
+/// Reads the first elements of clones of a set of ascending keys.
 fn call_first(keys: u64, count: u64) -> bool {
     let set: BTreeSet<u64> = (0..keys).collect();
     black_box(firsts(&vec![set; 16], count / 16));
@@ -434,7 +435,7 @@ fn call_texts(name: &str, keys: u64, asked: &[u64]) -> bool {
     true
 }
 
-/// Whether there is such a row.
+/// Makes the calls of a row. Returns whether there is such a row.
 fn call(name: &str, keys: u64, count: u64) -> bool {
     let asked = prepared(name, keys, count);
     match name {

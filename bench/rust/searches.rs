@@ -1,6 +1,7 @@
-//! Times ways to search a list of nodes of u64 keys, each of a key that is there, in no order: what a look-up
-//! could take, whatever can be written in Rattle. `searches KEYS SIZE ROUNDS` prints a line a way: its name, a
-//! tab, the median of the rounds in nanoseconds. `rustc -O bench/rust/searches.rs` builds it.
+//! Times ways to search a list of nodes of u64 keys, each search for a key that is present, in
+//! random order: possible look-ups, also those that cannot be written in Rattle.
+//! `searches KEYS SIZE ROUNDS` prints a line for each way: its name, a tab, the median of the
+//! rounds in nanoseconds. `rustc -O bench/rust/searches.rs` builds it.
 
 use std::arch::asm;
 use std::arch::x86_64::{_mm_prefetch, _MM_HINT_T0};
@@ -9,7 +10,7 @@ use std::time::Instant;
 
 const CALLS: usize = 200_000;
 
-/// The i-th of distinct keys in no order.
+/// The i-th of distinct keys in random order.
 fn key(i: u64) -> u64 {
     let i = i.wrapping_add(1).wrapping_mul(0x9e37_79b9_7f4a_7c15);
     let i = (i ^ (i >> 30)).wrapping_mul(0xbf58_476d_1ce4_e5b9);
@@ -17,7 +18,8 @@ fn key(i: u64) -> u64 {
     i ^ (i >> 31)
 }
 
-/// Between which places the first item is that fails the test, so many apart at most, by predicted branches.
+/// Bounds of the first item that fails the test, at most a given distance apart, by predicted
+/// branches.
 #[inline(always)]
 fn narrowed<T>(items: &[T], apart: usize, test: impl Fn(&T) -> bool) -> (usize, usize) {
     let (mut low, mut high) = (0, items.len());
@@ -40,7 +42,7 @@ fn by_branches<T>(items: &[T], test: impl Fn(&T) -> bool) -> usize {
     narrowed(items, 0, test).0
 }
 
-/// The same by selects; `fetch` sees both items that the next step may read.
+/// Bounds of that item by selects; `fetch` sees both items that the next step may read.
 #[inline(always)]
 fn by_selects<T>(items: &[T], fetch: impl Fn(&T), test: impl Fn(&T) -> bool) -> usize {
     let (mut low, mut left) = (0, items.len());
@@ -54,7 +56,7 @@ fn by_selects<T>(items: &[T], fetch: impl Fn(&T), test: impl Fn(&T) -> bool) -> 
     low
 }
 
-/// The same by branches, and by selects where so many items are left at most.
+/// Bounds of that item by branches, and by selects once few enough items are left.
 #[inline(always)]
 fn by_both<T>(items: &[T], apart: usize, test: impl Fn(&T) -> bool) -> usize {
     let (low, high) = narrowed(items, apart, &test);
@@ -65,7 +67,7 @@ fn fetched<T>(item: &T) {
     unsafe { _mm_prefetch::<_MM_HINT_T0>(item as *const T as *const i8) }
 }
 
-/// The keys in nodes that were halved where they were full, as single insertions leave them.
+/// The keys in nodes that were split when they were full, as single insertions leave them.
 fn nodes_of(keys: &[u64], size: usize) -> Vec<Vec<u64>> {
     let mut nodes = vec![Vec::with_capacity(size)];
     for key in keys {

@@ -1,6 +1,6 @@
-"""The compiled module: `python3 build_fast.py FOLDER` makes it into FOLDER/indexset.
+"""Builds the compiled module: `python3 build_fast.py FOLDER` writes it into FOLDER/indexset.
 
-It needs a C compiler and Python's headers, and what `make -C ../c` made.
+It needs a C compiler and Python's headers, and the files that `make -C ../c` builds.
 """
 import argparse
 import os
@@ -35,7 +35,7 @@ SOURCES = (
 
 
 def compiler():
-    """The words of the C compiler, or None where it or Python's headers are missing."""
+    """Returns the command line of the C compiler, or None if it or Python's headers are missing."""
     words = shlex.split(os.environ.get("CC") or sysconfig.get_config_var("CC") or "cc")
     header = pathlib.Path(sysconfig.get_path("include")) / "Python.h"
     words = words if shutil.which(words[0]) else ["cc"]
@@ -43,7 +43,7 @@ def compiler():
 
 
 def build(folder, source, header, library, *flags):
-    """Makes the module into a folder, and returns its path. CalledProcessError where the compiler refuses."""
+    """Builds the module into a folder, and returns its path. Raises CalledProcessError if the compiler fails."""
     made = pathlib.Path(folder) / f"_fast{sysconfig.get_config_var('EXT_SUFFIX')}"
     includes = [f"-I{sysconfig.get_path('include')}", f"-I{header}", f"-I{source}"]
     files = [str(source / name) for name in SOURCES]

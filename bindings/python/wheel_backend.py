@@ -1,8 +1,8 @@
-"""The build backend: what `pip install` asks for a wheel, a source distribution or an editable install.
+"""The build backend: `pip install` asks it for a wheel, a source distribution or an editable install.
 
-It needs nothing besides Python, so that it works in a fresh environment and without a network. The library is
-what `make -C bindings/c` built; a source distribution brings it along, for the platform that it was made on.
-Where a C compiler and Python's headers are, the wheel has the compiled module; else the package goes by ctypes.
+It needs only Python, so that it works in a fresh environment and without a network. The library is the one that
+`make -C bindings/c` built; a source distribution contains it, for the platform on which it was made. With a C compiler
+and Python's headers, the wheel has the compiled module; otherwise the package uses ctypes.
 """
 import base64
 import ctypes
@@ -32,19 +32,19 @@ NATIVE = {
 
 
 def native(name):
-    """A file of the library: beside this one in a source distribution, else where make puts it."""
+    """Returns a file of the library: beside this one in a source distribution, otherwise where make puts it."""
     beside = HERE / "native" / name
     return beside if beside.exists() else NATIVE[name]
 
 
 def text(name):
-    """A text of the repository, or of the source distribution."""
+    """Returns a text of the repository, or of the source distribution."""
     beside = HERE / name
     return (beside if beside.exists() else TEXTS[name]).read_text()
 
 
 def check_library():
-    """Ends with one line where the library is missing, or is another platform's."""
+    """Exits with one line if the library is missing, or is for another platform."""
     library = native("libindexset.so")
     if not library.exists():
         sys.exit(f"indexset: {library} is missing; `make -C bindings/c` makes it")
@@ -55,12 +55,12 @@ def check_library():
 
 
 def project(key):
-    """The text of a key of pyproject.toml."""
+    """Returns the value of a key of pyproject.toml."""
     return re.search(rf'^{key} = "(.*)"$', (HERE / "pyproject.toml").read_text(), flags=re.M).group(1)
 
 
 def about():
-    """The metadata."""
+    """Returns the metadata."""
     listed = re.search(r"^classifiers = \[(.*?)\]", (HERE / "pyproject.toml").read_text(), flags=re.M | re.S)
     lines = ["Metadata-Version: 2.1", f"Name: {project('name')}", f"Version: {project('version')}"]
     lines += [f"Summary: {project('description')}", f"Requires-Python: {project('requires-python')}"]
@@ -70,7 +70,7 @@ def about():
 
 
 def compiled():
-    """The compiled module's name and what it holds, or None where it cannot be made."""
+    """Returns the compiled module's name and content, or None if it cannot be built."""
     if compiler() is None:
         print("indexset: no C compiler or no Python.h: the package goes by ctypes")
         return None
@@ -84,13 +84,13 @@ def compiled():
 
 
 def record(name, content):
-    """The line of RECORD for a file."""
+    """Returns the line of RECORD for a file."""
     digest = base64.urlsafe_b64encode(hashlib.sha256(content).digest()).rstrip(b"=").decode()
     return f"{name},sha256={digest},{len(content)}\n"
 
 
 def write_wheel(folder, files, is_pure, has_module):
-    """Writes a wheel of files, whose tag says what it needs, and returns its name."""
+    """Writes a wheel of files, whose tag names what it needs, and returns its name."""
     name, version = project("name"), project("version")
     python = f"cp{sys.version_info.major}{sys.version_info.minor}"
     platform = re.sub(r"[-.]", "_", sysconfig.get_platform())
@@ -112,7 +112,7 @@ def write_wheel(folder, files, is_pure, has_module):
 
 
 def sources():
-    """The files of the package."""
+    """Returns the files of the package."""
     return [it for it in sorted((HERE / "src/indexset").iterdir()) if it.suffix in (".py", ".typed")]
 
 
@@ -127,7 +127,8 @@ def build_wheel(wheel_directory, config_settings=None, metadata_directory=None):
 
 
 def build_editable(wheel_directory, config_settings=None, metadata_directory=None):
-    """The package where it is. It goes by ctypes, unless `build_fast.py` has made the module beside it."""
+    """Builds a wheel that refers to the package in its place. It uses ctypes, unless `build_fast.py` has built the
+    module beside it."""
     check_library()
     return write_wheel(wheel_directory, [("indexset.pth", f"{HERE / 'src'}\n".encode())], True, False)
 

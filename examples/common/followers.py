@@ -1,4 +1,4 @@
-"""What the examples share: commands, a link that loses, doubles and swaps, kills by a seed, and the last table."""
+"""Shared by the examples: commands, a link that loses, repeats and swaps, kills by a seed, and the final table."""
 
 from __future__ import annotations
 
@@ -37,7 +37,7 @@ def commands(count: int, chance: random.Random) -> list[bytes]:
 
 
 def apply(pairs: dict[int, int], command: bytes) -> None:
-    """What a command does to a plain map."""
+    """Does to a plain map what a command does."""
     match command.split(b" "):
         case [b"put", key, value]:
             pairs[int(key)] = int(value)
@@ -50,7 +50,7 @@ def number(event: bytes) -> int:
 
 
 def spoiled(events: list[bytes], chance: random.Random, counts: Counts) -> list[bytes]:
-    """Events that come in pieces of 1 to 40, some of them lost, some doubled and some swapped; these are counted."""
+    """Returns events in pieces of 1 to 40, some of them lost, some repeated and some swapped; these are counted."""
     pieces: list[list[bytes]] = []
     at = 0
     while at < len(events):
@@ -67,24 +67,24 @@ def spoiled(events: list[bytes], chance: random.Random, counts: Counts) -> list[
 
 
 class Link(Protocol):
-    """What brings events from a leader to a relay, and keeps them."""
+    """The transport of events from a leader to a relay, which also stores them."""
 
     def publish(self, events: list[bytes]) -> None:
-        """Sends and keeps events, at least one."""
+        """Sends and stores events, at least one."""
 
     def delivered(self) -> list[bytes]:
-        """The events that came since the last call, after which those of that call count as handed over."""
+        """Returns the events since the last call, which acknowledges those of the call before."""
 
     def kept(self, number: int) -> list[bytes]:
-        """Some of the events that are kept, from that number on."""
+        """Returns some of the stored events, from that number on."""
 
     def reconnect(self) -> None:
-        """A relay comes in place of one that was killed with what it had in its hands."""
+        """Replaces a relay that was killed with the events that it had not handed over."""
 
 
 @dataclasses.dataclass(kw_only=True)
 class Results:
-    """What was compared."""
+    """The results of comparisons."""
 
     passed: int = 0
     failed: int = 0
@@ -101,7 +101,7 @@ class Results:
 
 @dataclasses.dataclass
 class Run(Results):
-    """What an example runs with."""
+    """The settings of an example."""
 
     program: pathlib.Path
     chance: random.Random
@@ -113,7 +113,7 @@ class Run(Results):
 
 
 def asked(what: str, count: int) -> Run:
-    """A run with the seed and the number of commands that are asked for, if not 1 and `count`."""
+    """Returns a run with the seed and the number of commands of the command line, by default 1 and `count`."""
     ask = argparse.ArgumentParser(description=what)
     ask.add_argument("seed", type=int, nargs="?", default=1, metavar="SEED", help="default: %(default)s")
     ask.add_argument("commands", type=int, nargs="?", default=count, metavar="COMMANDS", help="default: %(default)s")
@@ -122,15 +122,15 @@ def asked(what: str, count: int) -> Run:
 
 
 class Relay:
-    """It hands what comes over a link to a follower, and asks for what is missing. It remembers no event."""
+    """Hands the events of a link over to a follower, and requests missing ones. It stores no event."""
 
     def __init__(self, link: Link, follower: Store, run: Run) -> None:
         self.link, self.follower, self.run = link, follower, run
         self.awaited = follower.next()
-        self.held: int | None = None  # the first early event that the follower holds, where it told one
+        self.held: int | None = None  # the first early event that the follower holds, if it reported one
 
     def hand(self, events: list[bytes]) -> None:
-        """Each answer names the number that is awaited, the last one that after all of them."""
+        """Reads the replies: each names the next event to apply, the last one that after all of them."""
         answers = self.follower.each(events)
         counts, before = self.run.counts, self.awaited
         for answer in answers:
@@ -142,7 +142,7 @@ class Relay:
         counts["taken"] += self.awaited - before
 
     def catch_up(self, head: int) -> None:
-        """Asks for the events from the awaited one on, up to `head`."""
+        """Requests the events from the next one to apply on, up to `head`."""
         while self.awaited < head:
             before, events = self.awaited, self.link.kept(self.awaited)
             events = events[: self.held - before] if self.held else events
@@ -153,7 +153,7 @@ class Relay:
                 sys.exit(f"event {before} is kept, and not taken")
 
     def feed(self) -> None:
-        """Hands over what came. A lost last event is found with the next one."""
+        """Hands over the events that arrived. A lost last event is found with the next one."""
         if came := spoiled(self.link.delivered(), self.run.chance, self.run.counts):
             self.hand(came)
             self.catch_up(max(map(number, came)) + 1)
@@ -175,7 +175,8 @@ class Course:
             self.run.counts["sent"] += len(events)
 
     def follow_anew(self, from_snapshot: bool) -> None:
-        """Starts a follower in place of one that is gone: from the leader's snapshot, or from the first event kept."""
+        """Starts a follower in place of one that has ended: from the leader's snapshot, or from the first stored
+        event."""
         follower = self.run.store()
         if from_snapshot:
             snapshot = self.leader.snapshot()
@@ -185,7 +186,7 @@ class Course:
         self.relay = Relay(self.link, follower, self.run)
 
     def kill_leader(self, batch: list[bytes]) -> None:
-        """The leader is killed amid a batch, and some of its last events with it. The follower leads from there on."""
+        """Kills the leader amid a batch, and some of its last events with it. The follower becomes the leader."""
         (events,) = self.leader.events(batch[: self.run.chance.randrange(1, BATCH)])
         self.leader.kill()
         self.publish(events[: self.run.chance.randrange(len(events) + 1)])
@@ -196,8 +197,8 @@ class Course:
         self.follow_anew(from_snapshot=True)
 
     def step(self, batch: list[bytes], killed: str) -> None:
-        """A batch of commands, and what it leads to. All of it comes again after a leader's end: no command does
-        harm that comes twice."""
+        """Sends a batch of commands and delivers its events. All of it is repeated after a leader's end: no repeated
+        command does harm."""
         self.run.counts[killed] += 1
         if killed == "leader":
             self.kill_leader(batch)
@@ -212,7 +213,7 @@ class Course:
 
 
 def drive(link: Link, run: Run) -> None:
-    """The commands over a link; then all sides are compared."""
+    """Sends the commands over a link, and compares all sides."""
     lines, pairs, course = commands(run.commands, run.chance), dict[int, int](), Course(link, run)
     kinds, steps = EVERY * ["leader", "follower", "relay"], range(run.commands // BATCH)
     kills = dict(zip(run.chance.sample(steps[5:], len(kinds)), kinds))
@@ -229,7 +230,7 @@ def drive(link: Link, run: Run) -> None:
 
 
 def followed_late(course: Course) -> tuple[Store, float]:
-    """A follower that takes all that is kept, from nothing and without a fault, and how long it takes."""
+    """Times a follower that takes all stored events, from scratch and without a fault."""
     late, awaited, start = course.run.store(), 0, time.perf_counter()
     while awaited < course.head:
         events = course.link.kept(awaited)
@@ -239,7 +240,7 @@ def followed_late(course: Course) -> tuple[Store, float]:
 
 
 def compare(course: Course, late: Store, pairs: dict[int, int]) -> None:
-    """What stands in the end on all sides, which are compared by one line each."""
+    """Returns the final states of all sides, which are compared by one line each."""
     run, told = course.run, course.leader.sum()
     print(f"leader   {told.decode()}\nfollower {course.relay.follower.sum().decode()}\nlate     {late.sum().decode()}")
     run.check("leader, follower and late follower have the same sum", course.relay.follower.sum() == told == late.sum())
@@ -250,7 +251,7 @@ def compare(course: Course, late: Store, pairs: dict[int, int]) -> None:
 
 
 def show(run: Run, rates: dict[str, float]) -> None:
-    """The table: events, but for how often they were asked for, the kills and the promotions."""
+    """Prints the table: events, or for some rows requests, kills and promotions."""
     counts = run.counts
     rows: dict[str, float] = {name: counts[name] for name in NAMES}
     rows.update({f"kills: {name}": counts[name] for name in ("leader", "follower", "relay")})
@@ -261,21 +262,21 @@ def show(run: Run, rates: dict[str, float]) -> None:
 
 
 def installed(*programs: str) -> None:
-    """Ends where a program is missing, and names the Debian package that has it."""
+    """Exits if a program is missing, and names the Debian package that has it."""
     for program in programs:
         if shutil.which(program) is None:
             sys.exit(f"{program} is not there: Debian's package {program} has it")
 
 
 def free_port() -> int:
-    """A port of loopback that nothing listens on."""
+    """Returns a free port of loopback."""
     with socket.socket() as found:
         found.bind(("127.0.0.1", 0))
         return int(found.getsockname()[1])
 
 
 def wait_for(answers: Callable[[], bool]) -> None:
-    """Waits until a server answers, some seconds at most."""
+    """Waits until a server replies, some seconds at most."""
     for _ in range(200):
         if answers():
             return
@@ -285,7 +286,7 @@ def wait_for(answers: Callable[[], bool]) -> None:
 
 @contextlib.contextmanager
 def answering(server: subprocess.Popen[bytes], answers: Callable[[], bool]) -> Iterator[None]:
-    """Waits until a server answers, and ends it after the block."""
+    """Waits until a server replies, and ends it after the block."""
     try:
         wait_for(answers)
         yield

@@ -13,7 +13,7 @@ Word = Union[bytes, str, int]
 
 @dataclasses.dataclass(frozen=True)
 class Refused:
-    """What the server answers to a command that it does not carry out."""
+    """An error reply of the server."""
 
     why: str
 
@@ -23,14 +23,14 @@ Reply = Union[bytes, int, None, Refused, list["Reply"]]
 
 @dataclasses.dataclass(frozen=True)
 class Entry:
-    """An entry of a stream: the number before the dash of its name, its whole name, and its fields."""
+    """An entry of a stream: the number before the dash of its name, its full name, and its fields."""
 
     number: int
     name: bytes
     fields: dict[bytes, bytes]
 
     def lines(self) -> list[bytes]:
-        """The lines of its field `lines`."""
+        """Returns the lines of its field `lines`."""
         text = self.fields[b"lines"]
         return text.split(b"\n") if text else []
 
@@ -41,7 +41,7 @@ def as_word(word: Word) -> bytes:
 
 
 class Redis:
-    """A connection, whose errors are those of a socket."""
+    """A connection, with the errors of a socket."""
 
     def __init__(self, port: int, host: str = "127.0.0.1") -> None:
         self.socket = socket.create_connection((host, port), 60)
@@ -49,13 +49,13 @@ class Redis:
         self.read = self.socket.makefile("rb")
 
     def replies(self, commands: Iterable[list[Word]]) -> list[Reply]:
-        """The replies to commands that go out together."""
+        """Returns the replies to commands that are sent together."""
         texts = [b"*%d\r\n%b" % (len(words), b"".join(map(as_word, words))) for words in commands]
         self.socket.sendall(b"".join(texts))
         return [self.reply() for _ in texts]
 
     def call(self, *words: Word) -> Reply:
-        """The reply to a command, which the server must not refuse."""
+        """Returns the reply to a command. An error reply raises."""
         (found,) = self.replies([list(words)])
         if isinstance(found, Refused):
             raise RuntimeError(found.why)
@@ -81,7 +81,7 @@ class Redis:
         return text[:-2]
 
     def entries(self, *words: Word) -> list[Entry]:
-        """The entries of a stream that XRANGE, XREVRANGE, or XREAD of one stream answers."""
+        """Returns the entries of a stream from the reply to XRANGE, XREVRANGE, or XREAD of one stream."""
         found = self.call(*words)
         if found and str(words[0]).startswith("XREAD"):
             found = listed(listed(found)[0])[1]
@@ -93,14 +93,14 @@ class Redis:
 
 
 def refusal(why: str) -> Refused:
-    """A refusal, but where the server is not ready yet."""
+    """Returns the error of an error reply. Raises an error of a socket if the server is not ready yet."""
     if why.startswith("LOADING"):
         raise ConnectionResetError(why)
     return Refused(why)
 
 
 def listed(reply: Reply) -> list[Reply]:
-    """The parts of a reply, none where the server says that there is nothing."""
+    """Returns the parts of a reply, none if it is null."""
     return reply if isinstance(reply, list) else []
 
 
@@ -115,7 +115,7 @@ def as_entry(reply: Reply) -> Entry:
 
 
 def served(port: int, folder: str, *arguments: str) -> subprocess.Popen[bytes]:
-    """A server on loopback, whose files lie in a folder."""
+    """A server on loopback, with its files in a folder."""
     words = [
         "redis-server", "--port", str(port), "--bind", "127.0.0.1", "--dir", folder, "--save", "", "--loglevel",
         "warning",
@@ -124,7 +124,7 @@ def served(port: int, folder: str, *arguments: str) -> subprocess.Popen[bytes]:
 
 
 def has_answered(port: int) -> bool:
-    """Whether the server answers."""
+    """Returns whether the server replies."""
     try:
         return Redis(port).call("PING") == b"PONG"
     except (OSError, RuntimeError):

@@ -1,4 +1,4 @@
-"""A run of `indexset_store`, which leads or follows, and the lines between it and a script."""
+"""A run of `indexset_store`, as a leader or a follower, and the lines between it and a script."""
 
 from __future__ import annotations
 
@@ -9,18 +9,18 @@ import select
 import subprocess
 from collections.abc import Callable
 
-SECONDS = 120  # that a program has for its next answer, on a busy machine
-PART = 65_536  # what a pipe holds
-COUNT = re.compile(rb"^\d+\n", re.MULTILINE)  # a bare number, which no command is answered by
+SECONDS = 120  # until the next reply of a program, on a busy machine
+PART = 65_536  # the capacity of a pipe
+COUNT = re.compile(rb"^\d+\n", re.MULTILINE)  # a bare number, which is no command's reply
 END = re.compile(rb"(?:\A|\n)end \d+ \d+\n\Z")
 
 
 class Ended(Exception):
-    """The program is gone."""
+    """The program has ended."""
 
 
 class Store:
-    """A program that answers each line of its input before it waits for the next."""
+    """A program that replies to each line of its input before it waits for the next."""
 
     def __init__(self, program: pathlib.Path, *arguments: str) -> None:
         self.program = program
@@ -30,9 +30,9 @@ class Store:
         os.set_blocking(self.given, False)
 
     def answers(self, lines: list[bytes], is_whole: Callable[[bytearray], bool]) -> list[bytes]:
-        """The lines that come until they are whole, read while the others are written, so that neither side waits."""
+        """Returns the output until it is complete, reading while the input is written, so that neither side waits."""
         if self.process.returncode is not None:
-            raise Ended  # its pipes are closed, and their numbers may stand for other files
+            raise Ended  # its pipes are closed, and their numbers may belong to other files
         left, found = memoryview(b"".join(line + b"\n" for line in lines)), bytearray()
         while left or not is_whole(found):
             readable, writable, _ = select.select([self.told], [self.given] if left else [], [], SECONDS)
@@ -48,7 +48,7 @@ class Store:
         return bytes(found).split(b"\n")[:-1]
 
     def write(self, part: memoryview) -> int:
-        """Writes what the pipe has room for, and returns how much that was."""
+        """Writes as much as fits into the pipe, and returns its length."""
         try:
             return os.write(self.given, part)
         except BlockingIOError:
@@ -57,19 +57,19 @@ class Store:
             raise Ended from error
 
     def each(self, lines: list[bytes]) -> list[bytes]:
-        """The answers to lines of which each is answered by one."""
+        """Returns the replies to lines with one reply each."""
         return self.answers(lines, lambda found: found.count(b"\n") >= len(lines))
 
     def one(self, line: bytes) -> bytes:
         return self.each([line])[0]
 
     def ask(self, line: bytes) -> list[bytes]:
-        """The lines of the answer to any line, which end at the `bad` to an empty line that is sent after it."""
+        """Returns the reply to any line, which ends at the `bad` for an empty line sent after it."""
         return self.answers([line, b""], lambda found: found.endswith(b"\nbad\n"))[:-1]
 
     def events(self, *batches: list[bytes]) -> list[list[bytes]]:
-        """The events of batches of commands to a leader, and the lines `done` of commands with numbers. A line `len`
-        after each batch shows where its answers end."""
+        """Returns the events of batches of commands to a leader, and the lines `done` of commands with numbers. A line
+        `len` after each batch marks the end of its replies."""
         lines = [line for batch in batches for line in (*batch, b"len")]
         found: list[list[bytes]] = [[]]
         for line in self.answers(lines, lambda told: len(COUNT.findall(told)) == len(batches)):
@@ -80,23 +80,23 @@ class Store:
         return found[:-1]
 
     def snapshot(self) -> list[bytes]:
-        """The lines that make another one the same."""
+        """Returns the lines that make another one equal."""
         return self.answers([b"snapshot"], lambda found: END.search(found[-64:]) is not None)
 
     def next(self) -> int:
-        """The number of the event that is awaited, or told next."""
+        """Returns the number of the next event to apply or to emit."""
         return int(self.one(b"next").removeprefix(b"next "))
 
     def sum(self) -> bytes:
-        """The line by which two are compared."""
+        """Returns the line that two are compared by."""
         return self.one(b"sum")
 
     def lead(self) -> int:
-        """Makes a follower a leader; the number of the event that it tells next."""
+        """Makes a follower a leader; returns the number of the next event that it emits."""
         return int(self.one(b"lead").removeprefix(b"next "))
 
     def kill(self) -> None:
-        """Ends the program at once, and what it told and nobody read is lost."""
+        """Kills the program; output that was not read is lost."""
         self.process.kill()
         self.process.communicate()
 

@@ -9,7 +9,7 @@ from collections.abc import Iterator
 
 @dataclasses.dataclass(frozen=True)
 class Message:
-    """A message, with the subject to answer to."""
+    """A message, with the subject for replies."""
 
     answer_to: bytes
     text: bytes
@@ -28,7 +28,7 @@ class Nats:
         self.flush()
 
     def flush(self) -> list[Message]:
-        """Waits until the server has all that was sent; the messages that came before it said so."""
+        """Waits until the server has received all that was sent; earlier messages do not show that."""
         self.socket.sendall(b"PING\r\n")
         return list(self.until_pong())
 
@@ -36,7 +36,7 @@ class Nats:
         self.socket.sendall(b"PUB %b %b %d\r\n%b\r\n" % (subject, answer_to, len(text), text))
 
     def until_pong(self) -> Iterator[Message]:
-        """The messages that come before the server answers a PING."""
+        """Returns the messages before the server's reply to a PING."""
         while (line := self.read.readline()) != b"PONG\r\n":
             if line == b"PING\r\n":
                 self.socket.sendall(b"PONG\r\n")
@@ -49,7 +49,7 @@ class Nats:
                 raise EOFError("the server ended")
 
     def message(self) -> Message:
-        """The next message."""
+        """Returns the next message."""
         return next(self.until_pong())
 
     def close(self) -> None:
@@ -58,7 +58,7 @@ class Nats:
 
 
 def has_answered(port: int) -> bool:
-    """Whether the server takes a connection."""
+    """Returns whether the server accepts a connection."""
     try:
         Nats(port).close()
     except OSError:

@@ -1,13 +1,12 @@
 #!/usr/bin/env python3
-"""A leader and its followers over core NATS, whose deliveries come at most once.
+"""Runs a leader and its followers over core NATS, which delivers at most once.
 
-The events of a batch of commands go out as one message on the subject `events`. The subject `resend` answers a
-number by events from it on. The link to the follower loses, doubles and swaps deliveries. Leader, follower and
-relay are killed, three times each: the relay with a message that no one gets again; each time that the leader is
-gone, the follower leads. In the end all sides are compared.
+The events of a batch of commands are sent as one message on the subject `events`. A request on the subject `resend` is
+a number, and the reply is events from it on. The link to the follower loses, repeats and swaps deliveries. Leader,
+follower and relay are killed, three times each: the relay with a message that no one gets again; each time the leader
+is killed, the follower becomes the leader. In the end all sides are compared.
 
-It starts a server of its own on loopback. Give a seed as the argument, if not 1. The last line is
-'N passed, M failed'.
+It starts a server of its own on loopback. The argument is a seed, 1 by default. The last line is 'N passed, M failed'.
 """
 
 from __future__ import annotations
@@ -25,7 +24,7 @@ from followers import BATCH, answering, asked, drive, free_port, installed  # no
 
 
 def resend(server: Nats, events: list[bytes]) -> None:
-    """Answers a number by the events from it on, a part at a time."""
+    """Replies to a number by the events from it on, one part at a time."""
     try:
         while True:
             request = server.message()
@@ -36,7 +35,7 @@ def resend(server: Nats, events: list[bytes]) -> None:
 
 
 class Subject:
-    """The events as messages, of which the leader's side keeps all."""
+    """The events as messages, all of which the leader's side stores."""
 
     def __init__(self, port: int) -> None:
         self.port, self.events = port, list[bytes]()

@@ -1,12 +1,12 @@
 #!/usr/bin/env python3
-"""A leader and its followers over a pipe and a file, with no server.
+"""Runs a leader and its followers over a pipe and a file, without a server.
 
-1. All that a leader writes is piped into a follower that is started for that.
-2. The event lines are appended to a file. A follower gets them from there with losses, repeats and swaps, and
-   its relay asks for what is missing. Leader, follower and relay are killed, three times each; each time that the
-   leader is gone, the follower leads. In the end all sides are compared.
+1. The output of a leader is piped into a follower.
+2. The event lines are appended to a file. A follower gets them from there with losses, repeats and swaps, and its
+   relay requests missing ones. Leader, follower and relay are killed, three times each; each time the leader is
+   killed, the follower becomes the leader. In the end all sides are compared.
 
-Run it once the program is built. Give a seed as the argument, if not 1. The last line is 'N passed, M failed'.
+Run it once the program is built. The argument is a seed, 1 by default. The last line is 'N passed, M failed'.
 """
 
 from __future__ import annotations
@@ -25,7 +25,7 @@ from followers import Run, asked, commands, drive, number  # noqa: E402
 
 
 class File:
-    """The events in a file, one a line, and how far a relay has read them."""
+    """The events in a file, one on each line, and the position up to which a relay has read them."""
 
     def __init__(self, path: pathlib.Path) -> None:
         self.path, self.into = path, path.open("ab")
@@ -57,7 +57,7 @@ class File:
 
 
 def piped(run: Run) -> None:
-    """A follower whose input is all that a leader writes."""
+    """Runs a follower whose input is the output of a leader."""
     lines = commands(run.commands, run.chance)
     with tempfile.TemporaryFile() as given:
         given.write(b"".join(line + b"\n" for line in lines))

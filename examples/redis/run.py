@@ -1,13 +1,12 @@
 #!/usr/bin/env python3
-"""A leader and its followers over a Redis stream.
+"""Runs a leader and its followers over a Redis stream.
 
-The events of a batch of commands are one entry, whose number is that of its last event + 1, so that the server
-itself refuses what is published twice. The link to the follower loses, doubles and swaps deliveries. Leader,
-follower and relay are killed, three times each: the relay with deliveries that it did not acknowledge; each time
-that the leader is gone, the follower leads. In the end all sides are compared.
+The events of a batch of commands are one entry, whose number is that of its last event + 1, so that the server itself
+rejects a repeated entry. The link to the follower loses, repeats and swaps deliveries. Leader, follower and relay are
+killed, three times each: the relay with deliveries that it did not acknowledge; each time the leader is killed, the
+follower becomes the leader. In the end all sides are compared.
 
-It starts a server of its own on loopback. Give a seed as the argument, if not 1. The last line is
-'N passed, M failed'.
+It starts a server of its own on loopback. The argument is a seed, 1 by default. The last line is 'N passed, M failed'.
 """
 
 from __future__ import annotations
@@ -22,7 +21,7 @@ sys.path[:0] = [str(TOP / "scripts"), str(TOP / "examples/common")]
 from followers import Run, answering, asked, drive, free_port, installed, number  # noqa: E402
 from resp import Entry, Redis, Refused, Word, has_answered, served  # noqa: E402
 
-TWICE = 7  # of so many entries one is published twice
+TWICE = 7  # one of this many entries is published twice
 
 
 class Stream:
@@ -32,12 +31,12 @@ class Stream:
         self.port = port
         self.leader, self.relay = Redis(port), Redis(port)
         self.entries = self.twice = self.refused = 0
-        self.after = ">"  # (`0`: what was delivered, and not acknowledged)
+        self.after = ">"  # (`0`: delivered, and not acknowledged)
         self.held: list[Entry] = []
         self.leader.call("XGROUP", "CREATE", "events", "followers", 0, "MKSTREAM")
 
     def publish(self, events: list[bytes]) -> None:
-        """Adds an entry. One that is there already is refused by its number."""
+        """Adds an entry. The server rejects a repeated one by its number."""
         add: list[Word] = ["XADD", "events", f"{number(events[-1]) + 1}-0", "lines", b"\n".join(events)]
         self.leader.call(*add)
         self.entries += 1
@@ -64,7 +63,7 @@ class Stream:
 
 
 def over(stream: Stream, run: Run) -> None:
-    """The map over the stream, and what stands there in the end."""
+    """Runs the map over the stream, and compares the final states."""
     drive(stream, run)
     run.check("each entry that was published twice was refused", stream.refused == stream.twice > 0)
     run.check("the stream holds each entry once", stream.leader.call("XLEN", "events") == stream.entries)

@@ -1,4 +1,4 @@
-"""All parts on one machine: an engine, a router, and leaders, of which each that ends is started again."""
+"""All parts on one machine: an engine, a router, and leaders, each of which is restarted when it ends."""
 
 from __future__ import annotations
 
@@ -21,7 +21,7 @@ Process = subprocess.Popen[bytes]
 
 
 def commands(count: int, chance: random.Random) -> list[bytes]:
-    """Puts, and some cuts."""
+    """Returns puts, and some cuts."""
     keys = chance.choices(range(KEYS), k=count)
     return [
         b"cut %d" % key if chance.random() < 0.3 else b"put %d %d" % (key, chance.randrange(10**6)) for key in keys
@@ -29,7 +29,7 @@ def commands(count: int, chance: random.Random) -> list[bytes]:
 
 
 def children(process: int) -> list[int]:
-    """The processes that a process started."""
+    """Returns the child processes of a process."""
     found = pathlib.Path(f"/proc/{process}/task").glob("*/children")
     return [int(it) for file in found for it in file.read_text(encoding="ascii").split()]
 
@@ -40,7 +40,7 @@ class Cluster:
 
     folder: str
     lows: list[int]
-    leaders_each: int = 2  # (the second stands by)
+    leaders_each: int = 2  # (the second is on standby)
     every: int = 1_000_000  # commands between two snapshots
     port: int = dataclasses.field(default_factory=free_port)
     next: int = 1
@@ -62,7 +62,7 @@ class Cluster:
         self.router = subprocess.Popen(words, stdin=subprocess.PIPE, stdout=subprocess.PIPE)
 
     def machine(self, place: int) -> str:
-        """The folder of a leader's machine."""
+        """Returns the folder of a leader's machine."""
         return f"{self.folder}/machine{place}"
 
     def start_leader(self, shard: str, place: int) -> Process:
@@ -71,7 +71,7 @@ class Cluster:
             return subprocess.Popen(words, env={**os.environ, "SNAPSHOT_EVERY": str(self.every)}, stdout=log)
 
     def mend(self) -> None:
-        """Starts what has ended: the router, and leaders, but for those that ended with their shard."""
+        """Restarts what has ended: the router, and leaders, except those that ended with their shard."""
         for shard in {shard for table in self.engine.tables().values() for _, shard in table}:
             parts = self.leaders.setdefault(shard, [])
             for place, part in enumerate(parts):
@@ -82,12 +82,12 @@ class Cluster:
             self.start_router()
 
     def have_ended(self) -> bool:
-        """Whether the leaders of all shards that gave their pairs away have ended."""
+        """Returns whether the leaders of all shards that gave their pairs away have ended."""
         lead = {shard for _, shard in self.engine.table()}
         return all(it.poll() == 0 for shard, parts in self.leaders.items() if shard not in lead for it in parts)
 
     def send(self, lines: list[bytes], is_killed: bool = False) -> None:
-        """Sends a batch, again where the router ended before it answered, or is to be killed then."""
+        """Sends a batch, again if the router ended before its reply, or is to be killed then."""
         text = b"".join(line + b"\n" for line in [b"from %d" % self.next, *lines, b""])
         while True:
             try:
@@ -105,11 +105,11 @@ class Cluster:
             self.start_router()
 
     def head(self) -> int:
-        """The number of the last command."""
+        """Returns the number of the last command."""
         return self.next - 1
 
     def until_shown(self, reader: Reader, number: int) -> None:
-        """Shows the map after a command, and mends what ends in the meantime."""
+        """Shows the map after a command, and restarts what ends meanwhile."""
         for _ in range(600):
             try:
                 reader.show(number, 1)
@@ -119,7 +119,7 @@ class Cluster:
         sys.exit(f"command {number} is not shown")
 
     def middle(self, reader: Reader) -> int:
-        """The key in the middle of the fullest shard that a reader shows."""
+        """Returns the key in the middle of the fullest shard that a reader shows."""
         counts = [high - low for low, high in zip(reader.below, reader.below[1:])]
         fullest = max(range(len(counts)), key=lambda place: counts[place])
         (pair,) = reader.at_position(reader.below[fullest] + counts[fullest] // 2)

@@ -1,4 +1,4 @@
-"""What router, leaders and readers share: the engine, whose streams they meet in.
+"""Shared by router, leaders and readers: the engine, by whose streams they communicate.
 
     commands:S   the commands of shard S, with their numbers; an entry is named by the number of the last command of
                  its batch, and has `lines`, or at the shard's end `give`: which shards take its pairs
@@ -8,8 +8,8 @@
     gifts:S      the nodes that a shard begins with, by giver
     tables       by the number from which on it holds, the least key and the name of each shard
 
-Commands are numbered in one sequence over all shards, from 1 on. Every write has a name that its content decides, so
-the engine refuses what is written twice.
+Commands are numbered in one sequence over all shards, from 1 on. The name of every write depends only on its content,
+so the engine rejects repeated writes.
 """
 
 from __future__ import annotations
@@ -27,7 +27,7 @@ T = TypeVar("T")
 Table = list[tuple[int, str]]
 
 MOST = 2**64 - 1
-SECONDS = 60  # that an engine has to come back
+SECONDS = 60  # in which an engine must return
 NODE = 256  # pairs
 
 
@@ -46,20 +46,20 @@ def spans(table: Table) -> list[Span]:
 
 
 def snapshot_of(nodes: Sequence[bytes], number: int = 0) -> list[bytes]:
-    """The snapshot of some nodes after the command of a number, and before the first event."""
+    """Returns the snapshot of some nodes after the command of a number, and before the first event."""
     lines = [b"start 0 %d" % number if number else b"start 0", *nodes]
     told = hashlib.sha256(b"".join(line + b"\n" for line in lines)).digest()
     return [*lines, b"end %d %d" % (len(nodes), int.from_bytes(told[:8], "big"))]
 
 
 def nodes_of(pairs: bytes) -> list[bytes]:
-    """The nodes of the pairs of a line."""
+    """Returns the nodes of the pairs of a line."""
     words = pairs.split(b" ") if pairs != b"none" else []
     return [b"node " + b" ".join(words[at : at + NODE]) for at in range(0, len(words), NODE)]
 
 
 class Engine:
-    """The engine. A call is made again until there is an answer, as after a kill of the engine."""
+    """The engine. A call is repeated until there is a reply, as after a kill of the engine."""
 
     def __init__(self, port: int, host: str = "127.0.0.1") -> None:
         self.port, self.host = port, host
@@ -82,44 +82,44 @@ class Engine:
         return self.patiently(lambda server: server.entries(*words))
 
     def after(self, stream: str, number: int, count: int, wait: int = 0) -> list[Entry]:
-        """The entries of a stream behind one, for which it waits some milliseconds if it is to."""
+        """Returns the entries of a stream after one, and waits some milliseconds for them if asked to."""
         block: list[Word] = ["BLOCK", wait] if wait else []
         return self.entries("XREAD", "COUNT", count, *block, "STREAMS", stream, f"{number}-0")
 
     def last(self, stream: str) -> int:
-        """The number of the last entry of a stream, 0 if there is none."""
+        """Returns the number of the last entry of a stream, 0 if there is none."""
         return max((entry.number for entry in self.entries("XREVRANGE", stream, "+", "-", "COUNT", 1)), default=0)
 
     def memory(self, name: str) -> int:
-        """How many bytes of the engine's memory a stream takes."""
+        """Returns the bytes of the engine's memory that a stream takes."""
         found = self.call("MEMORY", "USAGE", name, "SAMPLES", 0)
         return found if isinstance(found, int) else 0
 
     def together(self, commands: list[list[Word]]) -> None:
-        """Carries out all of these writes or none. Those that were carried out before are refused by their names."""
+        """Carries out all of these writes or none. Those that were carried out before are rejected by their names."""
         whole: list[list[Word]] = [["MULTI"], *commands, ["EXEC"]]
         for reply in listed(self.patiently(lambda server: server.replies(whole))[-1]):
             if isinstance(reply, Refused) and "equal or smaller" not in reply.why:
                 raise SystemExit(reply.why)
 
     def tables(self) -> dict[int, Table]:
-        """The tables by the number from which on each holds."""
+        """Returns the tables by the number from which on each holds."""
         words = list(map(text_of, listed(self.call("HGETALL", "tables"))))
         return {int(at): [(low, shard) for low, shard in json.loads(text)] for at, text in zip(words[::2], words[1::2])}
 
     def table(self, number: int = MOST) -> Table:
-        """The table that holds at a number."""
+        """Returns the table that holds at a number."""
         tables = self.tables()
         return tables[max(at for at in tables if at <= number)]
 
 
 def entry(stream: str, number: int, **fields: Word) -> list[Word]:
-    """The command that adds an entry."""
+    """Returns the command that adds an entry."""
     return ["XADD", stream, f"{number}-0", *(word for field in fields.items() for word in field)]
 
 
 def found(lows: list[int]) -> list[list[Word]]:
-    """The writes that make empty shards, which begin at these keys."""
+    """Returns the writes that make empty shards, which begin at these keys."""
     table = [(low, f"0.{place}") for place, low in enumerate(lows)]
     empty = b"\n".join(snapshot_of([]))
     snapshots: list[list[Word]] = [["XADD", f"snapshots:{shard}", "0-1", "lines", empty] for _, shard in table]

@@ -11,7 +11,7 @@ COUNT = 100  # entries at a time
 
 
 class Passed(Exception):
-    """All snapshots are behind the number that is to be shown."""
+    """All snapshots are after the number to be shown."""
 
 
 class NotFounded(Exception):
@@ -19,11 +19,11 @@ class NotFounded(Exception):
 
 
 class Unfit(Exception):
-    """What is held does not fit what the engine has."""
+    """The state does not match that of the engine."""
 
 
 def snapshot_until(engine: Engine, shard: str, until: int) -> Entry:
-    """The newest snapshot that covers no command behind a number."""
+    """Returns the newest snapshot that covers no command after a number."""
     name = f"snapshots:{shard}"
     kept = engine.entries("XREVRANGE", name, f"{until}-1", "-", "COUNT", 1)
     if not kept:
@@ -32,7 +32,7 @@ def snapshot_until(engine: Engine, shard: str, until: int) -> Entry:
 
 
 class Follower:
-    """A shard as it is after the last command that it covers."""
+    """A shard after the last command that it covers."""
 
     def __init__(self, engine: Engine, shard: str, until: int = MOST) -> None:
         self.engine, self.shard = engine, shard
@@ -45,17 +45,17 @@ class Follower:
         self.at = snapshot.number
 
     def hand(self, lines: list[bytes]) -> None:
-        """Hands lines over, which are to fit: events, some of which it may have, or a snapshot."""
+        """Hands over lines, which must apply: events, some of which it may have, or a snapshot."""
         for answer in self.store.each(lines):
             if answer.split(b" ", 1)[0] not in (b"next", b"had", b"held"):
                 raise Unfit(f"shard {self.shard}: {answer.decode()}")
 
     def catch_up(self, until: int = MOST, wait: int = 0) -> None:
-        """Takes the events of commands up to a number, as far as there are any."""
+        """Takes the available events of commands up to a number."""
         while self.at < until:
             entries = self.engine.after(f"events:{self.shard}", self.at, COUNT, wait)
             if entries and int(entries[0].fields[b"after"]) > self.at:
-                self.begin(snapshot_until(self.engine, self.shard, until))  # (what it awaits was trimmed away)
+                self.begin(snapshot_until(self.engine, self.shard, until))  # (its next event was trimmed away)
                 continue
             entries = [it for it in entries if it.number <= until]
             if not entries:

@@ -1,4 +1,4 @@
-"""A follower of a shard that keeps what it holds in a file of its own machine, and goes on from there."""
+"""A follower of a shard that keeps its state in a file of its own machine, and continues from there."""
 
 from __future__ import annotations
 
@@ -13,20 +13,20 @@ from follower import Follower, Unfit, snapshot_until
 from programs import built
 from store import Ended, Store
 
-REFUSED = 6  # the status of a program that cannot go on from its file
-SECONDS = 60  # that the program of a leader that was killed has for its end
-PARTS = ("-wal", "-shm", "")  # (the log first: it goes with no other file)
+REFUSED = 6  # the status of a program that cannot continue from its file
+SECONDS = 60  # in which the program of a leader that was killed must end
+PARTS = ("-wal", "-shm", "")  # (the log first: it belongs to no other file)
 
 Told = dict[int, list[bytes]]
 
 
 def number_of(command: bytes) -> int:
-    """The number of a command, as in `#17 put 5 6`."""
+    """Returns the number of a command, as in `#17 put 5 6`."""
     return int(command[1 : command.index(b" ")])
 
 
 def kept_behind(file: pathlib.Path, number: int) -> Told:
-    """What a file keeps of the commands behind one: of each its events, and the line with its number."""
+    """Returns the kept lines of the commands after one: for each its events, and the line with its number."""
     found: Told = {}
     with contextlib.closing(sqlite3.connect(f"file:{file}?mode=ro", SECONDS, uri=True)) as base:
         for (line,) in base.execute("SELECT CAST(line AS BLOB) FROM kept ORDER BY number DESC"):
@@ -44,7 +44,7 @@ def kept_behind(file: pathlib.Path, number: int) -> Told:
 
 
 def read_behind(file: pathlib.Path, number: int) -> Told:
-    """The same, of a file that may be missing or damaged. Where another process has it, it waits."""
+    """Returns those of a file that may be missing or damaged. If another process holds it, it waits."""
     try:
         return kept_behind(file, number) if file.exists() else {}
     except (sqlite3.DatabaseError, ValueError) as error:
@@ -59,17 +59,17 @@ def remove(file: pathlib.Path) -> None:
 
 
 class Kept(Follower):
-    """A shard from its file on, or from the newest snapshot where there is no file, or none that fits.
+    """A shard from its file, or from the newest snapshot if there is no file, or none that fits.
 
-    All commands up to `at` are done in it. Those of them that are not told, as after a kill between the two, are in
-    `ahead`.
+    All commands up to `at` are applied. Those of them whose events are not published, as after a kill between the two,
+    are in `ahead`.
     """
 
     def __init__(self, engine: Engine, shard: str, folder: pathlib.Path) -> None:
         self.engine, self.shard, self.file = engine, shard, folder / f"{shard}.db"
         folder.mkdir(parents=True, exist_ok=True)
         self.lock = (folder / f"{shard}.lock").open("wb")
-        fcntl.flock(self.lock, fcntl.LOCK_EX)  # (one leader a file)
+        fcntl.flock(self.lock, fcntl.LOCK_EX)  # (one leader per file)
         self.ahead = read_behind(self.file, engine.last(f"events:{shard}"))
         self.store = self.opened()
         self.at = int((*self.store.sum().split(b" "), b"0")[4])
@@ -78,7 +78,7 @@ class Kept(Follower):
             self.begin(snapshot_until(engine, shard, MOST))
 
     def opened(self) -> Store:
-        """The program over the file, or over a new one where it refuses that."""
+        """Returns the program over the file, or over a new one if it refuses that."""
         words = ["--keep", str(self.file)]
         store = Store(built("indexset_store"), *words)
         try:
@@ -92,7 +92,7 @@ class Kept(Follower):
         return Store(built("indexset_store"), *words)
 
     def told(self) -> int:
-        """Follows until it holds all that is told; the number of the last command that is told."""
+        """Follows until it has all published events; returns the number of the last command among them."""
         while True:
             self.catch_up()
             last = max(self.engine.last(f"{stream}:{self.shard}") for stream in ("events", "snapshots"))
@@ -100,7 +100,7 @@ class Kept(Follower):
                 return last
 
     def parted(self, commands: list[bytes]) -> tuple[list[bytes], list[bytes]]:
-        """What is kept of those among some commands that were done, and the commands that were not."""
+        """Returns the kept lines of those among some commands that were carried out, and the other commands."""
         done = list(itertools.takewhile(lambda number: number <= self.at, map(number_of, commands)))
         if any(number not in self.ahead for number in done):
             raise Unfit("the file has no lines of what was not told")

@@ -1,14 +1,14 @@
 #!/usr/bin/env python3
-"""A shard's leader, or one that stands by. usage: leader.py PORT SHARD FOLDER
+"""A shard's leader, or one on standby. usage: leader.py PORT SHARD FOLDER
 
-It goes on from its file in the folder, and follows the shard's events until the lease of the shard is its own. Then
-it leads: it takes the commands behind those that the events cover. Of those that its file has, as after a kill
-between the two, it tells the kept events. So a start, a start after a kill and a promotion are one thing. Two that
-lead at once, as after a lease that ran out under a slow leader, tell the same events of the same commands under the
-same names, of which the engine takes each once.
+It continues from its file in the folder, and follows the shard's events until it has the shard's lease. Then it leads:
+it carries out the commands after those that the events cover. For those that its file already has, as after a kill
+between the two, it publishes the kept events. So a start, a restart after a kill and a promotion are the same. Two
+leaders at once, as after the lease of a slow leader expires, publish the same events of the same commands under the
+same names, of which the engine accepts each once.
 
-Now and then it gives the engine a snapshot, and trims both streams up to the one before. It removes its file at the
-end of the shard, and where the file does not fit.
+Now and then it gives the engine a snapshot, and trims both streams up to the one before. It removes its file at the end
+of the shard, and if the file does not fit.
 """
 
 from __future__ import annotations
@@ -31,12 +31,12 @@ from resp import Entry, Word, listed, text_of  # noqa: E402
 from store import Ended  # noqa: E402
 
 COUNT = 5  # entries at a time
-WAIT = 100  # milliseconds for entries to come
+WAIT = 100  # milliseconds in which entries may arrive
 EVERY = int(os.environ.get("SNAPSHOT_EVERY", "1000000"))  # commands of all shards
 
 
 class Leader:
-    """A shard from the commands on that its events do not cover: those are told up to `at`."""
+    """A shard from the commands that its events do not cover: those up to `at` are published."""
 
     def __init__(self, engine: Engine, kept: Kept) -> None:
         self.engine, self.shard, self.store, self.kept = engine, kept.shard, kept.store, kept
@@ -46,7 +46,7 @@ class Leader:
         say(f"{self.shard} leads behind {self.at}, and tells {sum(it > self.at for it in kept.ahead)} from the file")
 
     def take(self, entries: list[Entry]) -> bool:
-        """Takes entries of commands, and tells their events; whether the shard goes on."""
+        """Takes entries of commands, and publishes their events; returns whether the shard continues."""
         writes: list[list[Word]] = []
         parts = [self.kept.parted(it.lines()) for it in entries]
         for it, (kept, _), events in zip(entries, parts, self.store.events(*[left for _, left in parts])):
@@ -59,12 +59,12 @@ class Leader:
         return b"give" not in entries[-1].fields
 
     def gifts(self, takers: list[tuple[str, int, int]]) -> list[list[Word]]:
-        """The nodes that others begin with, each with the pairs of some keys."""
+        """Returns the initial nodes of other shards, each with the pairs of some keys."""
         texts = [b"\n".join(nodes_of(self.store.one(b"range %d %d" % (first, last)))) for _, first, last in takers]
         return [["HSET", f"gifts:{shard}", f"{first:020}", text] for (shard, first, _), text in zip(takers, texts)]
 
     def keep(self) -> None:
-        """Keeps a snapshot, and trims what the one before covers."""
+        """Stores a snapshot, and trims the streams up to the one before."""
         name, text = self.shard, b"\n".join(self.store.snapshot())
         self.engine.together([
             ["XADD", f"snapshots:{name}", "MAXLEN", 2, f"{self.at}-1", "lines", text],
@@ -74,7 +74,7 @@ class Leader:
         self.snapshot_at = self.at
 
     def lead(self, lease: Lease) -> None:
-        """Goes on until the shard or the lease ends."""
+        """Runs until the shard or the lease ends."""
         while lease.is_held():
             entries = self.engine.after(f"commands:{self.shard}", self.at, COUNT, WAIT)
             if entries and not self.take(entries):
@@ -84,7 +84,7 @@ class Leader:
 
 
 def with_one_number(lines: list[bytes]) -> list[bytes]:
-    """Events, and the last of the lines with the numbers of their commands."""
+    """Returns events, and the last of the lines with the numbers of their commands."""
     numbers = [line for line in lines if line.startswith(b"done")]
     return [line for line in lines if not line.startswith(b"done")] + numbers[-1:]
 
@@ -94,7 +94,7 @@ def say(text: str) -> None:
 
 
 def is_founded(engine: Engine, shard: str) -> bool:
-    """Whether the shard has a snapshot. It is made of what all its givers gave, when they have."""
+    """Returns whether the shard has a snapshot. Makes it once all givers have given their nodes."""
     if engine.call("EXISTS", f"snapshots:{shard}") == 1:
         return True
     words = list(map(text_of, listed(engine.call("HGETALL", f"gifts:{shard}"))))
@@ -109,7 +109,7 @@ def is_founded(engine: Engine, shard: str) -> bool:
 
 
 def has_ended(engine: Engine, shard: str) -> bool:
-    """Whether the events cover the shard's end."""
+    """Returns whether the events cover the shard's end."""
     last = engine.entries("XREVRANGE", f"commands:{shard}", "+", "-", "COUNT", 1)
     return bool(last) and b"give" in last[0].fields and engine.last(f"events:{shard}") == last[0].number
 
@@ -136,7 +136,7 @@ def main() -> None:
     try:
         serve(engine, kept, lease)
         if not has_ended(engine, shard):
-            sys.exit(1)  # (the lease is gone)
+            sys.exit(1)  # (the lease has expired)
         kept.drop()
     except Unfit as error:
         say(f"{shard} drops its file: {error}")
@@ -148,4 +148,4 @@ if __name__ == "__main__":
     try:
         main()
     except Ended:
-        sys.exit(1)  # (its program is gone)
+        sys.exit(1)  # (its program has ended)

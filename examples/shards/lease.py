@@ -1,4 +1,4 @@
-"""The right to lead a shard, which one process at a time holds."""
+"""The right to lead a shard, held by one process at a time."""
 
 from __future__ import annotations
 
@@ -9,11 +9,11 @@ import time
 
 from engine import Engine
 
-LEASE = 3000  # milliseconds, more than it takes to take as many entries as a leader takes at a time
+LEASE = 3000  # milliseconds, more than a leader needs for the entries that it takes at a time
 
 
 class Lease:
-    """The right to lead a shard, for a while."""
+    """The right to lead a shard, for a limited time."""
 
     def __init__(self, engine: Engine, shard: str) -> None:
         self.engine, self.name, self.held = engine, f"lease:{shard}", -math.inf

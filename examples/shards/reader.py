@@ -17,7 +17,7 @@ def pairs_of(line: bytes) -> Pairs:
 
 
 class Reader:
-    """The map as it is after a command: a follower for each shard, and how many pairs there are below each."""
+    """The map after a command: a follower for each shard, and the number of pairs below each."""
 
     def __init__(self, engine: Engine) -> None:
         self.engine, self.at = engine, 0
@@ -26,8 +26,8 @@ class Reader:
         self.lows, self.below = [0], [0]
 
     def show(self, number: int, seconds: float = 60) -> None:
-        """Shows the map after the command of a number, for whose events it waits. It raises `Passed` where a shard has
-        no snapshot that old."""
+        """Shows the map after the command of a number, for whose events it waits. Raises `Passed` if a shard has no
+        snapshot that old."""
         table = spans(self.engine.table(number))
         names = [it.shard for it in table]
         for name in self.followers.keys() - names:
@@ -38,7 +38,7 @@ class Reader:
         self.at = number
 
     def reach(self, name: str, number: int, end: float) -> Follower:
-        """The follower of a shard, as far as a command."""
+        """Returns the follower of a shard, up to a command."""
         while time.monotonic() < end:
             try:
                 found = self.followers.get(name) or Follower(self.engine, name, number)
@@ -57,11 +57,11 @@ class Reader:
         return self.below[-1]
 
     def owner(self, key: int) -> int:
-        """The place of the shard of a key."""
+        """Returns the place of the shard of a key."""
         return bisect.bisect_right(self.lows, key) - 1
 
     def rank(self, key: int) -> int:
-        """How many keys are below one: those of the shards below, and those in its own."""
+        """Returns the number of keys below one: those of the shards below, and those in its own."""
         place = self.owner(key)
         return self.below[place] + int(self.shown[place].store.one(b"rank %d" % key))
 
@@ -69,7 +69,7 @@ class Reader:
         return pairs_of(self.shown[self.owner(key)].store.one(b"get %d" % key))
 
     def page(self, position: int, size: int) -> Pairs:
-        """The pairs from a position on, of as many shards as they stand in."""
+        """Returns the pairs from a position on, from as many shards as contain them."""
         found: Pairs = []
         for place in range(max(bisect.bisect_right(self.below, position) - 1, 0), len(self.shown)):
             if len(found) == size:
@@ -82,12 +82,12 @@ class Reader:
         return self.page(position, 1)
 
     def range(self, first: int, last: int) -> Pairs:
-        """The pairs whose keys are from one to another, both included."""
+        """Returns the pairs whose keys are from one to another, both included."""
         asked = self.shown[self.owner(first) : self.owner(last) + 1]
         return [pair for it in asked for pair in pairs_of(it.store.one(b"range %d %d" % (first, last)))]
 
     def bytes_held(self) -> int:
-        """How many bytes the snapshots of all shards have."""
+        """Returns the size in bytes of the snapshots of all shards."""
         return sum(len(line) + 1 for it in self.shown for line in it.store.snapshot())
 
     def close(self) -> None:

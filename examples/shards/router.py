@@ -1,11 +1,11 @@
 #!/usr/bin/env python3
 """The router: it numbers commands, and writes each to the stream of its shard. usage: router.py PORT LOW..
 
-Its input is batches: `from N`, the number of the first command, then commands, and an empty line. Its answer is
-`next M`, once the batch is in the streams; where N is below the number that it awaits, the batch was there before.
-`split KEY` or `merge KEY` alone in a batch make two shards of the one with the key, or one of the two that meet at
-it. All that it holds is the table and the next number, which it reads from the engine when it starts; LOW.. are the
-least keys of the shards that there are at the very first.
+Its input is batches: `from N`, the number of the first command, then commands, and an empty line. Its reply is
+`next M`, once the batch is in the streams; if N is below the number that it expects, the batch was already there.
+`split KEY` or `merge KEY` as the only command of a batch makes two shards of the one with the key, or one of the two
+that meet at it. Its only state is the table and the next number, which it reads from the engine when it starts; LOW..
+are the least keys of the initial shards.
 
 An entry goes to each shard with each batch, so the number of an entry is a cut through all streams.
 """
@@ -36,7 +36,7 @@ class Router:
         self.next = 1 + max(engine.last(f"commands:{shard}") for _, shard in self.table)
 
     def take(self, first: int, lines: list[bytes]) -> int:
-        """Writes a batch, unless it is there, and returns the next number."""
+        """Writes a batch, unless it is present, and returns the next number."""
         if first > self.next:
             sys.exit(f"command {self.next} is missing")
         if first == self.next and lines:
@@ -58,8 +58,8 @@ class Router:
         self.next = last + 1
 
     def refit(self, key: int, is_split: bool) -> None:
-        """Ends shards, which give their pairs to new ones; none where the key does not fit. It takes one number, and
-        one write."""
+        """Ends shards, which give their pairs to new ones; none if the key does not fit. It takes one number, and one
+        write."""
         number, old = self.next, spans(self.table)
         ends = divided(old, key) if is_split else meeting(old, key)
         lows = [ends[0].first, *([key] if is_split else [])] if ends else []
@@ -75,23 +75,23 @@ class Router:
 
 
 def divided(old: list[Span], key: int) -> list[Span]:
-    """The shard that has keys on both sides of one."""
+    """Returns the shard that has keys on both sides of one."""
     return [it for it in old if it.first < key <= it.last]
 
 
 def meeting(old: list[Span], key: int) -> list[Span]:
-    """The two shards of which the second begins at a key."""
+    """Returns the two shards of which the second begins at a key."""
     found = [it for it in old if it.first == key or it.last + 1 == key]
     return found if len(found) == 2 else []
 
 
 def given(giver: Span, takers: list[Span]) -> list[tuple[str, int, int]]:
-    """What a shard gives to which."""
+    """Returns the shards to which a shard gives its pairs, with their keys."""
     return [(it.shard, max(it.first, giver.first), min(it.last, giver.last)) for it in takers]
 
 
 def batches() -> Iterator[tuple[int, list[bytes]]]:
-    """The batches of the input, each with the number of its first command. A cut one is none."""
+    """Yields the batches of the input, each with the number of its first command. A truncated one is skipped."""
     lines: list[bytes] = []
     for line in sys.stdin.buffer:
         if line != b"\n":

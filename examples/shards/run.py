@@ -27,7 +27,7 @@ Figures = dict[str, str]
 
 
 def measured(cluster: Cluster, lines: list[bytes]) -> tuple[Reader, Figures]:
-    """Sends commands, and a split and a merge after that; what each takes until a reader shows it."""
+    """Sends commands, and then a split and a merge; returns the time of each until a reader shows it."""
     reader, start = Reader(cluster.engine), time.perf_counter()
     for at in range(0, len(lines), BATCH):
         cluster.send(lines[at : at + BATCH])
@@ -58,12 +58,12 @@ def measured(cluster: Cluster, lines: list[bytes]) -> tuple[Reader, Figures]:
 
 
 def file_bytes(cluster: Cluster) -> int:
-    """How many bytes the files of the leaders on one machine have, with their logs."""
+    """Returns the size in bytes of the files of the leaders on one machine, with their logs."""
     return sum(file.stat().st_size for file in pathlib.Path(cluster.machine(0)).glob("*.db*"))
 
 
 def compared(reader: Reader, lines: list[bytes]) -> bool:
-    """Whether a reader shows what a plain map holds."""
+    """Returns whether a reader shows the content of a plain map."""
     pairs: dict[int, int] = {}
     for line in lines:
         apply(pairs, line)
@@ -72,7 +72,7 @@ def compared(reader: Reader, lines: list[bytes]) -> bool:
 
 
 def ran(shards: int, lines: list[bytes]) -> tuple[bool, Figures]:
-    """Runs a map over so many shards; whether what is read is right, and the figures."""
+    """Runs a map over a number of shards; returns whether the reads are right, and the figures."""
     with tempfile.TemporaryDirectory() as folder:
         cluster = Cluster(folder, [KEYS * at // shards for at in range(shards)])
         try:

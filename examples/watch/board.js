@@ -9,7 +9,7 @@ const key = (player, score) => START + (SCORES - 1 - score) * PLAYERS + player;
 const score = place => SCORES - 1 - Math.floor((place - START) / PLAYERS);
 let page = 0, first = 0, end = 0, shown = "", due, ask, leader;
 
-// What the store that is read from replies to lines.
+// The replies of the store that is read to lines.
 async function read(lines) {
   const replies = await ask(id("from").value, lines, false);
   const told = lines.map((_, i) => replies[i]?.[0] ?? "ended");
@@ -25,7 +25,7 @@ function row(place, pair) {
 
 const pages = () => Math.max(1, Math.ceil((end - first) / ROWS));
 
-// The pairs of a page. It is asked for again where the board begins or ends elsewhere than it did.
+// The pairs of a page. They are requested again if the board has moved in the map.
 async function pairs() {
   for (let tries = 0; tries < 3; tries++) {
     page = Math.min(page, pages() - 1);
@@ -48,7 +48,7 @@ async function refresh() {
   id("rows").replaceChildren(...found.map((pair, i) => row(ROWS * page + i + 1, pair)));
 }
 
-// Puts a score: the old one, which the leader replies, is cut from the board.
+// Puts a score: the old one, which the leader replies, is removed from the board.
 async function put(player, points) {
   const [[told = "no leader"]] = await ask(leader(), [`put ${player} ${points}`]);
   if (!/^(new|old) ?/.test(told)) return told;
@@ -73,7 +73,7 @@ function changed() {
   due = setTimeout(refresh, 150);
 }
 
-// Begins; what is returned is to be called when a store has changed, by its name.
+// Starts the board; the returned function is called when a store has changed, with its name.
 export function board(say, toLeader) {
   [ask, leader] = [say, toLeader];
   id("score").onsubmit = async submitted => {

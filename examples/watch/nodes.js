@@ -1,4 +1,4 @@
-// Nodes, drawn as boxes of pairs: a key keeps its box and a node its frame, so that what changes is seen to move.
+// Nodes, drawn as boxes of pairs: a key keeps its box and a node its frame, so that changes are seen as moves.
 
 const ROW = 52, HIGH = 38, SPACE = 12, MORE = 46, MANY = 20, SHOWY = ".fresh, .split, .merge";
 export const still = matchMedia("(prefers-reduced-motion: reduce)").matches;
@@ -24,7 +24,7 @@ function boxes(line) {
 
 const width = cells => cells.reduce((sum, cell) => sum + cell.width, 0);
 
-// The boxes of a node that fit into a row: its first ones, how many more, and its last.
+// The boxes of a node that fit into a row: its first ones, the number of the others, and its last.
 function fitting(cells, wide) {
   if (width(cells) <= wide) return cells;
   const last = cells.at(-1);
@@ -34,7 +34,7 @@ function fitting(cells, wide) {
   return [...cells.slice(0, count), more, last];
 }
 
-// Where each node stands, in rows.
+// The place of each node, in rows.
 function laid(lines, wide) {
   let x = 2, y = 2;
   return lines.map(line => {
@@ -47,7 +47,7 @@ function laid(lines, wide) {
   });
 }
 
-// A box slides along its row. One that changes its row is there at once, as all are where many would slide.
+// A box slides along its row. One that changes its row moves at once, as all do if many would slide.
 function move(node, x, y, leaps) {
   if (node.at?.x === x && node.at.y === y) return;
   node.classList.toggle("leaps", leaps || node.at?.y !== y);
@@ -55,7 +55,7 @@ function move(node, x, y, leaps) {
   node.at = { x, y };
 }
 
-// What comes among others fades in, and what goes from among them fades out.
+// New elements fade in among others, and removed ones fade out.
 function come(kind, layer, leaps) {
   const g = drawn("g", layer, { class: kind });
   if (!leaps && !still) g.comes = g.animate({ opacity: [0, 1] }, 450);
@@ -99,7 +99,7 @@ function within(frames) {
   return key => low <= +key && +key <= high;
 }
 
-// A key keeps its box. Where many have none, they get those of other keys: that is less work than new ones.
+// A key keeps its box. If many have none, they get those of other keys: that is less work than new ones.
 function drawBoxes(svg, cells, isNew, { isElsewhere, leaps, was, is }) {
   const kept = new Map(), keys = new Set(cells.map(cell => cell.key));
   const spare = isElsewhere ? [...svg.boxes].filter(([key]) => !keys.has(key)).map(([, box]) => box) : [];
@@ -116,7 +116,7 @@ function drawBoxes(svg, cells, isNew, { isElsewhere, leaps, was, is }) {
   svg.boxes = kept;
 }
 
-// A frame goes to the first node that has one of its keys; a node with none of these gets a frame of its own.
+// A frame is given to the first node that has one of its keys; a node with none of these gets a new frame.
 function drawFrames(svg, frames, { isElsewhere, leaps, was, is }) {
   const free = new Set(svg.frames), owner = new Map(svg.frames.flatMap(frame => frame.keys.map(key => [key, frame])));
   const olds = frames.map(frame => [...new Set(frame.keys.map(key => owner.get(key)).filter(Boolean))]);
@@ -135,7 +135,7 @@ function drawFrames(svg, frames, { isElsewhere, leaps, was, is }) {
   svg.frames = frames;
 }
 
-// A picture grows at once, and shrinks a while after: what stands below it is moved seldom.
+// A picture grows at once, and shrinks some time later: the elements below it move seldom.
 function fit(svg, high) {
   const set = () => {
     svg.shrinks = clearTimeout(svg.shrinks);
@@ -147,7 +147,7 @@ function fit(svg, high) {
   svg.fitted = svg.wide;
 }
 
-// Draws the nodes of some lines; `isNew` says of a key and its value whether these are new.
+// Draws the nodes of some lines; `isNew` returns whether a key and its value are new.
 export function draw(svg, lines, isNew = () => false) {
   if (!svg.boxes) {
     Object.assign(svg, { boxes: new Map(), frames: [], tall: 0, low: drawn("g", svg), high: drawn("g", svg) });

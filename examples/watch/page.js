@@ -1,4 +1,4 @@
-// The page: what it is told by the server, and what a person asks for.
+// The page: the messages of the server, and the requests of a person.
 
 import { board } from "./board.js";
 import { draw, made, still } from "./nodes.js";
@@ -6,7 +6,7 @@ import { empty, grow, later, list, look, soon, write } from "./sight.js";
 
 const NAMES = ["A", "B", "C"], PERCENT = ["loss", "repeat", "late"], PILLS = 60, SHOWN = 12, FEW = 20;
 const HASTE = 150; // milliseconds
-const ME = String(Math.random()); // by this a page knows the lines that were typed on it
+const ME = String(Math.random()); // identifies the lines that were typed on this page
 const id = name => document.getElementById(name), cards = {}, lanes = {}, stores = {}, drawn = {}, undrawn = new Set();
 let head = 0, news = [], haste = "", calms, leader = { who: "A", is_there: false, key: "0" }, said = [], back = 0;
 
@@ -29,7 +29,7 @@ async function ask(act, asked) {
 const say = (to, lines, is_shown = true, by = "") => ask("line", { to, lines, is_shown, by });
 const isOnBoard = board(say, () => leader.who || "A");
 
-// How a store stands: the colour of its lamp, and in words.
+// The state of a store: the colour of its lamp, and in words.
 function standing({ standing: word, status, next }) {
   const told = {
     ended: ["bad", `ended, status ${status}`],
@@ -54,7 +54,7 @@ function overall() {
     : ["bad", "no leader: promote a follower, or start the leader from the file"];
 }
 
-// The buttons of a store: what each asks for, in which standings it is there, and what it says of itself.
+// The buttons of a store: the request of each, the states in which it is shown, and its description.
 const hasEnded = ({ standing: word }) => word === "ended", runs = told => !hasEnded(told);
 const leads = ({ standing: word }) => word === "leads" || word === "unheard";
 const follows = told => runs(told) && !leads(told);
@@ -75,7 +75,7 @@ function showActs(card, told) {
 
 const keys = line => line.split(" ").map(pair => pair.split(":")[0]);
 
-// Whether a pair has come since the nodes that are drawn: it was not among these, nor before or behind them.
+// Returns whether a pair is new since the nodes were drawn: it was not among these, nor before or after them.
 function newSince(was) {
   const pairs = new Set(was.nodes.flatMap(line => line.split(" ")));
   const isEnd = was.first + was.nodes.length === was.total;
@@ -83,7 +83,7 @@ function newSince(was) {
   return (key, value) => low <= +key && +key <= high && !pairs.has(`${key}:${value}`);
 }
 
-// Shows the nodes of a store, on a narrow page a few about the key, and says which. They are drawn where they are seen.
+// Shows the nodes of a store, on a narrow page a few around the key, and which these are. They are drawn when visible.
 function showNodes(who) {
   const told = stores[who], { nodes, first, pairs, total } = told, most = innerWidth < 700 ? FEW : nodes.length;
   const middle = nodes.findIndex(line => +keys(line).at(-1) >= +leader.key);
@@ -120,7 +120,7 @@ function store(told) {
   isOnBoard(who);
 }
 
-// The leader's card stands above the channel, the others below.
+// The leader's card is above the channel, the others below.
 function arrange() {
   const first = leader.who || id("lead").firstElementChild?.dataset.who || "A";
   if (id("lead").firstElementChild === cards[first]) return;
@@ -216,7 +216,7 @@ for (const name of NAMES) {
 id("from").value = "B";
 arrange();
 
-// Settings are sent one after another, so that the last one stays.
+// Settings are sent one after another, so that the last one is kept.
 let settings = Promise.resolve();
 function setPercent() {
   const percent = Object.fromEntries(PERCENT.map(name => [name, id(name).value]));
@@ -269,12 +269,12 @@ id("about").onsubmit = submitted => {
   submitted.preventDefault();
   show(id("key").value);
 };
-// The nodes before and behind those that are drawn of the first card.
+// The nodes before and after those that are drawn of the first card.
 const edge = place => id("lead").querySelector("svg").frames?.at(place)?.keys.at(-1) ?? "0";
 id("before").onclick = () => show(edge(0));
 id("after").onclick = () => show(edge(-1));
 
-// The nodes of the others are drawn one store at a time, when there is nothing else to do.
+// The nodes of the others are drawn one store at a time, when the page is idle.
 let isDrawing = false;
 function drawOthers() {
   if (isDrawing || !undrawn.size) return;
@@ -288,8 +288,8 @@ function drawOthers() {
   });
 }
 
-// After a person has sent a line, its reply and the nodes of the leader are shown as they come, and all else waits
-// until they are painted, or for HASTE. What is waited for is the reply, then the nodes, then the paint.
+// After a person has sent a line, its reply and the nodes of the leader are shown as they arrive, and all other
+// messages wait until they are painted, or for HASTE. The page waits for the reply, then the nodes, then the paint.
 function hasten() {
   clearTimeout(calms);
   calms = setTimeout(calm, HASTE);
@@ -301,7 +301,7 @@ function calm() {
   showNews();
 }
 
-// What is told is shown once a frame, but in haste.
+// Messages are shown once per frame, unless in haste.
 const isFirst = ({ kind }) => kind === "said" || kind === "leader" || kind === "store";
 function showNews() {
   const shown = haste ? news.filter(isFirst) : news;

@@ -1,10 +1,10 @@
 #!/usr/bin/env python3
-"""A page on which a person watches a leader, its events, a channel that loses some, two followers and a file.
+"""Serves a page on which a person watches a leader, its events, a channel that loses some, two followers and a file.
 
     examples/watch/run.py [--file FILE] [--node-size N] [--port N] [--seed N]
 
-It prints an address of this machine; Ctrl-C ends it and the stores. The events are kept in FILE, from which the
-leader begins if it is there; in a temporary file unless said.
+It prints an address of this machine; Ctrl-C ends it and the stores. The events are kept in FILE, from which the leader
+begins if it exists; by default in a temporary file.
 """
 
 from __future__ import annotations
@@ -43,11 +43,11 @@ class Server(http.server.ThreadingHTTPServer):
         self.watch, self.asked = watch, threading.Event()
 
     def handle_error(self, *_: object) -> None:
-        """Says nothing of a page that is gone."""
+        """Prints nothing about a page that is closed."""
 
 
 class Page(http.server.BaseHTTPRequestHandler):
-    """Serves the page, the stream of what it is told, and what it asks for, to its own origin alone."""
+    """Serves the page, the stream of its messages, and its requests, only to its own origin."""
 
     server: Server
     protocol_version = "HTTP/1.1"
@@ -63,7 +63,7 @@ class Page(http.server.BaseHTTPRequestHandler):
         return True
 
     def give(self, kind: str, body: bytes | None) -> None:
-        """Answers with a body, or with a stream where it is none."""
+        """Replies with a body, or with a stream if there is none."""
         self.send_response(200)
         self.send_header("Content-Type", kind)
         self.send_header("Content-Security-Policy", "default-src 'self'; img-src data:")
@@ -82,7 +82,7 @@ class Page(http.server.BaseHTTPRequestHandler):
             self.send_error(404)
 
     def stream(self) -> None:
-        """Hands on what the page is told, until it is gone."""
+        """Sends the messages to the page, until it is closed."""
         watch = self.server.watch
         self.give("text/event-stream", None)
         with watch.lock:
@@ -121,11 +121,11 @@ class Page(http.server.BaseHTTPRequestHandler):
             self.give("application/json", json.dumps(found).encode())
 
     def log_message(self, *_: object) -> None:
-        """Says nothing."""
+        """Prints nothing."""
 
 
 def served(watch: Watch, port: int) -> None:
-    """Serves a watch, until the program is told to end."""
+    """Serves a watch, until the program is stopped."""
     server = Server(watch, port)
     threading.Thread(target=server.serve_forever, daemon=True).start()
     print(f"http://127.0.0.1:{server.server_port}/", flush=True)

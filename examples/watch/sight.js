@@ -1,17 +1,17 @@
-// What is drawn when: most of what is told once a frame, and what is out of sight when it comes into sight.
+// The time of drawing: most messages are shown once per frame, and invisible elements when they become visible.
 
 export function write(node, text) {
   if (node.textContent !== text) node.textContent = text;
 }
 
-// Before the next frame; a page that is hidden has none, and there it is at once.
+// Runs before the next frame; a hidden page has none, and there it runs at once.
 export const soon = act => void (document.hidden ? act() : requestAnimationFrame(act));
 
-// When the page has nothing else to do, or in a fifth of a second.
+// Runs when the page is idle, or in a fifth of a second.
 const idle = window.requestIdleCallback ?? (act => setTimeout(act, 50));
 export const later = act => void (document.hidden ? act() : idle(act, { timeout: 200 }));
 
-// Keeps `isSeen` and `wide` of a node as they change, with no layout for it, and calls back in the frame after.
+// Keeps `isSeen` and `wide` of a node as they change, without a layout for it, and calls back in the frame after.
 const acts = new WeakMap();
 function changed(node, facts) {
   if (Object.entries(facts).every(([key, value]) => node[key] === value)) return;
@@ -29,7 +29,7 @@ export function look(node, act = () => {}) {
   for (const observer of [sight, size]) observer.observe(node);
 }
 
-// Lines for the end of a list, of which the last ones stay. `grow` puts them there; a list at its end stays at it.
+// Lines for the end of a list, the last of which are kept. `grow` adds them; a list scrolled to its end stays at it.
 const grown = new Map();
 export function list(lines, node, most) {
   lines.onscroll ??= () => {
@@ -50,7 +50,7 @@ export function grow() {
   }
   for (const lines of [...grown.keys()].filter(it => !it.isHigh)) {
     const end = lines.scrollHeight - lines.clientHeight;
-    lines.isFollowed = Math.abs(lines.scrollTop - end) >= 1;  // the event of this, which says nothing new
+    lines.isFollowed = Math.abs(lines.scrollTop - end) >= 1;  // this causes a scroll event, to be ignored
     lines.scrollTop = end;
   }
   grown.clear();

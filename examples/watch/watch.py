@@ -1,6 +1,6 @@
-"""What the page shows: three stores, the channel to those that follow, and the file of the leader's events.
+"""The state that the page shows: three stores, the channel to those that follow, and the file of the leader's events.
 
-All that is shown is what the stores reply. The relay stands here: what is sent again, and when.
+All that is shown is the replies of the stores. This file contains the relay: what is sent again, and when.
 """
 
 from __future__ import annotations
@@ -20,18 +20,18 @@ from shown import Shown
 
 NAMES = ("A", "B", "C")
 EVENT = re.compile(rb"\d+ (create|drop|insert|remove|split|merge) ")
-LINES = 60  # of a reply are shown
+LINES = 60  # of a reply that are shown
 AGAIN = 8  # events are sent again for one `gap`
-QUIET = 0.4  # seconds with nothing on the way, until `head` is sent
-QUICK = 0.03  # seconds: a look at the leader that takes no longer is made before a request is answered
+QUIET = 0.4  # seconds without lines on the way, after which `head` is sent
+QUICK = 0.03  # seconds: a look at the leader of at most this duration is made before the reply to a request
 BATCH = 200  # lines are handed over at once
-NEWS = 200  # lines at most are told to a page at once
+NEWS = 200  # lines at most are sent to a page at once
 
 Facts = dict[str, object]
 
 
 class Watch:
-    """The stores, the file, and the pages that watch. Who calls it holds the lock."""
+    """The stores, the file, and the open pages. The caller holds the lock."""
 
     def __init__(self, kept: Kept, node_size: int, chance: random.Random) -> None:
         self.kept, self.node_size, self.chance, self.percent = kept, node_size, chance, Percent()
@@ -42,7 +42,7 @@ class Watch:
         self.changed: set[str] = set()
         self.leader, self.key, self.sum = NAMES[0], 0, ""
         self.looking: Iterator[bool] | None = None  # a round of looks that has begun
-        self.look_from = 0.0  # seconds: when the next look may be
+        self.look_from = 0.0  # seconds: the time of the next look
         self.stores = {name: self.started(name, leads=name == self.leader) for name in NAMES}
         self.look()
         if kept.events:
@@ -56,7 +56,7 @@ class Watch:
         return leader is not None and leader.is_running() and leader.leads
 
     def line(self, to: str, lines: list[str], is_shown: bool = True, by: str = "") -> list[list[str]]:
-        """The replies of a store to lines, of which the pages are told by whom they were typed."""
+        """Returns the replies of a store to lines, and sends them to the pages with the page that typed them."""
         if any("\n" in line for line in lines):
             raise ValueError("a line has no line end")
         store = self.stores[to]
@@ -64,7 +64,7 @@ class Watch:
         return [[each.decode() for each in reply[:LINES]] for reply in told]
 
     def say(self, store: Shown, line: bytes, is_shown: bool = True, by: str = "") -> list[bytes]:
-        """The reply of a store to a line. The leader's events go into the file, and then on their way."""
+        """Returns the reply of a store to a line. Puts the leader's events into the file, and then sends them."""
         told = store.say(line)
         if is_shown:
             store.is_stale = True
@@ -84,25 +84,25 @@ class Watch:
         return told
 
     def set_percent(self, percent: dict[str, int]) -> None:
-        """Sets what the channel does from now on."""
+        """Sets the behaviour of the channel from now on."""
         for name in dataclasses.asdict(self.percent):
             setattr(self.percent, name, int(percent[name]))
         self.state("percent", percent=dataclasses.asdict(self.percent))
 
     def show(self, key: str) -> None:
-        """Shows the nodes about a key."""
+        """Shows the nodes around a key."""
         self.key = int(key)
         self.tell_stores()
 
     def kill(self, who: str) -> None:
-        """Ends a store by SIGKILL. The sum of a leader stays, to be compared with."""
+        """Ends a store by SIGKILL. The sum of a leader is kept, for comparison."""
         if who == self.leader and self.has_leader():
             self.sum = self.stores[who].sum_of_all()
         self.stores[who].stop()
 
     def start(self, who: str, source: str) -> None:
-        """Starts a store anew from nothing, the file or a snapshot, for which one that runs need not end. From the
-        file a leader leads again."""
+        """Starts a store from nothing, the file or a snapshot, also if one still runs. From the file a leader leads
+        again."""
         giver = self.giver(who) if source == "snapshot" else None
         store = self.stores[who]
         if not (giver and store.is_running()):
@@ -120,14 +120,14 @@ class Watch:
         self.look()
 
     def giver(self, taker: str) -> Shown | None:
-        """Who gives a snapshot: the leader, or else the store that expects the highest number."""
+        """Returns the store that gives a snapshot: the leader, or else the one that expects the highest number."""
         others = [each for name, each in self.stores.items() if name != taker and each.is_running()]
         others.sort(key=lambda each: (each.name == self.leader, each.awaited))
         return others[-1] if others else None
 
     def promote(self, who: str) -> None:
-        """Gives a follower the events that it lacks, from the file, and tells it to lead; a leader that runs follows
-        from then on."""
+        """Gives a follower its missing events, from the file, and makes it the leader; a running leader follows from
+        then on."""
         store = self.stores[who]
         if store.follows():
             if self.has_leader():
@@ -138,7 +138,7 @@ class Watch:
             self.say(store, b"lead")
 
     def send(self, store: Shown, line: bytes, why: str) -> None:
-        """Puts an event or a `head` on the way to a store."""
+        """Sends an event or a `head` to a store."""
         is_seen = len(store.channel.flight) < LINES
         for sent in store.channel.send(line, why, time.monotonic()):
             if is_seen:
@@ -151,7 +151,8 @@ class Watch:
         store.asked_to, store.asked_until = store.awaited + len(events), store.channel.free + FLIGHT
 
     def deliver(self, store: Shown, now: float) -> None:
-        """Hands over what has arrived, and sends again what the replies ask for, unless that may still come."""
+        """Hands over the lines that have arrived, and sends again what the replies request, unless that may still
+        arrive."""
         lines = store.channel.arrived(now, BATCH)
         for reply in store.take(lines) if lines else []:
             store.last_reply = reply.decode()
@@ -168,13 +169,13 @@ class Watch:
             self.tell("reply", who=store.name, reply=store.last_reply)
 
     def ask_on(self, store: Shown, now: float) -> None:
-        """Tells a store that lacks events where they end, once all is quiet, so that it says what is missing."""
+        """Sends `head` to a store with missing events, once nothing is on the way, so that it reports them."""
         is_quiet = not store.channel.flight and now >= max(store.channel.free + QUIET, store.asked_until)
         if is_quiet and store.awaited < self.kept.head and not store.is_unfit:
             self.send(store, b"head %d" % self.kept.head, "head")
 
     def step(self) -> None:
-        """Hands over what is due, looks at a store that changed, the leader first, and tells the pages."""
+        """Hands over due lines, looks at a store that changed, the leader first, and sends messages to the pages."""
         now = time.monotonic()
         for each in self.stores.values() if self.looking is None else ():
             if each.nodes_held and not each.is_running():
@@ -194,7 +195,7 @@ class Watch:
         self.publish()
 
     def answer(self) -> None:
-        """Tells what came of a request, with the nodes of the leader where a look at it is quick."""
+        """Sends the result of a request to the pages, with the nodes of the leader if a look at it is quick."""
         leader = self.stores.get(self.leader)
         if leader and leader.is_stale and leader.look_takes < QUICK:
             self.look_at(leader)
@@ -208,8 +209,8 @@ class Watch:
             pass
 
     def looks(self) -> Iterator[bool]:
-        """Looks at the stores that changed, and at the sums of those that lack nothing, one for each item, so that a
-        line that comes meanwhile waits for one of them alone; and then tells how they stand."""
+        """Looks at the stores that changed, and at the sums of those without missing events, one for each item, so that
+        a line that arrives meanwhile waits for only one of them; and then sends their states."""
         for each in [it for it in self.stores.values() if it.is_stale]:
             self.look_at(each)
             yield True
@@ -223,14 +224,14 @@ class Watch:
         self.tell_stores()
 
     def look_at(self, store: Shown) -> None:
-        """Looks at a store, and tells how it stands if it leads; others are compared first."""
+        """Looks at a store, and sends its state if it leads; others are compared first."""
         store.look()
         if store.leads:
             self.tell_leader()
             self.tell_store(store)
 
     def standing(self, store: Shown) -> str:
-        """In a word how a store stands to the file and the leader's last sum."""
+        """Returns the state of a store, in a word, compared with the file and the leader's last sum."""
         if not store.is_running():
             return "ended"
         if store.leads:
@@ -244,7 +245,7 @@ class Watch:
         return "same" if store.last_sum == self.sum else "other"
 
     def tell_stores(self) -> None:
-        """Tells how the stores and the file stand."""
+        """Sends the states of the stores and the file to the pages."""
         for each in self.stores.values():
             self.tell_store(each)
         last = self.kept.events[-1].decode() if self.kept.events else ""
@@ -252,7 +253,7 @@ class Watch:
         self.tell_leader()
 
     def tell_store(self, store: Shown) -> None:
-        """Tells how a store stands, and its nodes about the key that is shown."""
+        """Sends the state of a store, and its nodes around the key that is shown."""
         first, nodes = store.nodes_about(self.key)
         self.state(
             "store",
@@ -272,22 +273,22 @@ class Watch:
         )
 
     def tell_leader(self) -> None:
-        """Tells who leads, and the key about which nodes are shown."""
+        """Sends the name of the leader, and the key around which nodes are shown."""
         self.state("leader", who=self.leader, is_there=self.has_leader(), key=str(self.key))
 
     def state(self, kind: str, of: str = "", **facts: object) -> None:
-        """Tells how something stands, if it is new."""
+        """Sends a state, if it is new."""
         told: Facts = {"kind": kind, **facts}
         if self.last.get(kind + of) != told:
             self.last[kind + of] = told
             self.changed.add(kind + of)
 
     def tell(self, kind: str, **facts: object) -> None:
-        """Tells what happens."""
+        """Sends an event of the story."""
         self.news.append({"kind": kind, **facts})
 
     def publish(self) -> None:
-        """Hands what is new to the pages; one that does not read is left."""
+        """Sends new messages to the pages; one that does not read is dropped."""
         told = [*self.news, *(self.last[name] for name in sorted(self.changed))]
         self.news.clear()
         self.changed.clear()
@@ -296,7 +297,7 @@ class Watch:
             page.put(json.dumps(told))
 
     def joined(self) -> queue.Queue[str]:
-        """A page that watches from now on."""
+        """Adds a page that watches from now on."""
         page: queue.Queue[str] = queue.Queue(1000)
         events = [{"kind": "event", "line": event.decode()} for event in self.kept.events[-NEWS:]]
         page.put(json.dumps([{"kind": "hello"}, *events, *self.last.values()]))

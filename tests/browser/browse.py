@@ -1,10 +1,10 @@
 #!/usr/bin/env python3
-"""Plays the story of examples/watch in Chromium without a window, by a seed, and compares the stores on all sides.
+"""Runs the story of examples/watch in headless Chromium, by a seed, and compares the stores on all sides.
 
     tests/browser/browse.py [--seed N] [--write] [--pairs N]
 
-Pictures of it, light, dark and narrow, go to out/watch; with --write the light one also to docs/watch.png. The last
-line is 'N passed, M failed'.
+Pictures of it, light, dark and narrow, are written to out/watch; with --write the light one also to docs/watch.png. The
+last line is 'N passed, M failed'.
 """
 
 from __future__ import annotations
@@ -31,11 +31,11 @@ ALL_SAME = "both followers hold the nodes of the leader"
 QUICK = 100  # milliseconds
 SIGHTS = [("light", "light", 1280), ("dark", "dark", 1280), ("middle", "dark", 820), ("narrow", "light", 390)]
 
-# Those with a role that a person acts on or is told by, and without a name.
+# Elements without a name that have a role, which a person operates or is notified by.
 NAMED = {"button", "textbox", "combobox", "slider", "spinbutton", "checkbox", "image", "list", "region", "table"}
 REACHED = {"line", "to", "auto", "key", "loss", "late", "stream", "talk", "player", "rank", "from"}
 
-# The least contrast of a text with what is behind it, and where.
+# The least contrast of a text with its background, and where.
 CONTRAST = """
 const part = c => (c /= 255, c <= 0.04045 ? c / 12.92 : ((c + 0.055) / 1.055) ** 2.4);
 const light = ([r, g, b]) => 0.2126 * part(r) + 0.7152 * part(g) + 0.0722 * part(b);
@@ -56,7 +56,7 @@ return found.map(e => {
 }).sort((x, y) => x[0] - y[0])[0];
 """
 
-# Words that are cut, and boxes that leave their card or lie over one another.
+# Truncated words, and boxes that leave their card or overlap.
 UGLY = """
 const cut = [...document.querySelectorAll("button, h2, label, select, td, dd, .lamp")]
   .filter(e => e.checkVisibility() && (e.scrollWidth > e.clientWidth + 1 && e.clientWidth));
@@ -67,14 +67,14 @@ const over = rects.filter(([e, r]) => rects.some(([f, s]) => e !== f && !e.conta
 return [...cut, ...over].map(e => e.outerHTML.slice(0, 80));
 """
 
-# Boxes that slide are where they belong; events fly on.
+# Boxes that slide are in their place; events continue to fly.
 SETTLED = """
 const isBox = each => each.effect.target.closest("svg");
 document.getAnimations().filter(isBox).forEach(each => each.finish());
 """
 
-# How long a line takes from the key that sends it until its reply and the new box of its pair are there, and the page
-# has painted them: a message that is sent in a frame comes after what the frame paints.
+# The time of a line from the key that sends it until its reply and the new box of its pair are painted: a message that
+# is sent in a frame arrives after the frame is painted.
 ANSWERED = """
 const [line, pair] = a, reply = document.getElementById("reply"), before = performance.now();
 const has = node => node.textContent === pair;
@@ -105,11 +105,11 @@ class Story:
         self.results.check(name, bool(is_right))
 
     def sees(self, selector: str, words: str, seconds: float = 120) -> bool:
-        """Whether words come to stand somewhere in time."""
+        """Waits for words on the page. Returns whether they appear in time."""
         return reached(lambda: words in self.browser.text(selector), seconds)
 
     def says(self, line: str, to: str | None = None) -> str:
-        """The reply on the page to a line that is typed."""
+        """Types a line, and returns the reply on the page."""
         if to:
             self.browser.run("document.getElementById('to').value = a[0]", to)
         self.browser.run("document.getElementById('what').textContent = ''")
@@ -128,7 +128,8 @@ class Story:
             self.browser.run("const e = document.getElementById(a[0]); e.value = a[1]; e.oninput()", name, value)
 
     def ends_same(self, when: str) -> None:
-        """The page says that all hold the same, and they do: the replies, and the boxes of the page."""
+        """Returns whether the page shows that all stores are equal, and they are: the replies, and the boxes of the
+        page."""
         head = self.watch.file["head"]
         leader = self.watch.leader["who"]
         is_level = reached(lambda: self.watch.is_level(head, leader) and ALL_SAME in self.browser.text("#all"))
@@ -136,7 +137,7 @@ class Story:
         self.check(f"{when}: the replies to sum and nodes are", reached(self.watch.is_same))
 
     def puts(self, count: int) -> list[str]:
-        """Commands, most of which put."""
+        """Yields commands, most of which put."""
         keys = [1000 + self.chance.randrange(60) for _ in range(count)]
         is_cut = [self.chance.random() < 0.25 for _ in keys]
         return [f"cut {key}" if it else f"put {key} {self.chance.randrange(1000)}" for key, it in zip(keys, is_cut)]
@@ -237,7 +238,8 @@ class Story:
         self.check("the rank is the place", f"place {place} of {len(rows)}" in self.browser.text("#place"))
 
     def board_is_new(self) -> bool:
-        """Whether the board shows what its store replies now: it is read again a while after a change."""
+        """Returns whether the board shows the present replies of its store: it is read again some time after a
+        change."""
         shown = [line.split(" → ") for line in self.browser.text("#asked").split("\n")]
         told = self.watch.ask("line", to="B", lines=[line for line, _ in shown], is_shown=False)
         return bool(told == [[reply] for _, reply in shown])
@@ -251,14 +253,14 @@ class Story:
         return reached(lambda: self.browser.text("#page") != shown)
 
     def rows(self) -> list[list[int]]:
-        """The rows of the board: place, player, score."""
+        """Returns the rows of the board: place, player, score."""
         cells = "[...row.cells].map(cell => +cell.textContent)"
         script = f"return [...document.querySelectorAll('#rows tr')].map(row => {cells})"
         found: list[list[int]] = self.browser.run(script)
         return found
 
     def looks(self) -> None:
-        """Widths, colours, names and keys."""
+        """Checks widths, colours, names and keys."""
         self.slides(loss=25, repeat=15, late=15)
         while self.turns("up"):
             pass
@@ -280,11 +282,11 @@ class Story:
         self.ends_same("after the looks")
 
     def by_keys(self) -> None:
-        """The keyboard alone."""
+        """Uses only the keyboard."""
         wanted, met = {*REACHED, "kill -9, B", "Snapshot, C"}, set()
         self.browser.run("document.activeElement.blur()")
         for _ in range(60):
-            self.browser.press("Tab")  # one at a time, to see where each leads
+            self.browser.press("Tab")  # one at a time, to see what each focuses
             met.add(self.browser.run("const e = document.activeElement; return e.id || e.getAttribute('aria-label')"))
         self.check(f"the keyboard reaches all {sorted(wanted - met) or ''}", wanted <= met)
         self.browser.run("document.querySelector(`[aria-label='kill -9, B']`).focus()")
@@ -296,7 +298,7 @@ class Story:
         self.ends_same("after a snapshot by Space")
 
     def grows(self) -> None:
-        """Many pairs: an answer in time, and few of the nodes drawn."""
+        """Checks many pairs: a reply in time, and few of the nodes drawn."""
         for who in "BC":
             self.acts("kill -9", who)
         keys = self.chance.sample(range(1_000_000, 2_000_000), self.pairs)

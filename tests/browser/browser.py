@@ -1,4 +1,4 @@
-"""Chromium without a window, driven by chromedriver over WebDriver: Debian's packages chromium and chromium-driver."""
+"""Headless Chromium, driven by chromedriver over WebDriver: Debian's packages chromium and chromium-driver."""
 
 from __future__ import annotations
 
@@ -37,7 +37,7 @@ class Browser:
         self.base += f"/{session['sessionId']}"
 
     def call(self, method: str, path: str, body: object = None) -> Any:
-        """What the driver answers to a command."""
+        """Returns the driver's reply to a command."""
         data = None if method in ("GET", "DELETE") else json.dumps(body or {}).encode()
         asked = urllib.request.Request(self.base + path, data, {"Content-Type": "application/json"}, method=method)
         try:
@@ -57,7 +57,7 @@ class Browser:
         self.call("POST", "/url", {"url": url})
 
     def run(self, script: str, *arguments: object) -> Any:
-        """What a script returns; it may await."""
+        """Returns the result of a script, which may await."""
         waits = "const done = arguments[arguments.length - 1]; (async (...a) => {%s})(...arguments).then(done, done)"
         return self.call("POST", "/execute/async", {"script": waits % script, "args": list(arguments)})
 
@@ -71,12 +71,12 @@ class Browser:
         time.sleep(0.6)
 
     def prefer(self, **features: str) -> None:
-        """Sets what the page sees of a person's preferences."""
+        """Sets the preferences of a person that the page sees."""
         wanted = [{"name": f"prefers-{name.replace('_', '-')}", "value": value} for name, value in features.items()]
         self.devtools("Emulation.setEmulatedMedia", features=wanted)
 
     def picture(self, path: pathlib.Path) -> None:
-        """Writes a picture of what is in view."""
+        """Writes a picture of the viewport."""
         path.parent.mkdir(parents=True, exist_ok=True)
         path.write_bytes(base64.b64decode(self.devtools("Page.captureScreenshot")["data"]))
 
@@ -95,7 +95,7 @@ class Browser:
         self.call("POST", self.element(selector) + "/click")
 
     def type(self, selector: str, text: str, *keys: str) -> None:
-        """Types a text in place of what stands there."""
+        """Types a text in place of the present one."""
         field = self.element(selector)
         self.call("POST", field + "/clear")
         self.call("POST", field + "/value", {"text": text + "".join(KEYS[key] for key in keys)})
@@ -104,5 +104,5 @@ class Browser:
         return str(self.call("GET", self.element(selector) + "/text"))
 
     def errors(self) -> list[str]:
-        """What stands in the console since it was asked last."""
+        """Returns the console messages since the last call."""
         return [entry["message"] for entry in self.call("POST", "/se/log", {"type": "browser"})]

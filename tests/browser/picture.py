@@ -1,4 +1,4 @@
-"""Pictures made small: a PNG of true colours, as a browser writes it, in a palette of 256."""
+"""Small pictures: a PNG of true colours, as a browser writes it, converted to a palette of 256."""
 
 from __future__ import annotations
 
@@ -11,7 +11,7 @@ Colour = bytes
 
 
 def chunks(picture: bytes) -> dict[bytes, bytes]:
-    """The parts of a PNG by their names, those of one name joined."""
+    """Returns the parts of a PNG by their names, those of one name joined."""
     found: dict[bytes, bytes] = collections.defaultdict(bytes)
     at = len(SIGNATURE)
     while at < len(picture):
@@ -26,13 +26,13 @@ def chunk(name: bytes, data: bytes) -> bytes:
 
 
 def nearest(left: int, up: int, corner: int) -> int:
-    """Which of three neighbours PNG's last filter predicts by."""
+    """Returns the neighbour, of three, from which PNG's last filter predicts."""
     by_left, by_up, by_corner = abs(up - corner), abs(left - corner), abs(left + up - 2 * corner)
     return left if by_left <= by_up and by_left <= by_corner else up if by_up <= by_corner else corner
 
 
 def unfiltered(kind: int, row: bytearray, above: bytes, step: int) -> bytes:
-    """A row of bytes without the filter that was applied to it."""
+    """Returns a row of bytes without the filter that was applied to it."""
     for at in range(len(row)) if kind else ():
         left, corner = (row[at - step], above[at - step]) if at >= step else (0, 0)
         guess = (0, left, above[at], (left + above[at]) // 2, nearest(left, above[at], corner))[kind]
@@ -41,7 +41,7 @@ def unfiltered(kind: int, row: bytearray, above: bytes, step: int) -> bytes:
 
 
 def colours(picture: bytes) -> tuple[int, list[Colour]]:
-    """The width of a PNG, and the colours of its points."""
+    """Returns the width of a PNG, and the colours of its points."""
     parts = chunks(picture)
     width, _, depth, kind, *_, interlaced = struct.unpack(">IIBBBBB", parts[b"IHDR"])
     assert depth == 8 and kind in (2, 6) and not interlaced
@@ -59,7 +59,8 @@ def distance(one: Colour, other: Colour) -> int:
 
 
 def small(picture: bytes) -> bytes:
-    """A PNG in a palette of the 256 colours that it has most of, each other colour by the one nearest to it."""
+    """Returns a PNG in a palette of its 256 most frequent colours, each other colour replaced by the nearest of
+    them."""
     width, points = colours(picture)
     rounded = {colour: bytes(min(255, 8 * ((it + 4) // 8)) for it in colour) for colour in set(points)}
     counts = collections.Counter(points)

@@ -1,8 +1,8 @@
 #!/usr/bin/env python3
-"""Plays a person at examples/watch/run.py, with no browser: half a minute.
+"""Acts as a person at examples/watch/run.py, without a browser, for half a minute.
 
-What the stores reply is compared on all sides after losses, kills, snapshots and promotions, and with the file; bad
-requests are refused; and what the watch started ends with it. The last line is 'N passed, M failed'.
+The replies of the stores are compared on all sides after losses, kills, snapshots and promotions, and with the file;
+bad requests are refused; and the processes that the watch started end with it. The last line is 'N passed, M failed'.
 """
 
 from __future__ import annotations
@@ -43,14 +43,14 @@ REFUSED: list[tuple[str, str, dict[str, str], int]] = [
 
 
 def told_by(watch: Watched, by: str) -> dict[str, object]:
-    """What the pages are told of a line that was typed on one of them."""
+    """Returns the messages to the pages about a line that was typed on one of them."""
     while (told := watch.told.get(timeout=SECONDS)).get("by") != by:
         pass
     return told
 
 
 def followed(watch: Watched, results: Results) -> None:
-    """Replies as they come, events that are lost and come again, a follower that is killed and comes back."""
+    """Checks replies as they arrive, events that are lost and repeated, a follower that is killed and returns."""
     results.check("all begin alike", reached(lambda: watch.standings() == "A leads B same C same"))
     told = [(line, watch.line("A", line)[: len(reply)]) for line, reply in REPLIES]
     results.check("replies come as the store gives them", told == REPLIES)
@@ -73,7 +73,8 @@ def followed(watch: Watched, results: Results) -> None:
 
 
 def led(watch: Watched, results: Results) -> None:
-    """Leaders that are killed, a follower that is promoted, the file, and a second leader that no one hears."""
+    """Checks leaders that are killed, a follower that is promoted, the file, and a second leader that no one
+    receives."""
     os.kill(watch.stores["A"]["pid"], signal.SIGKILL)
     results.check("a leader that is killed from outside has ended", reached(lambda: not watch.leader["is_there"]))
     watch.ask("promote", who="C")
@@ -101,7 +102,7 @@ def led(watch: Watched, results: Results) -> None:
 
 
 def ended(watch: Watched, how: signal.Signals, results: Results) -> None:
-    """What the watch started ends with it."""
+    """Checks that the processes that the watch started end with it."""
     started = watch.stores_run()
     watch.process.send_signal(how)
     watch.process.wait()

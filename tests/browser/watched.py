@@ -1,4 +1,4 @@
-"""A watch that runs, what it tells its pages, and what is asked of it: for the tests."""
+"""A running watch, its messages to its pages, and requests to it: for the tests."""
 
 from __future__ import annotations
 
@@ -15,7 +15,7 @@ from collections.abc import Callable
 from typing import Any
 
 TOP = pathlib.Path(__file__).resolve().parent.parent.parent
-SECONDS = 120  # until something must have come about, on a busy machine
+SECONDS = 120  # for anything that must happen, on a busy machine
 
 Facts = dict[str, Any]
 
@@ -29,7 +29,7 @@ def is_running(pid: int) -> bool:
 
 
 def reached(wanted: Callable[[], object], seconds: float = SECONDS) -> bool:
-    """Whether something comes about in time."""
+    """Returns whether a condition holds in time."""
     end = time.monotonic() + seconds
     while not (found := bool(wanted())) and time.monotonic() < end:
         time.sleep(0.02)
@@ -37,10 +37,10 @@ def reached(wanted: Callable[[], object], seconds: float = SECONDS) -> bool:
 
 
 class Watched:
-    """The example, with what it told last."""
+    """The example, with its last messages."""
 
     def __init__(self, *arguments: str) -> None:
-        signal.signal(signal.SIGTERM, lambda *_: sys.exit(1))  # so that the test ends what it started
+        signal.signal(signal.SIGTERM, lambda *_: sys.exit(1))  # so that the test ends the processes that it started
         self.process = subprocess.Popen([TOP / "examples/watch/run.py", *arguments], stdout=subprocess.PIPE, text=True)
         assert self.process.stdout
         self.url = self.process.stdout.readline().strip()
@@ -52,7 +52,7 @@ class Watched:
         threading.Thread(target=self.listen, daemon=True).start()
 
     def listen(self) -> None:
-        """Takes what a page is told."""
+        """Receives the messages to a page."""
         link = http.client.HTTPConnection(self.host)
         link.request("GET", "/events")
         for line in link.getresponse():
@@ -68,11 +68,11 @@ class Watched:
             self.told.put(told)
 
     def status(self, path: str, body: str, **headers: str) -> int:
-        """The status of a request."""
+        """Returns the status of a request."""
         return self.request(path, body.encode(), headers)[0]
 
     def ask(self, act: str, **asked: object) -> Any:
-        """The answer to a request of the page."""
+        """Returns the reply to a request of the page."""
         status, body = self.request(f"/{act}", json.dumps(asked).encode(), {})
         assert status == 200, (status, act, asked)
         return json.loads(body)
@@ -84,26 +84,27 @@ class Watched:
         return answer.status, answer.read()
 
     def line(self, to: str, line: str) -> list[str]:
-        """The reply of a store to a line."""
+        """Returns the reply of a store to a line."""
         replies: list[list[str]] = self.ask("line", to=to, lines=[line])
         return replies[0]
 
     def standings(self) -> str:
-        """How the stores stand, by their names."""
+        """Returns the states of the stores, by their names."""
         return " ".join(f"{name} {it['standing']}" for name, it in sorted(self.stores.items()))
 
     def is_level(self, head: int, leader: str = "A") -> bool:
-        """Whether the page says that the file has events up to a number at least, and all stores the leader's sum."""
+        """Returns whether the page shows that the file has events up to a number at least, and all stores the leader's
+        sum."""
         others = [it["standing"] for name, it in self.stores.items() if name != leader]
         return self.file["head"] >= head and self.leader["who"] == leader and others == ["same", "same"]
 
     def is_same(self) -> bool:
-        """Whether the stores reply alike."""
+        """Returns whether the stores reply alike."""
         first, *others = [self.line(name, "sum") + self.line(name, "nodes") for name in sorted(self.stores)]
         return all(first == each for each in others)
 
     def stores_run(self) -> list[int]:
-        """The processes that it started and that run."""
+        """Returns the running processes that it started."""
         words = ["ps", "--ppid", str(self.process.pid), "-o", "pid="]
         found = subprocess.run(words, capture_output=True, text=True).stdout.split()
         return [int(pid) for pid in found if is_running(int(pid))]

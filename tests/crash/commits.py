@@ -1,10 +1,10 @@
 #!/usr/bin/env python3
 """Gives the program more lines at once than one commit keeps.
 
-They come from a file, so that a read brings thousands. What is kept has to be all that was told, and a commit keeps at
-most 4,096 lines and the further ones of its last command. With `--rule`, which takes minutes by a program that is not
-optimised: a snapshot takes the place of the lines of 200,000 pairs once they are more than 1,480,000 beside one for
-each node, and not before. The last line is 'N passed, M failed'. It needs the built `indexset_store`.
+They are in a file, so that a read returns thousands. All emitted events must be kept, and a commit keeps at most 4,096
+lines and the remaining ones of its last command. With `--rule`, which takes minutes with an unoptimized program: a
+snapshot replaces the lines of 200,000 pairs once they are more than 1,480,000 beside one for each node, and not before.
+The last line is 'N passed, M failed'. It needs the built `indexset_store`.
 """
 
 from __future__ import annotations
@@ -22,10 +22,10 @@ from kept import Wrong, is_event, rows_of, unsealed  # noqa: E402
 from programs import built  # noqa: E402
 
 MOST = 4_096  # lines that a commit keeps
-FURTHER = 3  # lines of a command behind its first: three events, and which commands were done
+FURTHER = 3  # lines of a command after its first: three events, and the numbers of finished commands
 COMMANDS = 12_000
-PAIRS = 200_000  # so many that ten lines for each are more than MANY
-MANY = 1_500_000 - PAIRS // 10  # lines beside one for each node, above which a snapshot takes their place
+PAIRS = 200_000  # ten lines for each of these are more than MANY
+MANY = 1_500_000 - PAIRS // 10  # lines beside one for each node, above which a snapshot replaces them
 
 
 def lines_of(commands: list[str]) -> str:
@@ -33,7 +33,7 @@ def lines_of(commands: list[str]) -> str:
 
 
 def told_by(file: pathlib.Path, lines: str, *role: str) -> str:
-    """What the program tells of lines from a file."""
+    """Returns the output of the program for lines from a file."""
     with tempfile.TemporaryFile("w+", dir=file.parent) as text:
         text.write(lines)
         text.seek(0)
@@ -42,13 +42,13 @@ def told_by(file: pathlib.Path, lines: str, *role: str) -> str:
 
 
 def commits(rows: list[str]) -> list[int]:
-    """How many lines each commit keeps."""
+    """Yields the number of lines that each commit keeps."""
     ends = [at for at, row in enumerate(rows) if row.startswith("seal ")]
     return [end - start - 1 for start, end in zip([-1, *ends], ends)]
 
 
 def fault(file: pathlib.Path, told: list[str], least: int, most: int) -> str:
-    """What is wrong with what is kept, where this was told, and the largest commit is to be within these."""
+    """Returns the fault in the kept lines, given the output and bounds of the largest commit, or an empty string."""
     rows = [row for _, row in rows_of(file)]
     largest = max(commits(rows))
     if unsealed(rows) != told:
@@ -57,13 +57,13 @@ def fault(file: pathlib.Path, told: list[str], least: int, most: int) -> str:
 
 
 def begins(file: pathlib.Path) -> tuple[str, int]:
-    """The first line that is kept, and how many lines are kept beside one for each node."""
+    """Returns the first kept line, and the number of lines kept beside one for each node."""
     rows = [row for _, row in rows_of(file)]
     return rows[0], sum(not row.startswith("node ") for row in rows)
 
 
 def rule_fault(file: pathlib.Path) -> str:
-    """What is wrong with when a snapshot takes the place of lines; a replacement tells two events."""
+    """Returns the fault in the time at which a snapshot replaces lines; a replacement emits two events."""
     told_by(file, lines_of([*(f"put {key} 0" for key in range(PAIRS)), "compact"]), "--lead")
     first, _ = begins(file)
     few = [f"put {it * 7919 % PAIRS} {it}" for it in range(1, MANY // 2 - COMMANDS // 2)]

@@ -1,13 +1,13 @@
 #!/usr/bin/env python3
-"""Damages the file in which a map is kept, and gives the program files that are none of its own.
+"""Damages the file in which a map is kept, and gives the program files of other kinds.
 
-A file of a snapshot and of events, in several commits, is cut at every byte, and has each byte turned, to a value by a
-seed; and so has a log beside it that was not carried over into the file. The program refuses the file, with status 6,
-a sentence on standard error and nothing changed, or it answers the whole map; with a damaged log the map may also be
-that after an earlier commit, as after a crash. It never answers another map, and never ends in another way.
+A file of a snapshot and of events, in several commits, is truncated at every byte, and has each byte changed, to a
+value by a seed; and so has a log beside it that was not checkpointed into the file. The program refuses the file, with
+status 6, a sentence on standard error and nothing changed, or it outputs the complete map; with a damaged log the map
+may also be that after an earlier commit, as after a crash. It never outputs another map, and never ends in another way.
 
-With --stride N it tries every Nth byte, with --sample N so many of all cases, by the seed. The last line is 'N passed,
-M failed'. It needs the built `indexset_store`.
+With --stride N it tries every Nth byte, with --sample N a sample of N cases, by the seed. The last line is 'N passed, M
+failed'. It needs the built `indexset_store`.
 """
 
 from __future__ import annotations
@@ -45,8 +45,8 @@ SENTENCES = {
 }
 TABLE = "CREATE TABLE kept (number INTEGER PRIMARY KEY, line TEXT NOT NULL) STRICT"
 LOG = "map.db-wal"
-EMPTY = 2  # bytes below which SQLite takes a file for a new one
-HEAD = 41  # bytes of a log that holds no page
+EMPTY = 2  # bytes below which SQLite treats a file as a new one
+HEAD = 41  # bytes of a log without pages
 NOBODY = 65_534
 SECONDS = 60  # for one run, on a busy machine
 FIRST = [f"put {key} {key * key}" for key in range(40)]
@@ -54,7 +54,7 @@ THEN = [["put 3 5"], ["cut 7", "#17 put 8 1"], ["put 100 1", "put 101 2", "put 1
 
 Files = dict[str, bytes]
 Change = Callable[[bytes], bytes]
-Case = tuple[str, Callable[[], str]]  # its name, and what is wrong
+Case = tuple[str, Callable[[], str]]  # its name, and a call that returns its fault
 
 
 def files_of(folder: pathlib.Path) -> Files:
@@ -62,7 +62,7 @@ def files_of(folder: pathlib.Path) -> Files:
 
 
 class Bench:
-    """The program, and what it answers."""
+    """The program, and its output."""
 
     def __init__(self, program: pathlib.Path) -> None:
         self.program = program
@@ -72,7 +72,7 @@ class Bench:
     def run(
         self, file: pathlib.Path, lines: list[str], *words: str, user: int | None = None
     ) -> subprocess.CompletedProcess[str]:
-        """A run on a file, as this user or as the one of this process."""
+        """Runs the program on a file, as this user or as the one of this process."""
         return subprocess.run(
             [self.program, "--keep", str(file), "--node-size", "4", *words],
             input="".join(f"{line}\n" for line in lines),
@@ -86,7 +86,7 @@ class Bench:
         )
 
     def fault(self, folder: pathlib.Path, maps: list[str], user: int | None = None) -> str:
-        """What is wrong with an answer to `snapshot` from the files of a folder, where only these maps are right."""
+        """Returns the fault in a reply to `snapshot` from the files of a folder, if only these maps are right."""
         before = files_of(folder)
         done = self.run(folder / "map.db", ["snapshot"], user=user)
         if done.returncode == 0 and done.stdout in maps:
@@ -116,7 +116,7 @@ def changed(before: Files, after: Files) -> str:
 
 
 def commit_each(program: pathlib.Path, file: pathlib.Path, groups: list[list[str]]) -> list[str]:
-    """Has a leader carry out groups of commands with a commit each: the snapshots before and after each group."""
+    """Runs groups of commands on a leader with a commit each; returns the snapshots before and after each group."""
     words = [str(program), "--keep", str(file), "--node-size", "4", "--lead"]
     found = []
     with subprocess.Popen(words, stdin=subprocess.PIPE, stdout=subprocess.PIPE, text=True) as run:
@@ -134,7 +134,7 @@ def commit_each(program: pathlib.Path, file: pathlib.Path, groups: list[list[str
 
 
 def carry_over(file: pathlib.Path) -> None:
-    """Has SQLite carry the log over into the file."""
+    """Makes SQLite checkpoint the log into the file."""
     with sqlite3.connect(file) as found:
         found.execute("PRAGMA wal_checkpoint(TRUNCATE)")
     found.close()
@@ -149,7 +149,7 @@ def turned(at: int, turn: int, old: bytes) -> bytes:
 
 
 def changes(size: int, stride: int, chance: random.Random) -> Iterator[tuple[str, Change]]:
-    """Cuts and turned bytes of a file of this size."""
+    """Yields truncations and changed bytes of a file of this size."""
     for at in range(chance.randrange(stride), size, stride):
         if at >= EMPTY:
             yield f"cut at byte {at}", functools.partial(cut, at)
@@ -158,7 +158,7 @@ def changes(size: int, stride: int, chance: random.Random) -> Iterator[tuple[str
 
 
 def damaged(bench: Bench, room: pathlib.Path, files: Files, name: str, maps: list[str], change: Change) -> str:
-    """What is wrong where one of the files is changed."""
+    """Returns the fault if one of the files is changed."""
     with tempfile.TemporaryDirectory(dir=room) as folder:
         for it, old in files.items():
             pathlib.Path(folder, it).write_bytes(change(old) if it == name else old)
@@ -168,14 +168,14 @@ def damaged(bench: Bench, room: pathlib.Path, files: Files, name: str, maps: lis
 def damages(
     bench: Bench, room: pathlib.Path, files: Files, name: str, maps: list[str], stride: int, seed: int
 ) -> Iterator[Case]:
-    """All changes of one of the files."""
+    """Yields all changes of one of the files."""
     used = len(files[name].rstrip(b"\0")) + 1 if name == LOG else len(files[name])
     for what, change in changes(used, stride, random.Random(seed)):
         yield f"{name}, {what}", functools.partial(damaged, bench, room, files, name, maps, change)
 
 
 def of_damage(bench: Bench, room: pathlib.Path, stride: int, seed: int) -> Iterator[Case]:
-    """Changes of a file that holds all, then of one beside which a log holds the newest commits, and of this log."""
+    """Yields changes of a complete file, then of one whose log has the newest commits, and of this log."""
     made = room / "made"
     made.mkdir()
     file = made / "map.db"
@@ -198,7 +198,7 @@ def statements(lines: list[str]) -> list[str]:
 
 
 def others() -> dict[str, list[str]]:
-    """Databases that hold something other than lines of a map, by their statements."""
+    """Yields databases that do not contain lines of a map, by their statements."""
     lines = statements(sealed(["0 create 1:1"]))
     loose = "CREATE TABLE kept (number INTEGER PRIMARY KEY, line TEXT)"
     return {
@@ -233,7 +233,7 @@ def make(file: pathlib.Path, words: list[str], mode: str) -> None:
 
 
 def of_others(bench: Bench, room: pathlib.Path) -> Iterator[Case]:
-    """Files that are no kept map are refused, and stay as they were. An empty one is new."""
+    """Tests that files that are not a kept map are refused, and unchanged. An empty one is new."""
     for mode in ("DELETE", "WAL"):
         for name, words in others().items():
             yield f"{name}, in mode {mode}", functools.partial(made_by, bench, room, words, mode)
@@ -251,14 +251,15 @@ def made_by(bench: Bench, room: pathlib.Path, words: list[str], mode: str) -> st
 
 @contextlib.contextmanager
 def some_map(bench: Bench, room: pathlib.Path) -> Iterator[pathlib.Path]:
-    """A folder in which a map is kept."""
+    """Makes a folder in which a map is kept."""
     with tempfile.TemporaryDirectory(dir=room) as folder:
         bench.run(pathlib.Path(folder, "map.db"), FIRST[:3], "--lead")
         yield pathlib.Path(folder)
 
 
 def of_places(bench: Bench, room: pathlib.Path) -> Iterator[Case]:
-    """A file or a folder that is not to be written, a folder in place of the file, no folder, and a second process."""
+    """Tests files and folders that cannot be written, a folder in place of the file, no folder, and a second
+    process."""
     yield "a file that is only read", functools.partial(unwritten, bench, room, 0o444, 0o777)
     yield "a folder that is only read", functools.partial(unwritten, bench, room, 0o666, 0o555)
     yield "a folder in place of the file", functools.partial(in_place, bench, room)
@@ -290,7 +291,7 @@ def missing(bench: Bench, room: pathlib.Path) -> str:
 
 
 def second(bench: Bench, room: pathlib.Path) -> str:
-    """A second process is refused, and the first goes on."""
+    """Tests that a second process is refused, and the first continues."""
     with some_map(bench, room) as folder:
         words = [str(bench.program), "--keep", str(folder / "map.db"), "--node-size", "4", "--lead"]
         with subprocess.Popen(words, stdin=subprocess.PIPE, stdout=subprocess.PIPE, text=True) as first:
@@ -309,7 +310,7 @@ def fault_of(case: Case) -> str:
 
 
 def chosen(bench: Bench, room: pathlib.Path, given: argparse.Namespace) -> list[Case]:
-    """All cases, or so many of them, in an order by the seed."""
+    """Returns all cases, or a sample of them, in an order by the seed."""
     cases = [*of_others(bench, room), *of_places(bench, room), *of_damage(bench, room, given.stride, given.seed)]
     return random.Random(given.seed).sample(cases, given.sample or len(cases))
 

@@ -1,10 +1,11 @@
 #!/usr/bin/env python3
-"""Fills the disk of a map that is kept: what was answered is in the file, and goes on once there is room again.
+"""Fills the disk of a map that is kept: the commands with replies are in the file, which continues once there is room
+again.
 
-On small disks in memory a leader gets commands, one after each answer or many at a time, until it ends. It has to end
-with status 6 and a sentence; each event that was told is kept; on the full disk it shows the same map or is refused
-again; on a larger disk it shows it and goes on. It mounts disks: where that is not permitted it says so, and nothing
-has failed. With --few it fills two. The last line is 'N passed, M failed'. It needs the built `indexset_store`.
+On small disks in memory a leader gets commands, one after each reply or many at a time, until it ends. It must end with
+status 6 and a sentence; each emitted event is kept; on the full disk it shows the same map or is refused again; on a
+larger disk it shows the map and continues. It mounts disks: if that is not permitted it prints that, and nothing has
+failed. With --few it fills two. The last line is 'N passed, M failed'. It needs the built `indexset_store`.
 """
 
 from __future__ import annotations
@@ -46,7 +47,8 @@ class Disk:
         return subprocess.run(self.words, input="".join(f"{it}\n" for it in lines), capture_output=True, text=True)
 
     def fill(self, group: int) -> tuple[list[str], int, str]:
-        """Sends groups of commands, each after the answers to the one before, until the program ends: what it told."""
+        """Sends groups of commands, each after the replies to the one before, until the program ends; returns its
+        output."""
         told, number = list[str](), 0
         words = self.words
         with subprocess.Popen(
@@ -89,7 +91,7 @@ def small(kilobytes: int) -> Iterator[Disk]:
 
 
 def holds(found: Found, told: list[str]) -> bool:
-    """Whether each event and each number that was told is kept."""
+    """Returns whether each emitted event and number is kept."""
     events = {number_of(line): line for line in found.events()}
     kept = [line for line in filter(is_event, told) if number_of(line) >= found.last_start()]
     marks = [int(line.split(" ")[1]) for line in told if line.startswith("done ")]

@@ -1,4 +1,4 @@
-"""What was told of a leader, and what its commands do."""
+"""The output of a leader, and the effects of its commands."""
 
 from __future__ import annotations
 
@@ -23,15 +23,15 @@ def perform(pairs: dict[int, int], done: int, command: str) -> int:
 
 
 class History:
-    """What was told of a leader: its events, and its `done` lines by the number of the event after each."""
+    """The output of a leader: its events, and its `done` lines by the number of the event after each."""
 
     def __init__(self) -> None:
         self.events: dict[int, str] = {}
         self.done: dict[int, list[int]] = {}
-        self.next = 0  # after the last event that was told
+        self.next = 0  # after the last emitted event
 
     def tell(self, line: str) -> None:
-        """Takes a line that the leader has told."""
+        """Adds a line of the leader's output."""
         words = line.split(" ")
         if is_event(line):
             self.keep(line)
@@ -42,7 +42,7 @@ class History:
             self.next = max(self.next, int(words[1]))
 
     def keep(self, event: str) -> None:
-        """Takes an event, which must be the one that was known."""
+        """Adds an event, which must equal a known one of its number."""
         if self.events.setdefault(number_of(event), event) != event:
             raise Wrong(f"there is {event}, and was {self.events[number_of(event)]}")
 
@@ -52,13 +52,13 @@ class History:
             found.append(done)
 
     def cut(self, end: int) -> None:
-        """Forgets what was told or kept from event `end` on, and what is old."""
+        """Forgets the events and marks from event `end` on, and old ones."""
         self.events = {number: it for number, it in self.events.items() if end - OLD <= number < end}
         self.done = {number: it for number, it in self.done.items() if end - OLD <= number <= end}
         self.next = end
 
     def lines(self, begin: int, end: int) -> list[str]:
-        """The lines that lead from event `begin` to event `end`."""
+        """Returns the lines from event `begin` to event `end`."""
         marks = {
             number: [f"done {it} {number}" for it in self.done.get(number, [])] for number in range(begin, end + 1)
         }
@@ -68,7 +68,7 @@ class History:
         return all(number in self.events for number in range(begin, end))
 
     def after(self, model: Model, end: int) -> Model:
-        """The nodes of a model after the events up to `end`."""
+        """Returns the nodes of a model after the events up to `end`."""
         model = model.copy()
         for number in range(model.next, end):
             model.take(self.events[number])
@@ -76,7 +76,7 @@ class History:
 
 
 class Side:
-    """A file, and what was found in it."""
+    """A file, and its content."""
 
     def __init__(self, file: pathlib.Path) -> None:
         self.file, self.found = file, Found([], 0, Model())

@@ -1,6 +1,6 @@
-"""The file of a map that is kept, as Python's SQLite reads a copy of it, and a model of the lines in it.
+"""The file of a map that is kept, as Python's SQLite reads a copy of it, and a model of its lines.
 
-All of it is written from docs/protocol.md: the nodes that events lead to, and the sum of a snapshot.
+All of it is written from docs/protocol.md: the nodes after the events, and the sum of a snapshot.
 """
 
 from __future__ import annotations
@@ -21,7 +21,7 @@ Pair = tuple[int, int]
 
 
 class Wrong(Exception):
-    """What was found is not what was told."""
+    """The content of a file differs from the output."""
 
 
 def pair(text: str) -> Pair:
@@ -39,13 +39,13 @@ def number_of(event: str) -> int:
 
 
 def sum_of(lines: Iterable[str]) -> int:
-    """The first 64 bits of the SHA-256 of lines, each with its end."""
+    """Returns the first 64 bits of the SHA-256 of lines, each with its end."""
     text = "".join(f"{line}\n" for line in lines)
     return int.from_bytes(hashlib.sha256(text.encode()).digest()[:8], "big")
 
 
 class Model:
-    """The nodes that lines lead to."""
+    """The nodes after some lines."""
 
     def __init__(self, lines: Iterable[str] = ()) -> None:
         self.nodes: list[list[Pair]] = []
@@ -70,7 +70,7 @@ class Model:
                 self.nodes, self.next, self.done = [], int(number), int(done[0]) if done else 0
             case ["node", *pairs]:
                 self.nodes.append([pair(it) for it in pairs])
-            case ["end", count]:  # (with no sum)
+            case ["end", count]:  # (without a sum)
                 if len(self.nodes) != int(count):
                     raise Wrong(f"the snapshot at {self.next} is not what its end says")
             case ["done", done, end]:
@@ -118,7 +118,7 @@ class Model:
         return [*lines, f"end {len(self.nodes)} {sum_of(lines)}"]
 
     def shown(self) -> list[str]:
-        """What the program answers to `nodes` and `sum`."""
+        """Returns the replies of the program to `nodes` and `sum`."""
         done = f" {self.done}" if self.done else ""
         return [*self.rows(), f"next {self.next}", self.snapshot()[-1].replace("end", f"sum {self.next}") + done]
 
@@ -130,7 +130,8 @@ class Model:
 
 
 def unsealed(lines: list[str]) -> list[str]:
-    """The lines without their seals, each of which must be that of the lines before it; the last line is one."""
+    """Returns the lines without their checksums, each of which must be that of the lines before it; the last line is
+    one."""
     seal, group, found = 0, list[str](), list[str]()
     for line in lines:
         if line.startswith("seal "):
@@ -147,9 +148,9 @@ def unsealed(lines: list[str]) -> list[str]:
 
 @dataclasses.dataclass
 class Found:
-    """What was found in a file."""
+    """The content of a file."""
 
-    lines: list[str]  # without the seals
+    lines: list[str]  # without the checksums
     seals: int
     model: Model
 
@@ -159,19 +160,19 @@ class Found:
         return int(starts[-1].split(" ")[1]) if starts else 0
 
     def events(self) -> list[str]:
-        """The events behind the last snapshot."""
+        """Returns the events after the last snapshot."""
         at = max((i for i, line in enumerate(self.lines) if line.startswith("end ")), default=-1)
         return [line for line in self.lines[at + 1 :] if is_event(line)]
 
     def marks(self) -> list[tuple[int, int]]:
-        """For each `done` behind the last snapshot the number of the event after it, and its number."""
+        """Returns, for each `done` after the last snapshot, the number of the event after it, and its number."""
         at = max((i for i, line in enumerate(self.lines) if line.startswith("end ")), default=-1)
         words = [line.split(" ") for line in self.lines[at + 1 :] if line.startswith("done ")]
         return [(int(it[2]), int(it[1])) for it in words]
 
 
 def rows_of(file: pathlib.Path) -> list[tuple[int, str]]:
-    """The rows of a file that SQLite finds sound."""
+    """Returns the rows of a file that SQLite finds intact."""
     with sqlite3.connect(file) as found:
         if found.execute("PRAGMA integrity_check").fetchall() != [("ok",)]:
             raise Wrong("SQLite finds the file damaged")
@@ -182,8 +183,8 @@ def rows_of(file: pathlib.Path) -> list[tuple[int, str]]:
 
 
 def found_in(file: pathlib.Path, room: pathlib.Path | None = None) -> Found:
-    """What a copy of a file holds, and of the file beside it: nothing where there is none. The copy is made in a room,
-    or beside the file."""
+    """Returns the content of a copy of a file, and of the file beside it: nothing if there is none. The copy is made in
+    a folder, or beside the file."""
     copy = (room or file.parent) / f"copy-of-{file.name}"
     shutil.rmtree(copy, ignore_errors=True)
     copy.mkdir()

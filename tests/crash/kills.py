@@ -1,18 +1,18 @@
 #!/usr/bin/env python3
-"""Kills a map that is kept in a file, in either role, at moments by a seed, and compares what it kept and told.
+"""Kills a map that is kept in a file, in either role, at moments by a seed, and compares its file with its output.
 
-usage: kills.py [SEED] [KILLS], where PYTHONHASHSEED=0 makes it quicker (seals.py). A leader gets commands in bursts, or
-one after each answer, `compact` among them in some runs; in the others the file grows until the program compacts it by
-itself. A follower with a file of its own gets the leader's events, some lost, doubled and out of order within its
-window, and snapshots, some of them wrong. After some kills of the leader the follower leads in its place, told so or
-from its file, and the file of the old leader becomes the follower's.
+usage: kills.py [SEED] [KILLS]; PYTHONHASHSEED=0 makes it faster (seals.py). A leader gets commands in bursts, or one
+after each reply, `compact` among them in some runs; in the others the file grows until the program compacts it by
+itself. A follower with a file of its own gets the leader's events, some lost, repeated and out of order within its
+window, and snapshots, some of them wrong. After some kills of the leader the follower becomes the leader, by a command
+or from its file, and the file of the old leader becomes the follower's.
 
-After each kill the file is copied and read by SQLite, whose integrity check it passes; its seals are computed anew.
-Each event that was told is kept in its place, or below the snapshot; numbers have no gap, and none has two events; a
-model of the six events makes nodes of the kept lines, which are those that the program shows after its restart. Of a
-leader the pairs, and the greatest number of a command, are those after some of the commands that were sent, at least
-all that were answered; a follower holds the leader's nodes after as many events as it acknowledged, or more. It ends
-with a table, and the last line is 'N passed, M failed'.
+After each kill the file is copied and read by SQLite, whose integrity check it passes; its checksums are computed
+again. Each emitted event is kept in its place, or covered by the snapshot; numbers are consecutive, and none has two
+events; a model of the six events makes nodes from the kept lines, which are those that the program shows after its
+restart. The pairs of a leader, and the greatest number of a command, are those after some of the commands that were
+sent, at least all that got replies; a follower has the leader's nodes after as many events as it acknowledged, or more.
+It ends with a table, and the last line is 'N passed, M failed'.
 
 It needs the built `indexset_store`.
 """
@@ -37,8 +37,8 @@ from lines import WINDOW, Author, Feed  # noqa: E402
 from programs import built  # noqa: E402
 from running import Run  # noqa: E402
 
-LONGEST = 0.12  # seconds from the first answer to the kill
-EARLY = 0.15  # of the kills come while the program starts
+LONGEST = 0.12  # seconds from the first reply to the kill
+EARLY = 0.15  # of the kills are made while the program starts
 COMPACTED = 0.4  # of the runs have lines `compact`
 TURNS = ("lead", "follow", "promote")
 WEIGHTS = (9, 8, 3)
@@ -46,24 +46,24 @@ NODE_SIZE = "4"
 
 
 class Drill:
-    """The two files, and all that was told of them."""
+    """The two files, and all output about them."""
 
     def __init__(self, folder: pathlib.Path, chance: random.Random) -> None:
         self.program, self.chance, self.author = built("indexset_store"), chance, Author(chance)
         self.leader, self.follower = Side(folder / "one.db"), Side(folder / "two.db")
         self.history = History()
         self.counts: Counter[str] = Counter()
-        self.start_up = 1.0  # seconds to the first answer
+        self.start_up = 1.0  # seconds to the first reply
 
     def start(self, side: Side, leads: bool) -> Run:
-        """Runs the program on a file, and has it show what it holds."""
+        """Runs the program on a file, and makes it show its content."""
         words = ["--keep", str(side.file), "--node-size", NODE_SIZE, "--window", str(WINDOW)]
         run = Run(self.program, [*words, "--lead"] if leads else words)
         run.send(["nodes", "sum"])
         return run
 
     def told(self, run: Run, side: Side) -> list[str]:
-        """What a run told behind what it showed, which must be what was found before."""
+        """Returns the output of a run after its content, which must equal what was found before."""
         wanted = side.model.shown()
         if run.lines[: len(wanted)] != wanted[: len(run.lines)]:
             raise Wrong("after the restart it shows other nodes or numbers than the kept lines lead to")
@@ -85,7 +85,7 @@ class Drill:
         self.counts["kills"] += 1
 
     def found(self, side: Side, compacts: bool) -> Found:
-        """What a file holds after a kill."""
+        """Returns the content of a file after a kill."""
         found = found_in(side.file)
         was = [line for line in side.found.lines if line.startswith("start ")]
         if side.found.lines and found.lines[0].startswith("start ") and found.lines[0] not in was:
@@ -114,7 +114,7 @@ class Drill:
         self.compare(side, sent, told, self.found(side, compacts))
 
     def compare(self, side: Side, sent: list[str], told: list[str], found: Found) -> None:
-        """Compares what was found in a leader's file with what was sent and told."""
+        """Compares the content of a leader's file with its input and its output."""
         model, begins = found.model, found.last_start()
         for line in found.events():
             self.history.keep(line)
@@ -133,7 +133,8 @@ class Drill:
         side.found = found
 
     def after(self, before: Model, sent: list[str], answered: int, model: Model) -> int:
-        """How many commands lead to the pairs and the number that were found, from those before the run."""
+        """Returns the number of commands after which the pairs and the number are those found, from those before the
+        run."""
         pairs, done, found = before.pairs(), before.done, model.pairs()
         for count, command in enumerate([*sent, ""]):
             if count >= answered and done == model.done and pairs == found:
@@ -158,7 +159,7 @@ class Drill:
         self.counts.update({"lines to followers": len(feed.sent), "replies of followers": len(replies)})
 
     def followed(self, side: Side, feed: Feed, replies: list[str], found: Found) -> None:
-        """Compares what was found in a follower's file with the leader's history and what it acknowledged."""
+        """Compares the content of a follower's file with the leader's history and its acknowledgements."""
         number, done, is_taken = feed.acknowledged(replies)
         if side.is_other and not is_taken and found.model.is_same(side.model):
             side.found = found
@@ -172,7 +173,8 @@ class Drill:
         side.found, side.is_other = found, False
 
     def agrees(self, side: Side, sent: list[str], found: Found) -> None:
-        """The nodes are those of the leader after the same events, and the greatest number of a command was its."""
+        """Checks that the nodes are those of the leader after the same events, and the greatest number of a command was
+        its."""
         for line in found.events():
             if self.history.events.get(number_of(line), line) != line:
                 raise Wrong(f"a follower keeps {line}, and {self.history.events[number_of(line)]} was told")
@@ -186,7 +188,7 @@ class Drill:
             raise Wrong(f"a follower keeps {found.model.done} as the number of a command")
 
     def promote(self) -> None:
-        """Has the follower lead in place of the leader that is gone, with all that it told, and then kills it."""
+        """Makes the follower the leader in place of the killed one, with all its events, and then kills it."""
         old, side = self.leader, self.follower
         end = max(self.history.next, 0 if side.is_other else side.model.next)
         run = self.start(side, False)

@@ -1,4 +1,4 @@
-"""The authors of lines to a leader and to a follower."""
+"""The generators of lines to a leader and to a follower."""
 
 from __future__ import annotations
 
@@ -13,20 +13,20 @@ from running import Run
 
 KEYS = 400
 BURSTS = (1, 2, 20, 300)  # commands
-NUMBERED = 0.5  # of the commands have a number of their caller
+NUMBERED = 0.5  # of the commands have a number from their caller
 LOST = 0.1  # of the events, at first
 DOUBLED = 0.1
 WINDOW = 64  # of the follower
 
 
 class Author:
-    """The author of commands."""
+    """The generator of commands."""
 
     def __init__(self, chance: random.Random) -> None:
         self.chance, self.number = chance, 0
 
     def commands(self, compacts: bool) -> list[str]:
-        """Commands that go out together."""
+        """Returns commands that are sent together."""
         kind = self.chance.random()
         if kind < 0.03:
             return ["follow", "lead"]
@@ -42,7 +42,7 @@ class Author:
         return number + (f"put {key} {self.chance.randrange(10**6)}" if self.chance.random() < 0.6 else f"cut {key}")
 
     def feed(self, run: Run, sent: list[str], compacts: bool, waits: bool) -> None:
-        """Sends commands until the program is gone."""
+        """Sends commands until the program has ended."""
         if waits and not run.wait_for(lambda: run.sums > 0):
             return
         before = run.nexts
@@ -59,7 +59,7 @@ class Author:
 
 
 class Feed:
-    """The lines to a follower, of which each has one line of an answer."""
+    """The lines to a follower, each of which gets one line of reply."""
 
     def __init__(self, chance: random.Random, history: History, leader: Model, side: Side) -> None:
         self.chance, self.history, self.leader, self.side = chance, history, leader, side
@@ -67,7 +67,7 @@ class Feed:
         self.counts: Counter[str] = Counter()
 
     def lines(self) -> Iterator[list[str]]:
-        """All that leads to what the leader holds, in groups, and repeats for ever."""
+        """Yields all lines that bring a follower to the leader's state, in groups, and repeats endlessly."""
         begin = self.side.model.next
         if self.side.is_other or self.chance.random() < 0.1 or not self.history.has_all(begin, self.leader.next):
             if self.chance.random() < 0.3:
@@ -88,7 +88,7 @@ class Feed:
         return lines
 
     def shuffled(self, numbers: list[int]) -> list[str]:
-        """Events of which some are lost, some come twice, and all out of order."""
+        """Returns events of which some are lost, some are repeated, and all are out of order."""
         come = [it for it in numbers if self.chance.random() > LOST]
         twice = [it for it in come if self.chance.random() < DOUBLED]
         self.counts.update({"events lost": len(numbers) - len(come), "events doubled": len(twice)})
@@ -98,7 +98,7 @@ class Feed:
         return lines
 
     def whole(self, numbers: list[int]) -> list[str]:
-        """Events in their order, with what was done; sometimes `compact`."""
+        """Returns events in their order, with the finished commands; sometimes `compact`."""
         lines = self.history.lines(numbers[0], numbers[-1] + 1)
         return [*lines, "compact"] if self.chance.random() < 0.01 else lines
 
@@ -109,7 +109,8 @@ class Feed:
                 return
 
     def acknowledged(self, replies: list[str]) -> tuple[int, int, bool]:
-        """The number and the greatest number of a command that were acknowledged, and whether a snapshot was."""
+        """Returns the number and the greatest number of a command that were acknowledged, and whether a snapshot
+        was."""
         model = self.side.model
         number, done, is_taken = (0, 0, False) if self.side.is_other else (model.next, model.done, False)
         for line, reply in zip(self.sent, replies):

@@ -1,4 +1,4 @@
-"""A program that runs until it is killed, and what it tells meanwhile."""
+"""A program that runs until it is killed, and its output meanwhile."""
 
 from __future__ import annotations
 
@@ -11,11 +11,11 @@ from collections.abc import Callable, Sequence
 
 from kept import Wrong
 
-SECONDS = 120  # for an answer, on a busy machine
+SECONDS = 120  # for a reply, on a busy machine
 
 
 class Run:
-    """A program that answers lines. The lines that it tells are read as they come."""
+    """A program that replies to lines. Its output is read as it is written."""
 
     def __init__(self, program: pathlib.Path, words: Sequence[str]) -> None:
         self.process = subprocess.Popen([program, *words], stdin=subprocess.PIPE, stdout=subprocess.PIPE)
@@ -43,7 +43,7 @@ class Run:
         return True
 
     def wait_for(self, is_there: Callable[[], bool]) -> bool:
-        """Waits until something is there or the program is gone. Returns whether it is there."""
+        """Waits for output or the end of the program. Returns whether there is output."""
         until = time.monotonic() + SECONDS
         while not is_there():
             if self.process.poll() is not None:
@@ -55,7 +55,7 @@ class Run:
         return True
 
     def kill(self) -> None:
-        """Kills it, and waits until nothing of it is left."""
+        """Kills it, and waits until it has ended."""
         assert self.process.stdin
         self.process.send_signal(signal.SIGKILL)
         status = self.process.wait()

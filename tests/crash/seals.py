@@ -1,7 +1,7 @@
-"""The seals of kept lines, from their definition in docs/durability.md.
+"""The checksums of kept lines, from their definition in docs/durability.md.
 
-Python's own hash of bytes is a seal where PYTHONHASHSEED is 0, from Python 3.11 on, and is quicker. In `tests/run`
-kills.py takes it, and damage.py `siphash`.
+Python's own hash of bytes is such a checksum with PYTHONHASHSEED=0, from Python 3.11 on, and is faster. In `tests/run`
+kills.py uses it, and damage.py `siphash`.
 """
 
 from __future__ import annotations
@@ -23,7 +23,7 @@ def rotated(word: int, by: int) -> int:
 
 
 def mixed(a: int, b: int, c: int, d: int) -> State:
-    """The state after a round."""
+    """Returns the state after a round."""
     a, c = a + b & LOW, c + d & LOW
     b, d = rotated(b, 13) ^ a, rotated(d, 16) ^ c
     a, c = rotated(a, 32) + d & LOW, c + b & LOW
@@ -31,7 +31,7 @@ def mixed(a: int, b: int, c: int, d: int) -> State:
 
 
 def siphash(text: bytes) -> int:
-    """SipHash-1-3 with both keys 0."""
+    """Returns SipHash-1-3 with both keys 0."""
     a, b, c, d = START
     whole = len(text) // 8 * 8
     last = int.from_bytes(text[whole:], "little") | (len(text) & 255) << 56
@@ -43,6 +43,6 @@ def siphash(text: bytes) -> int:
 
 
 def seal_of(seal: int, lines: Iterable[str]) -> int:
-    """The seal of lines behind another seal."""
+    """Returns the checksum of lines after another checksum."""
     text = "".join(f"{line}\n" for line in (f"seal {seal}", *lines)).encode()
     return hash(text) & LOW if HASH_IS_SIPHASH else siphash(text)

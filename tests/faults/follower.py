@@ -1,16 +1,14 @@
 #!/usr/bin/env python3
-"""Has each request of the follower fail in turn, and compares what it does with what it should.
+"""Makes each request of the follower fail in turn, and compares its behaviour with the expected one.
 
-`indexset_store` gets the lines of `follower_lines`, to which `follower_replies` has the replies, those to
-one line parted by ` / `; as a leader those of `leader_lines`; and over texts those of `text_follower_lines` and
-`text_leader_lines`. Where a request for memory, a read or a
-write fails, it must write the replies to the lines before, the fault's word and nothing else, end with the
-fault's status, and free all memory. Three more things are tried. The reply to a last line without an end is
-written by the last flush alone: where that fails, the run fails. Where memory runs out and the last flush
-then fails too, the first fault is told. And each reply must be out while the follower waits for the rest of
-a line.
+`indexset_store` gets the lines of `follower_lines`, with the replies of `follower_replies`, those to one line separated
+by ` / `; as a leader those of `leader_lines`; and over texts those of `text_follower_lines` and `text_leader_lines`. If
+an allocation, a read or a write fails, it must write the replies to the lines before, the fault's word and nothing
+else, exit with the fault's status, and free all memory. Three more cases are tested. The reply to an unterminated last
+line is written only by the last flush: if that fails, the run fails. If an allocation fails and then the last flush
+too, the first fault is reported. And each reply must be written while the follower waits for the rest of a line.
 
-Run it once the program is built; `--linked` says that refuse.c stands in it. The last line is 'N passed, M failed'.
+Run it once the program is built; `--linked` if refuse.c is linked into it. The last line is 'N passed, M failed'.
 """
 
 from __future__ import annotations
@@ -33,15 +31,15 @@ PATIENCE = 30.0  # seconds for a reply, on a busy machine
 
 
 def last_flush(sweep: Sweep, follower: pathlib.Path, line: bytes, reply: bytes) -> None:
-    """The reply to a last line without an end is written by the last flush alone."""
+    """Tests that the reply to an unterminated last line is written only by the last flush."""
     for n, run in sweep.runs([str(follower)], line, WRITE):
         is_right = run.tells(WRITE) if run.failed else n == 2 and run.is_done(reply)
         sweep.expect(is_right, f"the last flush, write {n}: {run}")
 
 
 def first_fault(sweep: Sweep, follower: pathlib.Path, given: bytes, replies: list[bytes]) -> None:
-    """Memory runs out before anything is written, and then the last flush fails. After a failed write no more
-    is known of what was written than that it is the replies to the lines before."""
+    """Tests an allocation that fails before anything is written, and then the last flush. After a failed write it is
+    only known that the output is the replies to the lines before."""
     asked = sweep.run([str(follower)], given).memory
     sweep.expect(asked > 0, "no memory was asked for")
     for n in range(1, asked + 1):
@@ -50,7 +48,7 @@ def first_fault(sweep: Sweep, follower: pathlib.Path, given: bytes, replies: lis
 
 
 def waits(sweep: Sweep, follower: pathlib.Path) -> None:
-    """Each reply is out while the follower waits for more of a line, and for the next line."""
+    """Tests that each reply is written while the follower waits for more of a line, and for the next line."""
     with subprocess.Popen([follower], stdin=subprocess.PIPE, stdout=subprocess.PIPE) as running:
         assert running.stdin and running.stdout
         for given, reply in ((b"start 7\nle", b"held\n"), (b"n\n", b"0\n"), (b"fir", b""), (b"st\nget 1", b"none\n")):
@@ -62,7 +60,7 @@ def waits(sweep: Sweep, follower: pathlib.Path) -> None:
 
 
 def read_in_time(descriptor: int, length: int) -> bytes:
-    """What comes within some seconds, up to this length."""
+    """Returns the output of some seconds, up to this length."""
     came, end = b"", time.monotonic() + PATIENCE
     while len(came) < length and select.select([descriptor], [], [], max(0.0, end - time.monotonic()))[0]:
         more = os.read(descriptor, length - len(came))
@@ -73,7 +71,7 @@ def read_in_time(descriptor: int, length: int) -> bytes:
 
 
 def lines_and_replies(name: str) -> tuple[bytes, list[bytes]]:
-    """Some lines, and the replies to the first of them."""
+    """Returns some lines, and the replies to the first of them."""
     return (HERE / f"{name}_lines").read_bytes(), replies_to_first(f"{name}_replies")
 
 

@@ -1,12 +1,12 @@
-/* Loaded before a program, it has the Nth of the program's requests fail: for memory as though none were
-   left, for a read or a write with EIO. The environment says which: REFUSE_MEMORY, REFUSE_READ or
-   REFUSE_WRITE is N, from 1; REFUSE_ON=1 has all later ones fail too; SHORT_READ is the most bytes that
-   one read gives. At the end it writes one line to the descriptor REFUSE_REPORT: how many requests for
-   memory, reads and writes there were, how many of all failed, and how many blocks were not freed.
-
-   REFUSE_EACH=1 has each request for memory fail in turn: it fails in a copy of the program, which goes on to
-   its end and writes its line, and then one with its status. The program waits for it, and goes on with the
-   memory. It reads from a file, of which each copy reads the rest by itself. */
+/* Loaded before a program, it makes the Nth of the program's requests fail: an allocation as if there were no memory,
+ * a read or a write with EIO. The environment selects it: REFUSE_MEMORY, REFUSE_READ or REFUSE_WRITE is N, from 1;
+ * REFUSE_ON=1 makes all later ones fail too; SHORT_READ is the maximum number of bytes of one read. At the end it
+ * writes one line to the descriptor REFUSE_REPORT: the number of allocations, reads and writes, the number of all that
+ * failed, and the number of blocks that were not freed.
+ *
+ * REFUSE_EACH=1 makes each allocation fail in turn: it fails in a copy of the program, which runs to its end and writes
+ * its line, and then one with its status. The program waits for it, and continues with the memory. It reads from a
+ * file, of which each copy reads the rest by itself. */
 #define _GNU_SOURCE
 #include <dlfcn.h>
 #include <errno.h>
@@ -77,7 +77,7 @@ __attribute__((destructor)) static void end(void) {
          snprintf(line, sizeof line, "%ld %ld %ld %ld %ld\n", memory.made, reads.made, writes.made, failed, blocks));
 }
 
-/* Has a copy read on where the program is, without moving it. */
+/* Makes a copy read on from the position of the program, without moving it. */
 static void read_alone(void) {
     int input = open("/proc/self/fd/0", O_RDONLY);
     if (input < 0 || lseek(input, lseek(0, 0, SEEK_CUR), SEEK_SET) < 0 || dup2(input, 0) < 0) {
@@ -86,8 +86,8 @@ static void read_alone(void) {
     close(input);
 }
 
-/* Tells whether this is the copy of the program in which the present request fails. The program has one thread, so no
-   handler of a fork is needed: the sanitizer's write four megabytes in each copy. */
+/* Returns whether this is the copy of the program in which the present request fails. The program has one thread, so no
+ * handler of a fork is needed: the sanitizer's write four megabytes in each copy. */
 static int is_copy(void) {
     pid_t copy = _Fork();
     if (copy == 0) {
@@ -105,7 +105,7 @@ static int is_copy(void) {
     return 0;
 }
 
-/* Counts a request, and tells whether it fails. */
+/* Counts a request, and returns whether it fails. */
 static int fails(struct requests *all) {
     all->made++;
     int is_refused = all->refused && (all->made == all->refused || (on && all->made > all->refused));

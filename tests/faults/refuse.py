@@ -1,4 +1,4 @@
-"""Runs of programs in which `refuse.c` has a request fail, and what is counted of them."""
+"""Runs of programs in which `refuse.c` makes a request fail, and their counts."""
 
 from __future__ import annotations
 
@@ -21,7 +21,7 @@ SECONDS = 1200  # for one run, on a busy machine
 
 @dataclass
 class Run:
-    """What a program did while one of its requests failed, or more."""
+    """The result of a program while one or more of its requests failed."""
 
     status: int
     out: bytes
@@ -31,36 +31,36 @@ class Run:
     kept: int
 
     def tells(self, which: str) -> bool:
-        """Whether it ended as it must at such a fault."""
+        """Returns whether it ended as it must at such a fault."""
         return (self.status, self.err) == TOLD[which] and self.kept == 0
 
     def is_done(self, replies: bytes) -> bool:
-        """Whether it ended well, with these replies."""
+        """Returns whether it succeeded, with these replies."""
         return (self.status, self.out, self.err, self.kept) == (0, replies, b"", 0)
 
 
 @dataclass
 class Sweep:
-    """Programs that have `refuse.c` from a library, or linked, and what was seen of them."""
+    """Programs with `refuse.c` from a library, or linked, and their results."""
 
     library: pathlib.Path | None
     passed: int = 0
     failures: list[str] = field(default_factory=list)
 
     def expect(self, is_right: bool, what: str) -> None:
-        """Counts what was right, and keeps what was not."""
+        """Counts a right result, and stores a wrong one."""
         if is_right:
             self.passed += 1
         else:
             self.failures.append(what)
 
     def settings(self, report: int, refuse: dict[str, int]) -> dict[str, str]:
-        """The environment of a program in which such requests fail."""
+        """Returns the environment of a program in which such requests fail."""
         found = {name: str(value) for name, value in [*refuse.items(), ("REFUSE_REPORT", report)]}
         return {**found, "LD_PRELOAD": str(self.library)} if self.library else found
 
     def run(self, words: list[str], given: bytes, **refuse: int) -> Run:
-        """Runs a program over these lines while such requests fail."""
+        """Runs a program on these lines while such requests fail."""
         reader, writer = os.pipe()
         settings = self.settings(writer, refuse)
         done = subprocess.run(words, input=given, env=settings, capture_output=True, pass_fds=[writer], timeout=SECONDS)
@@ -71,8 +71,8 @@ class Sweep:
         return Run(done.returncode, done.stdout, done.stderr, memory, failed, kept)
 
     def copied(self, words: list[str], given: pathlib.Path) -> tuple[Run, list[Run]]:
-        """Runs a program over the lines of a file, and from each request for memory on a copy of it in which that
-        one fails. What a copy writes is told of the program."""
+        """Runs a program on the lines of a file, and at each allocation a copy of it in which that one fails. The
+        output of a copy counts as that of the program."""
         reader, writer = os.pipe()
         settings = self.settings(writer, {"REFUSE_EACH": 1})
         with open(given, "rb") as lines, tempfile.TemporaryFile() as out, tempfile.TemporaryFile() as err:
@@ -93,7 +93,7 @@ class Sweep:
         return whole, [Run(ended, b"", b"", counts[0], *counts[3:]) for counts, (ended,) in pairs]
 
     def runs(self, words: list[str], given: bytes, which: str, **more: int) -> Iterator[tuple[int, Run]]:
-        """Each N with the run whose Nth such request fails; in the last none does."""
+        """Yields each N with the run whose Nth such request fails; in the last none does."""
         n, failed = 0, 1
         while failed > 0:
             n += 1
@@ -102,8 +102,8 @@ class Sweep:
             yield n, run
 
     def each_request(self, program: pathlib.Path, given: bytes, replies: list[bytes], *words: str) -> None:
-        """Each request for memory, each read and each write over the lines, to the first of which there are these
-        replies, with these arguments. After a failed read all whole lines that were read have their replies."""
+        """Tests each allocation, each read and each write over the lines, with the given replies to the first of them,
+        with these arguments. After a failed read all complete lines that were read have their replies."""
         print(f"| {' '.join((program.name, *words))} | runs with a failed request |\n|---|---|")
         for which in TOLD:
             for more in CONDITIONS:
@@ -118,7 +118,7 @@ class Sweep:
                 print(f"| {which} {' '.join(more)} | {count} |")
 
     def end(self) -> int:
-        """Writes what was not right, and how much was; the exit status."""
+        """Prints the wrong results, and their number; returns the exit status."""
         for failure in self.failures:
             print(failure)
         print(f"{self.passed} passed, {len(self.failures)} failed")
@@ -127,7 +127,7 @@ class Sweep:
 
 @contextlib.contextmanager
 def sweeping(is_linked: bool) -> Iterator[Sweep]:
-    """A sweep over programs in which `refuse.c` stands, or before which it is loaded."""
+    """Returns a sweep over programs into which `refuse.c` is linked, or before which it is loaded."""
     with tempfile.TemporaryDirectory() as folder:
         library = None if is_linked else pathlib.Path(folder) / "refuse.so"
         if library:
@@ -137,6 +137,7 @@ def sweeping(is_linked: bool) -> Iterator[Sweep]:
 
 
 def replies_to_first(file: str) -> list[bytes]:
-    """The replies to the first lines: to none, to one, and so on up to all; those to one line are parted by ` / `."""
+    """Returns the replies to the first lines: to none, to one, and so on up to all; those to one line are separated by
+    ` / `."""
     parts = (HERE / file).read_bytes().splitlines(keepends=True)
     return [b"".join(parts[:count]).replace(b" / ", b"\n") for count in range(len(parts) + 1)]

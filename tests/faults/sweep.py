@@ -1,19 +1,19 @@
 #!/usr/bin/env python3
-"""Has each request of two programs fail in turn, and compares what they do with what they should.
+"""Makes each request of two programs fail in turn, and compares their behaviour with the expected one.
 
     tests/faults/sweep.py [--player PATH] [--program PATH] [--linked] [--jobs N] [--write] [WORD..]
 
-`test_script_runner` plays the scripts below tests/scripts, but those below `large`, with one request for memory
-refused after another until none is left: a script must end with all its answers whichever it was (10: the library
-refused a call; 11: the player had none for words of its own). Some request must be refused within a call, or none
-where the script has the line `# No call asks for memory.` How many were refused within the calls of each stands in
-`requests.txt`, which `--write` writes. With words, scripts whose paths have one of them are played alone.
+`test_script_runner` runs the scripts below tests/scripts, except those below `large`, with one allocation after another
+failing until none is left: a script must end with all its results, whichever failed (10: a call of the library failed;
+11: the runner could not allocate words of its own). Some allocation must fail within a call, or none if the script has
+the line `# No call asks for memory.` The number of failed ones within the calls of each is in `requests.txt`, which
+`--write` writes. With words, only scripts whose paths have one of them are run.
 
-`indexset_program` gets the lines of `lines`, to which `replies` has the replies, those to one line parted by ` / `:
-where a request fails it must write the replies to the lines before, the fault's word, and nothing else.
+`indexset_program` gets the lines of `lines`, with the replies of `replies`, those to one line separated by ` / `: if a
+request fails it must write the replies to the lines before, the fault's word, and nothing else.
 
-All memory must be freed either way. The requests are counted by `refuse.c`, which is loaded before a program, or
-stands in it (`--linked`). The last line is 'N passed, M failed'.
+All memory must be freed either way. `refuse.c` counts the requests; it is loaded before a program, or linked into it
+(`--linked`). The last line is 'N passed, M failed'.
 """
 
 from __future__ import annotations
@@ -36,12 +36,12 @@ from refuse import MEMORY, Run, Sweep, replies_to_first, sweeping  # noqa: E402
 
 
 def is_judged(run: Run) -> bool:
-    """Whether a run in which a request was refused ended as it must."""
+    """Returns whether a run in which an allocation failed ended as it must."""
     return run.failed == 1 and run.status in (REFUSED, BEFORE) and not run.out and not run.err and run.kept == 0
 
 
 def runs(sweep: Sweep, player: pathlib.Path, name: str) -> tuple[Run, list[Run]]:
-    """The whole run of a script, and those in which one request for memory after another was refused."""
+    """Returns the whole run of a script, and those in which one allocation after another failed."""
     words = [str(player), "swept"]
     whole, copies = sweep.copied(words, SCRIPTS / name)
     if not whole.out and not whole.err and len(copies) == whole.memory:
@@ -52,7 +52,7 @@ def runs(sweep: Sweep, player: pathlib.Path, name: str) -> tuple[Run, list[Run]]
 
 
 def judged(sweep: Sweep, name: str, whole: Run, refused: list[Run]) -> int:
-    """Judges the runs of a script; how many requests were refused within its calls."""
+    """Judges the runs of a script; returns the number of allocations that failed within its calls."""
     is_whole = whole.is_done(b"") and whole.failed == 0
     sweep.expect(is_whole, f"{name}: {whole}")
     if not is_whole:
@@ -67,7 +67,7 @@ def judged(sweep: Sweep, name: str, whole: Run, refused: list[Run]) -> int:
 
 
 def scripts(sweep: Sweep, player: pathlib.Path, given: argparse.Namespace) -> None:
-    """All scripts; then compares the table of requests with them, or writes it."""
+    """Tests all scripts; then compares the table of requests with them, or writes it."""
     names = sorted(str(path.relative_to(SCRIPTS)) for path in SCRIPTS.rglob("*.script"))
     names = [name for name in names if not name.startswith("large/")]
     chosen = [name for name in names if not given.words or any(word in name for word in given.words)]
@@ -84,7 +84,7 @@ def scripts(sweep: Sweep, player: pathlib.Path, given: argparse.Namespace) -> No
 
 
 def many(sweep: Sweep, program: pathlib.Path) -> None:
-    """A thousand lines, each of a new key, with ample memory."""
+    """Returns a thousand lines, each of a new key, for which memory suffices."""
     given = "".join(f"put {key} {key}\n" for key in range(1000)).encode()
     run = sweep.run([str(program)], given)
     are_new = run.out.splitlines().count(b"new") == 1000

@@ -1,9 +1,8 @@
 #!/usr/bin/env python3
-"""Plays the scripts of `tests/scripts` on the model, and compares each answer that is typed there.
+"""Runs the scripts of `tests/scripts` on the model, and compares each result that is written there.
 
-Left out are scripts of subjects that the model does not have, scripts of very many calls or items, and what
-stands behind a call that the model does not have. The last line is `N passed, M failed, K left out`, which
-counts calls.
+Left out are scripts of subjects that the model does not have, scripts of very many calls or items, and the calls after
+one that the model does not have. The last line is `N passed, M failed, K left out`, which counts calls.
 """
 
 from __future__ import annotations
@@ -26,7 +25,7 @@ MOST = 6000
 
 @dataclass
 class Count:
-    """How many calls were compared."""
+    """The numbers of compared calls."""
 
     passed: int = 0
     left_out: int = 0
@@ -34,7 +33,7 @@ class Count:
 
 
 def compare(count: Count, place: str, name: str, size: int, statements: list[Statement]) -> None:
-    """Plays statements on a subject, up to the first that it does not have."""
+    """Runs statements on a subject, up to the first that it does not have."""
     subject = subject_of(name, size)
     for done, statement in enumerate(statements):
         try:
@@ -56,7 +55,7 @@ def compare(count: Count, place: str, name: str, size: int, statements: list[Sta
 
 
 def makes(script: str) -> Iterator[tuple[str, int]]:
-    """The subject of a script with each of its node sizes."""
+    """Yields the subject of a script with each of its node sizes."""
     for line in script.splitlines():
         if line.startswith("make "):
             name, *sizes = line.split()[1:]
@@ -64,7 +63,7 @@ def makes(script: str) -> Iterator[tuple[str, int]]:
 
 
 def is_large(script: str, statements: list[Statement]) -> bool:
-    """Whether a script makes so many calls, or calls on so many items, that the model would take long."""
+    """Returns whether a script makes so many calls, or calls on so many items, that the model would take long."""
     if len(statements) > MOST or any(len(it.words) > MOST for it in statements):
         return True
     return any(int(it) < 2**32 for it in NUMBER.findall(script))

@@ -1,4 +1,4 @@
-"""What the calls mean, as functions of ascending lists: no node, and no step of the library's search."""
+"""The definitions of the calls, as functions of ascending lists: no node, and no step of the library's search."""
 
 from __future__ import annotations
 
@@ -12,67 +12,67 @@ from items import BadWord, Item, order, read_natural
 
 
 def is_ascending(items: Sequence[Item]) -> bool:
-    """Whether each item is below the next."""
+    """Returns whether each item is below the next."""
     orders = list(map(order, items))
     return all(map(lt, orders, orders[1:]))
 
 
 def rank(items: Sequence[Item], item: Item) -> int:
-    """How many items are below this one."""
+    """Returns the number of items below this one."""
     return bisect_left(items, order(item), key=order)
 
 
 def up_to(items: Sequence[Item], item: Item) -> int:
-    """How many items are not above this one."""
+    """Returns the number of items not above this one."""
     return bisect_right(items, order(item), key=order)
 
 
 def equal_to(items: Sequence[Item], item: Item) -> Item | None:
-    """The item that is equal to this one, if any."""
+    """Returns the item that is equal to this one, if any."""
     place = rank(items, item)
     return items[place] if place < up_to(items, item) else None
 
 
 def put(items: Sequence[Item], item: Item) -> list[Item]:
-    """What is below an item, the item, and what is above it."""
+    """Returns the items below an item, the item, and those above it."""
     return [*items[: rank(items, item)], item, *items[up_to(items, item) :]]
 
 
 def keep(items: Sequence[Item], item: Item) -> list[Item]:
-    """The items with this one, unless an equal one is there."""
+    """Returns the items with this one, unless an equal one is present."""
     return list(items) if equal_to(items, item) else put(items, item)
 
 
 def without(items: Sequence[Item], item: Item) -> list[Item]:
-    """The items that are not equal to this one."""
+    """Returns the items that are not equal to this one."""
     return [*items[: rank(items, item)], *items[up_to(items, item) :]]
 
 
 def joined(nodes: Iterable[Sequence[Item]]) -> list[Item]:
-    """The concatenation of nodes."""
+    """Returns the concatenation of nodes."""
     return list(chain.from_iterable(nodes))
 
 
 @dataclass(frozen=True)
 class Bound:
-    """An end of a range of keys or of positions; without a value there is none."""
+    """An end of a range of keys or of positions; without a value it is no bound."""
 
     value: int | None = None
     is_included: bool = False
 
     def is_below(self, place: int) -> bool:
-        """Whether a place is within a range that starts here."""
+        """Returns whether a place is within a range that starts here."""
         return self.value is None or self.value < place or (self.is_included and self.value == place)
 
     def is_above(self, place: int) -> bool:
-        """Whether a place is within a range that ends here."""
+        """Returns whether a place is within a range that ends here."""
         return self.value is None or place < self.value or (self.is_included and self.value == place)
 
 
 def read_bound(word: str) -> Bound:
-    """The bound of a word: `[3` or `3]` includes 3, `(3` or `3)` excludes it, and `..` is no bound.
+    """Returns the bound of a word: `[3` or `3]` includes 3, `(3` or `3)` excludes it, and `..` is no bound.
 
-    A tag, as in `[3:a`, is not read by the order."""
+    The order does not read a tag, as in `[3:a`."""
     if word == "..":
         return Bound()
     key = word.strip("[]()").partition(":")[0]
@@ -84,7 +84,7 @@ def read_bound(word: str) -> Bound:
 
 
 def bounds_are_ordered(start: Bound, end: Bound) -> bool:
-    """Whether a range by these keys may be asked for."""
+    """Returns whether a range by these keys is permitted."""
     if start.value is None or end.value is None:
         return True
     if start.value == end.value:
@@ -93,37 +93,37 @@ def bounds_are_ordered(start: Bound, end: Bound) -> bool:
 
 
 def in_range(items: Iterable[Item], start: Bound, end: Bound) -> list[Item]:
-    """The items whose keys satisfy both bounds."""
+    """Returns the items whose keys satisfy both bounds."""
     return [it for it in items if start.is_below(it.key) and end.is_above(it.key)]
 
 
 def in_positions(items: Sequence[Item], start: Bound, end: Bound) -> list[Item]:
-    """The items whose positions satisfy both bounds."""
+    """Returns the items whose positions satisfy both bounds."""
     return [it for i, it in enumerate(items) if start.is_below(i) and end.is_above(i)]
 
 
 def difference(left: Iterable[Item], right: Iterable[Item]) -> list[Item]:
-    """The items on the left that have no equal one on the right."""
+    """Returns the items on the left that have no equal one on the right."""
     others = {order(it) for it in right}
     return [it for it in left if order(it) not in others]
 
 
 def intersection(left: Iterable[Item], right: Iterable[Item]) -> list[Item]:
-    """The items on the left that have an equal one on the right."""
+    """Returns the items on the left that have an equal one on the right."""
     others = {order(it) for it in right}
     return [it for it in left if order(it) in others]
 
 
 def union(left: Sequence[Item], right: Sequence[Item]) -> list[Item]:
-    """The items on the left, and those on the right that have no equal one there."""
+    """Returns the items on the left, and those on the right that have no equal one there."""
     return sorted([*left, *difference(right, left)], key=order)
 
 
 def symmetric_difference(left: Sequence[Item], right: Sequence[Item]) -> list[Item]:
-    """The items of either side that have no equal one on the other."""
+    """Returns the items of either side that have no equal one on the other."""
     return sorted([*difference(left, right), *difference(right, left)], key=order)
 
 
 def digits(number: int) -> int:
-    """The number of binary digits, and 0 of 0."""
+    """Returns the bit length of a number: 0 for 0."""
     return number.bit_length()

@@ -1,4 +1,4 @@
-"""What the authors of random scripts share: keys, bounds, positions, and phases of growing and shrinking."""
+"""Shared by the generators of random scripts: keys, bounds, positions, and phases of growing and shrinking."""
 
 from __future__ import annotations
 
@@ -25,39 +25,39 @@ class Draw:
     keys: int
 
     def chance(self, share: float) -> bool:
-        """Whether what comes in this share of all draws comes."""
+        """Returns true in this share of all draws."""
         return self.rng.random() < share
 
     def key(self) -> int:
-        """A key, which at times is above all."""
+        """Returns a key, which at times is above all."""
         return self.rng.randrange(self.keys + 2)
 
     def letter(self) -> str:
-        """A letter, of which few are drawn often."""
+        """Returns a letter, of which few are drawn often."""
         return self.rng.choice(LETTERS[:5] if self.chance(0.7) else LETTERS)
 
     def held(self, items: Sequence[Item]) -> Item | None:
-        """An item of these, if any; often one near an end or beside the middle."""
+        """Returns an item of these, if any; often one near an end or beside the middle."""
         if not items:
             return None
         ends = (0, len(items) - 1, len(items) // 2, min(1, len(items) - 1))
         return items[self.rng.choice(ends) if self.chance(0.2) else self.rng.randrange(len(items))]
 
     def near(self, items: Sequence[Item]) -> int:
-        """A key: as often one that is held as any, and at times the one beside it."""
+        """Returns a key: half of the time a present one, and at times the one beside it."""
         item = self.held(items)
         if item is None or self.chance(0.45):
             return self.key()
         return item.key if self.chance(0.75) else item.key + 1
 
     def position(self, length: int) -> int:
-        """A position, which at times is not there."""
+        """Returns a position, which at times does not exist."""
         if self.chance(0.05):
             return self.rng.choice((length, length + 1, LARGEST - 1, LARGEST))
         return self.rng.randrange(length + 1)
 
     def bounds(self, pick: Callable[[], int], tag: str = "") -> str:
-        """Two bounds; of keys they are in order more often than not."""
+        """Returns two bounds; those of keys are in order more often than not."""
         start, end = sorted((pick(), pick()))
         if self.chance(0.1):
             start, end = end, start
@@ -65,46 +65,46 @@ class Draw:
         return f"{first} " + (".." if self.chance(0.15) else f"{end}{tag}{self.rng.choice('])')}")
 
     def steps(self, words: Sequence[str], least: int = 1) -> str:
-        """Some of the words, in any order and more than once."""
+        """Returns some of the words, in any order and with repeats."""
         return " ".join(self.rng.choice(words) for _ in range(self.rng.randint(least, 7)))
 
 
 class Author:
-    """Writes the calls of a script, and asks the model for their answers."""
+    """Generates the calls of a script, and asks the model for their results."""
 
     def __init__(self, draw: Draw, subject: Subject) -> None:
         self.draw, self.model = draw, subject
         self.phase: tuple[int, int] = GROW
 
     def adding(self) -> Sequence[tuple[int, Make]]:
-        """The calls that add items, each with a weight."""
+        """Returns the calls that add items, each with a weight."""
         raise NotImplementedError
 
     def removing(self) -> Sequence[tuple[int, Make]]:
-        """The calls that remove items."""
+        """Returns the calls that remove items."""
         raise NotImplementedError
 
     def looking(self) -> Sequence[tuple[int, Make]]:
-        """The other calls."""
+        """Returns the other calls."""
         raise NotImplementedError
 
     def length(self) -> int:
-        """How many items the subject holds."""
+        """Returns the number of items of the subject."""
         raise NotImplementedError
 
     def one_of(self, makes: Sequence[tuple[int, Make]]) -> str:
-        """A call of these."""
+        """Returns one of these calls."""
         return self.draw.rng.choices(makes, [weight for weight, _ in makes])[0][1]()
 
     def call(self) -> str:
-        """The next call: a third of all change nothing."""
+        """Returns the next call: a third of all change nothing."""
         grow, shrink = self.phase
         groups = (self.adding, self.removing, self.looking)
         group = self.draw.rng.choices(groups, (grow, shrink, (grow + shrink) / 2))[0]
         return self.one_of(group())
 
     def statement(self) -> str:
-        """The next call that may be made, with its answer."""
+        """Returns the next permitted call, with its result."""
         while True:
             call = self.call()
             is_long = self.is_long(call.split()[0])
@@ -116,20 +116,20 @@ class Author:
                 continue
 
     def answered(self, call: str) -> str:
-        """A call with its answer."""
+        """Returns a call with its result."""
         name, *words = spelled(call)
         return f"{call} -> {self.model.answer(name, words)}".rstrip()
 
     def is_long(self, name: str) -> bool:
-        """Whether a call returns all items."""
+        """Returns whether a call returns all items."""
         return False
 
     def opening(self) -> list[str]:
-        """The first calls, which fill large nodes."""
+        """Yields the first calls, which fill large nodes."""
         return []
 
     def statements(self, count: int) -> list[str]:
-        """So many statements, through phases of growing and shrinking."""
+        """Yields a number of statements, through phases of growing and shrinking."""
         lines = [self.answered(call) for call in self.opening()]
         while len(lines) < count:
             self.phase = PHASES[len(lines) * len(PHASES) // count]

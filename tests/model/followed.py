@@ -1,4 +1,4 @@
-"""What the logged subjects share: a tree, the events of its calls, and a replica that follows it."""
+"""Shared by the logged subjects: a tree, the events of its calls, and a replica that follows it."""
 
 from __future__ import annotations
 
@@ -26,7 +26,7 @@ class Followed(Subject):
         self.clones: int | None = None
 
     def perform(self, name: str, words: Words) -> str | None:
-        """What a call returns. The events of one that returns them hold clones of items."""
+        """The result of a call. The events of a call that returns them contain clones of items."""
         if name != "run" and "_cdc" not in name:
             return super().perform(name, words)
         self.tree.clones = self.clones
@@ -41,15 +41,15 @@ class Followed(Subject):
                 self.change_copy, self.tell_copy, self.read_copy, self.run, self.briefly, self.metered)  # fmt: skip
 
     def text(self, item: Item | None) -> str:
-        """The text of an item, or `none`."""
+        """Returns the text of an item, or `none`."""
         return NONE if item is None else self.spelling.write(item)
 
     def shown_item(self, item: Item | None) -> str:
-        """The text of an item as the calls of this subject return it."""
+        """Returns the text of an item as the calls of this subject return it."""
         return self.text(item)
 
     def told(self, answer: str, events: Sequence[tuple[int, Event]]) -> str:
-        """An answer and its events, each behind a comma; the replica may follow them."""
+        """Returns a result and its events, each after a comma; the replica may follow them."""
         self.events += events
         return ", ".join([answer, *texts(events, self.spelling)])
 
@@ -59,7 +59,7 @@ class Followed(Subject):
         self.events, self.followed = [], 0
 
     def read_nodes(self, words: Words) -> Nodes:
-        """The nodes of the words."""
+        """Returns the nodes of the words."""
         return self.spelling.read_nodes(" ".join(words))
 
     def make(self, name: str, words: Words) -> str | None:
@@ -88,7 +88,7 @@ class Followed(Subject):
         self.restart(Tree(size, number, nodes))
 
     def refusal_of_nodes(self, nodes: Nodes, size: int) -> str | None:
-        """Why these are not the nodes of a tree, if so."""
+        """Returns the reason why these are not the nodes of a tree, if any."""
         return refusal_of_nodes(nodes, size)
 
     def attach(self, words: Words) -> None:
@@ -104,7 +104,7 @@ class Followed(Subject):
         self.tree.attach(node)
 
     def tell(self, name: str, words: Words) -> str | None:
-        """What a tree is as a whole."""
+        """Returns a property of the whole tree."""
         items = self.tree.items
         match name:
             case "len":
@@ -127,7 +127,7 @@ class Followed(Subject):
                 return None
 
     def tell_nodes(self, name: str, words: Words) -> str | None:
-        """The nodes of a tree."""
+        """Returns the nodes of a tree."""
         nodes = self.tree.nodes
         match name:
             case "nodes":
@@ -143,11 +143,11 @@ class Followed(Subject):
                 return None
 
     def shown_items(self) -> list[str]:
-        """The texts of the items, as the iterators of this subject return them."""
+        """Returns the texts of the items, as the iterators of this subject return them."""
         return [self.shown_item(it) for it in self.tree.items]
 
     def tell_all(self, name: str, words: Words) -> str | None:
-        """The items of a tree."""
+        """Returns the items of a tree."""
         match name:
             case "items":
                 return " ".join(self.shown_items())
@@ -159,7 +159,7 @@ class Followed(Subject):
                 return None
 
     def range(self, name: str, words: Words) -> str | None:
-        """The items within a range."""
+        """Returns the items within a range."""
         if name not in ("range", "range_back", "range_hint"):
             return None
         within = [self.shown_item(it) for it in self.within(words, self.tree.items)]
@@ -168,16 +168,16 @@ class Followed(Subject):
         return " ".join(within if name == "range" else within[::-1])
 
     def at_positions(self, name: str, words: Words) -> str | None:
-        """The items at positions."""
+        """Returns the items at positions."""
         return at_positions(name, words, self.tree.items, self.shown_item)
 
     def within(self, words: Words, items: Sequence[Item]) -> list[Item]:
-        """The items within two bounds."""
+        """Returns the items within two bounds."""
         start, end = self.bounds(words)
         return in_range(items, start, end)
 
     def bounds(self, words: Words) -> tuple[Bound, Bound]:
-        """Two bounds that are in order."""
+        """Returns two bounds that are in order."""
         start, end = map(read_bound, words)
         if not bounds_are_ordered(start, end):
             raise NoCall("bounds that are not in order")
@@ -200,7 +200,7 @@ class Followed(Subject):
         return ""
 
     def tell_copy(self, name: str, words: Words) -> str | None:
-        """What the replica holds, before or after it follows."""
+        """Returns the content of the replica, before or after it follows."""
         if name in ("follow", "is_followed"):
             self.follow()
         match name:
@@ -222,13 +222,13 @@ class Followed(Subject):
         return Reading(self.replica.items, self.spelling).answer(name.removeprefix("copy_"), words)
 
     def follow(self) -> None:
-        """Has the replica apply the events that it has not followed yet."""
+        """Makes the replica apply the events that it has not followed yet."""
         for event in self.events[self.followed :]:
             self.replica.apply(*event)
             self.followed += 1
 
     def run(self, name: str, words: Words) -> str | None:
-        """Runs commands up to the first that is refused: the replies, and then the events."""
+        """Runs commands up to the first that fails: the replies, and then the events."""
         if name != "run":
             return None
         replies: list[str] = []
@@ -244,7 +244,7 @@ class Followed(Subject):
         return self.told(" ".join(replies), events)
 
     def command(self, name: str, word: str) -> tuple[str, Events]:
-        """The reply to a command, and its events."""
+        """Returns the reply to a command, and its events."""
         raise NoCall(name)
 
     def briefly(self, name: str, words: Words) -> str | None:
@@ -263,7 +263,7 @@ class Followed(Subject):
         return f"{answer} {len(events)}" if name == "count" else answer
 
     def metered(self, name: str, words: Words) -> str | None:
-        """Says how many clones can be made, or makes a call of which the comparisons are counted."""
+        """Sets the number of clones that can be made, or makes a call whose comparisons are counted."""
         match name:
             case "clones":
                 self.clones = read_natural(one(words))

@@ -1,7 +1,7 @@
-"""Items, and how a script spells them.
+"""Items, and their texts in a script.
 
-A number is `7`, an item with a tag or with a value `7:a`, and a pair with a number `7:a #0`. A node is
-`[7:a,9:b]`. Two items are equal where their keys and numbers are: the order does not read the tag or value.
+A number is `7`, an item with a tag or with a value `7:a`, and a pair with a number `7:a #0`. A node is `[7:a,9:b]`. Two
+items are equal if their keys and numbers are: the order does not read the tag or value.
 """
 
 from __future__ import annotations
@@ -18,7 +18,7 @@ NODE = re.compile(r"\[([^\[\]]*)\]")
 
 
 class Item(NamedTuple):
-    """A key, what else the order reads, and what it does not read."""
+    """A key, the other part that the order reads, and the part that it does not read."""
 
     key: int
     number: int = 0
@@ -26,15 +26,15 @@ class Item(NamedTuple):
 
 
 class BadWord(Exception):
-    """A word that is missing, or is not what the call takes."""
+    """A word that is missing, or does not fit the call."""
 
 
-# What the order compares of an item: its key and its number.
+# The parts of an item that the order compares: its key and its number.
 order: Callable[[Item], tuple[int, int]] = itemgetter(0, 1)
 
 
 def read_natural(word: str) -> int:
-    """The number of a word, which fits 64 bits."""
+    """Returns the number of a word, which fits 64 bits."""
     if not re.fullmatch(r"[0-9]+", word) or int(word) > LARGEST:
         raise BadWord(word)
     return int(word)
@@ -42,14 +42,14 @@ def read_natural(word: str) -> int:
 
 @dataclass(frozen=True)
 class Spelling:
-    """How the items of a subject are read and written."""
+    """The format of the items of a subject."""
 
     pattern: re.Pattern[str]
     words: int
     write: Callable[[Item], str]
 
     def read(self, text: str) -> Item:
-        """The item of a text."""
+        """Returns the item of a text."""
         found = self.pattern.fullmatch(text.strip())
         if found is None:
             raise BadWord(text)
@@ -57,35 +57,35 @@ class Spelling:
         return Item(read_natural(key or ""), read_natural(number or "0"), value or "")
 
     def take(self, words: list[str]) -> Item:
-        """The item of the first words, which it removes."""
+        """Returns the item of the first words, which it removes."""
         text = " ".join(words[: self.words])
         del words[: self.words]
         return self.read(text)
 
     def write_all(self, items: Sequence[Item]) -> str:
-        """The texts of items, with blanks between."""
+        """Returns the texts of items, separated by blanks."""
         return " ".join(map(self.write, items))
 
     def read_node(self, text: str) -> list[Item]:
-        """The node of a text."""
+        """Returns the node of a text."""
         found = NODE.fullmatch(text.strip())
         if found is None:
             raise BadWord(text)
         return [self.read(it) for it in found[1].split(",") if it.strip()]
 
     def read_nodes(self, text: str) -> list[list[Item]]:
-        """The nodes of a text."""
+        """Returns the nodes of a text."""
         if NODE.sub("", text).strip():
             raise BadWord(text)
         return [self.read_node(found[0]) for found in NODE.finditer(text)]
 
     def write_nodes(self, nodes: Sequence[Sequence[Item]]) -> str:
-        """The texts of nodes, with blanks between."""
+        """Returns the texts of nodes, separated by blanks."""
         return " ".join("[" + ",".join(map(self.write, node)) + "]" for node in nodes)
 
 
 def write_number(item: Item) -> str:
-    """A key alone."""
+    """A key without a value."""
     return str(item.key)
 
 

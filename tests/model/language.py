@@ -1,9 +1,8 @@
-"""The language of the scripts: statements, what stands for many of them, and what a subject does with one.
+"""The language of the scripts: statements, abbreviations of many of them, and the groups of calls of a subject.
 
-A statement is a call, its words, and behind `->` the words of its answer. Statements of one line are parted
-by `;`. A line that begins `each 0..4:` is played for each number from 0 to 3, and `each 4..0:` for each from
-3 down to 0, which stands for `@` in its statements. A word `0..4` or `4..0` stands for these numbers. A line
-that begins with `#` is a title.
+A statement is a call, its words, and after `->` the words of its result. Statements of one line are separated by `;`. A
+line that begins `each 0..4:` is run for each number from 0 to 3, and `each 4..0:` for each from 3 down to 0, which
+replaces `@` in its statements. A word `0..4` or `4..0` means these numbers. A line that begins with `#` is a title.
 """
 
 from __future__ import annotations
@@ -20,15 +19,15 @@ Group = Callable[[str, Words], "str | None"]
 
 
 class NoCall(Exception):
-    """A call that no subject has, or that may not be made there."""
+    """A call that no subject has, or that is not permitted there."""
 
 
 class Unfixed(NoCall):
-    """A call whose answer no rule fixes."""
+    """A call whose result no rule determines."""
 
 
 class Refused(Exception):
-    """A call that fails, and what it returns."""
+    """A call that fails, and its result."""
 
     def __init__(self, cause: str, back: str = "") -> None:
         super().__init__(cause)
@@ -36,7 +35,7 @@ class Refused(Exception):
 
 
 class Statement(NamedTuple):
-    """A call of a script, and where it stands."""
+    """A call of a script, and its line."""
 
     line: int
     name: str
@@ -46,19 +45,19 @@ class Statement(NamedTuple):
 
 
 class Subject:
-    """What a script calls: a call takes words, and returns the words of its answer as a text."""
+    """The object that a script calls: a call takes words, and returns the words of its result as a text."""
 
     def groups(self) -> Sequence[Group]:
-        """The groups of its calls; a group returns none for a call that is not its own."""
+        """Returns the groups of its calls; a group returns none for a call that is not its own."""
         raise NotImplementedError
 
     def perform(self, name: str, words: Words) -> str | None:
-        """What the first group that has the call returns."""
+        """Returns the result of the first group that has the call."""
         answers = (group(name, words) for group in self.groups())
         return next((it for it in answers if it is not None), None)
 
     def answer(self, name: str, words: Words) -> str:
-        """The answer of a call."""
+        """Returns the result of a call."""
         try:
             text = self.perform(name, words)
         except Refused as refused:
@@ -69,25 +68,25 @@ class Subject:
 
 
 def one(words: Words) -> str:
-    """The only word."""
+    """Returns the only word."""
     if len(words) != 1:
         raise BadWord(" ".join(words))
     return words[0]
 
 
 def none(words: Words) -> None:
-    """Fails where there is a word."""
+    """Fails if there is a word."""
     if words:
         raise BadWord(" ".join(words))
 
 
 def shown(value: bool) -> str:
-    """The text of a truth value."""
+    """Returns the text of a truth value."""
     return "true" if value else "false"
 
 
 def numbers_of(text: str) -> list[str]:
-    """The numbers that a range stands for, up or down."""
+    """Returns the numbers of a range, up or down."""
     found = RANGE.fullmatch(text.strip())
     if found is None:
         raise BadWord(text)
@@ -97,7 +96,7 @@ def numbers_of(text: str) -> list[str]:
 
 
 def spelled(text: str) -> Words:
-    """The words of a text, with the numbers of each range."""
+    """Returns the words of a text, with the numbers of each range."""
     words: Words = []
     for word in text.split():
         words += numbers_of(word) if RANGE.fullmatch(word) else [word]
@@ -105,7 +104,7 @@ def spelled(text: str) -> Words:
 
 
 def statements_of(line: str) -> Iterator[str]:
-    """The texts of the statements of a line, with its numbers filled in."""
+    """Returns the texts of the statements of a line, with its numbers filled in."""
     found = re.match(r"each ([^:]*):(.*)", line)
     if found is None:
         yield from line.split(";")
@@ -115,7 +114,7 @@ def statements_of(line: str) -> Iterator[str]:
 
 
 def read(script: str) -> Iterator[Statement]:
-    """The statements of a script, with the numbers of their lines from 1 on."""
+    """Yields the statements of a script, with the numbers of their lines from 1 on."""
     for line, text in enumerate(script.splitlines(), 1):
         if text.startswith("#"):
             continue

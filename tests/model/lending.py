@@ -1,6 +1,6 @@
-"""Calls of a map that borrow values mutably. `next=7` writes 7 over the value that is next.
+"""Calls of a map that borrow values mutably. `next=7` writes 7 to the next value.
 
-Every function changes the map, and returns the words that a script is answered.
+Every function changes the map, and returns the words of the result.
 """
 
 from __future__ import annotations
@@ -17,45 +17,45 @@ from walks import NONE
 
 @dataclass(frozen=True)
 class Form:
-    """How a pair of a map is spelled: `1:a`, or `1:p:a` where keys have tags."""
+    """The format of a pair of a map: `1:a`, or `1:p:a` if keys have tags."""
 
     is_tagged: bool = False
 
     def key(self, pair: Item) -> str:
-        """The text of a pair's key."""
+        """Returns the text of a pair's key."""
         return PAIRS.write(pair).rpartition(":")[0]
 
     def value(self, pair: Item) -> str:
-        """The text of a pair's value."""
+        """Returns the text of a pair's value."""
         return pair.value.rpartition(":")[2]
 
     def with_value(self, pair: Item, value: str) -> Item:
-        """The pair with another value, and its own key."""
+        """Returns the pair with another value, and its own key."""
         tag = pair.value.rpartition(":")[0]
         return pair._replace(value=f"{tag}:{value}" if self.is_tagged else value)
 
     def read_key(self, word: str) -> Item:
-        """What has the key of a word, for a search."""
+        """Returns an item with the key of a word, for a search."""
         return Item(read_natural(word.partition(":")[0]))
 
     def text(self, pair: Item | None) -> str:
-        """The text of a pair, or `none`."""
+        """Returns the text of a pair, or `none`."""
         return NONE if pair is None else PAIRS.write(pair)
 
     def value_text(self, pair: Item | None) -> str:
-        """The text of a value, or `none`."""
+        """Returns the text of a value, or `none`."""
         return NONE if pair is None else self.value(pair)
 
 
 def insert(map: Plain, form: Form, pair: Item) -> Item | None:
-    """Inserts a pair; a key that is there stays, and takes the value. The pair as it was."""
+    """Inserts a pair; a present key is kept, and takes the value. Returns the old pair."""
     old = equal_to(map.items, pair)
     map.replace(pair if old is None else form.with_value(old, form.value(pair)))
     return old
 
 
 def write(map: Plain, form: Form, pair: Item, value: str) -> None:
-    """Writes a value over that of a pair of the map, unless there is none to write."""
+    """Writes a value to that of a pair of the map, unless there is none to write."""
     if value:
         map.replace(form.with_value(pair, value))
 
@@ -65,7 +65,7 @@ PAIR_STEPS = ("next_pair",)
 
 
 def lend(map: Plain, form: Form, pairs: Sequence[Item], words: Words, are_values: bool) -> str:
-    """What an iterator over these pairs of a map returns, and writes over."""
+    """Returns the results of an iterator over these pairs of a map, and writes values."""
     remaining, answers = list(pairs), []
     for word in words:
         name, _, value = word.partition("=")
@@ -87,7 +87,7 @@ def lend(map: Plain, form: Form, pairs: Sequence[Item], words: Words, are_values
 
 
 def or_put(map: Plain, form: Form, pair: Item, words: Words) -> str:
-    """The value of a key, which is inserted where it is absent; a word is written over it."""
+    """Returns the value of a key, which is inserted if it is absent; a word is written to it."""
     held = equal_to(map.items, pair)
     if held is None:
         insert(map, form, pair)

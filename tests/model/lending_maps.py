@@ -1,4 +1,4 @@
-"""The map of numbers whose calls borrow values mutably: its entries, and iterators that lend."""
+"""The map of numbers whose calls borrow values mutably: its entries, and mutable iterators."""
 
 from __future__ import annotations
 
@@ -34,7 +34,7 @@ class LendingMaps(Maps):
                 return None
 
     def put_absent(self, name: str, words: Words) -> str | None:
-        """Inserts where a key is absent; a word is written over the value."""
+        """Inserts if a key is absent; a word is written to the value."""
         match name:
             case "or_insert" | "or_insert_with":
                 key, value, *rest = words
@@ -54,7 +54,7 @@ class LendingMaps(Maps):
         return or_put(self.map, self.form, Item(read_natural(key), 0, value), rest)
 
     def show(self, name: str, words: Words) -> str | None:
-        """The key of an entry, and its value."""
+        """Returns the key of an entry, and its value."""
         if name not in ("entry", "entry_key", "entry_into_key"):
             return None
         key = one(words)

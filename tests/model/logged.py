@@ -1,7 +1,7 @@
-"""A logged tree: its nodes, its event numbers, and what a change of it gives.
+"""A logged tree: its nodes, its event numbers, and the events of a change.
 
-A change edits the nodes by the rules of nodes, gives the events of the event table, and fails unless the
-events, replayed on the nodes before it, lead to the nodes after it.
+A change edits the nodes by the rules of nodes, returns the events of the event table, and fails unless the events,
+replayed on the nodes before it, give the nodes after it.
 """
 
 from __future__ import annotations
@@ -21,7 +21,7 @@ from nodes import target_of, with_put, with_removal
 class Tree:
     """A tree of nodes of at most `size` items, whose next event has the number `next`.
 
-    `clones` is how many clones of items its events may still take, or none where they may take any number.
+    `clones` is the number of clones of items that its events may still make, or none for any number.
     """
 
     size: int
@@ -31,11 +31,11 @@ class Tree:
 
     @property
     def items(self) -> list[Item]:
-        """The contents."""
+        """Returns the contents."""
         return joined(self.nodes)
 
     def change(self, nodes: Nodes, items: Sequence[Item], events: list[Event]) -> Events:
-        """Makes the nodes those that a change leaves, and returns its events with their numbers."""
+        """Sets the nodes after a change, and returns its events with their numbers."""
         assert replay(self.nodes, events) == nodes and joined(nodes) == items and len(events) <= 3
         assert is_node_list(nodes) and max(map(len, nodes), default=0) <= self.size
         if self.next + len(events) > LARGEST:
@@ -46,7 +46,7 @@ class Tree:
         return numbered
 
     def take_clones(self, count: int) -> None:
-        """Takes clones of items, one after another, up to the first that fails."""
+        """Makes clones of items, one after another, up to the first that fails."""
         if self.clones is None:
             return
         is_refused = self.clones < count
@@ -55,25 +55,25 @@ class Tree:
             raise Refused("Memory")
 
     def put(self, item: Item) -> tuple[Item | None, Events]:
-        """Puts an item; the equal one that it replaces, and the events."""
+        """Puts an item; returns the equal one that it replaces, and the events."""
         old = equal_to(self.items, item)
         events = put_events(self.nodes, self.size, item)
         after = with_put(self.nodes, self.size, item)
         return old, self.change(after, definitions.put(self.items, item), events)
 
     def put_checked(self, item: Item) -> Events | None:
-        """Puts an item unless an equal one is there; the events."""
+        """Puts an item unless an equal one is present; returns the events."""
         return None if equal_to(self.items, item) else self.put(item)[1]
 
     def remove(self, item: Item) -> tuple[Item | None, Events]:
-        """Removes the item that is equal to this one; it, and the events."""
+        """Removes the item that is equal to this one; returns it, and the events."""
         old = equal_to(self.items, item)
         events = removal_events(self.nodes, self.size, item)
         after = with_removal(self.nodes, self.size, item)
         return old, self.change(after, definitions.without(self.items, item), events)
 
     def remove_range(self, start: Bound, end: Bound) -> None:
-        """Removes the items of a range from each node; emptied nodes go."""
+        """Removes the items of a range from each node, and emptied nodes."""
         out = {order(it) for it in in_range(self.items, start, end)}
         nodes = [[it for it in node if order(it) not in out] for node in self.nodes]
         self.nodes = [node for node in nodes if node]
@@ -86,7 +86,7 @@ class Tree:
         self.nodes = with_node(self.nodes, node)
 
     def place_of(self, item: Item) -> tuple[bool, int, int]:
-        """Whether an item is there, and the node and the place where it is or would be put."""
+        """Returns whether an item is present, and the node and the position of it or of its insertion."""
         if not self.nodes:
             return False, 0, 0
         place = target_of(self.nodes, item)
@@ -95,7 +95,7 @@ class Tree:
 
 
 def refusal_of_node(node: Sequence[Item], size: int) -> str | None:
-    """Why a node may not be in any tree of this node size, if so."""
+    """Returns the reason why a node may not be in any tree of this node size, if any."""
     if not node:
         return "Empty"
     if len(node) > size:
@@ -104,12 +104,13 @@ def refusal_of_node(node: Sequence[Item], size: int) -> str | None:
 
 
 def fits(nodes: Sequence[Node], node: Node) -> bool:
-    """Whether a node lies before, between or behind these as a whole."""
+    """Returns whether a node lies before, between or after these as a whole."""
     return is_node_list(with_node(nodes, node))
 
 
 def refusal_of_nodes(nodes: Iterable[Node], size: int) -> str | None:
-    """Why these are not the nodes of a tree: what is wrong with the first that may not follow the others."""
+    """Returns the reason why these are not the nodes of a tree: the fault of the first that may not follow the
+    others."""
     before: list[Item] = []
     for node in nodes:
         cause = refusal_of_node(node, size)
@@ -120,5 +121,5 @@ def refusal_of_nodes(nodes: Iterable[Node], size: int) -> str | None:
 
 
 def texts(events: Iterable[tuple[int, Event]], spelling: Spelling) -> list[str]:
-    """The texts of events."""
+    """Returns the texts of events."""
     return [event.write(number, spelling) for number, event in events]

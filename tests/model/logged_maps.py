@@ -22,7 +22,7 @@ class LoggedMaps(LoggedPairs):
         return (self.fill, self.put, self.put_checked, self.remove, self.pop, self.find, self.rank, *self.common())
 
     def put_pair(self, pair: Item) -> tuple[str, Events]:
-        """Puts a pair whole: the old value, and the events."""
+        """Puts a whole pair; returns the old value, and the events."""
         old, events = self.tree.put(pair)
         return "none" if old is None else old.value, events
 
@@ -38,7 +38,7 @@ class LoggedMaps(LoggedPairs):
                 return super().command(name, word)
 
     def put_checked(self, name: str, words: Words) -> str | None:
-        """Stores a pair unless its key is there."""
+        """Stores a pair unless its key is present."""
         if name not in ("checked_insert", "checked_insert_cdc"):
             return None
         try:
@@ -77,7 +77,7 @@ class LoggedMaps(LoggedPairs):
         return shown(pair is not None) if name == "contains_key" else self.text(pair)
 
     def rank(self, name: str, words: Words) -> str | None:
-        """How the keys stand to one, or to a bound."""
+        """Returns the rank or the position of a key, or the number of keys within a bound."""
         items = self.tree.items
         if name in ("count_before", "count_up_to"):
             return counted(name, words, items)

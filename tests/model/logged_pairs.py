@@ -1,4 +1,4 @@
-"""What a logged map and a multimap store in the same way."""
+"""Calls that store pairs, shared by a logged map and a multimap."""
 
 from __future__ import annotations
 
@@ -13,7 +13,7 @@ class LoggedPairs(Followed):
     """A logged tree of pairs, and a replica that follows it."""
 
     def put_pair(self, pair: Item) -> tuple[str, Events]:
-        """Puts a pair: the old value, and the events."""
+        """Puts a pair; returns the old value, and the events."""
         raise NotImplementedError
 
     def fill(self, name: str, words: Words) -> str | None:

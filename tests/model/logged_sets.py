@@ -24,11 +24,11 @@ class LoggedSets(Followed):
         return (self.fill, self.put, self.remove, self.pop, self.find, self.rank, self.remove_range, *self.common())
 
     def item(self, words: Words) -> Item:
-        """The item that the words are."""
+        """Returns the item of the words."""
         return self.spelling.read(one(words))
 
     def fill(self, name: str, words: Words) -> str | None:
-        """Makes a set of items, which are inserted in turn."""
+        """Makes a set of items, inserted one by one."""
         match name:
             case "set":
                 size = read_natural(words[0]) if words else self.size
@@ -46,7 +46,7 @@ class LoggedSets(Followed):
         return ""
 
     def take_copy(self, size: int) -> None:
-        """Makes the set of the nodes of the replica, which loses them."""
+        """Makes a set of the nodes of the replica, moving them."""
         copy, self.replica = self.replica, Replica()
         cause = refusal_of_nodes(copy.nodes, size)
         if cause is not None:
@@ -64,12 +64,12 @@ class LoggedSets(Followed):
             raise Refused(refused.cause, self.text(item)) from None
 
     def put_over(self, name: str, item: Item) -> str:
-        """Puts an item over an equal one."""
+        """Puts an item, replacing an equal one."""
         old, events = self.tree.put(item)
         return self.told(self.text(old), events) if name == "put_cdc" else self.text(old)
 
     def put_checked(self, name: str, item: Item) -> str:
-        """Puts an item unless an equal one is there."""
+        """Puts an item unless an equal one is present."""
         events = self.tree.put_checked(item)
         if name == "insert":
             return shown(events is not None)
@@ -88,7 +88,7 @@ class LoggedSets(Followed):
                 return super().command(name, word)
 
     def remove(self, name: str, words: Words) -> str | None:
-        """Removes an item, by itself or by its place."""
+        """Removes an item, by itself or by its position."""
         if name not in ("remove", "remove_cdc", "remove_at", "remove_at_cdc"):
             return None
         item = self.item(words)
@@ -125,7 +125,7 @@ class LoggedSets(Followed):
                 return f"{node} {place}" if is_there else f"absent {node} {place}"
 
     def rank(self, name: str, words: Words) -> str | None:
-        """How the items stand to one, or to a bound."""
+        """Returns the rank or the position of an item, or the number of items within a bound."""
         items = self.tree.items
         if name in ("count_before", "count_up_to"):
             return counted(name, words, items)

@@ -25,31 +25,31 @@ class Maps(Subject):
                 self.find, self.compare, self.walk, self.tell_all, self.range)  # fmt: skip
 
     def texts(self) -> list[str]:
-        """The texts of the pairs of the first map."""
+        """Returns the texts of the pairs of the first map."""
         return [PAIRS.write(it) for it in self.map.items]
 
     def held(self, word: str) -> Item | None:
-        """The pair of a key, if any."""
+        """Returns the pair of a key, if any."""
         return equal_to(self.map.items, self.form.read_key(word))
 
     def at(self, word: str) -> Item | None:
-        """The pair at a position, if any."""
+        """Returns the pair at a position, if any."""
         place = read_natural(word)
         return self.map.items[place] if place < len(self.map.items) else None
 
     def filled(self, size: int, pairs: Sequence[Item]) -> Plain:
-        """A map of pairs that are inserted in turn."""
+        """Makes a map of pairs that are inserted one by one."""
         made = Plain(size)
         for pair in pairs:
             insert(made, self.form, pair)
         return made
 
     def pairs_of(self, words: Words) -> list[Item]:
-        """The pairs of the words."""
+        """Returns the pairs of the words."""
         return [PAIRS.read(word) for word in words]
 
     def filled_by(self, name: str, count: int, step: int) -> Plain:
-        """A map of the first numbers, so many, each the step above the one before, made by the call."""
+        """Makes a map of a number of ascending keys with a given step, by the call."""
         pairs = [Item(number * step, 0, str(number * step)) for number in range(count)]
         match name:
             case "insert":
@@ -149,7 +149,7 @@ class Maps(Subject):
                 return None
 
     def retain(self, name: str, words: Words) -> str | None:
-        """Keeps the keys of the words, with the values there; the pairs that it asks for."""
+        """Keeps the keys of the words, with their values; returns the pairs that the condition reads."""
         if name != "retain":
             return None
         asked, kept = " ".join(self.texts()), self.filled(DEFAULT_SIZE, self.pairs_of(words))
@@ -158,7 +158,7 @@ class Maps(Subject):
         return asked
 
     def tell(self, name: str, words: Words) -> str | None:
-        """What a map is as a whole."""
+        """Returns a property of the whole map."""
         items = self.map.items
         match name:
             case "len":
@@ -177,7 +177,7 @@ class Maps(Subject):
                 return None
 
     def find(self, name: str, words: Words) -> str | None:
-        """Looks for keys, one a word, or a position."""
+        """Looks up keys, one a word, or a position."""
         match name:
             case "get" | "get_key_value" | "contains_key" | "rank" | "index_of" | "index":
                 return " ".join(self.find_one(name, word) for word in words)
@@ -187,7 +187,7 @@ class Maps(Subject):
                 return None
 
     def find_one(self, name: str, word: str) -> str:
-        """Looks for a key."""
+        """Looks up a key."""
         pair, place = self.held(word), str(rank(self.map.items, self.form.read_key(word)))
         match name:
             case "get":
@@ -206,11 +206,11 @@ class Maps(Subject):
                 return self.form.value(pair)
 
     def compared(self, map: Plain) -> list[tuple[int, tuple[int, str]]]:
-        """What the order of maps compares."""
+        """Returns what the order of maps compares."""
         return [(it.key, ordered(self.form.value(it))) for it in map.items]
 
     def compare(self, name: str, words: Words) -> str | None:
-        """The first map beside the second, pair by pair."""
+        """Compares the first map with the second, pair by pair."""
         if name not in ("eq", "lt", "cmp", "partial_cmp", "hash"):
             return None
         left, right = (self.compared(map) for map in (self.map, self.other))
@@ -247,7 +247,7 @@ class Maps(Subject):
                 return None
 
     def tell_all(self, name: str, words: Words) -> str | None:
-        """The pairs of the first map."""
+        """Returns the pairs of the first map."""
         match name:
             case "pairs" | "ref_pairs" | "into_pairs":
                 return " ".join(self.texts())
@@ -259,7 +259,7 @@ class Maps(Subject):
                 return None
 
     def range(self, name: str, words: Words) -> str | None:
-        """The pairs within a range."""
+        """Returns the pairs within a range."""
         if name == "range_idx":
             return PAIRS.write_all(in_positions(self.map.items, *map(read_bound, words)))
         if name not in ("range", "range_rev"):
@@ -268,7 +268,7 @@ class Maps(Subject):
         return PAIRS.write_all(within if name == "range" else within[::-1])
 
     def within(self, words: Words) -> list[Item]:
-        """The pairs within two bounds."""
+        """Returns the pairs within two bounds."""
         start, end = map(read_bound, words)
         if not bounds_are_ordered(start, end):
             raise NoCall("bounds that are not in order")
@@ -283,5 +283,5 @@ PARTS: dict[str, Callable[[str], str]] = {
 
 
 def ordered(value: str) -> tuple[int, str]:
-    """What the order of values compares: numbers, or letters."""
+    """Returns what the order of values compares: numbers, or letters."""
     return (read_natural(value), "") if value.isdigit() else (0, value)

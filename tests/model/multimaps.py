@@ -1,4 +1,4 @@
-"""The multimap that a script calls: its pairs stand by their keys, and then by their numbers."""
+"""The multimap that a script calls: its pairs are in the order of their keys, and then of their numbers."""
 
 from __future__ import annotations
 
@@ -43,7 +43,7 @@ class MultiMaps(LoggedPairs):
         self.pair_next = max(self.pair_next, *(it.number + 1 for it in node))
 
     def pairs_of(self, key: int) -> list[Item]:
-        """The pairs of a key."""
+        """Returns the pairs of a key."""
         return [it for it in self.tree.items if it.key == key]
 
     def put_pair(self, pair: Item) -> tuple[str, Events]:
@@ -62,7 +62,7 @@ class MultiMaps(LoggedPairs):
         return events
 
     def push(self, name: str, words: Words) -> str | None:
-        """Stores a pair beside those of its key, whatever they are."""
+        """Stores a pair beside those of its key, with any values."""
         if name not in ("push", "push_cdc"):
             return None
         try:
@@ -72,11 +72,11 @@ class MultiMaps(LoggedPairs):
         return self.told("some", events) if name == "push_cdc" else ""
 
     def equal_pairs(self, pair: Item) -> list[Item]:
-        """The pairs of a key whose value is equal."""
+        """Returns the pairs of a key with an equal value."""
         return [it for it in self.pairs_of(pair.key) if it.value == pair.value]
 
     def remove(self, name: str, words: Words) -> str | None:
-        """Removes the first pair of a key whose value is equal."""
+        """Removes the first pair of a key with an equal value."""
         if name not in ("remove", "remove_cdc"):
             return None
         return self.removed(self.equal_pairs(PAIRS.read(one(words)))[:1], name.endswith("_cdc"))
@@ -100,17 +100,17 @@ class MultiMaps(LoggedPairs):
         return self.removed(pairs, name.endswith("_cdc"))
 
     def removed(self, pairs: Sequence[Item], is_told: bool) -> str:
-        """Removes a pair, if there is one."""
+        """Removes a pair, if any."""
         answer, events = self.gone(pairs)
         return self.told(answer, events) if is_told else answer
 
     def gone(self, pairs: Sequence[Item]) -> tuple[str, Events]:
-        """Removes pairs: the first, and the events of all."""
+        """Removes pairs; returns the first, and the events of all."""
         events = [event for pair in pairs for event in self.tree.remove(pair)[1]]
         return self.shown_item(pairs[0] if pairs else None), events
 
     def remove_all(self, name: str, words: Words) -> str | None:
-        """Removes the pairs of a key, one after another; how many they were."""
+        """Removes the pairs of a key, one after another; returns their number."""
         if name not in ("remove_all", "remove_all_cdc"):
             return None
         pairs = self.pairs_of(read_natural(one(words)))
@@ -127,7 +127,7 @@ class MultiMaps(LoggedPairs):
                 return super().command(name, word)
 
     def find(self, name: str, words: Words) -> str | None:
-        """Looks for a key."""
+        """Looks up a key."""
         if name not in ("contains_key", "get", "raw_get", "raw_get_back"):
             return None
         pairs = self.pairs_of(read_natural(one(words)))
@@ -140,7 +140,8 @@ class MultiMaps(LoggedPairs):
                 return self.spelling.write_all(pairs if name == "raw_get" else pairs[::-1])
 
     def rank(self, name: str, words: Words) -> str | None:
-        """How the keys stand to one, and where the first pair with an equal value is."""
+        """Returns the rank, the position or the count of a key, or the position of the first pair with an equal value.
+        value."""
         items = self.tree.items
         match name:
             case "index_of":

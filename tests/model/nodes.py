@@ -1,8 +1,7 @@
-"""Lists of nodes, what one event does to them, and the events that a change of them gives.
+"""Lists of nodes, the effect of one event on them, and the events of a change of them.
 
-`put_events`, `removal_events` are the event table, `with_put`, `with_removal` say where an item goes and
-which nodes are cut or joined. Neither uses the other, and `replay` uses none of them: it finds a node by
-its last item.
+`put_events`, `removal_events` are the event table; `with_put`, `with_removal` define the node of an item, and which
+nodes are split or merged. Neither uses the other, and `replay` uses none of them: it finds a node by its last item.
 """
 
 from __future__ import annotations
@@ -21,7 +20,7 @@ KINDS = ("create", "drop", "insert", "remove", "split", "merge")
 
 @dataclass(frozen=True)
 class Event:
-    """An event without its number: the last item of its node, and what else it names."""
+    """An event without its number: the last item of its node, and its other parts."""
 
     kind: str
     last: Item
@@ -29,11 +28,11 @@ class Event:
     index: int = 0
 
     def item_count(self) -> int:
-        """How many items it holds."""
+        """Returns the number of its items."""
         return 1 if self.item is None else 2
 
     def write(self, number: int, spelling: Spelling) -> str:
-        """The text of the event with its number."""
+        """Returns the text of the event with its number."""
         words = [str(number), self.kind, spelling.write(self.last)]
         if self.item is not None:
             words.append(spelling.write(self.item))
@@ -46,7 +45,7 @@ Events = list[tuple[int, Event]]
 
 
 def read_event(words: Sequence[str], spelling: Spelling) -> tuple[int, Event]:
-    """The event of its words, and its number."""
+    """Returns the event of its words, and its number."""
     number, kind, *rest = words
     last = spelling.take(rest)
     item = spelling.take(rest) if kind in ("insert", "remove", "merge") else None
@@ -57,34 +56,34 @@ def read_event(words: Sequence[str], spelling: Spelling) -> tuple[int, Event]:
 
 
 def is_node_list(nodes: Sequence[Node]) -> bool:
-    """Whether these are nodes with items, whose concatenation is ascending."""
+    """Returns whether these are nodes with items, whose concatenation is ascending."""
     return all(nodes) and is_ascending(joined(nodes))
 
 
 def end_of(node: Node) -> tuple[int, int]:
-    """What the order compares of the last item of a node."""
+    """Returns what the order compares of the last item of a node."""
     return order(node[-1])
 
 
 def ends_below(nodes: Sequence[Node], item: Item) -> int:
-    """How many nodes of a node list end below an item."""
+    """Returns the number of nodes of a node list that end below an item."""
     return bisect_left(nodes, order(item), key=end_of)
 
 
 def node_named(nodes: Sequence[Node], last: Item) -> int | None:
-    """The place of the node whose last item equals this one, if any."""
+    """Returns the place of the node whose last item equals this one, if any."""
     place = ends_below(nodes, last)
     return place if place < len(nodes) and end_of(nodes[place]) == order(last) else None
 
 
 def with_node(nodes: Sequence[Node], node: Node) -> Nodes:
-    """The nodes with one more, behind all that end below its last item."""
+    """Returns the nodes with one more, after all that end below its last item."""
     place = ends_below(nodes, node[-1])
     return [*nodes[:place], node, *nodes[place:]]
 
 
 def edited(node: Node, event: Event) -> Nodes | None:
-    """The nodes that an event makes of the one that it names."""
+    """Returns the nodes that an event makes of the one that it names."""
     i, rest = event.index, len(node) - event.index
     if event.kind == "insert" and event.item is not None and rest >= 0:
         return [[*node[:i], event.item, *node[i:]]]
@@ -96,7 +95,7 @@ def edited(node: Node, event: Event) -> Nodes | None:
 
 
 def step(nodes: Nodes, event: Event) -> Nodes | None:
-    """What an event makes of the nodes, or none where it does not apply."""
+    """Returns the nodes after an event, or none if it does not apply."""
     if event.kind == "create":
         after: Nodes | None = with_node(nodes, [event.last])
     elif (place := node_named(nodes, event.last)) is None:
@@ -111,7 +110,7 @@ def step(nodes: Nodes, event: Event) -> Nodes | None:
 
 
 def replay(nodes: Nodes, events: Iterable[Event]) -> Nodes | None:
-    """What events make of the nodes in turn."""
+    """Returns the nodes after several events."""
     after: Nodes | None = nodes
     for event in events:
         if after is None:
@@ -121,12 +120,12 @@ def replay(nodes: Nodes, events: Iterable[Event]) -> Nodes | None:
 
 
 def target_of(nodes: Sequence[Node], item: Item) -> int:
-    """The first node whose last item is not below this one, else the last node."""
+    """Returns the first node whose last item is not below this one, else the last node."""
     return min(ends_below(nodes, item), len(nodes) - 1)
 
 
 def put_events(nodes: Sequence[Node], size: int, item: Item) -> list[Event]:
-    """The events of a put."""
+    """Returns the events of a put."""
     if not nodes:
         return [Event("create", item)]
     node, cut = nodes[target_of(nodes, item)], []
@@ -138,7 +137,7 @@ def put_events(nodes: Sequence[Node], size: int, item: Item) -> list[Event]:
 
 
 def placed(node: Node, item: Item) -> list[Event]:
-    """The events of a put into a node that has room."""
+    """Returns the events of a put into a node with free places."""
     old, index = equal_to(node, item), rank(node, item)
     if old is None:
         return [Event("insert", node[-1], item, index)]
@@ -149,7 +148,7 @@ def placed(node: Node, item: Item) -> list[Event]:
 
 
 def removal_events(nodes: Sequence[Node], size: int, item: Item) -> list[Event]:
-    """The events of the removal of an item that is equal to this one."""
+    """Returns the events of the removal of an item that is equal to this one."""
     place = ends_below(nodes, item)
     if place == len(nodes) or equal_to(nodes[place], item) is None:
         return []
@@ -167,7 +166,7 @@ def removal_events(nodes: Sequence[Node], size: int, item: Item) -> list[Event]:
 
 
 def with_put(nodes: Sequence[Node], size: int, item: Item) -> Nodes:
-    """The nodes after a put."""
+    """Returns the nodes after a put."""
     if not nodes:
         return [[item]]
     place = target_of(nodes, item)
@@ -181,7 +180,8 @@ def with_put(nodes: Sequence[Node], size: int, item: Item) -> Nodes:
 
 
 def with_removal(nodes: Sequence[Node], size: int, item: Item) -> Nodes:
-    """The nodes after a removal: an emptied node goes, and a small one joins a small neighbour."""
+    """Returns the nodes after a removal: an emptied node is removed, and a small one is merged with a small
+    neighbour."""
     if not nodes:
         return []
     changed = target_of(nodes, item)
@@ -197,5 +197,5 @@ def with_removal(nodes: Sequence[Node], size: int, item: Item) -> Nodes:
 
 
 def join_at(nodes: Nodes, place: int) -> Nodes:
-    """The nodes with the one at the place and the next as one."""
+    """Returns the nodes with the one at the place and the next merged."""
     return [*nodes[:place], nodes[place] + nodes[place + 1], *nodes[place + 2 :]]

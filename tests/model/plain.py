@@ -1,9 +1,9 @@
-"""A set or a map without events: its ascending list, and its nodes where the rules fix them.
+"""A set or a map without events: its ascending list, and its nodes if the rules determine them.
 
-Nodes hold at most `size` items, and none is empty unless it is the only one. An absent item goes into the
-node of the first item above it, or at the end of the last node; a full node is first cut at half its length,
-and the item then goes right unless it is below the first item there. An equal item is looked for before
-any cut. An emptied node goes. What `split_off` returns and what `from_sorted` makes may be cut anyhow.
+Nodes hold at most `size` items, and none is empty unless it is the only one. An absent item is inserted into the node
+of the first item above it, or at the end of the last node; a full node is first split at half its length, and the item
+is then inserted into the right half unless it is below the first item there. An equal item is searched before any
+split. An emptied node is removed. The results of `split_off` and `from_sorted` may be partitioned in any way.
 """
 
 from __future__ import annotations
@@ -22,7 +22,7 @@ MOST_CHECKED = 256
 
 
 def one_empty_node() -> Nodes | None:
-    """The nodes of an empty collection."""
+    """Returns the nodes of an empty collection."""
     return [[]]
 
 
@@ -48,21 +48,21 @@ class Plain:
             assert all(self.nodes) or len(self.nodes) == 1
 
     def copy(self) -> Plain:
-        """The same list in the same nodes."""
+        """Returns the same list in the same nodes."""
         return Plain(self.size, list(self.items), None if self.nodes is None else list(self.nodes))
 
     def fixed_nodes(self) -> Nodes:
-        """The nodes, where the rules fix them."""
+        """Returns the nodes, if the rules determine them."""
         if self.nodes is None:
             raise Unfixed("the nodes")
         return self.nodes
 
     def most_comparisons(self) -> int:
-        """The most that a search may make."""
+        """Returns the maximum number of comparisons of a search."""
         return digits(len(self.fixed_nodes())) + digits(self.size) + 1
 
     def insert(self, item: Item) -> bool:
-        """Adds an item unless an equal one is there."""
+        """Adds an item unless an equal one is present."""
         if equal_to(self.items, item):
             return False
         self.items = keep(self.items, item)
@@ -98,7 +98,7 @@ class Plain:
         self.keep_in_nodes()
 
     def keep_in_nodes(self) -> None:
-        """Leaves in the nodes what the list still has; nodes without items go."""
+        """Leaves in the nodes the items of the list, and removes nodes without items."""
         if self.nodes is not None:
             held = {order(it): it for it in self.items}
             nodes = [[held[order(it)] for it in node if order(it) in held] for node in self.nodes]
@@ -106,7 +106,7 @@ class Plain:
         self.check()
 
     def split_off(self, item: Item) -> Plain:
-        """Keeps what is below an item, and returns the rest."""
+        """Keeps the items below an item, and returns the rest."""
         return self.split_off_index(rank(self.items, item))
 
     def split_off_index(self, place: int) -> Plain:
@@ -116,13 +116,14 @@ class Plain:
         return rest
 
     def append(self, other: Plain) -> None:
-        """Puts the items of another collection in turn, which loses them."""
+        """Moves the items of another collection here, one by one."""
         for item in other.items:
             self.replace(item)
         other.clear()
 
     def partly_appended(self, other: Plain) -> Iterator[tuple[Plain, Plain]]:
-        """The two collections as an `append` that fails may leave them: some of the first items moved."""
+        """Returns the states in which an `append` that fails may leave the two collections: some of the first items
+        moved."""
         here, there = self.copy(), other.copy()
         for item in other.items:
             yield here.copy(), there.copy()
@@ -130,7 +131,7 @@ class Plain:
             there.remove(item)
 
     def text(self, spelling: Spelling) -> str:
-        """The node size, and the items with a bar between two nodes."""
+        """Returns the node size, and the items with a bar between two nodes."""
         return f"of {self.size}: " + " | ".join(map(spelling.write_all, self.fixed_nodes()))
 
     def clear(self) -> None:
@@ -139,14 +140,14 @@ class Plain:
 
 
 def edited(nodes: Sequence[Node], item: Item, change: Callable[[Node, Item], Node]) -> Nodes:
-    """The nodes after a change of the one that has the item that is equal to this one; emptied, it goes."""
+    """Returns the nodes after a change of the one with the item that is equal to this one; removes it if emptied."""
     place = bisect_left(nodes, order(item), key=end_of)
     changed = change(nodes[place], item)
     return [*nodes[:place], *([changed] if changed else []), *nodes[place + 1 :]]
 
 
 def with_new(nodes: Sequence[Node], size: int, item: Item) -> Nodes:
-    """The nodes with an item to which none is equal."""
+    """Returns the nodes with an item to which none is equal."""
     below = bisect_left(nodes, order(item), key=end_of) if nodes[0] else 0
     place = min(below, len(nodes) - 1)
     parts = [nodes[place]]
@@ -159,7 +160,7 @@ def with_new(nodes: Sequence[Node], size: int, item: Item) -> Nodes:
 
 
 def inserted(size: int, items: Iterable[Item]) -> Plain:
-    """A collection of items inserted in turn."""
+    """Makes a collection of items inserted one by one."""
     made = Plain(size)
     for item in items:
         made.insert(item)
@@ -167,6 +168,6 @@ def inserted(size: int, items: Iterable[Item]) -> Plain:
 
 
 def is_partly_appended(here: Plain, there: Plain, words: Words, spelling: Spelling) -> bool:
-    """Whether the words are what an `append` that fails may leave of two collections."""
+    """Returns whether the words are a state in which an `append` that fails may leave two collections."""
     states = (left.text(spelling) + " " + right.text(spelling) for left, right in here.partly_appended(there))
     return words in map(str.split, states)

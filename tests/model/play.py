@@ -1,8 +1,8 @@
 #!/usr/bin/env python3
-"""Makes random scripts, and has a player play them: each answer must be the one that the definitions give.
+"""Makes random scripts, and runs them by a player: each result must be the one of the definitions.
 
-A line a family, and at the end `N passed, M failed`, which counts calls: those of a script that fails count
-as failed from the first that does. A script that fails is kept, with the player's words below its path.
+It prints a line for each family, and at the end `N passed, M failed`, which counts calls: those of a script that fails
+count as failed from the first that does. Failing scripts are kept, with the player's output below their paths.
 """
 
 from __future__ import annotations
@@ -23,7 +23,7 @@ TIMEOUT = 600
 
 
 class Played(NamedTuple):
-    """What came of a script."""
+    """The result of a script."""
 
     path: pathlib.Path
     passed: int
@@ -32,13 +32,13 @@ class Played(NamedTuple):
 
 
 def line_of(words: str) -> int:
-    """The line that a player names."""
+    """Returns the line that a player names."""
     found = re.search(r"line (\d+)", words)
     return int(found[1]) if found else 0
 
 
 def play(player: pathlib.Path, path: pathlib.Path, calls: int) -> Played:
-    """Plays a script; one that passes is removed."""
+    """Runs a script; one that passes is removed."""
     with path.open("rb") as script:
         try:
             done = subprocess.run([player], stdin=script, capture_output=True, timeout=TIMEOUT, check=False)
@@ -53,7 +53,7 @@ def play(player: pathlib.Path, path: pathlib.Path, calls: int) -> Played:
 
 
 def family(given: argparse.Namespace, name: str, calls: int, folder: pathlib.Path) -> tuple[int, int]:
-    """Plays the scripts of a family as they are made; how many calls passed and failed."""
+    """Runs the scripts of a family as they are made; returns the numbers of passed and failed calls."""
     with ThreadPoolExecutor(given.jobs) as pool:
         tasks = [pool.submit(play, given.player, *it) for it in written(folder, name, calls, given.seed)]
         played = [task.result() for task in tasks]
@@ -66,7 +66,7 @@ def family(given: argparse.Namespace, name: str, calls: int, folder: pathlib.Pat
 
 
 def main() -> int:
-    """Plays scripts of all families, or of one."""
+    """Runs scripts of all families, or of one."""
     parser = argparse.ArgumentParser(description=__doc__)
     parser.add_argument("--player", type=pathlib.Path, required=True, help="the program that plays a script")
     parser.add_argument("--calls", type=int, default=100_000, help="how many calls, over all families")

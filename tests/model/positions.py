@@ -13,12 +13,12 @@ Place = int | tuple[int, int]
 
 
 def key_of(item: Item) -> int:
-    """The key of an item."""
+    """Returns the key of an item."""
     return item.key
 
 
 def ranked(name: str, places: Sequence[Place], place: Place) -> str | None:
-    """How items stand to one of this place, where they have these."""
+    """Returns the rank, the position or the number of items equal to one, by these places."""
     below = str(sum(it < place for it in places))  # type: ignore[operator]
     match name:
         case "rank":
@@ -34,7 +34,7 @@ def ranked(name: str, places: Sequence[Place], place: Place) -> str | None:
 
 
 def at_positions(name: str, words: Words, items: Sequence[Item], shown: Callable[[Item], str]) -> str | None:
-    """The item at a position, or those within bounds on positions."""
+    """Returns the item at a position, or those within bounds on positions."""
     match name:
         case "get_index":
             place = read_natural(one(words))
@@ -48,7 +48,7 @@ def at_positions(name: str, words: Words, items: Sequence[Item], shown: Callable
 
 
 def counted(name: str, words: Words, items: Sequence[Item]) -> str | None:
-    """How many items stand before a start, or are not past an end."""
+    """Returns the number of items before a start, or not past an end."""
     match name:
         case "count_before":
             start = read_bound(one(words))
@@ -61,15 +61,15 @@ def counted(name: str, words: Words, items: Sequence[Item]) -> str | None:
 
 
 def ranks(places: Sequence[Place]) -> str:
-    """The rank of each item, where they have these places."""
+    """Returns the rank of each item, by these places."""
     return " ".join(str(ranked("rank", places, it)) for it in places)
 
 
 def by_order(name: str, items: Sequence[Item], item: Item) -> str | None:
-    """How items stand to this one in their order."""
+    """Returns the rank, the position or the number of items equal to this one, by their order."""
     return ranked(name, list(map(order, items)), order(item))
 
 
 def by_key(name: str, items: Sequence[Item], key: int) -> str | None:
-    """How the keys of items stand to this one."""
+    """Returns the rank, the position or the number of items with the key of this one."""
     return ranked(name, list(map(key_of, items)), key)

@@ -12,7 +12,7 @@ OR_PUTS = ("or_insert", "or_insert_with")
 
 
 class LendingAuthor(Author):
-    """An author of such scripts."""
+    """A generator of such scripts."""
 
     def __init__(self, draw: Draw, model: LendingMaps) -> None:
         super().__init__(draw, model)
@@ -25,7 +25,7 @@ class LendingAuthor(Author):
         return name in ("nodes", "range_mut_idx")
 
     def key(self) -> int:
-        """A key that is held, or any."""
+        """Returns a present key, or any."""
         return self.draw.near(self.maps.map.items)
 
     def value(self) -> int:
@@ -33,7 +33,7 @@ class LendingAuthor(Author):
         return self.draw.rng.randrange(100)
 
     def maybe(self) -> str:
-        """A value to be written over one that is borrowed, or nothing."""
+        """Returns a value to be written to a borrowed one, or nothing."""
         return f" {self.value()}" if self.draw.chance(0.5) else ""
 
     def adding(self) -> Sequence[tuple[int, Make]]:

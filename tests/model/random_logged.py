@@ -1,5 +1,5 @@
-"""What the authors of scripts of logged trees share: changes with events or without, whole nodes, event
-numbers that run out, and a replica that follows all events, or is delivered some of them in any order.
+"""Shared by the generators of scripts of logged trees: changes with events or without, whole nodes, event numbers that
+are exhausted, and a replica that follows all events, or gets some of them in any order.
 """
 
 from __future__ import annotations
@@ -17,7 +17,7 @@ LONG = ("nodes", "items", "items_back", "text", "copy", "follow", "range", "rang
 
 
 class LoggedAuthor(Author):
-    """An author of scripts of a logged tree in vectors, or also in nodes of a fixed capacity."""
+    """A generator of scripts of a logged tree in vectors, or also in nodes of a fixed capacity."""
 
     maker = "set"
     attach = "attach_node"
@@ -35,14 +35,14 @@ class LoggedAuthor(Author):
         return name in LONG
 
     def cdc(self, name: str) -> str:
-        """A change by its name, in the form that gives its events, at times with few words."""
+        """Returns a change by its name, in the form that returns its events, at times with few words."""
         if self.mode == "untold" and self.draw.chance(0.5):
             return name
         brief = self.draw.rng.choice(("quietly ", "numbers ", "count ")) if self.draw.chance(0.06) else ""
         return f"{brief}{'put_cdc_checked' if name == 'insert' and self.maker == 'set' else f'{name}_cdc'}"
 
     def near(self) -> int:
-        """A key that is held, or any."""
+        """Returns a present key, or any."""
         return self.draw.near(self.trees.tree.items)
 
     def item(self, key: int, number: int) -> Item:
@@ -62,7 +62,7 @@ class LoggedAuthor(Author):
         )
 
     def restarts(self) -> int:
-        """The weight of making a tree anew, which is more where event numbers have run out."""
+        """Returns the weight of making a new tree, which is higher once event numbers are exhausted."""
         return 15 if self.trees.tree.next >= LARGEST - 1 else 1
 
     def add(self) -> str:
@@ -109,16 +109,16 @@ class LoggedAuthor(Author):
                 return self.rank()
 
     def rank(self) -> str:
-        """Asks how the items stand to one."""
+        """Returns a call for the rank or the position of an item."""
         raise NotImplementedError
 
     def count_at(self) -> str:
-        """Asks how many items stand before a bound, or up to it."""
+        """Returns a call for the number of items before a bound, or up to it."""
         start, end = self.key_bounds().split()
         return self.draw.rng.choice((f"count_before {start}", f"count_up_to {end}"))
 
     def in_copy(self) -> str:
-        """A call that seeks an item of the replica."""
+        """Returns a call that searches an item of the replica."""
         names = ("copy_get", "copy_contains", "copy_rank", "copy_index_of", "copy_count_of")
         return f"{self.draw.rng.choice(names)} {self.whole_item()}"
 
@@ -133,7 +133,7 @@ class LoggedAuthor(Author):
         return "len", "is_empty", "node_count", "events_issued", "first", "last"
 
     def find(self) -> str:
-        """Looks for an item."""
+        """Looks up an item."""
         raise NotImplementedError
 
     def key_bounds(self) -> str:
@@ -182,7 +182,7 @@ class LoggedAuthor(Author):
         return f"{self.attach} {self.trees.spelling.write_nodes([node])}"
 
     def restart(self) -> str:
-        """Makes a tree anew, at times with few event numbers left."""
+        """Makes a new tree, at times with few event numbers left."""
         rng = self.draw.rng
         size = self.size
         name = rng.choice((self.maker, "starting_at", "starting_at", "from_nodes", "go_on"))
@@ -206,7 +206,7 @@ class LoggedAuthor(Author):
         return [f"from_nodes {self.size} 0 {nodes}".rstrip()]
 
     def lawful_nodes(self, size: int) -> list[list[Item]]:
-        """A few nodes; large ones have few places left."""
+        """Returns a few nodes; large ones have few free places."""
         nodes: list[list[Item]] = []
         key, least = 0, size - 4 if size > 8 else 1
         number = LARGEST - 1 - 9 * self.draw.rng.randrange(size) if self.draw.chance(0.1) else 0

@@ -19,7 +19,7 @@ MAKES = ("map", "map", "from", "from_iter", "collect", "from_sorted", "from_sort
 
 
 class MapAuthor(Author):
-    """An author of scripts of maps; those that do not see nodes may be played at several node sizes."""
+    """A generator of scripts of maps; those that do not see nodes may be run at several node sizes."""
 
     def __init__(self, draw: Draw, model: Maps, name: str, sees_nodes: bool) -> None:
         super().__init__(draw, model)
@@ -47,11 +47,11 @@ class MapAuthor(Author):
         return f"{key}:{self.draw.letter()}" if self.maps.form.is_tagged else str(key)
 
     def key(self) -> str:
-        """The word of a key that is held, or of any."""
+        """Returns the word of a present key, or of any."""
         return self.tagged(self.draw.near(self.maps.map.items))
 
     def pair(self) -> str:
-        """The word of a pair, whose key may be held."""
+        """Returns the word of a pair, whose key may be present."""
         return f"{self.key()}:{self.value()}"
 
     def some(self, most: int) -> list[str]:
@@ -98,12 +98,12 @@ class MapAuthor(Author):
         return (*both, (12, lambda: rng.choice(NODES))) if self.sees_nodes else both
 
     def find(self) -> str:
-        """Looks for a few keys."""
+        """Looks up a few keys."""
         count = self.draw.rng.choice((1, 1, 1, 2, 3))
         return " ".join([self.draw.rng.choice(SOUGHT), *(self.key() for _ in range(count))])
 
     def make(self) -> str:
-        """Makes a map anew."""
+        """Makes a new map."""
         name = self.draw.rng.choice(MAKES)
         if name in ("new", "default"):
             return name
@@ -116,7 +116,7 @@ class MapAuthor(Author):
         return " ".join([name, *words])
 
     def retain(self) -> str:
-        """Keeps a part of the pairs with other values, and names one that is not there."""
+        """Keeps a part of the pairs with other values, and names an absent one."""
         share, form = self.draw.rng.choice((0.3, 0.7, 0.95)), self.maps.form
         kept = [f"{form.key(it)}:{self.value()}" for it in self.maps.map.items if self.draw.chance(share)]
         return " ".join(["retain", *kept, *self.some(1)])

@@ -15,7 +15,7 @@ WHOLE = ("nodes", "nodes", "text", "next", "len", "is_empty", "first", "last", "
 
 
 class ReplicaAuthor(Author):
-    """An author of scripts of replicas."""
+    """A generator of scripts of replicas."""
 
     def __init__(self, draw: Draw, model: Replicas, size: int, by_keys: bool) -> None:
         super().__init__(draw, model)
@@ -33,7 +33,7 @@ class ReplicaAuthor(Author):
         return Item(key, 0, "" if self.copies.spelling is NUMBERS else self.draw.letter())
 
     def near(self) -> int:
-        """A key that is held, or any."""
+        """Returns a present key, or any."""
         return self.draw.near(self.copies.replica.items)
 
     def text(self, number: int, event: Event) -> str:
@@ -41,7 +41,7 @@ class ReplicaAuthor(Author):
         return event.write(number, self.copies.spelling)
 
     def next_event(self) -> tuple[int, Event]:
-        """The first event that the replica was not given, after changes of the tree until there is one."""
+        """Returns the first event that the replica did not get, after changes of the tree until there is one."""
         while not self.ahead:
             if self.tree.next > LARGEST - 4:
                 return LARGEST, Event("create", self.item(self.near()))
@@ -70,7 +70,7 @@ class ReplicaAuthor(Author):
         )
 
     def apply(self) -> str:
-        """The next event; it is done with, whether the replica takes it or not."""
+        """Returns the next event; it is done with, whether the replica applies it or not."""
         number, event = self.next_event()
         if self.copies.replica.next != number or self.copies.replica.refusal(number, event):
             return self.resume()
@@ -78,7 +78,7 @@ class ReplicaAuthor(Author):
         return f"apply {self.text(number, event)}"
 
     def resume(self) -> str:
-        """Makes the replica one of the tree's nodes."""
+        """Makes a replica of the tree's nodes."""
         if self.tree.next > LARGEST - 4 and self.draw.chance(0.1):
             self.tree = Tree(self.size)
         self.ahead = []
@@ -90,7 +90,7 @@ class ReplicaAuthor(Author):
         return min(max(number, 0), LARGEST), told[1]
 
     def hostile(self) -> str:
-        """An event with one part changed, or two; or one of the kind that the replica may know."""
+        """Returns an event with one part changed, or two; or one that the replica may know."""
         number, event = self.next_event()
         if self.copies.replica.nodes and self.draw.chance(0.5):
             return f"apply {self.text(self.copies.replica.next, self.forged())}"
@@ -99,7 +99,7 @@ class ReplicaAuthor(Author):
         return f"apply {self.text(number, event)}"
 
     def forged(self) -> Event:
-        """An event that names what the replica holds, or nearly."""
+        """Returns an event that names an item of the replica, or nearly."""
         rng, nodes = self.draw.rng, self.copies.replica.nodes
         node, other, kind = rng.choice(nodes), rng.choice(nodes), rng.choice(KINDS)
         index = rng.randint(0, len(node) + 1)
@@ -156,7 +156,7 @@ class ReplicaAuthor(Author):
         return " ".join(["follow", *map(str, places)])
 
     def restart(self) -> str:
-        """Begins anew, or where numbers run out."""
+        """Begins again, or with few event numbers left."""
         if self.length() and self.draw.chance(0.7):
             return "len"
         number = self.draw.rng.choice((0, 7, LARGEST - 30, LARGEST - 1, LARGEST))
@@ -172,7 +172,7 @@ class ReplicaAuthor(Author):
         return f"attach {self.copies.spelling.write_nodes([node])}"
 
     def find(self) -> str:
-        """Looks for an item, or for a key of a pair."""
+        """Looks up an item, or a key of a pair."""
         name = self.draw.rng.choice(("get", "contains", "rank", "index_of", "count_of"))
         if self.by_keys and self.draw.chance(0.5):
             return f"by_key {name} {self.near()}"

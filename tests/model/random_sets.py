@@ -20,7 +20,7 @@ MOVES = ("item", "peek_next", "peek_prev", "move_next", "move_prev")
 
 
 class SetAuthor(Author):
-    """An author of scripts of sets; those that do not see nodes may be played at several node sizes."""
+    """A generator of scripts of sets; those that do not see nodes may be run at several node sizes."""
 
     def __init__(self, draw: Draw, model: Sets, sees_nodes: bool) -> None:
         super().__init__(draw, model)
@@ -44,11 +44,11 @@ class SetAuthor(Author):
         return f"{key}:{self.draw.letter()}" if self.has_tags else str(key)
 
     def near(self, of: Plain | None = None) -> str:
-        """The word of an item that is held, or of any."""
+        """Returns the word of a present item, or of any."""
         return self.word(self.draw.near((of or self.sets.set).items))
 
     def few(self) -> str:
-        """The words of one to three items that are held, or of any."""
+        """Returns the words of one to three items that are present, or of any."""
         return " ".join(self.near() for _ in range(self.draw.rng.choice((1, 1, 1, 2, 3))))
 
     def some(self, most: int) -> str:
@@ -96,11 +96,11 @@ class SetAuthor(Author):
         return (*both, (12, lambda: rng.choice(NODES)), (6, self.locate)) if self.sees_nodes else both
 
     def append(self) -> str:
-        """Moves the other set in, once it holds something."""
+        """Moves the other set in, once it has elements."""
         return "append" if self.sets.other.items or self.draw.chance(0.1) else "swap"
 
     def make(self) -> str:
-        """Makes a set anew."""
+        """Makes a new set."""
         name = self.draw.rng.choice(MAKES)
         if name in ("new", "default"):
             return name
@@ -113,7 +113,7 @@ class SetAuthor(Author):
         return " ".join([name, *words])
 
     def retain(self) -> str:
-        """Keeps a part of the elements, and names some that are not there."""
+        """Keeps a part of the elements, and names some absent ones."""
         share = self.draw.rng.choice((0.3, 0.7, 0.95))
         kept = [self.word(it.key) for it in self.sets.set.items if self.draw.chance(share)]
         return " ".join(["retain", *kept, self.word(self.draw.key())])
@@ -140,6 +140,6 @@ class SetAuthor(Author):
         return f"cursor_at {place} {self.draw.steps((*MOVES, jump))}"
 
     def locate(self) -> str:
-        """A search that may make no more comparisons than are promised."""
+        """Returns a search that may make no more comparisons than promised."""
         most = self.sets.set.most_comparisons() if self.sets.set.nodes is not None else 64
         return f"locate_by {most} {self.few()}"

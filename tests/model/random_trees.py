@@ -10,10 +10,10 @@ from random_logged import LoggedAuthor
 
 
 class LoggedSetAuthor(LoggedAuthor):
-    """An author of scripts of logged sets."""
+    """A generator of scripts of logged sets."""
 
     def word(self) -> str:
-        """The word of an item that is held, or of any."""
+        """Returns the word of a present item, or of any."""
         key = self.near()
         return str(key) if self.trees.spelling is NUMBERS else f"{key}:{self.draw.letter()}"
 
@@ -59,12 +59,12 @@ class LoggedSetAuthor(LoggedAuthor):
 
 
 class LoggedMapAuthor(LoggedAuthor):
-    """An author of scripts of logged maps."""
+    """A generator of scripts of logged maps."""
 
     maker = "map"
 
     def pair(self) -> str:
-        """The word of a pair whose key is held, or of any."""
+        """Returns the word of a pair whose key is present, or of any."""
         return f"{self.near()}:{self.draw.letter()}"
 
     def add(self) -> str:
@@ -88,7 +88,7 @@ class LoggedMapAuthor(LoggedAuthor):
 
 
 class MultiMapAuthor(LoggedAuthor):
-    """An author of scripts of multimaps."""
+    """A generator of scripts of multimaps."""
 
     maker = "map"
     attach = "attach"
@@ -97,7 +97,7 @@ class MultiMapAuthor(LoggedAuthor):
         return Item(key, number, self.draw.letter())
 
     def pair(self) -> str:
-        """The word of a pair that is held, or of any."""
+        """Returns the word of a present pair, or of any."""
         held = self.draw.held(self.trees.tree.items)
         if held is not None and self.draw.chance(0.4):
             return f"{held.key}:{held.value}"
@@ -118,7 +118,7 @@ class MultiMapAuthor(LoggedAuthor):
         return f"{self.cdc('pop_index')} {self.draw.position(self.length())}"
 
     def remove_all(self) -> str:
-        """Removes all pairs of a key, where their events fit."""
+        """Removes all pairs of a key, if their events fit."""
         return f"{self.cdc('remove_all')} {self.near()}" if self.trees.tree.next < 2**63 else "len"
 
     def commands(self) -> Sequence[str]:

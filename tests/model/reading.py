@@ -1,4 +1,4 @@
-"""What is read of a replica: by its items, by their keys, and by positions."""
+"""Reads of a replica: by its items, by their keys, and by positions."""
 
 from __future__ import annotations
 
@@ -14,17 +14,17 @@ from walks import NONE
 
 @dataclass(frozen=True)
 class Reading:
-    """The items of a replica, and how they are spelled."""
+    """The items of a replica, and their format."""
 
     items: Sequence[Item]
     spelling: Spelling
 
     def text(self, item: Item | None) -> str:
-        """The text of an item, or `none`."""
+        """Returns the text of an item, or `none`."""
         return NONE if item is None else self.spelling.write(item)
 
     def answer(self, name: str, words: Words) -> str | None:
-        """The answer of a call, by the items themselves or by positions."""
+        """Returns the result of a call, by the items themselves or by positions."""
         if name in ("count_before", "count_up_to"):
             return counted(name, words, self.items)
         if name in ("get_index", "range_idx", "range_idx_back"):
@@ -33,11 +33,11 @@ class Reading:
         return self.sought(name, words, places, lambda: order(self.spelling.read(" ".join(words))))
 
     def by_key(self, name: str, words: Words) -> str | None:
-        """The answer of a call by a key."""
+        """Returns the result of a call by a key."""
         return self.sought(name, words, list(map(key_of, self.items)), lambda: read_natural(one(words)))
 
     def sought(self, name: str, words: Words, places: Sequence[Place], read: Callable[[], Place]) -> str | None:
-        """The answer of a call by what the items have as their places."""
+        """Returns the result of a call by the places of the items."""
         match name:
             case "ranks":
                 return ranks(places)
@@ -52,11 +52,11 @@ class Reading:
                 return None
 
     def found(self, name: str, equal: Sequence[Item]) -> str:
-        """The first of the items that are sought, or whether there is one."""
+        """Returns the first of the sought items, or whether there is one."""
         return self.text(equal[0] if equal else None) if name == "get" else shown(bool(equal))
 
     def range(self, name: str, words: Words) -> str:
-        """The items whose keys are within a range."""
+        """Returns the items whose keys are within a range."""
         start, end = map(read_bound, words)
         if not bounds_are_ordered(start, end):
             raise NoCall("bounds that are not in order")

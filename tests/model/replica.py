@@ -23,7 +23,7 @@ class Replica:
 
     @property
     def items(self) -> list[Item]:
-        """The contents."""
+        """Returns the contents."""
         return joined(self.nodes)
 
     def attach(self, node: Node) -> None:
@@ -34,7 +34,7 @@ class Replica:
         self.nodes = with_node(self.nodes, node)
 
     def refusal(self, number: int, event: Event) -> str | None:
-        """The first reason for which an event is refused, in the order of the refusals, if any."""
+        """Returns the first reason why an event is refused, in the order of the checks, if any."""
         if number != self.next:
             return "Gap"
         if number == LARGEST:
@@ -47,7 +47,7 @@ class Replica:
         return self.refusal_at(place, event)
 
     def refusal_at(self, place: int, event: Event) -> str | None:
-        """Why an event of this node is refused, if so."""
+        """Returns the reason why an event of this node is refused, if any."""
         node, i = self.nodes[place], event.index
         match event.kind:
             case "insert":
@@ -71,7 +71,7 @@ class Replica:
                 return None
 
     def apply(self, number: int, event: Event) -> None:
-        """Applies the event that is expected."""
+        """Applies the expected event."""
         cause, after = self.refusal(number, event), step(self.nodes, event)
         if cause is not None:
             assert after is None or cause in ("Gap", "Numbers")
@@ -80,7 +80,7 @@ class Replica:
         self.nodes, self.next = after, self.next + 1
 
     def follow(self, events: Sequence[tuple[int, Event]], places: Iterable[int]) -> None:
-        """Applies the events at these places in turn, and passes over those out of turn."""
+        """Applies the events at these places in turn, and skips those out of turn."""
         for place in places:
             try:
                 self.apply(*events[place])
@@ -90,7 +90,7 @@ class Replica:
 
 
 def replica_of(nodes: Nodes, next: int) -> Replica:
-    """A replica of a snapshot."""
+    """Makes a replica of a snapshot."""
     cause = refusal_of_nodes(nodes, NO_SIZE)
     if cause is not None:
         raise Refused(cause)

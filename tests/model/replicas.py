@@ -23,7 +23,7 @@ class Replicas(Subject):
         return self.make, self.attach, self.deliver, self.tell, self.tell_all, self.read
 
     def text(self, item: Item | None) -> str:
-        """The text of an item, or `none`."""
+        """Returns the text of an item, or `none`."""
         return NONE if item is None else self.spelling.write(item)
 
     def make(self, name: str, words: Words) -> str | None:
@@ -53,7 +53,7 @@ class Replicas(Subject):
         return ""
 
     def deliver(self, name: str, words: Words) -> str | None:
-        """Gives the replica an event, or keeps it to be delivered."""
+        """Gives the replica an event, or stores it for later delivery."""
         match name:
             case "apply":
                 self.replica.apply(*read_event(words, self.spelling))
@@ -69,7 +69,7 @@ class Replicas(Subject):
         return ""
 
     def tell(self, name: str, words: Words) -> str | None:
-        """What the replica holds as a whole, and what it expects."""
+        """Returns a property of the whole replica, and the event that it expects."""
         items, nodes = self.replica.items, self.spelling.write_nodes(self.replica.nodes)
         match name:
             case "nodes":
@@ -91,14 +91,14 @@ class Replicas(Subject):
                 return None
 
     def read(self, name: str, words: Words) -> str | None:
-        """A call that seeks items: by themselves, by keys, or by positions."""
+        """Makes a call that searches items: by themselves, by keys, or by positions."""
         reading = Reading(self.replica.items, self.spelling)
         if name == "by_key":
             return reading.by_key(words[0], words[1:])
         return reading.answer(name, words)
 
     def tell_all(self, name: str, words: Words) -> str | None:
-        """The items of the replica."""
+        """Returns the items of the replica."""
         texts = [self.spelling.write(it) for it in self.replica.items]
         match name:
             case "items":

@@ -1,8 +1,8 @@
 #!/usr/bin/env python3
-"""Writes random scripts of calls with the answers that the definitions give, below a folder.
+"""Writes random scripts of calls with the results of the definitions, below a folder.
 
-The same seed, number of calls and family give the same scripts. A call counts once for each node size, and
-for each kind of node, at which its script is played.
+The same seed, number of calls and family give the same scripts. A call counts once for each node size, and for each
+kind of node, at which its script is run.
 """
 
 from __future__ import annotations
@@ -35,7 +35,7 @@ TREES = {"logged_set": LoggedSetAuthor, "logged_map": LoggedMapAuthor, "multimap
 
 
 class Script(NamedTuple):
-    """A script, and how many calls it makes."""
+    """A script, and the number of its calls."""
 
     family: str
     text: str
@@ -43,7 +43,7 @@ class Script(NamedTuple):
 
 
 class Start(NamedTuple):
-    """The first statement of a script, and its author."""
+    """The first statement of a script, and its generator."""
 
     head: str
     author: Author
@@ -51,7 +51,7 @@ class Start(NamedTuple):
 
 
 def sized(rng: random.Random) -> tuple[int, int]:
-    """A node size, and the number of keys that fills some nodes of it."""
+    """Returns a node size, and the number of keys that fills some nodes of it."""
     share = rng.random()
     if share < 0.85:
         return rng.choice(SMALL_SIZES), rng.choice((6, 12, 25, 60, 120))
@@ -59,7 +59,7 @@ def sized(rng: random.Random) -> tuple[int, int]:
 
 
 def set_start(rng: random.Random) -> Start:
-    """A script of sets: it sees nodes, or is played at several node sizes."""
+    """Returns a script of sets: it sees nodes, or is run at several node sizes."""
     size, keys = sized(rng)
     name, sees_nodes = rng.choice(("set", "set", "set", "tagged_set", "owned_set")), rng.random() < 0.75
     model = Sets(size, PAIRS if name == "tagged_set" else NUMBERS)
@@ -67,7 +67,7 @@ def set_start(rng: random.Random) -> Start:
 
 
 def map_start(rng: random.Random) -> Start:
-    """The same of maps."""
+    """Returns a script of maps, in the same way."""
     size, keys = sized(rng)
     name = rng.choice(("map", "map", "letter_map", "tagged_map", "owned_map", "lending_map", "lending_map"))
     if name == "lending_map":
@@ -123,7 +123,7 @@ def start_of(family: str, rng: random.Random) -> Start:
 
 
 def scripts(family: str, calls: int, seed: int) -> Iterator[Script]:
-    """Scripts of a family, of so many calls together."""
+    """Yields scripts of a family, of a number of calls together."""
     rng = random.Random(f"{family} {seed}")
     while calls > 0:
         start = start_of(family, rng)
@@ -134,7 +134,7 @@ def scripts(family: str, calls: int, seed: int) -> Iterator[Script]:
 
 
 def written(folder: pathlib.Path, family: str, calls: int, seed: int) -> Iterator[tuple[pathlib.Path, int]]:
-    """Writes the scripts of a family; their paths, with how many calls each makes."""
+    """Writes the scripts of a family; returns their paths, with the number of calls of each."""
     folder.mkdir(parents=True, exist_ok=True)
     for number, script in enumerate(scripts(family, calls, seed)):
         path = folder / f"{family}_{seed}_{number}.script"
@@ -143,7 +143,7 @@ def written(folder: pathlib.Path, family: str, calls: int, seed: int) -> Iterato
 
 
 def share(family: str, calls: int) -> int:
-    """How many of all calls are of a family."""
+    """Returns the number of calls of a family."""
     return calls * PLAYED[family] // sum(PLAYED.values())
 
 

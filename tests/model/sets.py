@@ -25,15 +25,15 @@ class Sets(Subject):
                 self.combine, self.tell_all, self.range, self.view)  # fmt: skip
 
     def items_of(self, words: Words) -> list[Item]:
-        """The items of the words."""
+        """Returns the items of the words."""
         return [self.spelling.read(word) for word in words]
 
     def text(self, item: Item | None) -> str:
-        """The text of an item, or `none`."""
+        """Returns the text of an item, or `none`."""
         return NONE if item is None else self.spelling.write(item)
 
     def texts(self) -> list[str]:
-        """The texts of the elements of the first set."""
+        """Returns the texts of the elements of the first set."""
         return [self.spelling.write(item) for item in self.set.items]
 
     def make(self, name: str, words: Words) -> str | None:
@@ -59,7 +59,7 @@ class Sets(Subject):
         return ""
 
     def filled(self, name: str, count: int, step: int) -> Plain:
-        """A set of the first numbers, so many, each the step above the one before, made by the call."""
+        """Makes a set of a number of ascending keys with a given step, by the call."""
         items = [Item(number * step) for number in range(count)]
         match name:
             case "insert":
@@ -99,7 +99,7 @@ class Sets(Subject):
         return ""
 
     def retain(self, name: str, words: Words) -> str | None:
-        """Keeps the elements of the words; those that it asks for."""
+        """Keeps the elements of the words; returns those that the condition reads."""
         if name != "retain":
             return None
         asked, kept = self.texts(), {order(it) for it in self.items_of(words)}
@@ -136,13 +136,13 @@ class Sets(Subject):
         return self.text(old)
 
     def at(self, place: int) -> Item:
-        """The element at a position that is there."""
+        """Returns the element at an existing position."""
         if place >= len(self.set.items):
             raise NoCall("a position that is not there")
         return self.set.items[place]
 
     def tell(self, name: str, words: Words) -> str | None:
-        """What a set is as a whole."""
+        """Returns a property of the whole set."""
         items = self.set.items
         match name:
             case "len":
@@ -161,7 +161,7 @@ class Sets(Subject):
                 return None
 
     def find(self, name: str, words: Words) -> str | None:
-        """Looks for elements or positions, one a word."""
+        """Looks up elements or positions, one a word."""
         match name:
             case "get" | "contains" | "rank" | "index_of" | "lower_bound" | "upper_bound":
                 return " ".join(self.find_one(name, it) for it in self.items_of(words))
@@ -178,7 +178,7 @@ class Sets(Subject):
                 return None
 
     def find_one(self, name: str, item: Item) -> str:
-        """Looks for an element."""
+        """Looks up an element."""
         items, least = self.set.items, rank(self.set.items, item)
         match name:
             case "get":
@@ -196,12 +196,12 @@ class Sets(Subject):
                 return self.text(items[past] if past < len(items) else None)
 
     def locate(self, item: Item) -> str:
-        """Where a search finds an element, or the gap where it would be."""
+        """Returns the position that a search finds, or the gap of an absent element."""
         place = rank(self.set.items, item)
         return str(place) if equal_to(self.set.items, item) else f"gap {place}"
 
     def compare(self, name: str, words: Words) -> str | None:
-        """The first set beside the second."""
+        """Compares the first set with the second."""
         left, right = self.set.items, self.other.items
         keys, others = list(map(order, left)), list(map(order, right))
         match name:
@@ -227,7 +227,7 @@ class Sets(Subject):
                 return None
 
     def combine(self, name: str, words: Words) -> str | None:
-        """The elements of both sets."""
+        """Returns the elements of both sets."""
         left, right = self.set.items, self.other.items
         match name:
             case "union":
@@ -242,7 +242,7 @@ class Sets(Subject):
                 return None
 
     def tell_all(self, name: str, words: Words) -> str | None:
-        """The elements of the first set."""
+        """Returns the elements of the first set."""
         match name:
             case "items" | "ref_items" | "into_items":
                 return " ".join(self.texts())
@@ -256,7 +256,7 @@ class Sets(Subject):
                 return None
 
     def range(self, name: str, words: Words) -> str | None:
-        """The elements within a range."""
+        """Returns the elements within a range."""
         if name not in ("range", "range_rev", "range_idx"):
             return None
         start, end = map(read_bound, words)

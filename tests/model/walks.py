@@ -11,7 +11,7 @@ NONE = "none"
 
 
 def walk(texts: Sequence[str], words: Words) -> str:
-    """What an iterator returns at each word: the first or the last of what remains, and how many remain."""
+    """Returns the result of an iterator at each word: the first or the last of the remaining ones, and their number."""
     remaining, answers = list(texts), []
     for word in words:
         if word in ("next", "next_back"):
@@ -45,11 +45,11 @@ class Cursor:
         self.position = self.length if self.position == 0 else self.position - 1
 
     def next(self) -> int:
-        """The position that `peek_next` shows."""
+        """Returns the position that `peek_next` shows."""
         return 0 if self.position == self.length else self.position + 1
 
     def moves(self, name: str, index: str) -> bool:
-        """Moves by a word; whether it is one that moves."""
+        """Moves by a word; returns whether it is one that moves."""
         if name == "move_next":
             self.move_next()
         elif name == "move_prev":
@@ -59,7 +59,7 @@ class Cursor:
         return name.startswith("move_")
 
     def shown(self, name: str, index: str) -> int:
-        """The position that a word shows."""
+        """Returns the position that a word shows."""
         if name == "peek_next":
             return self.next()
         if name == "peek_prev":
@@ -68,7 +68,7 @@ class Cursor:
 
 
 def follow(items: Sequence[str], position: int, words: Words, parts: dict[str, Callable[[str], str]]) -> str:
-    """What a cursor shows at each word; `parts` are the words for what stands at its position."""
+    """Returns the result of a cursor at each word; `parts` are the words for the parts of the item at its position."""
     cursor, answers = Cursor(len(items), position), []
     for word in words:
         name, _, index = word.partition("=")

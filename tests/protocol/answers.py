@@ -1,4 +1,4 @@
-"""What a follower answers to each line of its input, by docs/protocol.md."""
+"""The reply of a follower to each line of its input, by docs/protocol.md."""
 
 from __future__ import annotations
 
@@ -12,7 +12,7 @@ from operator import lt
 from typing import Any
 
 MOST = 2**64 - 1
-WINDOW = 4096  # unless it is told another
+WINDOW = 4096  # by default
 NUMBER = rb"(0|[1-9][0-9]*)"
 
 Key = Any  # a number, or the bytes of a text
@@ -21,7 +21,7 @@ Node = list[Pair]
 
 
 def number(text: bytes) -> int:
-    """The number of a text, which must not have more than 64 bits."""
+    """Returns the number of a text, which must not have more than 64 bits."""
     value = int(text)
     if value > MOST:
         raise OverflowError
@@ -29,12 +29,12 @@ def number(text: bytes) -> int:
 
 
 def spelled(key: Key) -> bytes:
-    """The text of a key or a value."""
+    """Returns the text of a key or a value."""
     return b"%d" % key if isinstance(key, int) else urllib.parse.quote_from_bytes(key, safe="").encode()
 
 
 def unescaped(text: bytes) -> bytes:
-    """The bytes of a text, which must be spelled as it has to be."""
+    """Returns the bytes of a text, which must have its only valid encoding."""
     value = urllib.parse.unquote_to_bytes(text)
     if spelled(value) != text:
         raise OverflowError
@@ -42,7 +42,7 @@ def unescaped(text: bytes) -> bytes:
 
 
 class Spelling:
-    """How the keys and values of a map are spelled: the form of a text, and what is read from one, where it is one."""
+    """The encoding of the keys and values of a map: the form of a text, and the value of one, if it is valid."""
 
     def __init__(self, form: bytes, key: Callable[[bytes], Key]) -> None:
         self.form, self.key = form, key
@@ -55,7 +55,7 @@ class Spelling:
         return re.fullmatch(self.form, text) is not None
 
     def pair(self, text: bytes) -> Pair:
-        """The pair of a text."""
+        """Returns the pair of a text."""
         key, value = text.split(b":")
         return self.key(key), self.key(value)
 
@@ -69,7 +69,7 @@ DONE = re.compile(rb"done " + NUMBER + rb" " + NUMBER)
 
 @dataclasses.dataclass(frozen=True)
 class Event:
-    """An event, with its item and its index where its word has them."""
+    """An event, with its item and its index if its word has them."""
 
     at: int
     word: bytes
@@ -83,12 +83,12 @@ def is_number(text: bytes) -> bool:
 
 
 def shown(items: Sequence[Pair]) -> bytes:
-    """The text of some pairs."""
+    """Returns the text of some pairs."""
     return b" ".join(spelled(key) + b":" + spelled(value) for key, value in items)
 
 
 def event_of(told: re.Match[bytes], spelling: Spelling) -> Event:
-    """The event of a line that has the form of one."""
+    """Returns the event of a line that has the form of one."""
     at, word, *parts = [part for part in told.groups() if part is not None]
     pairs = [spelling.pair(part) for part in parts if b":" in part]
     places = [number(part) for part in parts if b":" not in part]
@@ -96,40 +96,40 @@ def event_of(told: re.Match[bytes], spelling: Spelling) -> Event:
 
 
 def is_lawful(nodes: list[Node]) -> bool:
-    """Whether no node is empty, and the keys ascend."""
+    """Returns whether no node is empty, and the keys ascend."""
     keys = [key for node in nodes for key, _ in node]
     return all(nodes) and all(map(lt, keys, keys[1:]))
 
 
 def behind(done: int) -> bytes:
-    """What stands behind a line that tells the greatest number of a command."""
+    """Returns the rest of a line that names the greatest number of a command."""
     return b" %d" % done if done else b""
 
 
 def snapshot(nodes: list[Node], awaited: int, done: int = 0) -> list[bytes]:
-    """The lines that make a follower hold these nodes, and the greatest number of a command."""
+    """Returns the lines that make a follower hold these nodes, and the greatest number of a command."""
     lines = [b"start %d%b" % (awaited, behind(done))] + [b"node " + shown(node) for node in nodes]
     return [*lines, b"end %d %d" % (len(nodes), told_sum(lines))]
 
 
 def told_sum(lines: list[bytes]) -> int:
-    """The first 64 bits of the SHA-256 of some lines."""
+    """Returns the first 64 bits of the SHA-256 of some lines."""
     return int.from_bytes(hashlib.sha256(b"".join(line + b"\n" for line in lines)).digest()[:8], "big")
 
 
 def ends_below(nodes: list[Node], key: Key) -> int:
-    """How many of some lawful nodes end below a key."""
+    """Returns the number of lawful nodes that end below a key."""
     return bisect_left(nodes, key, key=lambda node: node[-1][0])
 
 
 def with_node(nodes: list[Node], node: Node, key: Key) -> list[Node]:
-    """The nodes with another one before the first that ends above or at a key."""
+    """Returns the nodes with another one before the first that ends above or at a key."""
     place = ends_below(nodes, key)
     return [*nodes[:place], node, *nodes[place:]]
 
 
 class Model:
-    """What a follower should hold and answer, and what it writes of that where it is quiet."""
+    """The expected state and replies of a follower, and those that it writes if it is quiet."""
 
     leads = False
 
@@ -146,12 +146,13 @@ class Model:
         self.early: dict[int, Event] = {}
 
     def named(self, name: Pair) -> int | None:
-        """The place of the node whose last key is that of the name, or None."""
+        """Returns the place of the node whose last key is that of the name, or None."""
         at = ends_below(self.nodes, name[0])
         return at if at < len(self.nodes) and self.nodes[at][-1][0] == name[0] else None
 
     def changed(self, at: int, event: Event) -> list[Node] | str:
-        """What comes in place of a node, and of the next one where these merge; or why the event is no step."""
+        """Returns the replacement of a node, and of the next one if they are merged; or why the event does not
+        apply."""
         node, item, index = self.nodes[at], event.item, event.index
         match event.word:
             case b"drop":
@@ -171,7 +172,7 @@ class Model:
                 return [[*node[:index], *node[index + 1 :]]] if len(node) > 1 else "empty"
 
     def step(self, event: Event) -> list[Node] | str:
-        """The nodes after an event, or why it is no step."""
+        """Returns the nodes after an event, or why it does not apply."""
         if event.at == MOST:
             return "number"
         if event.word == b"create":
@@ -238,38 +239,39 @@ class Model:
         return b"next %d" % self.next
 
     def asked(self, line: bytes) -> bytes | None:
-        """The answer to a read, or None where the line is none or has a number of more than 64 bits."""
+        """Returns the reply to a read, or None if the line is not one or has a number of more than 64 bits."""
         try:
             return self.read(line)
         except OverflowError:
             return None
 
     def cut(self, line: bytes) -> bytes:
-        """The answer to a last line that lacks its end: it changes nothing, whatever it is."""
+        """Returns the reply to an unterminated last line: it changes nothing, in any case."""
         told = self.asked(line)
         return b"bad" if told is None else told
 
     def voiced(self, line: bytes, answer: bytes) -> list[bytes]:
-        """What is written of an answer: by a quiet follower what is missing or unfit, and answers to requests."""
+        """Returns the written part of a reply: by a quiet follower `missing` or `unfit` lines, and replies to
+        requests."""
         is_request = line in (b"lead", b"follow") or self.asked(line) is not None
         is_told = not self.is_quiet or self.leads or is_request or answer.startswith((b"gap ", b"unfit "))
         return [answer] if is_told else []
 
     def written(self, line: bytes) -> list[bytes]:
-        """What is written to a line with its end."""
+        """Returns the output for a line with its end."""
         answer = self.answer(line)
         return self.voiced(line.removesuffix(b"\r"), answer)
 
     def written_cut(self, line: bytes) -> list[bytes]:
-        """What is written to a last line that lacks its end."""
+        """Returns the output for an unterminated last line."""
         return [self.cut(line)] if self.asked(line) is not None or self.leads or not self.is_quiet else []
 
     def items(self) -> list[Pair]:
-        """The pairs of all nodes."""
+        """Returns the pairs of all nodes."""
         return [item for node in self.nodes for item in node]
 
     def read(self, line: bytes) -> bytes | None:
-        """The answer to a read, or None where the line is none."""
+        """Returns the reply to a read, or None if the line is not one."""
         match line.split(b" "):
             case [b"nodes"]:
                 return b"\n".join([shown(node) for node in self.nodes] + [b"next %d" % self.next])
@@ -306,11 +308,11 @@ class Model:
         return None
 
     def answer(self, line: bytes) -> bytes:
-        """The answer to a line with its end, to which one byte 13 before the byte 10 belongs."""
+        """Returns the reply to a line with its end, to which one byte 13 before the byte 10 belongs."""
         return self.told(line.removesuffix(b"\r"))
 
     def told(self, line: bytes) -> bytes:
-        """The answer to a line without its end."""
+        """Returns the reply to an unterminated line."""
         try:
             if event := self.spelling.event.fullmatch(line):
                 return self.event(event_of(event, self.spelling))

@@ -1,13 +1,12 @@
 #!/usr/bin/env python3
-"""Fuzzes the follower with adversarial lines, and compares each answer with that of a model: 100,000 lines at its
+"""Fuzzes the follower with adversarial lines, and compares each reply with that of a model: 100,000 lines at its
 window, 10,000 at each of others, and 20,000 of a map of texts.
 
-The lines are events in turn and out of turn, events with a number, a name, an item, an index or a word
-altered, whole nodes that do not fit, snapshots cut short, requests, and bytes of any kind. The model is
-written from docs/protocol.md, and shares nothing with the program. Events of one map come too with losses and
-repeats, in any order. Some lines are then cut at every byte:
-what a last line without its end would be is not done. Lines of megabytes follow, each in a run of its own
-whose memory is bounded.
+The lines are events in turn and out of turn, events with a number, a name, an item, an index or a word altered, whole
+nodes that do not fit, truncated snapshots, requests, and bytes of any kind. The model is written from docs/protocol.md,
+and shares nothing with the program. Events of one map are also sent with losses and repeats, in any order. Some lines
+are then truncated at every byte: an unterminated last line changes nothing. Lines of megabytes follow, each in a run of
+its own with bounded memory.
 
 Run it once the program is built. With `--sanitized` the sanitizer in the program bounds the memory, which needs
 address space for its own. The last line is 'N passed, M failed'.
@@ -39,14 +38,14 @@ Run = Callable[[pathlib.Path, bytes, int], subprocess.CompletedProcess[bytes]]
 
 @dataclasses.dataclass(frozen=True)
 class Counts:
-    """How many answers were as they must be, and how many were not."""
+    """The numbers of right and wrong replies."""
 
     passed: int
     failed: int
 
 
 class Hostile:
-    """Adversarial lines, some of them from what the model holds."""
+    """Adversarial lines, some of them from the state of the model."""
 
     def __init__(self, model: Model, seed: int) -> None:
         self.model, self.random = model, random.Random(seed)
@@ -56,14 +55,14 @@ class Hostile:
         return self.random.choice([0, 1, 2, 3, 7, self.random.randrange(60), MOST, MOST + 1, 10**30])
 
     def key(self, number: int) -> Key:
-        """The key that stands for a number. The keys ascend with the numbers."""
+        """Returns the key of a number. The keys ascend with the numbers."""
         return number
 
     def value(self) -> Key:
         return self.key(self.random.randrange(9))
 
     def some_key(self) -> bytes:
-        """The text of a key."""
+        """Returns the text of a key."""
         return spelled(self.key(self.some_number()))
 
     def some_pair(self) -> bytes:
@@ -71,7 +70,7 @@ class Hostile:
         return shown([(self.key(number), self.key(self.random.randrange(5)))])
 
     def likely(self) -> bytes:
-        """An event that is probably a step."""
+        """Returns an event that probably applies."""
         model, random = self.model, self.random
         if not model.nodes or random.random() < 0.1:
             return b"create " + self.some_pair()
@@ -92,18 +91,18 @@ class Hostile:
         return b"merge %b %b" % (name, shown([model.nodes[at + 1][-1]]))
 
     def key_below(self, at: int, place: int) -> Key | None:
-        """The key before a place of a node, or None."""
+        """Returns the key before a place of a node, or None."""
         if place:
             return self.model.nodes[at][place - 1][0]
         return self.model.nodes[at - 1][-1][0] if at else None
 
     def key_between(self, low: Key | None, high: Key) -> Key | None:
-        """A key above the one, where there is one, and below the other, or None."""
+        """Returns a key above the one, if any, and below the other, or None."""
         first = 0 if low is None else low + 1
         return self.random.randrange(first, high) if first < high else None
 
     def altered(self, line: bytes) -> bytes:
-        """A line with one of its words changed, doubled or left out, or one of its bytes changed."""
+        """Returns a line with one of its words changed, doubled or left out, or one of its bytes changed."""
         random, words = self.random, line.split(b" ")
         at, kind = random.randrange(len(words)), random.randrange(6)
         if kind == 0:
@@ -129,13 +128,13 @@ class Hostile:
         return b"node " + shown([(self.key(number), self.key(self.random.randrange(5))) for number in keys])
 
     def end(self) -> bytes:
-        """The end of a snapshot, most often the right one, sometimes with no sum."""
+        """Returns the end of a snapshot, most often the right one, sometimes without a sum."""
         came = snapshot(self.model.coming or [], self.model.coming_next, self.model.coming_done)[-1]
         came = came if self.random.random() < 0.8 else came.rpartition(b" ")[0]
         return came if self.random.random() < 0.7 else self.altered(came)
 
     def done(self) -> bytes:
-        """Which commands were done, most often by events that are held."""
+        """Returns a line of finished commands, most often those of present events."""
         end = self.model.next + self.random.randrange(-3, 3) if self.random.random() < 0.9 else self.some_number()
         done = self.model.done + self.random.randrange(-3, 4) if self.random.random() < 0.98 else self.some_number()
         return b"done %d %d" % (max(done, 0), max(end, 0))
@@ -155,7 +154,7 @@ class Hostile:
         return b"snapshot" if self.random.random() < 0.05 else self.read()
 
     def given(self) -> bytes:
-        """A line, now and then with a byte 13 before its end, or two."""
+        """Returns a line, now and then with a byte 13 before its end, or two."""
         return self.line() + self.random.choice([b""] * 18 + [b"\r", b"\r\r"])
 
     def line(self) -> bytes:
@@ -191,7 +190,7 @@ class Hostile:
 
 
 class HostileTexts(Hostile):
-    """The same for a map of texts."""
+    """Lines to a map of texts."""
 
     def key(self, number: int) -> bytes:
         return b"" if number == 0 else bytes([4 * number]) if number < 60 else b"\xff" + number.to_bytes(16, "big")
@@ -201,7 +200,7 @@ class HostileTexts(Hostile):
         return self.random.choice(keys) if keys else None
 
     def altered(self, line: bytes) -> bytes:
-        """A line altered as before, or with one of its texts spelled in another way."""
+        """Returns an altered line, or one of whose texts is encoded in another way."""
         at = line.find(b"%", self.random.randrange(len(line)))
         if at < 0 or self.random.random() < 0.6:
             return super().altered(line)
@@ -219,14 +218,14 @@ sys.exit(subprocess.run([sys.argv[1]], stdin=sys.stdin).returncode)
 
 
 def limited(program: pathlib.Path, given: bytes, memory: int) -> subprocess.CompletedProcess[bytes]:
-    """What the follower answers to these bytes, within that much memory."""
+    """Returns the output of the follower for these bytes, within that much memory."""
     return subprocess.run(
         [sys.executable, "-c", LIMITED, program, str(memory)], input=given, capture_output=True, timeout=SECONDS
     )
 
 
 def sanitized(program: pathlib.Path, given: bytes, memory: int) -> subprocess.CompletedProcess[bytes]:
-    """The same, of a program that the sanitizer checks."""
+    """Returns the output of a program that the sanitizer checks."""
     options = f"hard_rss_limit_mb={memory // 1_000_000}:quarantine_size_mb=1:allocator_release_to_os_interval_ms=0"
     return subprocess.run(
         [program], input=given, capture_output=True, timeout=SECONDS, env={**os.environ, "ASAN_OPTIONS": options}
@@ -238,7 +237,7 @@ def joined(lines: list[bytes]) -> bytes:
 
 
 def agreed(lines: list[bytes], answers: list[bytes], told: list[bytes]) -> int:
-    """How many lines of output are as they must be, up to the first answer that differs, which is shown."""
+    """Returns the number of right lines of output, up to the first reply that differs, which is shown."""
     at = 0
     for line, answer in zip(lines, answers):
         end = at + answer.count(b"\n") + 1
@@ -250,12 +249,12 @@ def agreed(lines: list[bytes], answers: list[bytes], told: list[bytes]) -> int:
 
 
 def kind(answer: bytes) -> str:
-    """The first word of an answer, where it is one."""
+    """Returns the first word of a reply, if it is one."""
     return answer.split(b" ")[0].decode() if answer[:1].isalpha() else "others"
 
 
 def told(program: pathlib.Path, words: list[str], window: int, lines: list[bytes], answers: list[bytes]) -> Counts:
-    """Counts of lines that a follower answers so, and of others."""
+    """Returns the numbers of lines with these replies of the follower, and of others."""
     done = subprocess.run(
         [program, *words, "--window", str(window)], input=joined(lines), capture_output=True, timeout=SECONDS
     )
@@ -267,7 +266,7 @@ def told(program: pathlib.Path, words: list[str], window: int, lines: list[bytes
 
 
 def compare(program: pathlib.Path, window: int, count: int, seed: int, of_texts: bool = False) -> Counts:
-    """Counts of lines whose answer is as the model's, and of others."""
+    """Returns the numbers of lines with the replies of the model, and of others."""
     model = Model(window=window, spelling=TEXTS if of_texts else NUMBERS)
     hostile = HostileTexts(model, seed) if of_texts else Hostile(model, seed)
     lines: list[bytes] = []
@@ -279,7 +278,7 @@ def compare(program: pathlib.Path, window: int, count: int, seed: int, of_texts:
 
 
 def of_one_map(count: int, seed: int) -> list[bytes]:
-    """Events of one map, in their order."""
+    """Returns events of one map, in their order."""
     model = Model()
     hostile = Hostile(model, seed)
     events: list[bytes] = []
@@ -291,8 +290,8 @@ def of_one_map(count: int, seed: int) -> list[bytes]:
 
 
 def disordered(program: pathlib.Path, window: int, count: int, seed: int) -> Counts:
-    """The counts of events of one map that are lost, come again and come in any order. The awaited event must be the
-    first that never came within the window."""
+    """Returns the numbers for events of one map that are lost, repeated and out of order. The next event to apply must
+    be the first that never arrived within the window."""
     events, chance, model = of_one_map(count, seed), random.Random(seed), Model(window=window)
     lines: list[bytes] = []
     answers: list[bytes] = []
@@ -316,8 +315,8 @@ def disordered(program: pathlib.Path, window: int, count: int, seed: int) -> Cou
 
 
 def long_lines(program: pathlib.Path, run: Run) -> Counts:
-    """The same for lines of megabytes, whose memory is bounded."""
-    size = (1 << 22) + 4_096  # (so that a buffer that doubles has just done so)
+    """Returns the numbers for lines of megabytes, with bounded memory."""
+    size = (1 << 22) + 4_096  # (so that a buffer that doubles has just doubled)
     cases = {
         "spaces": (b" " * size, b"bad"),
         "NULs": (b"\0" * size, b"bad"),
@@ -337,7 +336,8 @@ def long_lines(program: pathlib.Path, run: Run) -> Counts:
 
 
 def cuts(program: pathlib.Path, given: bytes, words: list[str], first: Callable[[], Model]) -> Counts:
-    """The same for inputs that end at each byte of some lines: what is cut off is answered, and changes nothing."""
+    """Returns the numbers for inputs that end at each byte of some lines: the truncated line gets a reply, and changes
+    nothing."""
     failed = 0
     for end in range(len(given) + 1):
         model = first()

@@ -1,11 +1,11 @@
 #!/usr/bin/env python3
-"""Compares a map that leads with a model, line by line, and a follower that takes over with the leader that goes on.
+"""Compares a leader with a model, line by line, and a follower that takes over with the leader that continues.
 
-The lines to a leader are commands, reads, commands and reads with a word or a byte altered, snapshots that it
-begins with while it has no node, `follow` and then events, and bytes of any kind; some lines go to a quiet program. A
-follower reads the events of a leader up to some line, and then `lead` and the commands behind that line: what it
-answers must be, byte for byte, what the leader answered to these. Another begins from the snapshot that the leader
-gives at that line. Some lines to a leader are cut at every byte.
+The lines to a leader are commands, reads, commands and reads with a word or a byte altered, snapshots that it begins
+with while it has no node, `follow` and then events, and bytes of any kind; some lines are sent to a quiet program. A
+follower reads the events of a leader up to some line, and then `lead` and the commands after that line: its replies
+must be, byte for byte, those of the leader to these. Another begins from the snapshot that the leader writes at that
+line. Some lines to a leader are truncated at every byte.
 
 Run it once the program is built. The last line is 'N passed, M failed'.
 """
@@ -34,14 +34,14 @@ SECONDS = 1200  # for one run, on a busy machine
 
 
 class Store(Model):
-    """What a map that follows or leads should hold and answer."""
+    """The expected state and replies of a follower or a leader."""
 
     def __init__(self, size: int, leads: bool = True, is_quiet: bool = False) -> None:
         super().__init__(is_quiet)
         self.tree, self.leads = Tree(size), leads
 
     def lead(self) -> bytes:
-        """The answer to `lead`: a follower becomes a leader of its nodes."""
+        """Returns the reply to `lead`: a follower becomes a leader of its nodes."""
         if not self.leads:
             if any(len(node) > self.tree.size for node in self.nodes):
                 return b"unfit %d size" % self.next
@@ -50,7 +50,7 @@ class Store(Model):
         return b"next %d" % self.next
 
     def command(self, line: bytes) -> bytes | None:
-        """The answer to a command, with a number before it or without one, or None where the line is none."""
+        """Returns the reply to a command, with or without a number before it, or None if the line is not one."""
         word, *words = line.split(b" ")
         echo = number(word[1:]) if word[:1] == b"#" and is_number(word[1:]) else None
         match [word, *words] if echo is None else words:
@@ -72,13 +72,13 @@ class Store(Model):
         ).encode()
 
     def led(self, line: bytes) -> bytes:
-        """The answer of a leader."""
+        """Returns the reply of a leader."""
         told = self.read(line)
         told = self.command(line) if told is None else told
         return b"bad" if told is None else told
 
     def told(self, line: bytes) -> bytes:
-        """The answer to a line without its end, in the role that it has."""
+        """Returns the reply to an unterminated line, in its role."""
         if line == b"lead":
             return self.lead()
         if line == b"follow":
@@ -97,7 +97,7 @@ class Store(Model):
 
 
 def random_echo(chance: random.Random, done: int) -> bytes:
-    """A number before a command, most often the one after the greatest, and what looks like one."""
+    """Returns a number before a command, most often the one after the greatest, or an invalid one."""
     return chance.choice(
         [b"#%d " % (done % MOST + 1)] * 6
         + [
@@ -160,7 +160,7 @@ def run(program: pathlib.Path, words: Sequence[str | bytes], lines: list[bytes])
 
 
 def compare(program: pathlib.Path, size: int, keys: int, seed: int) -> Counts:
-    """Counts of lines whose answer is as the model's, and of others."""
+    """Returns the numbers of lines with the replies of the model, and of others."""
     leader = Store(size)
     author = Commands(leader, seed, keys)
     lines: list[bytes] = []
@@ -175,7 +175,7 @@ def compare(program: pathlib.Path, size: int, keys: int, seed: int) -> Counts:
 
 
 def quiet(program: pathlib.Path, leads: bool, seed: int) -> Counts:
-    """The same of a program that is quiet, whose author writes to a leader or to a follower."""
+    """Returns the numbers for a quiet program, whose input is lines to a leader or to a follower."""
     model = Store(9, leads, is_quiet=True)
     author = Commands(model, seed, 60) if leads else Hostile(model, seed)
     lines: list[bytes] = []
@@ -191,7 +191,8 @@ def quiet(program: pathlib.Path, leads: bool, seed: int) -> Counts:
 
 
 def take_over(program: pathlib.Path, size: int, seed: int) -> Counts:
-    """Counts of lines that a follower that takes over answers as the leader that goes on, and of others."""
+    """Returns the numbers of lines with equal replies of a follower that takes over and of the leader that continues,
+    and of others."""
     chance = random.Random(seed)
     leader = Store(size)
     author = Commands(leader, seed, 60)
@@ -214,7 +215,7 @@ def take_over(program: pathlib.Path, size: int, seed: int) -> Counts:
 
 
 def begins_late(program: pathlib.Path, size: int, seed: int) -> Counts:
-    """Counts of followers that hold what a leader gives, and lead as it goes on, and of others."""
+    """Returns the numbers of followers that begin from a leader's snapshot and lead as it continues, and of others."""
     leader = Store(size)
     author = Commands(leader, seed, 60)
     lines = [author.command() for _ in range(300)]
@@ -237,7 +238,7 @@ def begins_late(program: pathlib.Path, size: int, seed: int) -> Counts:
 
 
 def cut_lines(program: pathlib.Path) -> Counts:
-    """The counts for commands, reads and `lead` to a leader and a follower that end at each byte."""
+    """Returns the numbers for commands, reads and `lead` to a leader and a follower that are truncated at each byte."""
     lines = [
         b"put 3 30", b"#17 put 12 120\r", b"done 21 1", b"start 5 17", b"lead\r", b"cut 3", b"range 1 20", b"sum\r",
         b"start 5", b"lead", b"put 4 40", b"follow", b"head 12",
@@ -255,7 +256,7 @@ def cut_lines(program: pathlib.Path) -> Counts:
 
 
 def too_large(program: pathlib.Path) -> Counts:
-    """A follower whose node is too large for a leader stays one."""
+    """Tests that a follower with a node that is too large for a leader stays a follower."""
     lines = [
         *snapshot([[(1, 1), (2, 2), (3, 3)]], 7), b"lead", b"put 1 1", b"7 split 3:3 1", b"lead", b"8 create 9:9",
         b"put 9 9", b"nodes",
@@ -270,7 +271,7 @@ def too_large(program: pathlib.Path) -> Counts:
 
 
 def no_number(program: pathlib.Path) -> Counts:
-    """A leader that has no number left for an event ends with a fault, and the answers before it are told."""
+    """Tests that a leader without numbers for an event ends with a fault, after its replies to the lines before."""
     done = run(program, [], [*snapshot([], MOST), b"lead", b"cut 1", b"put 1 1", b"len"])
     passed = (done.returncode, done.stdout, done.stderr) == (
         2,
@@ -283,7 +284,7 @@ def no_number(program: pathlib.Path) -> Counts:
 
 
 def arguments(program: pathlib.Path) -> Counts:
-    """Arguments that the program knows, and others."""
+    """Tests valid and invalid arguments."""
     usage = (
         b"usage: indexset_store [--follow | --lead] [--keys numbers|text] [--keep FILE] [--node-size N] [--window N]"
         b" [--pass-others] [--quiet] | --help | --version"

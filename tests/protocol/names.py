@@ -1,11 +1,11 @@
 #!/usr/bin/env python3
-"""Compares a map of texts that leads with a model, and a follower with the leader that it follows.
+"""Compares a leader of a map of texts with a model, and a follower with the leader that it follows.
 
-Keys and values have spaces, colons, percent signs, line ends and bytes of any kind, and some are empty. The model is
-a Python dictionary, written from docs/protocol.md: a text is spelled by `%` and two upper-case hexadecimal digits
-for each byte but letters, digits and `-._~`, and keys are ordered by their bytes. A follower gets the events of the
-leader and must then give the same snapshot, and lead on as the leader goes on. What spells a text in another way is
-`bad`. Some lines are cut at every byte.
+Keys and values have spaces, colons, percent signs, line ends and bytes of any kind, and some are empty. The model is a
+Python dictionary, written from docs/protocol.md: a text is encoded by `%` and two upper-case hexadecimal digits for
+each byte except letters, digits and `-._~`, and keys are ordered by their bytes. A follower gets the events of the
+leader and must then write the same snapshot, and lead as the leader continues. The reply to a text in another encoding
+is `bad`. Some lines are truncated at every byte.
 
 Run it once the program is built. The last line is 'N passed, M failed'.
 """
@@ -38,7 +38,7 @@ POOL = [
 
 
 def spelled(text: bytes) -> bytes:
-    """How a text is spelled in a line."""
+    """Returns the encoding of a text in a line."""
     return urllib.parse.quote_from_bytes(text, safe="").encode()
 
 
@@ -47,7 +47,7 @@ def shown(items: list[tuple[bytes, bytes]]) -> bytes:
 
 
 class Model:
-    """What a map of texts that leads should answer, but for its events."""
+    """The expected replies of a leader of a map of texts, without its events."""
 
     def __init__(self) -> None:
         self.held: dict[bytes, bytes] = {}
@@ -82,7 +82,7 @@ class Model:
 
 
 class Author:
-    """Lines to a map of texts, and the first lines of the answers to them."""
+    """Lines to a map of texts, and the first lines of the replies to them."""
 
     def __init__(self, seed: int) -> None:
         self.chance, self.model = random.Random(seed), Model()
@@ -116,7 +116,8 @@ def run(program: pathlib.Path, words: list[str], given: bytes) -> subprocess.Com
 
 
 def compare(program: pathlib.Path, size: int, seed: int) -> Counts:
-    """Counts of lines that a leader answers as the model, and of followers that hold and go on as it does."""
+    """Returns the numbers of lines with the replies of the model, and of followers with the leader's state that
+    continue as it does."""
     author = Author(seed)
     pairs = [author.line() for _ in range(LINES)]
     given, wanted = [line for line, _ in pairs], [answer for _, answer in pairs]
@@ -149,7 +150,7 @@ def compare(program: pathlib.Path, size: int, seed: int) -> Counts:
 
 
 def misspelled(program: pathlib.Path) -> Counts:
-    """Texts that are spelled in another way are no texts."""
+    """Tests that texts in another encoding are not texts."""
     wrong = [
         b"%41", b"%2", b"%", b"%zz", b"%2d", b"%c3%bc", b"%7e", b"a+b%", b"\xc3\xbc", b"a/b", b"a+b", b"%%", b"%2%30",
         b"a\tb", b"%5F", b"%GG", b"%0a", b"a:b",
@@ -184,7 +185,7 @@ READ = re.compile(
 
 
 def is_read(line: bytes) -> bool:
-    """Whether a line asks for a read."""
+    """Returns whether a line is a read."""
     found = READ.fullmatch(line)
     return found is not None and all(
         spelled(urllib.parse.unquote_to_bytes(word)) == word for word in found.groups() if word is not None
@@ -192,7 +193,8 @@ def is_read(line: bytes) -> bool:
 
 
 def cuts(program: pathlib.Path, words: list[str], given: bytes) -> Counts:
-    """The counts for lines that are cut at each byte: a cut read is answered, and no cut line changes anything."""
+    """Returns the numbers for lines that are truncated at each byte: a truncated read gets a reply, and no truncated
+    line changes anything."""
     failed = 0
     for end in range(len(given) + 1):
         whole, _, rest = given[:end].rpartition(b"\n")
@@ -210,7 +212,7 @@ def cuts(program: pathlib.Path, words: list[str], given: bytes) -> Counts:
 
 
 def kept(program: pathlib.Path) -> Counts:
-    """A file of texts is gone on from, and refused where keys are numbers, and the other way round."""
+    """Tests that a file of texts is continued, and is refused if keys are numbers, and the other way round."""
     failed = 0
     with tempfile.TemporaryDirectory() as room:
         texts, numbers = f"{room}/texts", f"{room}/numbers"

@@ -1,4 +1,4 @@
-"""The files of leaders: whether they keep what is told, and what may happen to them."""
+"""The files of leaders: whether they keep the published events, and the damage that may happen to them."""
 
 from __future__ import annotations
 
@@ -20,14 +20,14 @@ def number_of_event(event: bytes) -> int:
 
 
 def events_in(file: pathlib.Path) -> list[bytes]:
-    """The events that a file keeps. Where a program still has it, this waits."""
+    """Returns the events that a file keeps. If a program still has it, this waits."""
     with contextlib.closing(sqlite3.connect(f"file:{file}?mode=ro", SECONDS, uri=True)) as base:
         lines = [line for (line,) in base.execute("SELECT CAST(line AS BLOB) FROM kept ORDER BY number")]
     return [line for line in lines if line[:1].isdigit()]
 
 
 class Witness:
-    """What is told of each shard, and what is found in files: an event has one number, and one line."""
+    """The published events of each shard, and the content of files: an event has one number, and one line."""
 
     def __init__(self, engine: Engine) -> None:
         self.engine = engine
@@ -35,7 +35,7 @@ class Witness:
         self.at: dict[str, int] = {}
         self.next: collections.Counter[str] = collections.Counter()
         self.kept: list[tuple[str, bytes]] = []
-        self.trimmed = 0  # (times that entries were gone before they were read)
+        self.trimmed = 0  # (times that entries were trimmed before they were read)
         self.wrong: list[str] = []
 
     def read_told(self) -> None:
@@ -48,7 +48,7 @@ class Witness:
                     self.take(shard, [line for line in it.lines() if line[:1].isdigit()], is_next)
 
     def take(self, shard: str, events: list[bytes], is_next: bool) -> None:
-        """Takes the events of an entry, which go on where the one before ended, if that was read."""
+        """Takes the events of an entry, which continue from the end of the one before, if that was read."""
         told = self.told[shard]
         awaited = self.next[shard] if is_next or not events else number_of_event(events[0])
         for number, event in enumerate(events, awaited):
@@ -58,11 +58,11 @@ class Witness:
         self.next[shard] = awaited + len(events)
 
     def read_kept(self, shard: str, file: pathlib.Path) -> None:
-        with contextlib.suppress(sqlite3.DatabaseError):  # (a file that was damaged)
+        with contextlib.suppress(sqlite3.DatabaseError):  # (a damaged file)
             self.kept += [(shard, event) for event in (events_in(file) if file.exists() else [])]
 
     def compare(self) -> int:
-        """Compares what was kept with what was told, and returns how many events these are."""
+        """Compares the kept events with the published ones, and returns their number."""
         self.read_told()
         compared = 0
         for shard, event in self.kept:
@@ -75,7 +75,7 @@ class Witness:
 
 
 def befall(file: pathlib.Path, fate: str, chance: random.Random) -> None:
-    """What happens to a file of which no program is left."""
+    """Damages or removes a file whose program has ended, or leaves it unchanged."""
     parts = [part for part in (file, pathlib.Path(f"{file}-wal")) if part.exists() and part.stat().st_size > 0]
     if fate == "is gone":
         remove(file)
@@ -93,7 +93,7 @@ def befall(file: pathlib.Path, fate: str, chance: random.Random) -> None:
 
 
 def change_line(file: pathlib.Path, chance: random.Random) -> None:
-    """Changes one of the kept lines, as only its seal shows."""
+    """Changes one of the kept lines, which only its checksum shows."""
     with contextlib.suppress(sqlite3.DatabaseError), contextlib.closing(sqlite3.connect(file)) as base:
         (last,) = base.execute("SELECT count(*) FROM kept").fetchone()
         base.execute("UPDATE kept SET line = 'done 1 0' WHERE number = ?", [chance.randrange(last + 1)])

@@ -1,11 +1,11 @@
 #!/usr/bin/env python3
-"""Kills every part of a map over several shards, by a seed, while commands come, and compares it with a plain map.
+"""Kills every part of a map over several shards, by a seed, while commands are sent, and compares it with a plain map.
 
-usage: kills.py [SEED] [COMMANDS]. The engine, the router, a leader, one that stands by, a leader's program, a reader
-and a reader's follower are killed at random batches, and engine and leader together; a leader begins again on its
-machine, with its file, on a new one, or with a damaged file. Shards are split and merged while one of their leaders is
-down. At cuts, some of them while later commands are on their way, and in the end: how many pairs there are, ranks,
-positions, pages over the borders, and all pairs; and each event that a file kept beside the one that was told under
+usage: kills.py [SEED] [COMMANDS]. The engine, the router, a leader, one on standby, a leader's program, a reader and a
+reader's follower are killed at random batches, and engine and leader together; a leader is restarted on its machine,
+with its file, on a new one, or with a damaged file. Shards are split and merged while one of their leaders is down. At
+cuts, some of them while later commands are being sent, and in the end, it compares the number of pairs, ranks,
+positions, pages over the borders, and all pairs; and each event that a file kept with the one that was published under
 its number. It ends with a table, and the last line is 'N passed, M failed'.
 
 It needs redis-server and the built `indexset_store`.
@@ -43,14 +43,14 @@ KILL = 0.15  # of the batches
 LEADERS = ("leader", "leader that stands by", "program of a leader")
 TOGETHER = "engine and leader"
 PARTS = ("engine", "router", *LEADERS, TOGETHER, "reader", "follower of a reader")
-CUTS = 12  # comparisons on the way
+CUTS = 12  # comparisons before the end
 WIDTH = 900  # keys of a range
 REFITS = ("split", "split", "merge", "split", "merge")
 SAID = ("begins with its file", "begins with a snapshot", "tells [1-9]", "drops its file")
 
 
 class Drill:
-    """The parts, a plain map beside them, and what was found."""
+    """The parts, a plain map for comparison, and the results."""
 
     def __init__(self, cluster: Cluster, chance: random.Random) -> None:
         self.cluster, self.chance = cluster, chance
@@ -67,7 +67,7 @@ class Drill:
         self.counts["commands"] += len(lines)
 
     def kill(self) -> None:
-        """Kills a part. Leaders are started again by `mend`, other parts at once."""
+        """Kills a part. Leaders are restarted by `mend`, other parts at once."""
         part = self.chance.choice(PARTS)
         self.counts[f"killed: {part}"] += 1
         match part:
@@ -95,7 +95,7 @@ class Drill:
         self.cluster.start_server()
 
     def leading(self) -> tuple[str, int]:
-        """A shard, and which of its leaders leads, or the first one."""
+        """Returns a shard, and which of its leaders leads, or the first one."""
         _, shard = self.chance.choice(self.cluster.engine.table())
         owner = self.cluster.engine.call("GET", f"lease:{shard}")
         numbers = [b"%d" % it.pid for it in self.cluster.leaders[shard]]
@@ -104,7 +104,7 @@ class Drill:
         return shard, numbers.index(number) if number in numbers else 0
 
     def kill_together(self) -> None:
-        """Has the engine take no writes, so that what a leader then keeps is not told, and kills both."""
+        """Makes the engine reject writes, so that a leader then keeps events that are not published, and kills both."""
         shard, place = self.leading()
         leader = self.cluster.leaders[shard][place]
         leader.send_signal(signal.SIGSTOP)
@@ -117,7 +117,8 @@ class Drill:
         self.meet_fate(shard, pathlib.Path(self.cluster.machine(place), f"{shard}.db"))
 
     def kill_leader(self, part: str, shard: str, place: int) -> None:
-        """Kills a shard's leader, so that the one that stands by is promoted, that one, or the leader's program."""
+        """Kills a shard's leader, so that the one on standby is promoted, or the one on standby, or the leader's
+        program."""
         if part == "leader that stands by":
             place = 1 - place
         killed = self.cluster.leaders[shard][place]
@@ -130,8 +131,8 @@ class Drill:
         self.meet_fate(shard, pathlib.Path(self.cluster.machine(place), f"{shard}.db"))
 
     def meet_fate(self, shard: str, file: pathlib.Path) -> None:
-        """What happens to the file of a leader that was killed, before it begins again. Where nothing does, it may
-        begin again while its program has not ended."""
+        """Damages or removes the file of a killed leader before its restart, or leaves it. If it is left, the leader
+        may be restarted while its program has not ended."""
         fate = self.chance.choice(FATES)
         self.counts[f"file: {fate}"] += 1
         if fate != "stays" or self.chance.random() < 0.7:
@@ -142,7 +143,7 @@ class Drill:
         befall(file, fate, self.chance)
 
     def refit(self, word: str) -> None:
-        """Splits the fullest shard in its middle, or merges two shards, while commands are on their way."""
+        """Splits the fullest shard in its middle, or merges two shards, while commands are being sent."""
         lows = [low for low, _ in self.cluster.engine.table()]
         if word == "split":
             self.cluster.until_shown(self.reader, self.cluster.head())
@@ -153,7 +154,7 @@ class Drill:
         self.counts[f"{word}s"] += 1
 
     def cut(self) -> None:
-        """Compares the map as it is after a command, once later ones are on their way."""
+        """Compares the map after a command, while later ones are being sent."""
         number, pairs = self.cluster.head(), dict(self.pairs)
         for _ in range(3):
             self.send()
@@ -208,7 +209,7 @@ class Drill:
         self.compare_files()
 
     def compare_files(self) -> None:
-        """Compares what the files keep with what was told, once those of shards that ended are removed."""
+        """Compares the content of the files with the published events, after those of ended shards are removed."""
         for _ in range(600):
             self.cluster.mend()
             if self.cluster.have_ended():

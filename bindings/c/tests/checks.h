@@ -1,5 +1,4 @@
-/* What the tests share: requests for memory that are refused, checks that are counted, and numbers that are
- * drawn. */
+/* Shared by the tests: allocations that fail, counted checks, and random numbers. */
 #ifndef CHECKS_H
 #define CHECKS_H
 
@@ -8,7 +7,7 @@
 #include <stdlib.h>
 #include <string.h>
 
-/* ---- requests for memory: every nth is refused, where n is not 0, and all from one on, where that is not 0 */
+/* ---- allocations: every nth fails if n is not 0, and all from one on if that is not 0 */
 void *__real_malloc(size_t size);
 void *__real_realloc(void *at, size_t size);
 static unsigned long nth, onward, requests;
@@ -32,13 +31,13 @@ static void check(bool holds, const char *text, const char *file, int line) {
 }
 #define CHECK(condition) check((condition), #condition, __FILE__, __LINE__)
 
-/* Prints how many checks passed, and returns a program's status. */
+/* Prints the number of passed checks, and returns the exit status of the program. */
 static int told(void) {
     printf("%u passed, %u failed\n", passed, failed);
     return failed == 0 ? 0 : 1;
 }
 
-/* ---- numbers that are drawn */
+/* ---- random numbers */
 static uint64_t state = 0x9e3779b97f4a7c15u;
 
 static uint64_t draw(void) {

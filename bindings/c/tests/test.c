@@ -1,4 +1,4 @@
-/* Each call of indexset.h beside a sorted array, also with every Nth request for memory refused. */
+/* Tests each call of indexset.h against a sorted array, also with every Nth allocation failing. */
 #include "checks.h"
 
 /* ---- the model: a sorted array */
@@ -29,7 +29,7 @@ static void model_remove_at(size_t at) {
     count--;
 }
 
-/* The least and the greatest key come up too. */
+/* The least and the greatest key occur too. */
 static uint64_t draw_key(void) {
     uint64_t key = draw() >> 20 & 2047;
     return key == 0 ? 0 : key == 1 ? UINT64_MAX : key * 0x0004000000000001u;
@@ -43,7 +43,7 @@ static bool same_as_model(const indexset_set *set) {
     return memcmp(out, model, count * sizeof *model) == 0;
 }
 
-/* ---- a handle that leads to none */
+/* ---- a handle that owns none */
 static void test_none(void) {
     indexset_set set = INDEXSET_HANDLE, other = INDEXSET_HANDLE;
     uint64_t out = 7, keys[2] = {5, 6};
@@ -77,7 +77,7 @@ static void test_none(void) {
     CHECK(!set.live && !other.live);
 }
 
-/* ---- the life of a set */
+/* ---- construction and destruction of a set */
 static void test_life(void) {
     indexset_set set = INDEXSET_HANDLE, other = INDEXSET_HANDLE;
     CHECK(indexset_set_new(&set) == INDEXSET_YES);
@@ -110,7 +110,7 @@ static void test_life(void) {
     indexset_set_free(&other);
 }
 
-/* ---- a handle on the heap, also where its second and third request for memory are refused */
+/* ---- a handle on the heap, also if its second or third allocation fails */
 static void test_heap(void) {
     indexset_set *set = NULL, other = INDEXSET_HANDLE;
     indexset_map *map = NULL;
@@ -137,7 +137,7 @@ static void test_heap(void) {
     CHECK(map == NULL);
 }
 
-/* ---- one call beside the model */
+/* ---- one call, compared with the model */
 static void step_change(indexset_set *set, uint64_t key) {
     uint64_t out = 77;
     bool there = model_has(key), ranked = draw() % 4 == 0;
@@ -226,7 +226,7 @@ static void step_batch(indexset_set *set) {
     for (size_t i = 0; i < stop; i++) CHECK(elements[i] == model[ranks[i]]);
 }
 
-/* ---- many calls, every nth request for memory refused */
+/* ---- many calls, every nth allocation fails */
 static void test_random(unsigned long refuse, unsigned steps) {
     indexset_set set = INDEXSET_HANDLE, cloned = INDEXSET_HANDLE;
     count = 0;
@@ -254,7 +254,7 @@ static void test_random(unsigned long refuse, unsigned steps) {
     indexset_set_free(&set);
 }
 
-/* ---- a map beside the same sorted array, with a value at each place */
+/* ---- a map compared with the same sorted array, with a value at each place */
 static uint64_t model_values[ROOM];
 
 static void map_model_put(uint64_t key, uint64_t value) {

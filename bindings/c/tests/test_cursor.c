@@ -1,4 +1,4 @@
-/* Walks by cursors, of each collection, beside its ranges by position. */
+/* Compares iterations by cursors, of each collection, with its ranges by position. */
 #include "checks.h"
 
 enum { ROOM = 5000, PAGE = 100, TEXT = 16 };
@@ -39,7 +39,7 @@ static void set_put(uint64_t key, uint64_t value) {
 }
 static void set_take(uint64_t key) { CHECK(indexset_set_remove(&set, key)); }
 
-/* ---- what holds pairs of numbers */
+/* ---- collections of pairs of numbers */
 #define PAIRS(name, of)                                                                                                \
     static void name##_at(size_t position, indexset_cursor *cursor) {                                                  \
         indexset_##name##_cursor_at(of, position, cursor);                                                             \
@@ -94,12 +94,12 @@ static void log_take(uint64_t key) {
     tell(events, many);
 }
 
-/* ---- what holds byte strings: a number of ten digits, and up to four letters behind it */
+/* ---- collections of byte strings: a number of ten digits, followed by up to four letters */
 static size_t text_of(uint64_t key, char *text) {
     int len = snprintf(text, TEXT, "%010llu%.*s", (unsigned long long)key, (int)(key % 5), "abcd");
     return (size_t)len;
 }
-/* Reads the keys that a walk wrote. */
+/* Reads the keys that an iteration wrote. */
 static void read_keys(const char *bytes, const size_t *lengths, size_t many, uint64_t *keys) {
     char text[TEXT];
     for (size_t i = 0; i < many; bytes += lengths[i++]) {
@@ -159,11 +159,11 @@ static void text_log_take(uint64_t key) {
     CHECK(indexset_text_log_remove(&text_log, text, text_of(key, text), &value, &told) == INDEXSET_YES);
 }
 
-/* ---- the pairs of a collection in order, and what follows a cursor */
+/* ---- the pairs of a collection in order, and those after a cursor */
 static uint64_t keys[ROOM], values[ROOM];
 static size_t count;
 
-/* Whether the next `places` of a walk are the pairs from a position on. */
+/* Returns whether the next `places` elements of an iteration are the pairs from a position on. */
 static bool goes_on(const kind *of, indexset_cursor *cursor, size_t position, size_t places) {
     static uint64_t next_keys[ROOM + 1], next_values[ROOM + 1];
     size_t rest = position < count ? count - position : 0;
@@ -197,7 +197,7 @@ static void walk_from_key(const kind *of, uint64_t key) {
     CHECK(goes_on(of, &cursor, below, PAGE));
 }
 
-/* Numbers that no call gave. */
+/* A cursor that no call returned. */
 static void walk_from_anywhere(const kind *of, indexset_cursor cursor) {
     static uint64_t next_keys[ROOM], next_values[ROOM];
     size_t many = of->next(&cursor, next_keys, next_values, ROOM);
@@ -206,7 +206,7 @@ static void walk_from_anywhere(const kind *of, indexset_cursor cursor) {
     CHECK(goes_on(of, &cursor, count, 1));
 }
 
-/* A walk asks for no memory. */
+/* An iteration allocates nothing. */
 static void walk(const kind *of) {
     onward = 1;
     requests = 0;
@@ -225,7 +225,7 @@ static void walk(const kind *of) {
     onward = 0;
 }
 
-/* ---- a collection that grows, is walked while keys go, and is empty in the end */
+/* ---- a collection that grows, is iterated while keys are removed, and is empty in the end */
 static void test(const kind *of, uint64_t many) {
     walk(of);
     for (uint64_t i = 0; i < 2 * many; i++) of->put(3 * (draw() >> 20 & 4095) % (3 * many), i);
@@ -243,7 +243,7 @@ static void test(const kind *of, uint64_t many) {
     walk_from_anywhere(of, old);
 }
 
-/* ---- a page with less room in one array than in another, and bytes that are cut */
+/* ---- a page with fewer places in one array than in another, and truncated bytes */
 static void test_room(void) {
     uint64_t some[4] = {70, 71, 72, 73}, more[4] = {80, 81, 82, 83};
     size_t sizes[4] = {90, 91, 92, 93};

@@ -1,6 +1,7 @@
 #!/usr/bin/env bash
-# Installs the library in a folder, builds programs in C and C++ outside the repository on it, by pkg-config and by
-# CMake, and looks at the names that the libraries export. A tool that is not installed fails. The last line counts.
+# Installs the library in a folder, builds programs in C and C++ on it outside the repository, by pkg-config and by
+# CMake, and checks the names that the libraries export. A tool that is not installed is a failure. The last line
+# counts.
 #
 #     bindings/c/tests/test_install.sh
 set -u
@@ -15,7 +16,7 @@ trap 'rm -rf "$room"' EXIT
 passed=0
 failed=0
 
-# Runs a command; a line says where it fails.
+# Runs a command, and prints its output if it fails.
 try() {
     if "$@" > "$room/said" 2>&1; then
         passed=$((passed + 1))
@@ -55,7 +56,7 @@ by_cmake_in_cpp() {
         test "$("$room/built_cpp/shared")" = "7 20 30" && test "$("$room/built_cpp/alone")" = "7 20 30"
 }
 
-# An older series is no library for a newer program.
+# A library of an older series does not satisfy a newer program.
 refuses_another_version() {
     sed -i 's/indexset 0\.[0-9]*/indexset 0.999/' "$room/CMakeLists.txt"
     ! cmake -S "$room" -B "$room/other" -DCMAKE_PREFIX_PATH="$room/to"

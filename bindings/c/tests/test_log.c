@@ -1,5 +1,5 @@
-/* Each call of a logged map beside an array, and beside nodes to which its changes are made one by one, also
- * with every Nth request for memory refused. */
+/* Tests each call of a logged map against an array, and against nodes to which its changes are applied one by one, also
+ * with every Nth allocation failing. */
 #include "checks.h"
 
 enum { KEYS = 512, ROOM = 4096 };
@@ -7,10 +7,10 @@ static uint64_t model[KEYS];
 static bool model_has[KEYS];
 static size_t count;
 
-/* The greatest key comes up too. */
+/* The greatest key occurs too. */
 static uint64_t key_of(size_t at) { return at == KEYS - 1 ? UINT64_MAX : at * 3; }
 
-/* ---- nodes to which the changes are made */
+/* ---- nodes to which the changes are applied */
 typedef struct node {
     size_t length;
     uint64_t keys[8], values[8];
@@ -18,7 +18,7 @@ typedef struct node {
 static node nodes[KEYS];
 static size_t node_count;
 
-/* The place of the node whose last key this is. */
+/* The place of the node with this last key. */
 static size_t named(uint64_t key) {
     size_t at = 0;
     while (at < node_count && nodes[at].keys[nodes[at].length - 1] != key) at++;
@@ -103,7 +103,7 @@ static void compare(const indexset_log *log) {
     }
 }
 
-/* ---- a handle that leads to none, and worked changes: nodes of at most 2 pairs */
+/* ---- a handle that owns none, and changes written out: nodes of at most 2 pairs */
 static void test_life(void) {
     indexset_log log = INDEXSET_HANDLE, other = INDEXSET_HANDLE;
     indexset_event events[INDEXSET_CHANGES];
@@ -163,7 +163,7 @@ static void test_life(void) {
     indexset_log_free(&log);
 }
 
-/* ---- many calls, every nth request for memory refused */
+/* ---- many calls, every nth allocation fails */
 static void step_change(indexset_log *log) {
     size_t at = (size_t)(draw() % KEYS), told = 99;
     uint64_t key = key_of(at), value = draw(), out = 77, next = indexset_log_next(log);

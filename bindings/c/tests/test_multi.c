@@ -1,7 +1,7 @@
-/* Each call of a multimap beside an array of pairs, also with every Nth request for memory refused. */
+/* Tests each call of a multimap against an array of pairs, also with every Nth allocation failing. */
 #include "checks.h"
 
-/* ---- the model: pairs in the order of their keys, and of a key in the order in which they came */
+/* ---- the model: pairs in the order of their keys, those of a key in insertion order */
 enum { ROOM = 4096 };
 static uint64_t model_keys[ROOM], model_values[ROOM];
 static size_t count;
@@ -38,7 +38,7 @@ static void remove_at(size_t at) {
     count--;
 }
 
-/* The least and the greatest key come up too. */
+/* The least and the greatest key occur too. */
 static uint64_t draw_key(void) {
     uint64_t key = draw() >> 20 & 127;
     return key == 127 ? UINT64_MAX : key;
@@ -52,7 +52,7 @@ static bool same_as_model(const indexset_multi *multi) {
            && memcmp(values, model_values, count * sizeof *values) == 0;
 }
 
-/* ---- a handle that leads to none, and the life of a multimap */
+/* ---- a handle that owns none, and construction and destruction of a multimap */
 static void test_life(void) {
     indexset_multi multi = INDEXSET_HANDLE, other = INDEXSET_HANDLE;
     uint64_t key = 7, value = 8;
@@ -91,7 +91,7 @@ static void test_life(void) {
     CHECK(heap == NULL);
 }
 
-/* ---- many calls, every nth request for memory refused */
+/* ---- many calls, every nth allocation fails */
 static void step_change(indexset_multi *multi, uint64_t key) {
     uint64_t value = draw() >> 20 & 7, out = 77;
     size_t first = below(key), past = upto(key), at = place_of(key, value);

@@ -1,13 +1,13 @@
-/* Each call of a replica, worked and beside the logged map that it follows: with changes lost, repeated and
- * out of order, also with every Nth request for memory refused. */
+/* Tests each call of a replica, by examples and against the logged map that it follows: with changes lost, repeated and
+ * out of order, also with every Nth allocation failing. */
 #include "checks.h"
 
 enum { KEYS = 512, ROOM = 4096, CHANGES = 40000 };
 
-/* The greatest key comes up too. */
+/* The greatest key occurs too. */
 static uint64_t key_of(size_t at) { return at == KEYS - 1 ? UINT64_MAX : at * 3; }
 
-/* ---- a handle that leads to none */
+/* ---- a handle that owns none */
 static void test_none(void) {
     indexset_replica replica = INDEXSET_HANDLE;
     indexset_log log = INDEXSET_HANDLE;
@@ -32,7 +32,7 @@ static void test_none(void) {
     CHECK(!replica.live);
 }
 
-/* ---- worked changes: what each status says, and that nothing changes but for INDEXSET_YES */
+/* ---- changes written out: each status, and that nothing changes unless it is INDEXSET_YES */
 static void refuses(indexset_replica *replica, indexset_event event, uint32_t status) {
     uint64_t next = indexset_replica_next(replica);
     size_t taken = 9, length = indexset_replica_len(replica), nodes = indexset_replica_node_count(replica);
@@ -154,7 +154,7 @@ static void step_log(indexset_log *log, indexset_replica *exact, bool grows) {
     }
 }
 
-/* Delivers some changes about those that are awaited, and looks at what was made of them. */
+/* Delivers some changes around the next one, and checks which were applied. */
 static void step_replica(indexset_replica *replica, uint64_t start) {
     indexset_event sent[6];
     size_t at = (size_t)(indexset_replica_next(replica) - start), from = at < 3 ? 0 : at - 3, taken = 99, count = 0;

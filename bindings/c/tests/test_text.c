@@ -1,5 +1,4 @@
-/* Each call of a map from byte strings beside a sorted array of keys, also with every Nth request for memory
- * refused. */
+/* Tests each call of a map from byte strings against a sorted array of keys, also with every Nth allocation failing. */
 #include "checks.h"
 
 /* ---- the model: keys in order, each with its value */
@@ -50,7 +49,7 @@ static void model_remove_at(size_t at) {
     count--;
 }
 
-/* Many keys begin alike, some are the beginning of others, and zeros, bytes above 127 and no byte come up. */
+/* Many keys have a common prefix, some are a prefix of others; zeros, bytes above 127 and the empty key occur. */
 static key draw_key(void) {
     static const uint8_t letters[4] = {0, 'a', 'b', 0xff};
     key k = {.len = draw() >> 20 & 7};
@@ -63,7 +62,7 @@ static key draw_key(void) {
     return k;
 }
 
-/* What a call wrote of a pair is that of the model at a position, and behind it the array is as it was. */
+/* Checks that a call wrote the pair of the model at a position, and left the rest of the array unchanged. */
 static bool wrote(size_t at, const uint8_t *bytes, size_t places, size_t len, uint64_t value) {
     size_t told = len < places ? len : places;
     if (len != model[at].len || value != model_values[at] || memcmp(bytes, model[at].bytes, told) != 0) return false;
@@ -94,7 +93,7 @@ static bool same_as_model(const indexset_text_map *map) {
     return true;
 }
 
-/* ---- a handle that leads to none, and the life of a map */
+/* ---- a handle that owns none, and construction and destruction of a map */
 static void test_life(void) {
     indexset_text_map map = INDEXSET_HANDLE, other = INDEXSET_HANDLE;
     const char *apple = "apple", *none = "";
@@ -149,7 +148,7 @@ static void test_life(void) {
     CHECK(heap == NULL);
 }
 
-/* ---- many calls, every nth request for memory refused */
+/* ---- many calls, every nth allocation fails */
 static void step_change(indexset_text_map *map, key k) {
     uint64_t value = draw(), before = 78;
     bool there = model_has(&k);
@@ -228,7 +227,7 @@ static void step_range(const indexset_text_map *map) {
     CHECK(values[wanted] == 77 && values[7] == 77);
 }
 
-/* The keys of a part, one behind another, also where they are cut. */
+/* The concatenated keys of a range, also truncated. */
 static void step_keys(const indexset_text_map *map) {
     uint8_t bytes[41], wanted[5 * LONGEST];
     size_t lengths[6] = {55, 55, 55, 55, 55, 55}, places = draw() % 41, end = 0;

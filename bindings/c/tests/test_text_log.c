@@ -1,5 +1,5 @@
-/* Each call of a logged map from byte strings beside a sorted array of keys, and beside nodes to which its changes
- * are made one by one, also with every Nth request for memory refused. */
+/* Tests each call of a logged map from byte strings against a sorted array of keys, and against nodes to which its
+ * changes are applied one by one, also with every Nth allocation failing. */
 #include "checks.h"
 
 enum { ROOM = 2048, LONGEST = 8, SIZE = 4 };
@@ -26,7 +26,7 @@ static bool model_has(const pair *of) {
     return at < count && compare_keys(&model[at], of) == 0;
 }
 
-/* Many keys begin alike; no byte, zeros and bytes above 127 come up. */
+/* Many keys have a common prefix; the empty key, zeros and bytes above 127 occur. */
 static pair draw_pair(void) {
     static const uint8_t letters[4] = {0, 'a', 'b', 0xff};
     pair of = {.len = draw() >> 20 & 3, .value = draw() >> 40};
@@ -41,7 +41,7 @@ static pair draw_pair(void) {
 
 static bool is_same(const pair *a, const pair *b) { return compare_keys(a, b) == 0 && a->value == b->value; }
 
-/* ---- nodes to which the changes are made */
+/* ---- nodes to which the changes are applied */
 typedef struct node {
     size_t length;
     pair pairs[SIZE + 1];
@@ -102,7 +102,7 @@ static void make_change(const indexset_text_event *event, const pair *name, cons
     }
 }
 
-/* Makes the changes that are kept, read into arrays that have room and into arrays that have too little. */
+/* Applies the kept changes, read into arrays that are long enough and into arrays that are too short. */
 static void make_changes(const indexset_text_log *log, uint64_t next, size_t told) {
     indexset_text_event event = {0}, cut;
     pair name = {0}, of = {0};
@@ -140,7 +140,7 @@ static void compare(const indexset_text_log *log) {
     }
 }
 
-/* ---- a handle that leads to none, and worked changes: nodes of at most 2 pairs */
+/* ---- a handle that owns none, and changes written out: nodes of at most 2 pairs */
 static void test_life(void) {
     indexset_text_log log = INDEXSET_HANDLE, other = INDEXSET_HANDLE;
     indexset_text_event event = {.number = 99};
@@ -178,7 +178,7 @@ static void test_life(void) {
           && event.index == 1);
     CHECK(indexset_text_log_change(&log, 1, &event, node, 8, key, 8) && event.number == 103
           && memcmp(node, "cat", 3) == 0);
-    /* what is not there leaves the changes that are kept */
+    /* an absent key leaves the kept changes as they are */
     CHECK(indexset_text_log_remove(&log, "ant", 3, &out, &told) == INDEXSET_NO && told == 0);
     CHECK(indexset_text_log_change(&log, 1, &event, node, 8, key, 8) && event.number == 103);
     CHECK(indexset_text_log_insert(&log, "dog", 3, 4, &out, &told) == INDEXSET_NO && out == 3 && told == 3);
@@ -205,7 +205,7 @@ static void test_life(void) {
     indexset_text_log_free(&log);
 }
 
-/* ---- many calls, every nth request for memory refused */
+/* ---- many calls, every nth allocation fails */
 static void step_change(indexset_text_log *log) {
     pair of = draw_pair();
     size_t at = model_rank(&of), told = 99;

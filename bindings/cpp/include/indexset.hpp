@@ -1,10 +1,10 @@
-// Ordered sets and maps with positions for C++17 and later: the collections of indexset.h with the habits of
+// Ordered sets and maps with access by position, for C++17 and later: the collections of indexset.h in the style of
 // std::set, std::map and pb_ds.
 //
 //     indexset::set<int> numbers{30, 10, 20};
 //     numbers.insert(25);
 //     *numbers.find_by_order(1);                // 20: by position
-//     numbers.order_of_key(25);                 // 2: how many are below
+//     numbers.order_of_key(25);                 // 2: the number of elements below
 //     numbers.end() - numbers.lower_bound(20);  // 3: iterators have random access
 //
 //     indexset::map<double, std::uint32_t> prices;
@@ -12,27 +12,27 @@
 //     for (auto [price, amount] : prices) std::printf("%g %u\n", price, amount);
 //
 // Collections: `set<K>`, `map<K, V>`, `byte_map<V>`, whose keys are byte strings, `multimap<K, V>`, whose keys may have
-// several distinct values, `logged_map<K, V>` and `logged_byte_map<V>`, which tell their changes, and `replica<K, V>`,
-// which follows a logged_map by them. All have an order and positions.
+// several distinct values, `logged_map<K, V>` and `logged_byte_map<V>`, which report their changes, and
+// `replica<K, V>`, which follows a logged_map by its changes. All are ordered and give access by position.
 //
-// Keys: all types of integers, `bool`, characters, enums, `float` and `double`, in the order of `<`. Of floating
-// point, -0.0 is the key 0.0, and NaN is one key, above all others. Any other type becomes a key by a specialization
-// of `key_code`. A value is of a type that is trivially copyable and has at most 8 bytes: a number, a pointer, an
-// index. A collection hands out copies: what an iterator leads to cannot be written through it.
+// Keys: all integer types, `bool`, character types, enums, `float` and `double`, in the order of `<`. For
+// floating-point keys, -0.0 equals 0.0, and NaN is one key, above all others. Any other type becomes a key by a
+// specialization of `key_code`. A value has a trivially copyable type of at most 8 bytes: a number, a pointer, an
+// index. A collection returns copies: its elements cannot be written through iterators.
 //
-// Iterators are positions. They meet std::random_access_iterator of C++20, and all rules of such an iterator of C++17
-// but one: `*it` is a value and no reference. A change of a collection invalidates its iterators, but for those that
-// the change returns. As long as the collection lives, to use an invalid one touches no freed memory, but it may lead
-// to another element, or to none, which an assertion refuses. After a move or a swap iterators lead into the collection
-// that has the elements. Elements are fetched in runs, so that a walk does not search for each; where there is no
-// memory for a run, it does.
+// Iterators are positions. They meet std::random_access_iterator of C++20, and all requirements of such an iterator of
+// C++17 but one: `*it` is a value and not a reference. A change of a collection invalidates its iterators, except those
+// that the change returns. As long as the collection lives, using an invalid iterator touches no freed memory, but it
+// may point to another element, or to none, which an assertion rejects. After a move or a swap, iterators point into
+// the collection that has the elements. Elements are fetched in runs, so that iteration does not search for each of
+// them; if a run cannot be allocated, it does.
 //
-// Exceptions: std::bad_alloc alone, where memory is refused, and what the caller's own iterators and functions throw.
-// After an exception nothing has changed. `apply_all` of a replica throws only where it took no change: else it returns
-// how many it took. Moves, swaps and `clear` take no memory, and neither does `erase` of set, map and byte_map. A new
-// collection has none either.
+// Exceptions: std::bad_alloc if an allocation fails, and what the caller's own iterators and functions throw; no
+// others. After an exception nothing has changed. `apply_all` of a replica throws only if it processed no change;
+// otherwise it returns the number of changes that it processed. Moves, swaps and `clear` allocate nothing, and neither
+// does `erase` of set, map and byte_map, nor the constructor of an empty collection.
 //
-// Threads: a collection is for one thread, the one that made it, reads too. Two collections do not touch each other,
+// Threads: a collection is used by one thread, the one that made it, for reads too. Two collections are independent,
 // except a byte_map and its copies, which share the bytes of keys.
 #ifndef INDEXSET_HPP
 #define INDEXSET_HPP
@@ -59,7 +59,7 @@ inline std::uint32_t version() noexcept { return indexset_version(); }
 // Returns whether the contracts of the library were proved before it was compiled.
 inline bool is_proved() noexcept { return indexset_proved != 0; }
 
-// Removes the elements for which `condition` holds. Returns how many it removed. It asks of all of them before it
+// Removes the elements for which `condition` holds, and returns their number. Calls it for all elements before it
 // removes any.
 template <class Collection, class Condition>
 auto erase_if(Collection &from, Condition condition) -> typename Collection::size_type {
@@ -69,7 +69,7 @@ auto erase_if(Collection &from, Condition condition) -> typename Collection::siz
     return positions.size();
 }
 
-// What the iterators are.
+// The guarantees of iterators and collections.
 static_assert(std::is_same_v<set<int>::reference, int> && std::is_same_v<map<int, int>::reference, std::pair<int, int>>,
               "what an iterator hands out is a value, where C++17 asks a forward iterator for a reference");
 static_assert(std::is_nothrow_move_constructible_v<set<int>>);

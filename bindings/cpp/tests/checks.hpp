@@ -1,5 +1,5 @@
-// What the tests of indexset.hpp share with those in C: requests for memory that are refused, `new` among them, checks
-// that are counted, and numbers that are drawn.
+// Shared by the tests of indexset.hpp and those in C: allocations that fail, those of `new` among them, counted checks,
+// and random numbers.
 #ifndef CHECKS_HPP
 #define CHECKS_HPP
 
@@ -31,7 +31,7 @@ extern "C" {
 [[gnu::noinline]] void operator delete(void *at) noexcept { std::free(at); }
 [[gnu::noinline]] void operator delete(void *at, std::size_t) noexcept { std::free(at); }
 
-// A removal may ask for memory, but in nodes of the library's size it hardly does: here every 97th does.
+// A removal may allocate, but in nodes of the library's size it hardly ever does: here every 97th does.
 extern "C" uint32_t __real_indexset_multi_remove_at(indexset_multi *, size_t, uint64_t *, uint64_t *);
 extern "C" uint32_t __wrap_indexset_multi_remove_at(indexset_multi *multi, size_t position, uint64_t *key,
                                                     uint64_t *value) {
@@ -41,8 +41,8 @@ extern "C" uint32_t __wrap_indexset_multi_remove_at(indexset_multi *multi, size_
     return __real_indexset_multi_remove_at(multi, position, key, value);
 }
 
-// Makes a call while every `refuse`th request is refused, or all from that one on. Returns whether it threw; no other
-// exception comes.
+// Makes a call while every `refuse`th allocation fails, or all from that one on. Returns whether it threw; it throws no
+// other exception.
 template <class Call>
 bool is_refused(unsigned long refuse, Call call, unsigned long &which = nth) {
     bool is = false;
@@ -57,9 +57,9 @@ bool is_refused(unsigned long refuse, Call call, unsigned long &which = nth) {
     return is;
 }
 
-// Makes a call on a copy of a collection with the first request refused, then the second, and so on, until none is; and
-// then with all from the first on, from the second on. Where the call throws, the copy is as it was, and else as
-// `changed` has it.
+// Makes a call on a copy of a collection with the first allocation failing, then the second, and so on, until none
+// fails; and then with all from the first on, from the second on. If the call throws, the copy is unchanged, and
+// otherwise it equals `changed`.
 template <class Collection, class Call>
 void sweep(const Collection &before, const Collection &changed, Call call) {
     for (unsigned long *which : {&nth, &onward}) {

@@ -1,11 +1,11 @@
-// multimap, logged_map, logged_byte_map and replica of indexset.hpp beside std::multimap and std::map: random scripts,
-// also with every Nth request for memory refused.
+// Compares multimap, logged_map, logged_byte_map and replica of indexset.hpp with std::multimap and std::map: random
+// scripts, also with every Nth allocation failing.
 #include "walks.hpp"
 #include <limits>
 #include <map>
 #include <string>
 
-// Keys near each other, and far apart; the least and the greatest of the type come up too.
+// Keys near each other, and far apart; the least and the greatest of the type occur too.
 template <class K>
 K draw_key() {
     const std::size_t drawn = draw_below(200);
@@ -140,7 +140,7 @@ struct multimap_script {
     }
 };
 
-// Many values of one key, from both ends, and iterators that were made before the walk went elsewhere.
+// Many values of one key, from both ends, and iterators that were made before the iteration moved elsewhere.
 static void test_many_values() {
     indexset::multimap<int, int> ours;
     std::multimap<int, int> peer;
@@ -161,7 +161,7 @@ static void test_many_values() {
     CHECK(indexset::erase_if(ours, [](const auto &pair) { return pair.second % 2 == 0; }) == 450 && ours.size() == 450);
 }
 
-// ---- changes of several pairs, with all requests refused from one on
+// ---- changes of several pairs, with all allocations failing from one on
 using Multi = indexset::multimap<int, int>;
 using MultiPeer = std::multimap<int, int>;
 
@@ -178,13 +178,13 @@ static bool has_all(const Multi &ours, const MultiPeer &peer) {
     return has;
 }
 
-// Whether a collection hides pairs for want of memory: a change of no pair removes them first.
+// Whether a collection hides pairs because an allocation failed: a change of no pair removes them first.
 static bool is_hiding(Multi &ours) {
     return is_refused(
         1, [&] { ours.erase(-1, 0); }, onward);
 }
 
-// Each read of pairs that a change left, also while pairs are hidden, and what the next change leaves.
+// Each read of the pairs that a change left, also while pairs are hidden, and the result of the next change.
 template <class Call, class PeerCall>
 static void check_several(const Multi &before, const MultiPeer &peer_before, Call call, PeerCall peer_call) {
     MultiPeer changed(peer_before);
@@ -241,7 +241,7 @@ static void test_several() {
         [&](MultiPeer &of) { of.insert(pairs.begin(), pairs.end()); });
 }
 
-// Each request of a call refused in turn.
+// Each allocation of a call fails in turn.
 static void test_sweep() {
     indexset::multimap<int, int> multi, more, less, other;
     for (int key = 0; key < 300; key++) multi.insert({key / 3, key});
@@ -350,8 +350,8 @@ struct log_script {
     }
 };
 
-// Many changes in a call, with each request refused in turn, and with all from one on: it throws where it took none,
-// and else the next call goes on with the rest.
+// Many changes in a call, with each allocation failing in turn, and with all from one on: it throws if it applied none,
+// and otherwise the next call continues with the rest.
 static void test_apply_all() {
     indexset::logged_map<int, int> log(4);
     std::vector<indexset::event> changes;
@@ -387,7 +387,7 @@ static void test_apply_all() {
     CHECK(threw != 0 && took_some != 0);
 }
 
-// ---- a logged_byte_map, and nodes to which its changes are made
+// ---- a logged_byte_map, and nodes to which its changes are applied
 struct byte_log_script {
     using pair = std::pair<std::string, int>;
     unsigned long refuse;
@@ -395,7 +395,7 @@ struct byte_log_script {
     std::map<std::string, int> peer{};
     std::vector<std::vector<pair>> nodes{};
 
-    // Many keys begin alike; no byte, zeros, bytes above 127 and more bytes than a run has room for come up.
+    // Many keys have a common prefix; the empty key, zeros, bytes above 127 and more bytes than fit into a run occur.
     static std::string draw_bytes() {
         static const char letters[4] = {'\0', 'a', 'b', '\xff'};
         std::string key(draw_below(5), 'x');

@@ -1,5 +1,5 @@
-// set, map and byte_map of indexset.hpp beside std::set, std::map and the trees of pb_ds: the same random scripts, also
-// with every Nth request for memory refused.
+// Compares set, map and byte_map of indexset.hpp with std::set, std::map and the trees of pb_ds: the same random
+// scripts, also with every Nth allocation failing.
 #include "walks.hpp"
 #include <cmath>
 #include <ext/pb_ds/assoc_container.hpp>
@@ -16,7 +16,7 @@ using tree =
 
 enum class color : short { red = -3, green = 0, blue = 7 };
 
-// ---- keys: the least and the greatest of the type come up too
+// ---- keys: the least and the greatest of the type occur too
 template <class K>
 K draw_key() {
     const std::size_t drawn = draw_below(400);
@@ -59,7 +59,7 @@ void check_life(unsigned long refuse, Ours &ours, Peer &peer, Ours &others, Peer
     CHECK(same(ours, peer) && same(others, other_peer));
 }
 
-// ---- changes of a set, each made to the peers where memory was not refused
+// ---- changes of a set, each also made to the peers unless an allocation failed
 template <class K>
 struct set_script {
     indexset::set<K> ours, others;
@@ -132,7 +132,7 @@ struct set_script {
     }
 };
 
-// The same script beside pb_ds: its names are ours.
+// The same script for pb_ds, which has the same call names.
 template <class K>
 void beside_tree(unsigned steps) {
     indexset::set<K> ours;
@@ -233,7 +233,7 @@ struct map_script {
     }
 };
 
-// Many keys begin alike, and zeros, bytes above 127, no byte and more bytes than a run has room for come up.
+// Many keys have a common prefix; zeros, bytes above 127, the empty key and more bytes than fit into a run occur.
 static std::string draw_bytes() {
     static const char letters[4] = {'\0', 'a', 'b', '\xff'};
     std::string key(draw_below(5), 'x');
@@ -242,7 +242,7 @@ static std::string draw_bytes() {
     return key;
 }
 
-// ---- worked
+// ---- examples
 static void test_keys() {
     const double nan = std::numeric_limits<double>::quiet_NaN();
     indexset::set<double> numbers{1.5, -0.0, nan, -1e300, 0.0, -nan, 3};
@@ -283,7 +283,7 @@ static void test_empty() {
     indexset::byte_map<int> bytes;
     CHECK(bytes.erase("a") == 0 && !bytes.get("") && bytes.find(std::string_view()) == bytes.end());
     CHECK(bytes.insert({std::string_view(), 3}).second && bytes.begin()->first.empty() && bytes.get("") == 3);
-    nth = 1; // nothing of this takes memory
+    nth = 1; // none of these calls allocates
     indexset::set<int> moved(std::move(const_cast<indexset::set<int> &>(none))), other;
     swap(moved, other);
     moved = std::move(other);
@@ -292,7 +292,7 @@ static void test_empty() {
     CHECK(moved.empty());
 }
 
-// Each request of a call refused in turn.
+// Each allocation of a call fails in turn.
 static void test_sweep() {
     std::vector<int> keys(700), more(60);
     std::iota(keys.begin(), keys.end(), 1);

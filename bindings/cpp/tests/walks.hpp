@@ -1,4 +1,4 @@
-// What the tests of indexset.hpp share of collections and their peers in std: what both have alike at one moment.
+// Comparisons of collections with their peers in std, shared by the tests of indexset.hpp.
 #ifndef WALKS_HPP
 #define WALKS_HPP
 
@@ -51,7 +51,7 @@ void check_reads(const Ours &ours, const Peer &peer, const Key &key) {
                 position < peer.size() ? std::next(peer.begin(), static_cast<std::ptrdiff_t>(position)) : peer.end()));
 }
 
-// Two walks of one collection at a time, one from each end, and jumps.
+// Two iterations of one collection at a time, one from each end, and jumps.
 template <class Ours>
 void check_walks(const Ours &ours) {
     std::vector<typename Ours::value_type> all(ours.begin(), ours.end());

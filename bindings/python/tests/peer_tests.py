@@ -1,7 +1,7 @@
-"""Runs the tests of `sortedcontainers`, and CPython's own of sets, mappings and lists, with our classes.
+"""Runs the tests of `sortedcontainers`, and CPython's tests of sets, mappings and lists, with our classes.
 
-The former are fetched from Debian's source package into a folder outside the repository. A test that looks at
-what `sortedcontainers` keeps inside is left out, by name. The last line counts the others.
+The former are fetched from Debian's source package into a folder outside the repository. Tests of the internals of
+`sortedcontainers` are left out, by name. The last line counts the others.
 """
 import argparse
 import collections
@@ -41,7 +41,7 @@ KINDS = (
     "stress_sortedkeylist",
 )
 
-# What each test that is left out looks at, of what `sortedcontainers` keeps inside.
+# The internals of `sortedcontainers` that each omitted test examines.
 LISTS, LOAD, LENGTH = "_lists, _maxes", "_load", "sets _len"
 INSIDE = {
     "stress_sortedset": {"test_init": "_list._load"},
@@ -71,7 +71,7 @@ INSIDE = {
     "stress_sortedkeylist": {"test_stress": LISTS},
 }
 
-# What differs by ctypes alone: its walks are generators, and it wraps an error of the recursion.
+# Differences by ctypes only: its iterators are generators, and it wraps an error of the recursion.
 BY_CTYPES = {
     "TestSet.test_iterator_pickling",
     "TestHashMappingProtocol.test_repr_deep",
@@ -82,7 +82,7 @@ CPYTHON = {"set": "test.test_set", "dict": "test.mapping_tests", "list": "test.l
 
 
 def fetched():
-    """The folder of the source package, or None where it cannot be reached."""
+    """Returns the folder of the source package, or None if it cannot be fetched."""
     folder = FOLDER / "python-sortedcontainers-2.4.0"
     if folder.is_dir():
         return folder
@@ -103,11 +103,11 @@ def fetched():
     return folder
 
 
-# ---- our classes in the place of theirs
+# ---- our classes in place of theirs
 
 
 def lay_ours():
-    """Has `sortedcontainers` be our package. The peer's checks of its own insides do nothing."""
+    """Makes our package `sortedcontainers`. The peer's checks of its internals do nothing."""
     import indexset
 
     module = types.ModuleType("sortedcontainers")
@@ -125,14 +125,14 @@ def lay_ours():
 
 
 def lay_pytest():
-    """As much of pytest as the tests ask for."""
+    """The part of pytest that the tests use."""
     module, case = types.ModuleType("pytest"), unittest.TestCase()
     module.raises = case.assertRaises
     sys.modules["pytest"] = module
 
 
 def run_file(folder, kind):
-    """The outcome of each test of a file: None, or the line of its error."""
+    """Returns the outcome of each test of a file: None, or the line of its error."""
     sys.path.insert(0, str(folder))
     lay_pytest()
     module = importlib.import_module(f"tests.test_{kind}")
@@ -146,7 +146,7 @@ def run_file(folder, kind):
 
 
 def stress(module):
-    """The actions of a stress test, which shortens its list by what it keeps inside."""
+    """The actions of a stress test that shortens its list by its internals."""
     cls = getattr(module, "SortedKeyList", None) or module.SortedList
     items = cls(random.random() for _ in range(1000))
     for _ in range(1000):
@@ -163,11 +163,11 @@ def outcome(test):
     return None
 
 
-# ---- CPython's own
+# ---- CPython's tests
 
 
 def cases_of(what):
-    """CPython's cases, each with the class in its place."""
+    """CPython's test cases, each with the class in its place."""
     import sortedcontainers as peer
 
     module = importlib.import_module(CPYTHON[what])
@@ -205,7 +205,7 @@ def run_cpython(what):
 
 
 def outcomes(folder, part, whose):
-    """The outcomes of a file, in a process of its own."""
+    """Returns the outcomes of a file, run in a process of its own."""
     words = [sys.executable, __file__, "--part", part, "--whose", whose, "--folder", str(folder)]
     done = subprocess.run(words, capture_output=True, text=True, timeout=600)
     if done.returncode:
@@ -214,7 +214,7 @@ def outcomes(folder, part, whose):
 
 
 def of_peer(folder, kind):
-    """What a file of the peer came to, as a text and as counts."""
+    """Returns the results of a file of the peer, as a text and as counts."""
     found, inside = outcomes(folder, kind, "ours"), INSIDE.get(kind, {})
     wrong = {name: error for name, error in found.items() if error is not None and name not in inside}
     passed = sum(error is None for name, error in found.items() if name not in inside)
@@ -225,7 +225,7 @@ def of_peer(folder, kind):
 
 
 def of_cpython(folder, what):
-    """What CPython's tests came to beside the peer. Those that it fails too are no failures."""
+    """Returns the results of CPython's tests. A test that the peer fails too is not a failure."""
     ours, theirs = outcomes(folder, what, "ours"), outcomes(folder, what, "theirs")
     worse = {name: error for name, error in ours.items() if error is not None and theirs.get(name) is None}
     if os.environ.get("INDEXSET_BACKEND") == "ctypes":

@@ -1,4 +1,5 @@
-"""What the types say: `mypy --strict` takes this program, and each `reveal` would be an error if it did not."""
+"""The types of the package: `mypy --strict` accepts this program, and each annotation would be an error if it were
+wrong."""
 from __future__ import annotations
 
 from array import array
@@ -29,7 +30,7 @@ def first(names: SortedSet[str]) -> str:
 
 
 def texts(names: SortedSet[str], others: SortedList[str], ages: SortedDict[str, int]) -> list[str]:
-    """Each is of a type that says what it has."""
+    """Each result has a precise type."""
     both: SortedSet[str] = names | ["x"]
     mixed: SortedSet[Union[str, int]] = names | [1]
     rest: SortedSet[str] = (names & {1, "a"}) - [None]

@@ -1,4 +1,4 @@
-"""Tests of single answers, as `sortedcontainers` gives them."""
+"""Tests of single results, which equal those of `sortedcontainers`."""
 import enum
 import pickle
 import sys
@@ -63,7 +63,7 @@ class Index(unittest.TestCase):
 
 
 class Given(unittest.TestCase):
-    """What is handed out is what was given."""
+    """The objects returned are those given."""
 
     def check(self, items):
         for make in (SortedDict.fromkeys, SortedSet, SortedList, lambda it: SortedKeyList(it, key=lambda item: item)):
@@ -131,7 +131,7 @@ class Buffers(unittest.TestCase):
             for make in (SortedSet, SortedList):
                 ours = make(items, keys=kind)
                 self.assertEqual(ours.to_array(), array(code, items))
-                ours.discard(items[1])  # (the library has them from here on)
+                ours.discard(items[1])  # (from here on the library has them)
                 self.assertEqual(ours.to_array(), array(code, items[:1] + items[2:]))
             repeated = SortedList(items * 2, keys=kind)
             repeated.add(items[0])
@@ -160,7 +160,7 @@ class Buffers(unittest.TestCase):
 
 
 class Empty(unittest.TestCase):
-    """What is empty has no kind, and compares nothing."""
+    """An empty collection has no kind, and compares nothing."""
 
     def test_sort_keys(self):
         emptied = SortedKeyList([1], key=abs), SortedSet([1], key=abs), SortedDict(abs, {1: 2})
@@ -256,7 +256,7 @@ class Subclasses(unittest.TestCase):
 
 
 class Corrupted(unittest.TestCase):
-    """A change that does not fit is refused, whatever stands in it."""
+    """A change that does not fit is refused, for any of its parts."""
 
     def test_texts(self):
         told = []

@@ -1,4 +1,4 @@
-"""Tests of many items at once: how they come, go, are joined and copied, beside plain lists that are sorted."""
+"""Tests of many items at once: adding, removing, joining and copying, compared with plain lists that are sorted."""
 import copy
 import gc
 import itertools
@@ -32,7 +32,7 @@ MADE = {
 
 
 class Counted:
-    """What is compared by `<` alone, and counts how often."""
+    """An object that only `<` compares, which counts the comparisons."""
 
     compared = 0
 
@@ -45,7 +45,7 @@ class Counted:
 
 
 class Many(unittest.TestCase):
-    """Changes of many items and of one, in turn."""
+    """Changes of many items and of one, alternating."""
 
     def check(self, ours, wanted, rng):
         self.assertEqual((len(ours), list(ours), list(reversed(ours))), (len(wanted), wanted, wanted[::-1]))
@@ -132,7 +132,7 @@ class Many(unittest.TestCase):
                 self.assertEqual(ages.copy(), dict(ages))
 
     def test_stable(self):
-        """What is equal stands in the order in which it came, whatever came at once."""
+        """Equal items are in insertion order, however many were added at once."""
         for order in (lambda it: it[0], lambda it: str(it[0]), lambda it: (it[0],), lambda it: it[0] / 2):
             rng, number = random.Random(5), itertools.count()
             ours, wanted = SortedKeyList(key=order), []
@@ -160,7 +160,7 @@ class Many(unittest.TestCase):
 
     @unittest.skipUnless(indexset.BACKEND == "extension", "by ctypes it is called again where many come")
     def test_key_is_called_once(self):
-        """The key function is called once for each item that comes, and for no item of the collection."""
+        """The key function is called once for each new item, and for no item of the collection."""
         called = []
 
         def order(item):
@@ -175,7 +175,7 @@ class Many(unittest.TestCase):
         self.assertLess(len(called), 2 * (1000 + 5 + 1000 + 1) + 5)
 
     def test_comparisons(self):
-        """A search makes so many comparisons as a search by halves does."""
+        """A search makes as many comparisons as a binary search."""
         items = [Counted(number) for number in range(20000)]
         ours = SortedList(random.Random(1).sample(items, len(items)))
         for call, most in (
@@ -195,10 +195,10 @@ class Many(unittest.TestCase):
 
 
 class Changes(unittest.TestCase):
-    """What comes in the way of a change."""
+    """Changes that are interrupted."""
 
     def test_walks(self):
-        """A walk ends once there was a change, also the first one of what came at once."""
+        """An iterator ends after a change, also after the first one of items that were added at once."""
         for items in (range(3000), list(map(str, range(3000))), [(number,) for number in range(3000)], [1, 1, 2] * 900):
             for change in (
                 lambda it: it.add(it[0]),
@@ -225,7 +225,7 @@ class Changes(unittest.TestCase):
             self.assertEqual(list(walk), sorted(items))
 
     def test_refused(self):
-        """Where one cannot be compared with the others, none comes."""
+        """If an item cannot be compared with the others, none is added."""
         for start, wrong in (
             ([(number,) for number in range(2000)], ("a",)),
             (list(range(2000)), "a"),
@@ -244,7 +244,7 @@ class Changes(unittest.TestCase):
             self.assertNotIn(wrong, ours)
 
     def test_changed_in_a_comparison(self):
-        """A comparison that changes the list is an error, and no more."""
+        """A comparison that changes the list raises an error, and changes nothing else."""
 
         class Sly:
             held, other = None, None
@@ -284,7 +284,7 @@ class Changes(unittest.TestCase):
                 self.assertEqual((len(numbers), numbers), (len(Sly.held), sorted(numbers)))
 
     def test_items_go(self):
-        """What goes is held no more, nor are sort keys."""
+        """Removed items and their sort keys are released."""
 
         class Item:
             def __init__(self, number):
@@ -314,7 +314,7 @@ class Changes(unittest.TestCase):
 
     @unittest.skipUnless(_testcapi and indexset.BACKEND == "extension", "the interpreter cannot refuse memory")
     def test_memory(self):
-        """Each request for memory fails in turn: all of a change is made, or nothing."""
+        """Each allocation fails in turn: a change is made as a whole, or not at all."""
         kinds = (
             [(number,) for number in range(900)],
             list(range(10**12, 10**12 + 900)),

@@ -1,4 +1,4 @@
-"""Tests of what plain Python could once do to the package: crash it, read wrong values, or lose data."""
+"""Tests of former defects: plain Python could crash the package, read wrong values, or lose data."""
 import copy
 import gc
 import itertools
@@ -18,7 +18,7 @@ except ImportError:
 import indexset
 from indexset import LoggedDict, Replica, SortedDict, SortedKeyList, SortedList, SortedMultiDict, SortedSet
 
-# A cycle of each class with an object whose `__del__` reads it, collected and at the end of the interpreter.
+# A cycle of each class with an object whose `__del__` reads it, collected, and at the exit of the interpreter.
 CYCLES = """
 import gc, sys
 import indexset
@@ -52,7 +52,7 @@ kept = [Owner(held) for held in made()]
 
 
 class Thing:
-    """An object with a function that runs as it goes."""
+    """An object with a function that runs when it is released."""
 
     def __init__(self, call):
         self.call = call
@@ -229,7 +229,7 @@ class Threads(unittest.TestCase):
         )
 
     def test_changes_beside_walks(self):
-        """A walk beside changes gives keys in order or raises."""
+        """An iterator that is used between changes returns keys in order or raises."""
         ours, ends = SortedDict((at, at) for at in range(100)), threading.Event()
 
         def change():
@@ -251,7 +251,7 @@ class Threads(unittest.TestCase):
 
 
 class Changed(unittest.TestCase):
-    """A change while something goes on."""
+    """A change while another operation runs."""
 
     def test_walks(self):
         for make in (
@@ -340,7 +340,7 @@ class Changed(unittest.TestCase):
 
 
 def changed(ours, items):
-    """Changes a set, list or dictionary by calls of one item that the module makes by itself."""
+    """Changes a set, list or dictionary by calls on one item that the module makes itself."""
     for item in items:
         if isinstance(ours, dict):
             ours[item] = None
@@ -353,7 +353,7 @@ def changed(ours, items):
 
 
 def changed_together(ours, items):
-    """Changes a set, list or dictionary by calls of many items, and by those that remove one."""
+    """Changes a set, list or dictionary by calls on many items, and by those that remove one."""
     half = len(items) // 2
     ours.update(dict.fromkeys(items[:half]) if isinstance(ours, dict) else items[:half])
     ours.update(dict.fromkeys(items[half:]) if isinstance(ours, dict) else items[half:])
@@ -364,7 +364,7 @@ def changed_together(ours, items):
 
 
 class Refused(unittest.TestCase):
-    """What does not fit leaves all as it was."""
+    """An item that does not fit leaves everything unchanged."""
 
     def test_many(self):
         for keys, good, bad in (
@@ -397,7 +397,7 @@ class Refused(unittest.TestCase):
 
     @unittest.skipUnless(_testcapi and indexset.BACKEND == "extension", "the interpreter cannot refuse memory")
     def test_memory(self):
-        """Each request for memory of Python fails in turn: the order and what finds its items agree."""
+        """Each allocation of Python fails in turn: the order and the hash table agree."""
         texts = [f"{at}" for at in range(40)]
         numbers = range(10**12, 10**12 + 40)
         kinds = (

@@ -1,4 +1,4 @@
-"""Tests that equal numbers are equal keys whatever their types are, and of bounds and arrays of other types."""
+"""Tests that equal numbers are equal keys, of any types, and of bounds and arrays of other types."""
 import decimal
 import fractions
 import math
@@ -18,7 +18,7 @@ except ImportError:
 
 
 class Whole:
-    """An integer of another type, as numpy's are."""
+    """An integer of another type, such as numpy's."""
 
     def __init__(self, number):
         self.number = number
@@ -116,7 +116,7 @@ class Equals(unittest.TestCase):
 
 
 class Bounds(unittest.TestCase):
-    """Reads answer as on a list, whatever number they are given."""
+    """Reads with any number return what a list would return."""
 
     def test_numbers(self):
         items = {

@@ -1,4 +1,4 @@
-"""Tests of the package beside `sortedcontainers`, or a sorted list where that is not installed."""
+"""Compares the package with `sortedcontainers`, or with a sorted list if that is not installed."""
 import copy
 import doctest
 import math
@@ -20,7 +20,7 @@ try:
 except ImportError:
 
     class Peer:
-        """As much of a sorted set as the tests ask for."""
+        """The part of a sorted set that the tests use."""
 
         def __init__(self):
             self.items = []
@@ -231,14 +231,14 @@ class Calls(unittest.TestCase):
         self.assertEqual(list(numbers.irange(reverse=True)), list(range(4999, -1, -1)))
 
     def test_version(self):
-        """One number stands in the library, the package and the list of changes."""
+        """The library, the package and the changelog have one version number."""
         top = next(it for it in pathlib.Path(__file__).resolve().parents if (it / "CHANGELOG.md").exists())
         number = ".".join(map(str, indexset.version()))
         self.assertIn(f'version = "{number}"\n', (top / "bindings/python/pyproject.toml").read_text())
         self.assertIn(f"\n## [{number}]", (top / "CHANGELOG.md").read_text())
 
     def test_proved(self):
-        """A library that was built without proofs says so."""
+        """A library that was built without proofs is not marked as proved."""
         self.assertEqual(indexset.PROVED, "unproved" not in os.environ.get("INDEXSET_LIBRARY", "").split("/"))
 
     def test_examples(self):
@@ -325,7 +325,7 @@ class Dictionaries(unittest.TestCase):
         self.assertRaises(TypeError, hash, other)
 
     def test_classes_below(self):
-        """What a class below says of keys that are missing, of `in` and of `[key]` goes first."""
+        """The methods of a subclass for missing keys, `in` and `[key]` take precedence."""
 
         class Doubled(SortedDict):
             def __missing__(self, key):
@@ -345,7 +345,7 @@ class Dictionaries(unittest.TestCase):
         self.assertEqual((odd[1], odd[5], 7 in odd, 1 in odd, list(odd)), ("odd", "odd", True, False, [1]))
 
     def test_references(self):
-        """What is held of a number ends with the number, and with the object."""
+        """References to a number are released with the number, and with the object."""
         number = 10**15 + len(repr(self))
         before = sys.getrefcount(number)
         for make in (SortedSet, SortedList, SortedDict.fromkeys):
@@ -366,7 +366,7 @@ class Dictionaries(unittest.TestCase):
                 self.assertEqual(sys.getrefcount(number), before)
 
     def test_zero_is_one(self):
-        """Both zeros are one key, and the one that came first is handed out."""
+        """Both zeros are one key, and the first one added is returned."""
         for zeros in ([0.0, -0.0], [-0.0, 0.0]):
             for ours in (SortedSet(zeros), SortedSet(zeros[:1], keys="float64"), SortedSet([-1.5, *zeros])):
                 ours.add(zeros[1])

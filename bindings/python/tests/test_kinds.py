@@ -1,4 +1,4 @@
-"""Tests of keys of every kind beside plain sorted lists, and of their encoding beside published examples."""
+"""Compares keys of every kind with plain sorted lists, and their encoding with published examples."""
 import copy
 import doctest
 import importlib
@@ -100,7 +100,7 @@ DRAWN = {
 }
 
 
-# The errors of each call that raises some, but for those of memory.
+# The errors of each call that raises some, except MemoryError.
 RAISED = {
     "add": "TypeError",
     "apply": "Gap Refused",
@@ -160,7 +160,7 @@ class Encoding(unittest.TestCase):
 
 
 class Kinds(unittest.TestCase):
-    """Sets and dictionaries of each kind, found or named, with and without a key, beside a sorted list."""
+    """Compares sets and dictionaries of each kind, found or named, with and without a key, with a sorted list."""
 
     def run_kind(self, kind, named, key=None):
         rng = random.Random(f"{kind} {named}")
@@ -253,7 +253,7 @@ class Kinds(unittest.TestCase):
         self.assertEqual((SortedSet([1, 2], key=abs).kind, SortedSet(["ab"], key=len).kind), ("int64", "int64"))
 
     def test_widened(self):
-        """What is found grows with what comes, and gives back what came."""
+        """A kind without a name widens with new items, and the objects returned are those given."""
         items = [3, 0.5, 1 << 70, -2, True, 2.0, 4]
         ours, ages, rest, seen = SortedSet(), SortedDict(), SortedList(), []
         for item in items:
@@ -287,7 +287,8 @@ class Kinds(unittest.TestCase):
             self.assertGreater(result.attempted, 0, name)
 
     def test_help(self):
-        """Each public class says its cost and has an example; each public call has one and says what it raises."""
+        """Each public class states its cost and has an example; each public call has an example and names what it
+        raises."""
         for name in (
             "LoggedDict",
             "Replica",
@@ -309,7 +310,7 @@ class Kinds(unittest.TestCase):
                         self.assertIn(error, text, (name, call))
 
     def test_signatures(self):
-        """No signature of a public class has a type that says nothing."""
+        """No signature of a public class contains Any."""
         for name in indexset.__all__:
             found = getattr(indexset, name)
             for call in vars(found) if isinstance(found, type) and name != "Change" else ():

@@ -1,4 +1,4 @@
-"""Tests of sorted lists beside plain lists that are sorted."""
+"""Compares sorted lists with plain lists that are sorted."""
 import copy
 import gc
 import math
@@ -89,14 +89,14 @@ class Random(unittest.TestCase):
 
 
 class Item:
-    """What goes when nothing leads to it."""
+    """An object that is released with its last reference."""
 
     def __init__(self, number):
         self.number = number
 
 
 class Told(int):
-    """An integer that counts how often one is compared."""
+    """An integer that counts its comparisons."""
 
     compared = 0
 
@@ -172,7 +172,7 @@ class Repeated(unittest.TestCase):
 
     @unittest.skipUnless(indexset.BACKEND == "ctypes", "the library's calls are not seen")
     def test_refused_memory(self):
-        """A call that the library refuses memory changes nothing."""
+        """A call for which memory runs out in the library changes nothing."""
         ours, key = SortedList([5, 5, 1]), SortedKeyList([-5, 5, 1], key=abs)
         changes = [
             ("push", lambda: ours.add(7)),
@@ -189,7 +189,7 @@ class Repeated(unittest.TestCase):
             self.assertEqual((list(ours), list(key)), ([1, 5, 5], [1, -5, 5]))
 
     def test_items_go(self):
-        """What is added goes once it was taken out, by each call that does so."""
+        """Each call that removes an item releases it."""
         items = [Item(at // 3) for at in range(60)]
         seen = [weakref.ref(item) for item in items]
         ours = SortedKeyList(items, key=lambda it: it.number)
@@ -279,7 +279,7 @@ class Calls(unittest.TestCase):
         self.assertEqual((list(ours), ours.count({"a": 2}), ours.kind), ([{"a": 1}, {"a": 2}], 1, "int64"))
 
     def test_labels(self):
-        """Objects that come between two, from either side, again and again."""
+        """Objects are added between two others, from either side, again and again."""
         for step in (1, -1):
             ours, wanted = SortedList([(0,), (10**6,)], keys="object"), [(0,), (10**6,)]
             for at in range(3000):

@@ -1,4 +1,4 @@
-"""Tests of logged dictionaries and replicas with keys and values of every kind, beside plain lists of nodes."""
+"""Compares logged dictionaries and replicas, with keys and values of every kind, with plain lists of nodes."""
 import copy
 import pickle
 import random
@@ -71,7 +71,7 @@ class Random(unittest.TestCase):
         self.assertEqual((ours.kinds, replica.kinds, replica.nodes()), (("int64", "str"),) * 2 + (ours.nodes(),))
 
     def test_crowded(self):
-        """Keys that come between two, again and again, take labels of their own; a replica follows."""
+        """Keys added between two others, again and again, get labels of their own; a replica follows."""
         for step in (1, -1):
             told = []
             ours = LoggedDict(told.append, {"a": 0, "z": 1}, size=8)

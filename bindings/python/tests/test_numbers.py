@@ -1,4 +1,4 @@
-"""Tests of the dictionaries from numbers to numbers beside plain lists and dictionaries."""
+"""Compares the dictionaries from numbers to numbers with plain lists and dictionaries."""
 import copy
 import doctest
 import math
@@ -12,7 +12,7 @@ from indexset import Gap, LoggedDict, Refused, Replica, SortedMultiDict, _log, _
 
 
 def positions(case, one, pairs, value, order=lambda key: key):
-    """Compares what a dictionary answers of positions with a list of its pairs."""
+    """Compares the results of a dictionary for positions with a list of its pairs."""
     keys, size = [key for key, _ in pairs], len(pairs)
     left = keys.index(value) if value in keys else sum(order(key) < order(value) for key in keys)
     past = left + keys.count(value)
@@ -101,7 +101,7 @@ class MultiDictionaries(unittest.TestCase):
 
 
 def made(nodes, change, order=lambda key: key):
-    """Makes a change of nodes, which are lists of pairs."""
+    """Applies a change to nodes, which are lists of pairs."""
     at = [node[-1][0] for node in nodes].index(change.node[0]) if change.kind != "create" else None
     if change.kind == "create":
         nodes.insert(sum(order(node[-1][0]) < order(change.node[0]) for node in nodes), [change.node])

@@ -1,4 +1,4 @@
-"""Tests of the package as pip makes it, in an environment of its own: it asks for nothing of the network."""
+"""Tests the package as pip builds it, in an environment of its own, without a network."""
 import os
 import pathlib
 import shutil
@@ -17,7 +17,7 @@ from build_fast import compiler  # noqa: E402
 
 
 def ran(*words, **more):
-    """A command's status and what it said."""
+    """Returns the status of a command and its output."""
     where = {name: value for name, value in os.environ.items() if not name.startswith("INDEXSET_")}
     done = subprocess.run(
         list(map(str, words)),
@@ -55,7 +55,7 @@ class Package(unittest.TestCase):
         self.assertEqual(ran(*pip, "uninstall", "-y", "indexset")[0], 0)
 
     def built(self, call, folder=HERE, **more):
-        """What a hook of the backend makes."""
+        """Returns the file that a hook of the backend builds."""
         made = (
             f"import sys; sys.path.insert(0, {str(folder)!r}); import wheel_backend;"
             f" print(wheel_backend.{call}({str(self.folder)!r}))"

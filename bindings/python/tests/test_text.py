@@ -1,4 +1,4 @@
-"""Tests of dictionaries with texts and byte strings as keys beside plain dictionaries and sorted lists."""
+"""Compares dictionaries with texts and byte strings as keys with plain dictionaries and sorted lists."""
 import copy
 import pickle
 import random
@@ -10,13 +10,13 @@ from bisect import bisect_left, bisect_right
 import indexset
 from indexset import SortedDict, SortedSet
 
-# One to four bytes each in UTF-8, in the order of their code points. By the halves that UTF-16 makes of it,
-# the last but one would come after the last.
+# One to four bytes each in UTF-8, in the order of their code points. In the order of UTF-16 code units, the last but
+# one would come last.
 LETTERS = "\0aé\u20ac\uffff\U00010000"
 
 
 def drawn(kind, rng):
-    """A short key: many begin alike, and some are the beginning of others."""
+    """Returns a short key: many have a common prefix, and some are a prefix of others."""
     size = rng.randrange(5) if rng.random() < 0.98 else 100
     if kind == "str":
         return "".join(rng.choices(LETTERS, k=size))
@@ -154,7 +154,7 @@ class Named(str):
 
 
 class Noted(unittest.TestCase):
-    """Many changes of one key each, before an order is asked for."""
+    """Many changes of one key each, before the order is used."""
 
     def check(self, ours, peer):
         self.assertEqual((len(ours), list(ours), list(ours.items())), (len(peer), sorted(peer), sorted(peer.items())))
@@ -178,7 +178,7 @@ class Noted(unittest.TestCase):
             self.check(ours, peer)
 
     def test_reads(self):
-        """Each read finds the changes made."""
+        """Each read sees the changes made."""
         reads = [
             lambda it: it.peekitem(1),
             lambda it: it.bisect_left("b"),
@@ -233,7 +233,7 @@ class Noted(unittest.TestCase):
         self.assertEqual(list(ours), ["c"])
 
     def test_references(self):
-        """What is held of a key ends with the key, and with the object."""
+        """References to a key are released with the key, and with the object."""
         key = "".join(["k", "ey"])
         before = sys.getrefcount(key)
         for end in (list, len, lambda it: it.clear(), lambda it: it.copy()):

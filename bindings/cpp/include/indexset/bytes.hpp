@@ -1,4 +1,4 @@
-// Collections of byte strings, behind the pointers of their collections. Included by indexset.hpp.
+// Collections of byte strings, owned by pointers of their collections. Included by indexset.hpp.
 #ifndef INDEXSET_BYTES_HPP
 #define INDEXSET_BYTES_HPP
 
@@ -16,7 +16,7 @@ namespace indexset {
 
 namespace detail {
 
-// The library takes no null pointer.
+// A pointer that is not null, as the library requires.
 inline const char *bytes_of(std::string_view key) noexcept { return key.data() == nullptr ? "" : key.data(); }
 
 // The calls of the library for a map from byte strings.
@@ -52,12 +52,12 @@ struct logged_byte_calls {
     static constexpr auto node_count = indexset_text_log_node_count;
 };
 
-// A run of byte strings and their values: as many as have room.
+// A run of byte strings and their values: as many as fit.
 template <class Calls>
 struct byte_run {
     static constexpr std::size_t room = 64;
     std::size_t first = 0, count = 0;
-    std::size_t ends[room]; // where each key ends; the next begins there
+    std::size_t ends[room]; // the end of each key, which is the start of the next
     std::uint64_t values[room];
     char bytes[4096];
 
@@ -77,7 +77,7 @@ struct byte_run {
     }
 };
 
-// Byte strings and their values, behind the pointer of their collection.
+// Byte strings and their values, owned by a pointer of their collection.
 template <class Calls, class V>
 class byte_store : public held<Calls> {
   public:

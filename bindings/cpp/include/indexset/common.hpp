@@ -1,4 +1,4 @@
-// What all collections have alike. Included by indexset.hpp.
+// Definitions shared by all collections. Included by indexset.hpp.
 #ifndef INDEXSET_COMMON_HPP
 #define INDEXSET_COMMON_HPP
 
@@ -24,7 +24,7 @@ namespace detail {
 inline constexpr std::uint64_t greatest = ~std::uint64_t{0};
 inline constexpr std::size_t unknown = ~std::size_t{0};
 
-// What `it->` leads through, where `*it` is a value.
+// The result of `it->`, where `*it` is a value.
 template <class T>
 class arrow {
   public:
@@ -35,17 +35,17 @@ class arrow {
     T value_;
 };
 
-// A pair as the library has it.
+// A pair as the library stores it.
 struct pair {
     std::uint64_t key, value;
 };
 
-// Throws where a call was refused memory.
+// Throws if the call failed for lack of memory.
 inline void pass(std::uint32_t answer) {
     if (answer == INDEXSET_MEMORY) throw std::bad_alloc();
 }
 
-// What the iterators pass for: only these templates take two of them.
+// The types that are iterators: only these templates accept two of them.
 template <class It>
 using only_iterators = std::enable_if_t<
     std::is_convertible_v<typename std::iterator_traits<It>::iterator_category, std::input_iterator_tag>>;
@@ -67,7 +67,7 @@ auto three_way(const V &a, const V &b) {
 }
 #endif
 
-// Whether two walks have equal elements, and which comes first in the order of dictionaries. A walk hands out one
+// Whether two iterations have equal elements, and which is less in lexicographical order. An iteration returns one
 // element after another, and then none.
 template <class Order, class Walk>
 bool are_equal(Walk a, Walk b) {
@@ -100,7 +100,7 @@ bool is_less(Walk a, Walk b) {
 }
 #endif
 
-// The comparisons of a collection, by its elements in order.
+// The comparisons of two collections, by their elements in order.
 template <class Self, class Order>
 class comparisons {
   public:
@@ -158,7 +158,7 @@ struct map_code {
 #endif
 };
 
-// A handle and what it leads to, on the heap: it never moves.
+// A handle and its collection, on the heap: it never moves.
 template <class Calls>
 class held {
   public:
@@ -167,7 +167,7 @@ class held {
     held &operator=(const held &) = delete;
     ~held() { Calls::release(&handle_); }
 
-    // Has a handle that leads to none lead to a copy.
+    // Gives an empty handle a copy of the collection.
     void copy_from(const held &from) { pass(Calls::clone(&from.handle_, &handle_)); }
     void clear() noexcept { Calls::clear(&handle_); }
 

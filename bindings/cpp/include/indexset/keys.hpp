@@ -1,4 +1,4 @@
-// How keys and values are kept. Included by indexset.hpp.
+// The encodings of keys and values. Included by indexset.hpp.
 #ifndef INDEXSET_KEYS_HPP
 #define INDEXSET_KEYS_HPP
 
@@ -9,7 +9,7 @@
 
 namespace indexset {
 
-// How a key is kept: as a number of 64 bits. `encode` keeps the order, and `decode` is its inverse.
+// The encoding of a key, as a number of 64 bits. `encode` keeps the order, and `decode` is its inverse.
 template <class K, class = void>
 struct key_code;
 
@@ -73,7 +73,7 @@ struct key_less {
     bool operator()(const K &a, const K &b) const noexcept { return key_code<K>::encode(a) < key_code<K>::encode(b); }
 };
 
-// How a value is kept: its bytes.
+// The encoding of a value: its bytes.
 template <class V>
 struct value_code {
     static_assert(std::is_trivially_copyable_v<V> && std::is_default_constructible_v<V> && sizeof(V) <= 8,

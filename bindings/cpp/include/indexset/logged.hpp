@@ -20,7 +20,7 @@ namespace indexset {
 
 namespace detail {
 
-// What logged_map, logged_byte_map and replica have alike.
+// Members shared by logged_map, logged_byte_map and replica.
 template <class Self, class Store, class V>
 class nodes : public reading<Self, Store> {
     using base = reading<Self, Store>;
@@ -30,32 +30,32 @@ class nodes : public reading<Self, Store> {
     using mapped_type = V;
     using typename base::key_argument;
 
-    // Returns the value of a key. One search.
+    // Returns the value of a key, if any. One search.
     std::optional<V> get(key_argument key) const noexcept {
         std::uint64_t code;
         if (!this->store_ || !this->store_->get(key, code)) return std::nullopt;
         return value_code<V>::decode(code);
     }
 
-    // Returns the number of the next change: that it makes, or that it awaits.
+    // Returns the number of the next change to make or to apply.
     std::uint64_t next() const noexcept { return this->store_ ? calls::next(this->store_->handle()) : next_; }
 
-    // Returns how many nodes there are.
+    // Returns the number of nodes.
     std::size_t node_count() const noexcept { return this->store_ ? calls::node_count(this->store_->handle()) : 0; }
 
   protected:
     explicit nodes(std::uint64_t next) noexcept : next_(next) {}
 
-    std::uint64_t next_; // where there is no store
+    std::uint64_t next_; // as long as there is no store
 };
 
-// What logged_map and replica have alike.
+// Members shared by logged_map and replica.
 template <class Self, class Store, class V>
 class number_nodes : public nodes<Self, Store, V> {
     using calls = typename Store::calls;
 
   public:
-    // Returns how many pairs each node has, in order.
+    // Returns the number of pairs of each node, in order.
     std::vector<std::size_t> node_lengths() const {
         std::vector<std::size_t> lengths(this->node_count());
         if (!lengths.empty()) calls::node_lengths(this->store_->handle(), lengths.data(), lengths.size());
@@ -68,13 +68,13 @@ class number_nodes : public nodes<Self, Store, V> {
 
 } // namespace detail
 
-// What a call of a logged map or of a replica answers.
+// The result of a call of a logged map or of a replica.
 enum class status : std::uint32_t {
-    unchanged = INDEXSET_NO,           // there was nothing to do, or the change was made before
+    unchanged = INDEXSET_NO,           // there was nothing to do, or the change was applied before
     changed = INDEXSET_YES,            // it was done
-    no_memory = INDEXSET_MEMORY,       // memory was refused, by apply_all alone: other calls throw
+    no_memory = INDEXSET_MEMORY,       // an allocation failed; only apply_all returns this, other calls throw
     out_of_numbers = INDEXSET_NUMBERS, // too few numbers are left
-    unfit = INDEXSET_UNFIT,            // what was given does not fit
+    unfit = INDEXSET_UNFIT,            // an argument is out of range
     gap = INDEXSET_GAP,                // changes before it are missing
     no_such_node = INDEXSET_NO_SUCH_NODE,
     index_outside = INDEXSET_INDEX_OUTSIDE,
@@ -92,8 +92,8 @@ using event = indexset_event;
 template <class V>
 class told {
   public:
-    std::optional<V> before;     // the value that the key had
-    bool out_of_numbers = false; // whether too few numbers were left, so that nothing was done
+    std::optional<V> before;     // the old value of the key
+    bool out_of_numbers = false; // whether too few numbers were left, and nothing changed
 
     const event *begin() const noexcept { return events_.data(); }
     const event *end() const noexcept { return events_.data() + count_; }
@@ -110,20 +110,20 @@ class told {
     std::size_t count_ = 0;
 };
 
-// An ordered map that tells its changes, one number after another. It is moved, and not copied; one that was moved
-// from is as it began.
+// An ordered map that reports its changes, with consecutive numbers. It is move-only; a moved-from map is as it was
+// when constructed.
 template <class K = std::uint64_t, class V = std::uint64_t>
 class logged_map : public detail::number_nodes<logged_map<K, V>,
                                                detail::number_store<detail::log_calls, detail::map_code<K, V>>, V> {
   public:
     using base = typename logged_map::number_nodes;
 
-    // An empty map, whose nodes hold at most `node_size` pairs, at least 2, and whose first change has the number
+    // Makes an empty map, whose nodes hold at most `node_size` pairs, at least 2, and whose first change has the number
     // `next`.
     explicit logged_map(std::size_t node_size = 1024, std::uint64_t next = 0) noexcept
         : base(next), node_size_(node_size < 2 ? 2 : node_size) {}
 
-    // Makes a value that of a key, and tells the changes and the value before.
+    // Sets the value of a key. Returns the changes and the old value, if any.
     told<V> insert_or_assign(K key, const V &value) {
         this->made_of(indexset_log_new, node_size_, this->next_);
         told<V> told;
@@ -138,15 +138,14 @@ class logged_map : public detail::number_nodes<logged_map<K, V>,
         return told;
     }
 
-    // Adds a pair whose key is not there, and tells the changes: none where the key is there, and the value that it
-    // has.
+    // Inserts a pair if its key is absent. Returns the changes; if the key is present, none, and its value.
     told<V> insert(const std::pair<K, V> &pair) {
         told<V> told;
         told.before = this->get(pair.first);
         return told.before ? told : insert_or_assign(pair.first, pair.second);
     }
 
-    // Removes a key, and tells the changes and the value that it had.
+    // Removes a key. Returns the changes and the value of the key, if any.
     told<V> erase(K key) {
         told<V> told;
         if (!this->store_) return told;
@@ -169,33 +168,33 @@ class logged_map : public detail::number_nodes<logged_map<K, V>,
     std::size_t node_size_;
 };
 
-// A change of a logged_byte_map: what `event` has, and the bytes of the key that names the node and of the pair's key.
+// A change of a logged_byte_map: its record, and the bytes of the key that names the node and of the pair's key.
 struct byte_event {
     indexset_text_event code;
     std::string node, key;
 };
 
-// What a call of a logged_byte_map found, and how many changes it made, which `last_told` returns.
+// What a call of a logged_byte_map found, and the number of changes, which `last_told` returns.
 template <class V>
 struct told_bytes {
-    std::optional<V> before{};   // the value that the key had
-    bool out_of_numbers = false; // whether too few numbers were left, so that nothing was done
+    std::optional<V> before{};   // the old value of the key
+    bool out_of_numbers = false; // whether too few numbers were left, and nothing changed
     std::size_t changes = 0;
 };
 
-// An ordered map from byte strings that tells its changes, one number after another. It is moved, and not copied; one
-// that was moved from is as it began.
+// An ordered map from byte strings that reports its changes, with consecutive numbers. It is move-only; a moved-from
+// map is as it was when constructed.
 template <class V = std::uint64_t>
 class logged_byte_map : public detail::nodes<logged_byte_map<V>, detail::byte_store<detail::logged_byte_calls, V>, V> {
   public:
     using base = typename logged_byte_map::nodes;
 
-    // An empty map, whose nodes hold at most `node_size` pairs, at least 2, and whose first change has the number
+    // Makes an empty map, whose nodes hold at most `node_size` pairs, at least 2, and whose first change has the number
     // `next`.
     explicit logged_byte_map(std::size_t node_size = 1024, std::uint64_t next = 0) noexcept
         : base(next), node_size_(node_size < 2 ? 2 : node_size) {}
 
-    // Makes a value that of a key. Returns how many changes it made, and the value before.
+    // Sets the value of a key. Returns the number of changes and the old value, if any.
     told_bytes<V> insert_or_assign(std::string_view key, const V &value) {
         this->made_of(indexset_text_log_new, node_size_, this->next_);
         std::uint64_t before;
@@ -205,14 +204,13 @@ class logged_byte_map : public detail::nodes<logged_byte_map<V>, detail::byte_st
         return told_of(answer, answer == INDEXSET_NO, before, changes);
     }
 
-    // Adds a pair whose key is not there. Returns how many changes it made: none where the key is there, and then the
-    // value that it has.
+    // Inserts a pair if its key is absent. Returns the number of changes; if the key is present, 0 and its value.
     told_bytes<V> insert(const std::pair<std::string_view, V> &pair) {
         if (const std::optional<V> before = this->get(pair.first)) return {before, false, 0};
         return insert_or_assign(pair.first, pair.second);
     }
 
-    // Removes a key. Returns how many changes it made, and the value that the key had.
+    // Removes a key. Returns the number of changes and the value of the key, if any.
     told_bytes<V> erase(std::string_view key) {
         if (!this->store_) return {};
         std::uint64_t before;
@@ -222,8 +220,7 @@ class logged_byte_map : public detail::nodes<logged_byte_map<V>, detail::byte_st
         return told_of(answer, answer == INDEXSET_YES, before, changes);
     }
 
-    // Returns the changes of the last call that made any, in order. Where memory is refused, they can be asked for
-    // again.
+    // Returns the changes of the last call that made any, in order. If an allocation fails, the call can be repeated.
     std::vector<byte_event> last_told() const {
         std::vector<byte_event> told;
         byte_event event;
@@ -252,23 +249,23 @@ class logged_byte_map : public detail::nodes<logged_byte_map<V>, detail::byte_st
     std::size_t node_size_;
 };
 
-// A copy of the nodes of a logged map, which follows the map by its changes. It is moved, and not copied.
+// A copy of the nodes of a logged map, which follows the map by its changes. It is move-only.
 template <class K = std::uint64_t, class V = std::uint64_t>
 class replica : public detail::number_nodes<replica<K, V>,
                                             detail::number_store<detail::replica_calls, detail::map_code<K, V>>, V> {
   public:
     using base = typename replica::number_nodes;
 
-    // A replica without nodes, which awaits the change of the number `next`.
+    // Makes a replica without nodes, whose next change has the number `next`.
     explicit replica(std::uint64_t next = 0) noexcept : base(next) {}
 
-    // A replica with the nodes of a logged map, which awaits its next change.
+    // Makes a replica with the nodes of a logged map, whose next change is the map's.
     explicit replica(const logged_map<K, V> &log) : base(log.next()) {
         if (log.store_) this->made_of(indexset_replica_from_log, log.handle());
     }
 
-    // Makes a change of the logged map, and awaits the next. It answers `changed`; `unchanged` where the change was
-    // made before; or why it does not fit, and then nothing changes.
+    // Applies the next change of the logged map. Returns `changed`; `unchanged` if the change was applied before; or
+    // the reason why it does not apply, and then nothing changes.
     status apply(const event &change) {
         const std::uint32_t answer = indexset_replica_apply(made().handle(), &change);
         detail::pass(answer);
@@ -276,9 +273,10 @@ class replica : public detail::number_nodes<replica<K, V>,
         return static_cast<status>(answer);
     }
 
-    // Makes changes, first to last, and passes over those that were made before. Returns `changed` where it took them
-    // all, or why it did not take the next one, and how many it took. Where memory is refused for the first one it
-    // throws, and for a later one it returns `no_memory`: those after can be given again.
+    // Applies changes, first to last, and skips those that were applied before. Returns `changed` if it processed all
+    // of them, or else the reason why the next one does not apply, and the number that it processed. If an allocation
+    // fails for the first change it throws, and for a later one it returns `no_memory`: the remaining changes can be
+    // given again.
     [[nodiscard]] std::pair<status, std::size_t> apply_all(const event *changes, std::size_t count) {
         std::size_t taken = 0;
         if (count == 0) return {status::changed, 0};
@@ -288,7 +286,7 @@ class replica : public detail::number_nodes<replica<K, V>,
         return {static_cast<status>(answer), taken};
     }
 
-    // The same, of an array, a vector or what a logged map told.
+    // Applies the changes of an array, a vector or a result of a logged map, as above.
     template <class Events>
     [[nodiscard]] auto apply_all(const Events &changes) -> decltype(apply_all(changes.data(), changes.size())) {
         return apply_all(changes.data(), changes.size());

@@ -1,4 +1,4 @@
-// What map and byte_map have alike. Included by indexset.hpp.
+// Definitions shared by map and byte_map. Included by indexset.hpp.
 #ifndef INDEXSET_MAPPED_HPP
 #define INDEXSET_MAPPED_HPP
 
@@ -15,7 +15,7 @@ namespace indexset {
 
 namespace detail {
 
-// What `map[key]` returns: the value of a key, which is made V{} if it is read where there is none.
+// The result of `map[key]`: the value of a key. Reading it inserts V{} if the key is absent.
 template <class Map>
 class value_reference {
   public:
@@ -56,7 +56,7 @@ class value_reference {
     typename Map::key_argument key_;
 };
 
-// What map and byte_map have alike.
+// Members shared by map and byte_map.
 template <class Self, class Store, class V>
 class mapped : public positions<Self, Store> {
     using base = positions<Self, Store>;
@@ -68,20 +68,20 @@ class mapped : public positions<Self, Store> {
     using typename base::key_argument;
     using typename base::size_type;
     using typename base::value_type;
-    using pair_argument = std::pair<key_argument, V>; // how a pair is passed
+    using pair_argument = std::pair<key_argument, V>; // the parameter type of a pair
 
-    // Returns the value of a key. One search.
+    // Returns the value of a key, if any. One search.
     std::optional<V> get(key_argument key) const noexcept {
         std::uint64_t code;
         if (!this->store_ || !this->store_->get(key, code)) return std::nullopt;
         return value_code<V>::decode(code);
     }
 
-    // The value of a key, to be read or written: `map[key] = value`, `map[key] += 1`. It is made V{} where there is
-    // none.
+    // Returns the value of a key, to read or write: `map[key] = value`, `map[key] += 1`. Reading it inserts V{} if the
+    // key is absent.
     value_reference<Self> operator[](key_argument key) noexcept { return {static_cast<Self &>(*this), key}; }
 
-    // Adds a pair whose key is not there. Returns the pair of the key, and whether it was added.
+    // Inserts a pair if its key is absent. Returns the pair of the key, and whether it was inserted.
     std::pair<iterator, bool> insert(const pair_argument &pair) { return try_emplace(pair.first, pair.second); }
     iterator insert(const_iterator, const pair_argument &pair) { return insert(pair).first; }
 
@@ -102,7 +102,7 @@ class mapped : public positions<Self, Store> {
         return {placed(key, before), added};
     }
 
-    // Makes a value that of a key. Returns the pair, and whether the key was not there.
+    // Sets the value of a key. Returns the pair, and whether the key was absent.
     std::pair<iterator, bool> insert_or_assign(key_argument key, const V &value) {
         const std::uint64_t code = value_code<V>::encode(value);
         std::uint64_t before;
@@ -113,7 +113,7 @@ class mapped : public positions<Self, Store> {
         return {placed(key, code), answer == INDEXSET_YES};
     }
 
-    // Adds the pairs whose keys are not there; of those of one key the first.
+    // Inserts the pairs whose keys are absent; of pairs with equal keys the first.
     template <class It, class = only_iterators<It>>
     void insert(It first, It last) {
         std::vector<value_type> pairs;
@@ -123,8 +123,8 @@ class mapped : public positions<Self, Store> {
     void insert(std::initializer_list<pair_argument> pairs) { insert(pairs.begin(), pairs.end()); }
 
   private:
-    // Adds a pair, or writes the value that is there to `before`. Where a key is there, a change of its value takes no
-    // memory.
+    // Adds a pair, or writes the value of a present key to `before`. Setting the value of a present key allocates
+    // nothing.
     bool add(key_argument key, std::uint64_t value, std::uint64_t &before) {
         Store &store = this->made();
         const std::uint32_t answer = store.put(key, value, before);

@@ -17,8 +17,8 @@
 
 namespace indexset {
 
-// An ordered map whose keys may have several values. The values of a key are distinct, by their bytes, and stand in the
-// order in which they came.
+// An ordered map whose keys may have several values. The values of a key are distinct, by their bytes, and are in
+// insertion order.
 template <class K, class V>
 class multimap : public detail::copied<multimap<K, V>, detail::multi_store<detail::map_code<K, V>>> {
     static_assert(std::has_unique_object_representations_v<V> || std::is_floating_point_v<V>,
@@ -40,21 +40,21 @@ class multimap : public detail::copied<multimap<K, V>, detail::multi_store<detai
     }
     multimap &operator=(std::initializer_list<value_type> pairs) { return *this = multimap(pairs); }
 
-    // Tells whether a key has a value, and how many it has. One search.
+    // Returns whether a key has a value, or the number of its values. One search.
     using base::contains;
     bool contains(K key, const V &value) const noexcept {
         return this->store_ && this->store_->contains(code(key, value));
     }
     size_type count(K key) const noexcept { return this->store_ ? this->store_->count(key) : 0; }
 
-    // Returns the pair of a key and a value, or the end where there is none. One search; where its position is asked
-    // for, another, and a walk over the values of its key before it.
+    // Returns the pair of a key and a value, or the end if there is none. One search; asking for its position takes
+    // another one, and an iteration over the values of its key before it.
     using base::find;
     iterator find(K key, const V &value) const noexcept {
         return contains(key, value) ? placed(code(key, value)) : this->end();
     }
 
-    // Returns the values of a key in the order in which they came.
+    // Returns the values of a key, in insertion order.
     std::vector<V> values(K key) const {
         std::vector<std::uint64_t> codes(count(key));
         if (!codes.empty()) this->store_->read_values(key_code<K>::encode(key), codes);
@@ -81,7 +81,7 @@ class multimap : public detail::copied<multimap<K, V>, detail::multi_store<detai
         return insert(value_type(std::forward<Args>(args)...)).first;
     }
 
-    // Adds pairs. Where memory is refused for one, those before it are removed.
+    // Adds pairs. If an allocation fails for one, those before it are removed.
     template <class It, class = detail::only_iterators<It>>
     void insert(It first, It last) {
         std::vector<detail::pair> pairs;
@@ -90,7 +90,7 @@ class multimap : public detail::copied<multimap<K, V>, detail::multi_store<detai
     }
     void insert(std::initializer_list<value_type> pairs) { insert(pairs.begin(), pairs.end()); }
 
-    // Removes a value of a key. Returns how many pairs it removed: 0 or 1.
+    // Removes a value of a key. Returns the number of removed pairs: 0 or 1.
     size_type erase(K key, const V &value) { return this->store_ && this->store_->remove(code(key, value)) ? 1 : 0; }
 
     // Removes the first value of a key and returns it.
@@ -100,14 +100,14 @@ class multimap : public detail::copied<multimap<K, V>, detail::multi_store<detai
         return value_code<V>::decode(value);
     }
 
-    // Removes all values of a key. Returns how many pairs it removed. Each takes a search by position.
+    // Removes all values of a key. Returns the number of removed pairs. One search by position for each.
     size_type erase(K key) {
         const size_type removed = count(key);
         if (removed != 0) this->store_->remove_from(this->order_of_key(key), removed);
         return removed;
     }
 
-    // Removes a pair, or those from `first` to before `last`. Returns the pair after them. Each takes a search.
+    // Removes a pair, or those from `first` to before `last`. Returns the pair after them. One search for each.
     iterator erase(iterator it) {
         const size_type position = it.position();
         this->store_->remove_at(position);
@@ -153,7 +153,7 @@ class multimap : public detail::copied<multimap<K, V>, detail::multi_store<detai
     }
 };
 
-// Removes the pairs for which `condition` holds. Returns how many it removed. It asks of all of them before it removes
+// Removes the pairs for which `condition` holds, and returns their number. Calls it for all pairs before it removes
 // any.
 template <class A, class B, class Condition>
 std::size_t erase_if(multimap<A, B> &from, Condition condition) {

@@ -1,4 +1,4 @@
-// Collections of numbers, behind the pointers of their collections. Included by indexset.hpp.
+// Collections of numbers, owned by pointers of their collections. Included by indexset.hpp.
 #ifndef INDEXSET_NUMBERS_HPP
 #define INDEXSET_NUMBERS_HPP
 
@@ -45,7 +45,7 @@ struct set_calls {
     }
 };
 
-// What the library's calls for pairs of numbers have alike.
+// Definitions shared by the library's calls for pairs of numbers.
 template <class Handle, auto At, auto Read, auto CursorAt, auto CursorNext, auto Get>
 struct pair_calls {
     using handle = Handle;
@@ -89,7 +89,7 @@ struct map_calls : pair_calls<indexset_map, indexset_map_at, indexset_map_range_
     }
 };
 
-// How many keys are not above one, where the library has no call for it: those below the next key.
+// The number of keys not above one, for which the library has no call: those below the next key.
 template <class Calls>
 std::size_t count_below_next(typename Calls::handle *of, std::uint64_t key) {
     return key == greatest ? Calls::len(of) : Calls::rank(of, key + 1);
@@ -144,7 +144,8 @@ struct number_run {
 
     bool has(std::size_t position) const noexcept { return position - first < count; }
 
-    // Reads elements from a position on: those behind the run by a cursor, so that a walk searches no more.
+    // Reads elements from a position on. Those that follow the run are read by a cursor, so that an iteration does not
+    // search again.
     void read(typename Calls::handle *handle, std::size_t from, std::size_t places) noexcept {
         const bool goes_on = count != 0 && from == first + count;
         if (goes_on && !walks_) Calls::cursor_at(handle, from, &end_);
@@ -155,11 +156,11 @@ struct number_run {
     }
 
   private:
-    indexset_cursor end_{}; // where the run ends, where it was read in a walk
+    indexset_cursor end_{}; // the end of the run, if an iteration read it
     bool walks_ = false;
 };
 
-// A collection of numbers, behind the pointer of its collection.
+// A collection of numbers, owned by a pointer of its collection.
 template <class Calls, class Code>
 class number_store : public held<Calls> {
   public:
@@ -167,11 +168,11 @@ class number_store : public held<Calls> {
     using value_type = typename Code::value_type;
     using key_type = typename Code::key_type;
     using key_argument = key_type;
-    using element = pair;               // what `at` returns
+    using element = pair;               // the result of `at`
     using order = Code;                 // of elements
-    static constexpr bool notes = true; // an iterator may have an element before its position is asked for
+    static constexpr bool notes = true; // an iterator may have an element and find its position later
 
-    // How many changes there were, from 1 on.
+    // Returns the number of changes so far, plus 1.
     std::uint64_t changes() const noexcept { return changes_; }
 
     void changed() noexcept {
@@ -180,7 +181,7 @@ class number_store : public held<Calls> {
     }
 
     std::size_t rank(key_type key) const noexcept { return Calls::rank(this->handle(), Code::key(key)); }
-    // Returns where an element stands that is there.
+    // Returns the position of an element that is present.
     std::size_t position_of(const pair &element) noexcept { return Calls::rank(this->handle(), element.key); }
     std::size_t count_up_to(key_type key) const noexcept { return Calls::count_up_to(this->handle(), Code::key(key)); }
     bool find(key_type key, pair &out) const noexcept { return Calls::find(this->handle(), Code::key(key), out); }

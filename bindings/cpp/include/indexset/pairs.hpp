@@ -1,4 +1,4 @@
-// The pairs of a multimap, behind the pointer of their collection. Included by indexset.hpp.
+// The pairs of a multimap, owned by a pointer of their collection. Included by indexset.hpp.
 #ifndef INDEXSET_PAIRS_HPP
 #define INDEXSET_PAIRS_HPP
 
@@ -18,15 +18,15 @@ namespace indexset {
 
 namespace detail {
 
-// Throws where a multimap was refused memory. Each change consumes a number of 64 bits: they do not run out in
-// practice.
+// Throws if a call of a multimap failed for lack of memory. Each change consumes a number of 64 bits; in practice these
+// are never exhausted.
 inline void pass_multi(std::uint32_t answer) {
     if (answer == INDEXSET_MEMORY || answer == INDEXSET_NUMBERS) throw std::bad_alloc();
 }
 
-// The pairs of a multimap. The library may be refused memory for a removal. Where several pairs are removed and that
-// happens, those left are hidden: no read finds them, and the next change removes them first, or else throws and
-// changes nothing. So a removal of several pairs is made as a whole.
+// The pairs of a multimap. A removal allocates, so it can fail. If that happens while several pairs are removed, the
+// remaining ones are hidden: no read finds them, and the next change removes them first, or else throws and changes
+// nothing. So a removal of several pairs is atomic.
 template <class Code>
 class multi_store : public number_store<multi_calls, Code> {
     using base = number_store<multi_calls, Code>;
@@ -50,7 +50,7 @@ class multi_store : public number_store<multi_calls, Code> {
         return count_of(element.key) != 0 && at(position_of(element)).value == element.value;
     }
 
-    // Returns where a pair stands that is there, behind a walk over the values of its key before it.
+    // Returns the position of a pair that is present, after an iteration over the values of its key before it.
     std::size_t position_of(const pair &element) noexcept {
         std::size_t position = rank_of(element.key);
         for (std::size_t left = count_of(element.key); left > 1 && at(position).value != element.value; left--)
@@ -67,7 +67,7 @@ class multi_store : public number_store<multi_calls, Code> {
         return out;
     }
 
-    // Writes the first values of a key, as many as there is room for, which are there.
+    // Writes the first values of a key, as many as fit; the key has that many.
     void read_values(std::uint64_t key, std::vector<std::uint64_t> &out) noexcept {
         if (hidden_.empty()) {
             indexset_multi_get(this->handle(), key, out.data(), out.size());
@@ -77,7 +77,7 @@ class multi_store : public number_store<multi_calls, Code> {
         }
     }
 
-    // Has a handle that leads to none lead to a copy, which is made pair by pair.
+    // Gives an empty handle a copy of the multimap, made pair by pair.
     void copy_from(multi_store &from) {
         pass_multi(indexset_multi_new(this->handle()));
         const std::size_t size = from.size();
@@ -91,7 +91,7 @@ class multi_store : public number_store<multi_calls, Code> {
         base::clear();
     }
 
-    // These change one pair or none.
+    // Each of these changes at most one pair.
     bool add(const pair &element) { return change(indexset_multi_insert, element.key, element.value); }
     bool remove(const pair &element) { return change(indexset_multi_remove, element.key, element.value); }
     bool remove_first(std::uint64_t key, std::uint64_t &value) {
@@ -102,7 +102,7 @@ class multi_store : public number_store<multi_calls, Code> {
         return change(indexset_multi_remove_at, position, &removed.key, &removed.value);
     }
 
-    // Removes the pairs at some positions, which are in order.
+    // Removes the pairs at the given positions, which are in order.
     void remove_all(std::vector<std::size_t> positions) {
         settle();
         hidden_ = std::move(positions);
@@ -124,7 +124,7 @@ class multi_store : public number_store<multi_calls, Code> {
         return hidden_.empty() ? indexset_multi_count(this->handle(), key) : end_of(key) - rank_of(key);
     }
 
-    // Where a pair stands among those that are not hidden, of its position in the library, and the other way.
+    // The position among the pairs that are not hidden of a position in the library, and the other way round.
     std::size_t shown(std::size_t position) const noexcept {
         const auto it = std::lower_bound(hidden_.begin(), hidden_.end(), position);
         return position - static_cast<std::size_t>(it - hidden_.begin());
@@ -147,7 +147,7 @@ class multi_store : public number_store<multi_calls, Code> {
         return answer == INDEXSET_YES;
     }
 
-    // Removes the hidden pairs, or throws. Which pairs are read stays the same.
+    // Removes the hidden pairs, or throws. Reads return the same pairs before and after.
     void settle() {
         if (!hidden_.empty()) pass_multi(remove_hidden());
     }

@@ -1,4 +1,4 @@
-// What all collections have alike: iterators that are positions. Included by indexset.hpp.
+// Definitions shared by all collections: iterators that are positions. Included by indexset.hpp.
 #ifndef INDEXSET_POSITIONS_HPP
 #define INDEXSET_POSITIONS_HPP
 
@@ -20,8 +20,8 @@ namespace indexset {
 
 namespace detail {
 
-// A position in a collection. Where a call found an element by its key, the iterator has the element, and its
-// position is found once it is asked for.
+// A position in a collection. An iterator that a search by key returned has the element, and finds its position when it
+// is asked for.
 template <class Store>
 class position_iterator {
   public:
@@ -89,7 +89,7 @@ class position_iterator {
     friend bool operator<=(const position_iterator &a, const position_iterator &b) noexcept { return !(b < a); }
     friend bool operator>=(const position_iterator &a, const position_iterator &b) noexcept { return !(a < b); }
 
-    // Returns how many elements are before it.
+    // Returns the number of elements before it.
     std::size_t position() const noexcept {
         if constexpr (Store::notes) {
             if (position_ == unknown) position_ = store_->position_of(element_);
@@ -100,7 +100,7 @@ class position_iterator {
   private:
     bool is_noted() const noexcept { return changes_ == store_->changes(); }
 
-    // Whether it is at the end, and the other one at an element: the other's position need not be found.
+    // Returns whether it is at the end and the other one is not: the other's position is not needed for that.
     bool is_past(const position_iterator &other) const noexcept {
         return position_ != unknown && other.is_noted() && position_ == other.store_->size();
     }
@@ -111,7 +111,7 @@ class position_iterator {
     std::uint64_t changes_ = 0; // of the collection, when the element was noted; 0: none is
 };
 
-// What all collections have alike: their elements in order, by key and by position.
+// Members shared by all collections: their elements in order, by key and by position.
 template <class Self, class Store>
 class reading : public comparisons<Self, typename Store::order> {
   public:
@@ -126,16 +126,16 @@ class reading : public comparisons<Self, typename Store::order> {
     using const_iterator = iterator;
     using reverse_iterator = std::reverse_iterator<iterator>;
     using const_reverse_iterator = reverse_iterator;
-    using key_argument = typename Store::key_argument; // how a key is passed: by value, and bytes as a string_view
+    using key_argument = typename Store::key_argument; // how a key is passed: as a value, or a string_view of bytes
 
     key_compare key_comp() const noexcept { return {}; }
 
-    // Returns how many elements there are.
+    // Returns the number of elements.
     size_type size() const noexcept { return store_ ? store_->size() : 0; }
     size_type max_size() const noexcept { return std::numeric_limits<difference_type>::max() / sizeof(pair); }
     [[nodiscard]] bool empty() const noexcept { return size() == 0; }
 
-    // The elements in order.
+    // Iterators over the elements in order.
     iterator begin() const noexcept { return at_position(0); }
     iterator end() const noexcept { return at_position(size()); }
     iterator cbegin() const noexcept { return begin(); }
@@ -145,25 +145,24 @@ class reading : public comparisons<Self, typename Store::order> {
     reverse_iterator crbegin() const noexcept { return rbegin(); }
     reverse_iterator crend() const noexcept { return rend(); }
 
-    // Returns the element at a position, counted from 0, or the end where there is none. No search.
+    // Returns the element at a position, counted from 0, or the end if there is none. No search.
     iterator find_by_order(size_type position) const noexcept {
         return at_position(position < size() ? position : size());
     }
 
-    // Returns how many keys are below a key, each as often as it has values. One search, as each call below, unless it
-    // says otherwise.
+    // Returns the number of elements with keys below a key. One search, as for each call below, unless noted otherwise.
     size_type order_of_key(key_argument key) const noexcept { return store_ ? store_->rank(key) : 0; }
 
-    // Returns the first element that is not below a key, or that is above it, or the end where there is none.
+    // Returns the first element with a key not below the given one, or above it, or the end if there is none.
     iterator lower_bound(key_argument key) const noexcept { return at_position(order_of_key(key)); }
     iterator upper_bound(key_argument key) const noexcept { return at_position(store_ ? store_->count_up_to(key) : 0); }
 
-    // Returns both bounds: the elements of a key. Two searches.
+    // Returns both bounds: the range of the elements of a key. Two searches.
     std::pair<iterator, iterator> equal_range(key_argument key) const noexcept {
         return {lower_bound(key), upper_bound(key)};
     }
 
-    // Returns the first element of a key, or the end where there is none. Of byte strings two searches.
+    // Returns the first element of a key, or the end if there is none. For byte strings two searches.
     iterator find(key_argument key) const noexcept {
         if constexpr (Store::notes) {
             pair element;
@@ -173,7 +172,7 @@ class reading : public comparisons<Self, typename Store::order> {
         }
     }
 
-    // Tells whether a key is there.
+    // Returns whether a key is present.
     bool contains(key_argument key) const noexcept {
         if constexpr (Store::notes) {
             pair element;
@@ -201,7 +200,7 @@ class reading : public comparisons<Self, typename Store::order> {
 
     iterator at_position(size_type position) const noexcept { return iterator(store_.get(), position); }
 
-    // Returns the store; where there is none, the one that a call of the library makes of these.
+    // Returns the store; if there is none, makes it by a call of the library with the given arguments.
     template <class... Of>
     Store &made_of(std::uint32_t (*make)(typename Store::calls::handle *, Of...), std::common_type_t<Of>... of) {
         if (!store_) {
@@ -240,7 +239,7 @@ std::vector<std::size_t> positions_where(const Collection &in, Condition &condit
     return positions;
 }
 
-// What those have alike that are copied and emptied: set, map, byte_map and multimap.
+// Members shared by the collections that can be copied and cleared: set, map, byte_map and multimap.
 template <class Self, class Store>
 class copied : public reading<Self, Store> {
   public:
@@ -271,7 +270,7 @@ class copied : public reading<Self, Store> {
     Store &made() { return this->made_of(Store::calls::make); }
 };
 
-// What set, map and byte_map have alike.
+// Members shared by set, map and byte_map.
 template <class Self, class Store>
 class positions : public copied<Self, Store> {
     using base = copied<Self, Store>;
@@ -281,11 +280,11 @@ class positions : public copied<Self, Store> {
     using typename base::key_argument;
     using typename base::size_type;
 
-    // Removes a key. Returns how many elements it removed: 0 or 1.
+    // Removes a key. Returns the number of removed elements: 0 or 1.
     size_type erase(key_argument key) noexcept { return this->store_ && this->store_->remove(key) ? 1 : 0; }
 
-    // Removes an element, or those from `first` to before `last`. Returns the element after them. Each element takes
-    // a search.
+    // Removes an element, or those from `first` to before `last`. Returns the element after them. One search for each
+    // element.
     iterator erase(iterator it) noexcept {
         const size_type position = it.position();
         this->store_->remove_from(position, 1);

@@ -1,4 +1,4 @@
-// Elements that a walk has fetched. Included by indexset.hpp.
+// Elements that an iteration has fetched. Included by indexset.hpp.
 #ifndef INDEXSET_RUNS_HPP
 #define INDEXSET_RUNS_HPP
 
@@ -10,8 +10,8 @@ namespace indexset {
 
 namespace detail {
 
-// Two runs of elements that were fetched, so that two walks over one collection do not take each other's. A `Run`
-// has its first position and how many elements it has, and reads them.
+// Two runs of fetched elements, so that two iterations over one collection do not evict each other's. A `Run` has its
+// first position and its number of elements, and reads them.
 template <class Run>
 class runs {
   public:
@@ -19,7 +19,7 @@ class runs {
         if (runs_) runs_[0].count = runs_[1].count = 0;
     }
 
-    // Returns the run that has a position, or null where there is no memory for it, or no element.
+    // Returns the run that contains a position, or null if it cannot be allocated or there is no such element.
     template <class Handle>
     const Run *at(Handle *handle, std::size_t position) noexcept {
         if (!runs_) {
@@ -36,7 +36,7 @@ class runs {
     }
 
   private:
-    static constexpr std::size_t few = 8; // what a read that goes on from none fetches
+    static constexpr std::size_t few = 8; // the length of a run that does not continue another one
 
     template <class Handle>
     const Run *fetch(Handle *handle, std::size_t position) noexcept {

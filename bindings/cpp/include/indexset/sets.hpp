@@ -18,7 +18,7 @@
 
 namespace indexset {
 
-// An ordered set of numbers, with positions.
+// An ordered set of numbers, with access by position.
 template <class K>
 class set : public detail::positions<set<K>, detail::number_store<detail::set_calls, detail::set_code<K>>> {
   public:
@@ -91,7 +91,7 @@ class set : public detail::positions<set<K>, detail::number_store<detail::set_ca
 template <class It, class = detail::only_iterators<It>>
 set(It, It) -> set<typename std::iterator_traits<It>::value_type>;
 
-// An ordered map from numbers to values, with positions.
+// An ordered map from numbers to values, with access by position.
 template <class K, class V>
 class map : public detail::mapped<map<K, V>, detail::number_store<detail::map_calls, detail::map_code<K, V>>, V> {
   public:
@@ -113,8 +113,8 @@ template <class It, class = detail::only_iterators<It>>
 map(It, It) -> map<std::remove_const_t<typename std::iterator_traits<It>::value_type::first_type>,
                    typename std::iterator_traits<It>::value_type::second_type>;
 
-// An ordered map from byte strings to values, with positions. Keys stand in the order of std::string, which of text in
-// UTF-8 is that of its code points.
+// An ordered map from byte strings to values, with access by position. Keys are in the order of std::string, which for
+// text in UTF-8 is that of its code points.
 template <class V>
 class byte_map : public detail::mapped<byte_map<V>, detail::byte_store<detail::byte_calls, V>, V> {
   public:

@@ -1,11 +1,11 @@
-"""Ordered sets, lists and dictionaries with positions, over a proved library.
+"""Ordered sets, lists and dictionaries with access by position, over a proved library.
 
 >>> from indexset import SortedSet
 >>> numbers = SortedSet([30, 10, 20])
 >>> numbers[0], numbers.bisect_left(25), 20 in numbers
 (10, 2, True)
 
-The calls have the names and habits of `sortedcontainers`. Items and keys are of any kind that has an order.
+The calls have the names and the behaviour of `sortedcontainers`. Items and keys are of any kind that has an order.
 """
 from ._dict import SortedDict
 from ._library import PROVED, version

@@ -1,4 +1,4 @@
-"""Objects that Python's own `<` orders, by ctypes: the class that the compiled module `_fast` has too."""
+"""Orders of objects by Python's own `<` in the ctypes backend: the class that the compiled module `_fast` has too."""
 from __future__ import annotations
 
 from bisect import bisect_left, bisect_right
@@ -9,9 +9,10 @@ from ._held import Held
 
 T = TypeVar("T")
 
-# The most objects of a block.
+# The maximum number of objects of a block.
 _MOST = 1024
-# From how many that come on, beside so many, all are sorted: the others are put in one by one.
+# If one object or more is new for this many present ones, all are sorted; otherwise the new ones are inserted one by
+# one.
 _PART = 4
 
 
@@ -20,7 +21,7 @@ def _sort(items: list[Any], key: Any) -> None:
 
 
 class Blocks(Held[T]):
-    """Objects in blocks, in the order of their sort keys and then in that in which they came."""
+    """Objects in blocks, in the order of their sort keys, equal ones in insertion order."""
 
     __slots__ = ("_blocks", "_keys", "_lasts", "_ends", "_length")
 
@@ -29,7 +30,7 @@ class Blocks(Held[T]):
         self._become([], [])
 
     def _become(self, items: list[T], keys: list[Any]) -> None:
-        """Has these objects, which are sorted, in place of those before."""
+        """Replaces all objects by these, which are sorted."""
         parts = range(0, len(items), _MOST // 2)
         self._blocks = [items[at : at + _MOST // 2] for at in parts]
         self._keys = self._blocks if self.key is None else [keys[at : at + _MOST // 2] for at in parts]
@@ -39,7 +40,7 @@ class Blocks(Held[T]):
         self.changed()
 
     def copied(self, other: Blocks[T]) -> None:
-        """Becomes a clone of another, from empty."""
+        """Becomes a clone of another. It is empty before."""
         self._become(list(chain.from_iterable(other._blocks)), list(chain.from_iterable(other._keys)))
 
     def __len__(self) -> int:
@@ -61,7 +62,7 @@ class Blocks(Held[T]):
         return block, position - self._before(block)
 
     def _bound(self, key: Any, right: bool) -> tuple[int, int]:
-        """Where a sort key has its place, before its equals or behind them."""
+        """Returns the place of a sort key, before its equals or after them."""
         search, changes = bisect_right if right else bisect_left, self.changes
         block = search(self._lasts, key)
         if block < len(self._keys):
@@ -79,12 +80,12 @@ class Blocks(Held[T]):
         return item if self.key is None else self.key(item)
 
     def place(self, key: Any, right: bool) -> int:
-        """How many sort keys are below a key, or not above it."""
+        """Returns the number of sort keys below a key, or not above it."""
         block, index = self._bound(key, right)
         return self._before(block) + index
 
     def own_span(self, key: Any) -> tuple[int, int]:
-        """The positions of a sort key."""
+        """Returns the positions of a sort key."""
         return self.place(key, False), self.place(key, True)
 
     def _bisect(self, value: Any, right: bool) -> int:
@@ -100,7 +101,7 @@ class Blocks(Held[T]):
         return self._blocks[block][at]
 
     def add_own(self, item: T) -> Optional[bool]:
-        """Adds an object behind its equals; None where there are none, so that the kind is found first."""
+        """Adds an object after its equals; returns None if there are no objects, so that the kind is found first."""
         return self._add(item) if self._length else None
 
     def _add(self, item: T) -> bool:
@@ -148,7 +149,7 @@ class Blocks(Held[T]):
         return item
 
     def find_from(self, value: Any, first: int) -> int:
-        """The first position of an object that equals a value, from a position on, or -1."""
+        """Returns the first position of an object that equals a value, from a position on, or -1."""
         key = self._sort_key(value)
         position, changes = max(first, self.place(key, False)), self.changes
         for item in chain.from_iterable(self.chunk(at, at + 32) for at in range(position, self._length, 32)):
@@ -165,7 +166,8 @@ class Blocks(Held[T]):
         return self.find(value) >= 0
 
     def find(self, value: Any) -> int:
-        """The same from the first position on, and -1 also of what cannot be compared with the others."""
+        """Returns the first position of an object that equals a value, or -1, also if it cannot be compared with the
+        others."""
         try:
             return self.find_from(value, 0)
         except (TypeError, OverflowError, ValueError):
@@ -173,7 +175,7 @@ class Blocks(Held[T]):
         return -1
 
     def count(self, value: Any) -> int:
-        """How many objects equal a value."""
+        """Returns the number of objects equal to a value."""
         found, position = 0, self.find(value)
         while position >= 0:
             found, position = found + 1, self.find_from(value, position + 1)
@@ -199,7 +201,7 @@ class Blocks(Held[T]):
         return found
 
     def take(self, items: Iterable[T]) -> None:
-        """Adds objects, or none where one does not fit."""
+        """Adds objects, or none if one does not fit."""
         given, changes = list(items), self.changes
         _sort(given, self.key)
         if len(given) * _PART < self._length:

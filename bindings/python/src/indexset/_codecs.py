@@ -1,4 +1,4 @@
-"""How the keys and values of a logged dictionary become numbers of 64 bits, and back."""
+"""The encodings of the keys and values of a logged dictionary as numbers of 64 bits."""
 from __future__ import annotations
 
 from typing import Any, Optional, Union
@@ -20,51 +20,51 @@ class Numbered:
         self.find, self.decode = self._kind.find, self._kind.decode
 
     def take(self, value: Any) -> int:
-        """The code of a value that is to be kept."""
+        """Returns the code of a value, which is stored."""
         code: int = self._kind.code(value)
         return code
 
     def drop(self, code: int) -> None:
-        """Says that a value is kept no more."""
+        """Notes that a value is not stored any more."""
 
     def moves(self, value: Any) -> Moves:
-        """The codes that are to become others before a key is taken."""
+        """Returns the codes that must change before a key is stored, with their new codes."""
         return []
 
     def moved(self, moves: Moves) -> None:
-        """Says that they did."""
+        """Notes that the codes have changed."""
 
     def fits(self, value: Any, label: int) -> bool:
-        """Whether a key that another dictionary has taken has its place here by its label."""
+        """Returns whether a key that another dictionary stores fits here by its label."""
         return True
 
     def code_of(self, value: Any, label: int) -> int:
-        """The code of such a key."""
+        """Returns the code of such a key."""
         return self.take(value)
 
     def put(self, value: Any, label: int) -> None:
-        """Takes such a key."""
+        """Stores such a key."""
 
     def label(self, value: Any) -> int:
-        """What another dictionary has to know of a value beside the value."""
+        """Returns the label of a value, which another dictionary needs beside it."""
         return 0
 
     def range(self, minimum: Any, maximum: Any) -> Optional[tuple[int, int]]:
-        """The least and the greatest code between two values, both included, or None."""
+        """Returns the least and the greatest code between two values, both included, or None."""
         return between(self._kind, minimum, maximum)
 
     def bound(self, value: Any, right: bool) -> int:
-        """The least code that is not below that of a value, or to the right the least above it; 2**64 or more
-        where there is none."""
+        """Returns the least code that is not below that of a value, or, to the right, above it; 2**64 or more if there
+        is none."""
         return bound(self._kind, value, right)
 
     def clone(self) -> Numbered:
-        """The same again."""
+        """Returns a clone."""
         return self
 
 
 class Objects:
-    """Values of any other kind: the code of one is its place."""
+    """Values of any other kind: the code of a value is its place."""
 
     __slots__ = ("name", "_objects", "_unused")
 
@@ -98,8 +98,8 @@ class Objects:
 
 
 class Labels:
-    """Keys of any other kind: the code of one is a label, between those of its neighbours. Where there is
-    none, labels around it become others first."""
+    """Keys of any other kind: the code of a key is a label, between those of its neighbours. If there is none, labels
+    around it change first."""
 
     __slots__ = ("name", "_names", "_labels", "_keys")
 
@@ -150,7 +150,7 @@ class Labels:
             self._names.discard(value)
 
     def _sides(self, position: int) -> tuple[int, int]:
-        """The labels on both sides of a position."""
+        """Returns the labels before and after a position."""
         low = self._labels[self._names[position - 1]] if position else 0
         return low, self._labels[self._names[position]] if position < len(self._names) else ALL + 1
 
@@ -168,7 +168,7 @@ class Labels:
         return [(old, low + step * at) for at, old in enumerate(olds, 1)]
 
     def _rank(self, label: int) -> int:
-        """How many labels are below a label."""
+        """Returns the number of labels below a label."""
         low, high = 0, len(self._names)
         while low < high:
             middle = (low + high) // 2
@@ -200,10 +200,10 @@ class Labels:
 
 
 def keys_of(name: str) -> Union[Numbered, Labels]:
-    """The codes of keys of a kind."""
+    """Returns the encoding of keys of a kind."""
     return Numbered(name) if name in NUMBERS else Labels(name)
 
 
 def values_of(name: str) -> Union[Numbered, Objects]:
-    """The codes of values of a kind."""
+    """Returns the encoding of values of a kind."""
     return Numbered(name) if name in NUMBERS else Objects(name)

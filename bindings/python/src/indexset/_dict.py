@@ -1,4 +1,4 @@
-"""An ordered dictionary with positions."""
+"""An ordered dictionary with access by position."""
 from __future__ import annotations
 
 import warnings
@@ -36,17 +36,17 @@ _NOT_GIVEN: Any = object()
 
 
 class SortedDict(Placed[K, V], Generic[K, V]):
-    """A dictionary in the order of its keys, with the calls of `sortedcontainers.SortedDict`: a `dict` that
-    finds values, beside what orders its keys.
+    """A sorted dictionary, with the calls of `sortedcontainers.SortedDict`: a `dict` that finds values, and an order of
+    its keys.
 
-    `keys` names the kind of its keys, as for `SortedSet`. A function, or None, before the entries orders the
-    keys by its results: `SortedDict(function, entries)`.
+    `keys` names the kind of its keys, as for `SortedSet`. A function, or None, before the entries orders the keys by
+    its results: `SortedDict(function, entries)`. Raises TypeError, OverflowError or ValueError if a key does not fit.
 
-    Cost: `in`, `[key]` and `get` take what they take of a `dict`. With n keys, a call on one position, or that
-    adds or removes a key, is O(log n); iteration is linear in its length.
+    Cost: `in`, `[key]` and `get` take the time of a `dict`. With n keys, a call on one position, or that adds or
+    removes a key, is O(log n); iteration is linear in its length.
 
-    Reads may go on in several threads at once. An iterator raises RuntimeError once keys came or went;
-    changes from several threads are kept apart by the caller.
+    Several threads may read a dictionary at the same time; the caller synchronizes changes. An iterator raises
+    RuntimeError after a key was added or removed.
 
     >>> ages = SortedDict({30: "c", 10: "a"}); ages[20] = "b"; ages
     SortedDict({10: 'a', 20: 'b', 30: 'c'})
@@ -124,7 +124,8 @@ class SortedDict(Placed[K, V], Generic[K, V]):
 
     @classmethod
     def fromkeys(cls, iterable: Iterable[object], value: object = None, /) -> object:
-        """A dictionary from each key to a value. TypeError, OverflowError or ValueError where a key does not fit.
+        """Returns a dictionary that maps each key to a value. Raises TypeError, OverflowError or ValueError if a key
+        does not fit.
 
         >>> SortedDict.fromkeys([2, 1], 0)
         SortedDict({1: 0, 2: 0})
@@ -143,8 +144,8 @@ class SortedDict(Placed[K, V], Generic[K, V]):
         ...
 
     def setdefault(self, key: K, default: object = None) -> object:
-        """The value of a key, which becomes the default where the key is not there. TypeError, OverflowError or
-        ValueError where the key does not fit.
+        """Returns the value of a key; if the key is absent, adds it with the default. Raises TypeError, OverflowError
+        or ValueError if the key does not fit.
 
         >>> ages = SortedDict({1: "a"}); ages.setdefault(1, "b"), ages.setdefault(2, "c"), ages
         ('a', 'c', SortedDict({1: 'a', 2: 'c'}))
@@ -164,14 +165,14 @@ class SortedDict(Placed[K, V], Generic[K, V]):
         ...
 
     def pop(self, key: K, default: object = _NOT_GIVEN) -> object:
-        """Removes a key and returns its value, or the default where it is not there. KeyError where there is none of
-        the two.
+        """Removes a key and returns its value, or the default if the key is absent. Raises KeyError if there is no
+        default either, TypeError if the key has no hash.
 
         >>> ages = SortedDict({1: "a"}); ages.pop(1), ages.pop(1, None)
         ('a', None)
         """
         if key in self:
-            pop = super().pop  # (from here on no memory is asked for once the order has changed)
+            pop = super().pop  # (from here on nothing is allocated once the order has changed)
             self._settled().discard(key)
             return pop(key)
         if default is _NOT_GIVEN:
@@ -179,7 +180,7 @@ class SortedDict(Placed[K, V], Generic[K, V]):
         return default
 
     def _order_keys(self, keys: list[Any]) -> None:
-        """Orders keys that come, by a kind that takes them; none where one does not fit."""
+        """Adds keys to the order, and changes its kind if they need another one; adds none if one does not fit."""
         order = gathered(self._order, keys, self._named, self.key, False)
         if order is None:
             order = settled(self._order if self._named else fitted(self._order, keys, self.key, False), keys)
@@ -190,13 +191,13 @@ class SortedDict(Placed[K, V], Generic[K, V]):
         self._become(order)
 
     def _become(self, order: Any) -> None:
-        """Has another order, which has the keys of the one before and maybe more."""
+        """Replaces the order by another, which has its keys and possibly more."""
         if order is not self._order:
             self._order.changed()
             self._order = order
 
     def _settled(self) -> Any:
-        """What orders the keys, and can be changed."""
+        """Returns the order of the keys, ready for changes."""
         order = self._order
         if isinstance(order, Run) and order.is_fixed:
             self._become(order.settled())
@@ -217,8 +218,8 @@ class SortedDict(Placed[K, V], Generic[K, V]):
         ...
 
     def update(self, *given: object, **words: object) -> None:
-        """Makes each value that of its key. TypeError, OverflowError or ValueError where a key does not fit: then the
-        dictionary is as it was.
+        """Sets the value of each key. Raises TypeError, OverflowError or ValueError if a key does not fit; the
+        dictionary is then unchanged.
 
         >>> ages = SortedDict({1: "a"}); ages.update({2: "c", 1: "b"}); ages
         SortedDict({1: 'b', 2: 'c'})
@@ -239,8 +240,8 @@ class SortedDict(Placed[K, V], Generic[K, V]):
             raise
 
     def _laid(self, entries: dict[K, V]) -> bool:
-        """Takes the entries of a dict if there are none here and its keys are of a kind's own type; returns whether it
-        did. Only code of such a type runs meanwhile, so that the dict stays as it is."""
+        """Takes over the entries of a dict if this dictionary is empty and the keys are of a kind's own type; returns
+        whether it did. Only code of such types runs meanwhile, so the dict stays as it is."""
         if dict.__len__(self) or self.key is not None or own_kind(entries) == OBJECT:
             return False
         order = gathered(self._order, list(entries), self._named, None, False)
@@ -258,7 +259,7 @@ class SortedDict(Placed[K, V], Generic[K, V]):
         ...
 
     def get_all(self, keys: Iterable[object], default: object = None) -> object:
-        """The value of each key, or the default where it is not there. TypeError where a key has no hash.
+        """Returns the value of each key, or the default if the key is absent. Raises TypeError if a key has no hash.
 
         >>> SortedDict({1: "a", 2: "b"}).get_all([2, 3, 1])
         ['b', None, 'a']
@@ -278,8 +279,8 @@ class SortedDict(Placed[K, V], Generic[K, V]):
     # ---- positions
 
     def popitem(self, index: SupportsIndex = -1) -> tuple[K, V]:
-        """Removes the key and the value at a position, the last one if none is given, and returns them.
-        KeyError where the dictionary is empty.
+        """Removes the key and the value at a position, by default the last, and returns them. Raises KeyError if the
+        dictionary is empty, IndexError if there is no such position.
 
         >>> SortedDict({1: "a", 2: "b"}).popitem(0)
         (1, 'a')
@@ -295,7 +296,7 @@ class SortedDict(Placed[K, V], Generic[K, V]):
     # ---- views
 
     def keys(self) -> SortedKeysView[K]:  # type: ignore[override]
-        """A view of the keys, which can be indexed.
+        """Returns a view of the keys, which can be indexed.
 
         >>> SortedDict({1: "a", 2: "b"}).keys()[0]
         1
@@ -303,7 +304,7 @@ class SortedDict(Placed[K, V], Generic[K, V]):
         return SortedKeysView(self)
 
     def values(self) -> SortedValuesView[V]:  # type: ignore[override]
-        """A view of the values, which can be indexed.
+        """Returns a view of the values, which can be indexed.
 
         >>> list(SortedDict({2: "b", 1: "a"}).values())
         ['a', 'b']
@@ -311,7 +312,7 @@ class SortedDict(Placed[K, V], Generic[K, V]):
         return SortedValuesView(self)
 
     def items(self) -> SortedItemsView[K, V]:  # type: ignore[override]
-        """A view of the keys with their values, which can be indexed.
+        """Returns a view of the keys with their values, which can be indexed.
 
         >>> SortedDict({2: "b", 1: "a"}).items()[:1]
         [(1, 'a')]
@@ -320,7 +321,7 @@ class SortedDict(Placed[K, V], Generic[K, V]):
 
     @property
     def iloc(self) -> SortedKeysView[K]:
-        """The view of the keys, under a name that `sortedcontainers` has given up: a DeprecationWarning says so.
+        """The view of the keys, under a name that `sortedcontainers` deprecates. Emits a DeprecationWarning.
 
         >>> with warnings.catch_warnings():
         ...     warnings.simplefilter("ignore"); SortedDict({1: "a"}).iloc[0]
@@ -332,8 +333,8 @@ class SortedDict(Placed[K, V], Generic[K, V]):
     # ---- the object
 
     def copy(self: D) -> D:
-        """A dictionary of the same class, keys and values, in a time that grows with their number. MemoryError where
-        memory is refused.
+        """Returns a dictionary of the same class, keys and values. Linear in their number. Raises MemoryError if memory
+        runs out.
 
         >>> ages = SortedDict({1: "a"}); other = ages.copy(); other[2] = "b"; ages, other
         (SortedDict({1: 'a'}), SortedDict({1: 'a', 2: 'b'}))
@@ -344,7 +345,8 @@ class SortedDict(Placed[K, V], Generic[K, V]):
         return made
 
     def _empty(self) -> Any:
-        """Another of the same class, kind and key, without keys. What a class below does in `__init__` is done."""
+        """Returns another dictionary of the same class, kind and key, without keys. Runs the `__init__` of a
+        subclass."""
         cls: Any = type(self)
         if cls.__init__ is SortedDict.__init__:
             made = cls.__new__(cls)

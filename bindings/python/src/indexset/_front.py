@@ -1,4 +1,4 @@
-"""What stands before what orders the items, by ctypes: the classes that the compiled module `_fast` has too."""
+"""Base classes of the ctypes backend: the classes that the compiled module `_fast` has too."""
 from __future__ import annotations
 
 from typing import Any, Dict, Generic, Iterator, SupportsIndex, TypeVar, overload
@@ -12,12 +12,12 @@ _delete: Any = dict.__delitem__
 
 
 class Front(Generic[T]):
-    """What stands before what orders the items: its calls on one item go straight there."""
+    """A collection over an order: its calls on one item go straight to the order."""
 
     __slots__ = ("_order", "_members")
 
     _order: Any
-    # The items as a set, or None where they may repeat.
+    # The items as a set, or None if they may repeat.
     _members: Any
 
     def __len__(self) -> int:
@@ -25,13 +25,13 @@ class Front(Generic[T]):
         return len(self._order if members is None else members)
 
     def __contains__(self, value: object) -> bool:
-        """Whether an item equals a value."""
+        """Returns whether an item equals a value."""
         members = self._members
         found: bool = len(self._order) > 0 and self._order.holds(value) if members is None else value in members
         return found
 
     def __iter__(self) -> Iterator[T]:
-        """Walks over the items in order. RuntimeError once there was a change."""
+        """Iterates over the items in order. Raises RuntimeError after a change."""
         walk: Iterator[T] = self._order.walk(0, len(self), False)
         return walk
 
@@ -44,15 +44,15 @@ class Front(Generic[T]):
         ...
 
     def __getitem__(self, position: Any) -> Any:
-        """The item at a position, or the list of those at a slice. IndexError where there is none."""
+        """Returns the item at a position, or the list of those at a slice. Raises IndexError if there is none."""
         return self._slice(position) if isinstance(position, slice) else self._order[position]
 
     def _slice(self, position: slice) -> list[T]:
         raise NotImplementedError
 
     def add(self, value: T) -> None:
-        """Adds an item. One that is there stays, of a set. It takes a time that grows as log n. TypeError,
-        OverflowError or ValueError where it does not fit, and then nothing changes.
+        """Adds an item; a set keeps an equal item that is present. O(log n). Raises TypeError, OverflowError or
+        ValueError if the item does not fit; nothing changes then.
 
         >>> from indexset import SortedSet
         >>> numbers = SortedSet([3, 1]); numbers.add(2); numbers
@@ -70,8 +70,8 @@ class Front(Generic[T]):
         raise NotImplementedError
 
     def discard(self, value: object) -> None:
-        """Removes an item that equals a value, where there is one. TypeError where it has no hash and the items
-        are a set.
+        """Removes an item that equals a value, if any. Raises TypeError if the value has no hash and the items are a
+        set.
 
         >>> from indexset import SortedSet
         >>> numbers = SortedSet([1, 2]); numbers.discard(2); numbers.discard(5); numbers
@@ -83,8 +83,8 @@ class Front(Generic[T]):
         raise NotImplementedError
 
     def bisect_left(self, value: object) -> int:
-        """How many items are below a value. TypeError where it cannot be compared with them, ValueError where it
-        is NaN.
+        """Returns the number of items below a value. Raises TypeError if it cannot be compared with them, ValueError if
+        it is NaN.
 
         >>> from indexset import SortedSet
         >>> SortedSet([10, 20]).bisect_left(20)
@@ -94,8 +94,8 @@ class Front(Generic[T]):
         return position
 
     def bisect_right(self, value: object) -> int:
-        """How many items are not above a value. TypeError where it cannot be compared with them, ValueError where
-        it is NaN.
+        """Returns the number of items not above a value. Raises TypeError if it cannot be compared with them,
+        ValueError if it is NaN.
 
         >>> from indexset import SortedSet
         >>> SortedSet([10, 20]).bisect_right(20)
@@ -108,7 +108,7 @@ class Front(Generic[T]):
 
 
 class DictFront(Dict[K, V], Generic[K, V]):
-    """A dict whose keys are in order too: what changes one key goes straight to the dict and to the order."""
+    """A dict with an order of its keys: a change of one key goes straight to the dict and to the order."""
 
     __slots__ = ("_order",)
 

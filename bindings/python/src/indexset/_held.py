@@ -1,4 +1,4 @@
-"""What orders objects, by ctypes: the classes that the compiled module `_fast` has too."""
+"""Orders of objects in the ctypes backend: the classes that the compiled module `_fast` has too."""
 from __future__ import annotations
 
 import ctypes
@@ -15,8 +15,8 @@ _OWN: dict[str, type] = {"str": str, "bytes": bytes}
 
 
 class Held(Ordered[T]):
-    """Objects in an order, each at a place of its own to which the library leads. A subclass says how they are
-    found by their sort keys."""
+    """Objects in an order, each at a place of its own, which the library stores. A subclass finds them by their sort
+    keys."""
 
     __slots__ = ("_objects", "_unused", "key", "__weakref__")
 
@@ -30,28 +30,28 @@ class Held(Ordered[T]):
         return self.holds(value)
 
     def holds(self, value: Any) -> bool:
-        """Whether an object equals a value."""
+        """Returns whether an object equals a value."""
         return self._contains(value)
 
     def _contains(self, value: Any) -> bool:
         raise NotImplementedError
 
     def add(self, item: T) -> bool:
-        """Adds an object behind its equals."""
+        """Adds an object after its equals."""
         return self._add(item)
 
     def _add(self, item: T) -> bool:
         raise NotImplementedError
 
     def discard(self, value: Any) -> bool:
-        """Removes the first object that equals a value, and tells whether there was one."""
+        """Removes the first object that equals a value. Returns whether there was one."""
         return self._discard(value)
 
     def _discard(self, value: Any) -> bool:
         raise NotImplementedError
 
     def bisect(self, value: Any, right: bool) -> int:
-        """How many objects are below a value, or not above it."""
+        """Returns the number of objects below a value, or not above it."""
         return self._bisect(value, right)
 
     def _bisect(self, value: Any, right: bool) -> int:
@@ -62,7 +62,7 @@ class Held(Ordered[T]):
         raise NotImplementedError
 
     def _settle(self, item: T) -> int:
-        """Keeps an object, and returns its place."""
+        """Stores an object, and returns its place."""
         if not self._unused:
             self._objects.append(item)
             return len(self._objects) - 1
@@ -71,7 +71,7 @@ class Held(Ordered[T]):
         return at
 
     def _vacate(self, at: int) -> T:
-        """Keeps the object at a place no more, and returns it."""
+        """Frees a place, and returns its object."""
         item: T = self._objects[at]
         self._objects[at] = None
         self._unused.append(at)
@@ -92,8 +92,8 @@ class Held(Ordered[T]):
 
 
 class Multi(Held[T]):
-    """Objects at numbers of 64 bits, the codes of their sort keys, in the order of these and then in that in which
-    they came, in a multimap of the library that leads to their places."""
+    """Objects at numbers of 64 bits, the codes of their sort keys: in the order of the codes, those of one code in
+    insertion order. A multimap of the library maps codes to places."""
 
     __slots__ = ("_handle", "_find", "_own", "_kind_name")
 
@@ -104,7 +104,7 @@ class Multi(Held[T]):
         self._handle = library.new("multi")
 
     def copied(self, other: Multi[T]) -> None:
-        """Becomes a clone of another, from empty."""
+        """Becomes a clone of another. It is empty before."""
         made, call = library.new("multi"), lib.indexset_multi_range_by_position
         for code, at in zip(*library.pairs(call, other._handle, 0, size=len(other))):
             check(lib.indexset_multi_push(made, code, at))
@@ -123,7 +123,7 @@ class Multi(Held[T]):
         return item
 
     def _own_code(self, value: Any) -> Optional[int]:
-        """The code of a sort key of the kind's own type and range, or None."""
+        """Returns the code of a sort key of the kind's own type and range, or None."""
         code: Optional[int] = self._find(value) if type(value) is self._own else None
         return code
 
@@ -135,7 +135,7 @@ class Multi(Held[T]):
         return found
 
     def add_own(self, item: T) -> Optional[bool]:
-        """Adds an object whose sort key is of the kind's own type; None of another type."""
+        """Adds an object if its sort key is of the kind's own type; returns None if not."""
         code = self._own_code(item) if self.key is None else None
         if code is None:
             return None
@@ -157,7 +157,7 @@ class Multi(Held[T]):
         return self._bisect(value, right) if code is None else self._rank(code, right)
 
     def own_span(self, key: Any) -> Optional[tuple[int, int]]:
-        """The positions of a sort key of the kind's own type, or None."""
+        """Returns the positions of a sort key of the kind's own type, or None."""
         code = self._own_code(key)
         return None if code is None else (self._rank(code, False), self._rank(code, True))
 
@@ -165,12 +165,12 @@ class Multi(Held[T]):
         return len(self) if right and code == ALL else self.rank(code + right)
 
     def rank(self, code: int) -> int:
-        """How many objects are at numbers below a number."""
+        """Returns the number of objects at numbers below a number."""
         rank: int = lib.indexset_multi_rank(self._handle, code)
         return rank
 
     def insert(self, code: int, item: T) -> None:
-        """Puts an object at a number, behind those that are there."""
+        """Puts an object at a number, after those already there."""
         at = self._settle(item)
         try:
             check(lib.indexset_multi_push(self._handle, code, at))
@@ -180,7 +180,7 @@ class Multi(Held[T]):
         self.changed()
 
     def numbers(self) -> bytes:
-        """All numbers, one by one in memory."""
+        """Returns all numbers, contiguous in memory."""
         numbers: Any = self.chunk(0, len(self))
         return array(ARRAYS[self._kind_name], map(float if self._own is float else int, numbers)).tobytes()
 
@@ -200,9 +200,9 @@ class Multi(Held[T]):
 
 
 class Coded(Held[T]):
-    """Objects at byte strings, in the order of these, in a map of the library that leads to their places.
+    """Objects at byte strings, in the order of these. A map of the library maps byte strings to places.
 
-    A subclass says which byte string is that of an object, by the kind of its sort keys.
+    A subclass encodes an object as a byte string, by the kind of its sort keys.
     """
 
     __slots__ = ("_handle", "_own", "_once", "added")
@@ -215,7 +215,7 @@ class Coded(Held[T]):
         self._handle = library.new("text_map")
 
     def copied(self, other: Coded[T]) -> None:
-        """Becomes a clone of another, from empty."""
+        """Becomes a clone of another. It is empty before."""
         made = library.handle("text_map")
         check(lib.indexset_text_map_clone(other._handle, made))
         self._handle, self.added = made, other.added
@@ -233,7 +233,7 @@ class Coded(Held[T]):
         return item
 
     def add_own(self, item: T) -> Optional[bool]:
-        """Adds an object whose sort key is of the kind's own type; None of another type."""
+        """Adds an object if its sort key is of the kind's own type; returns None if not."""
         return self._add(item) if type(item) is self._own else None
 
     def discard(self, value: Any) -> bool:
@@ -242,7 +242,7 @@ class Coded(Held[T]):
         return self._discard(value)
 
     def _code_of(self, item: Any) -> bytes:
-        """The byte string of an object, where sort keys do not repeat."""
+        """Returns the byte string of an object, if sort keys do not repeat."""
         raise NotImplementedError
 
     def bisect(self, value: Any, right: bool) -> int:
@@ -253,21 +253,21 @@ class Coded(Held[T]):
         return rank + self.has(code) if right else rank
 
     def own_span(self, key: Any) -> Optional[tuple[int, int]]:
-        """The positions of a sort key of the kind's own type, or None."""
+        """Returns the positions of a sort key of the kind's own type, or None."""
         return None
 
     def has(self, code: bytes) -> bool:
-        """Whether an object is at a byte string."""
+        """Returns whether an object is at a byte string."""
         found: bool = lib.indexset_text_map_contains(self._handle, code, len(code))
         return found
 
     def rank(self, code: bytes) -> int:
-        """How many objects are below a byte string."""
+        """Returns the number of objects below a byte string."""
         rank: int = lib.indexset_text_map_rank(self._handle, code, len(code))
         return rank
 
     def insert(self, code: bytes, item: T) -> None:
-        """Puts an object at a byte string, which has none."""
+        """Puts an object at an unused byte string."""
         at = self._settle(item)
         status = lib.indexset_text_map_insert(self._handle, code, len(code), at, self._place)
         if status == library.YES:
@@ -280,7 +280,7 @@ class Coded(Held[T]):
         check(status)
 
     def code(self, position: int) -> bytes:
-        """The byte string of the object at a position."""
+        """Returns the byte string of the object at a position."""
         room, size, out = ctypes.create_string_buffer(64), Count(), Number()
         words = (place(size), place(out))
         if not lib.indexset_text_map_at(self._handle, position, room, 64, *words):
@@ -298,7 +298,7 @@ class Coded(Held[T]):
         return item
 
     def _take_out(self, code: bytes) -> Optional[tuple[T]]:
-        """Removes the object at a byte string and returns it, or None where there is none."""
+        """Removes the object at a byte string and returns it, or None if there is none."""
         if not lib.indexset_text_map_remove(self._handle, code, len(code), self._place):
             return None
         self.changed()

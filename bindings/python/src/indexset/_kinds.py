@@ -1,6 +1,6 @@
-"""Kinds of keys: how a key becomes a code that keeps the order, a number of 64 bits or bytes.
+"""Kinds of keys: the encodings of keys that keep their order, as numbers of 64 bits or as bytes.
 
-Equal numbers are equal keys whatever their types are, as in Python: 1, 1.0, True and numpy's numbers.
+Equal numbers are equal keys, of any types, as in Python: 1, 1.0, True and numpy's numbers.
 """
 from __future__ import annotations
 
@@ -24,8 +24,8 @@ _DOUBLE, _BITS = struct.Struct("<d"), struct.Struct("<Q")
 
 
 def _plain(value: Any) -> Any:
-    """A number of Python's own for one of numpy, or one without an imaginary part for a complex one. TypeError
-    where the value cannot be hashed: no key can equal it, as in a set."""
+    """Returns a number of numpy as one of Python, and a complex number without an imaginary part as its real part.
+    Raises TypeError if the value has no hash: no key equals it, as in a set."""
     hash(value)
     if hasattr(value, "dtype"):
         value = value.item()
@@ -35,7 +35,7 @@ def _plain(value: Any) -> Any:
 
 
 def whole(value: Any) -> Optional[int]:
-    """The integer that a value equals, or None. TypeError where the value cannot be hashed."""
+    """Returns the integer that a value equals, or None. Raises TypeError if the value has no hash."""
     if type(value) is int:
         return value
     value = _plain(value)
@@ -52,7 +52,7 @@ def whole(value: Any) -> Optional[int]:
 
 
 def real(value: Any) -> Optional[float]:
-    """The floating-point number that a value equals, or None. TypeError where the value cannot be hashed."""
+    """Returns the floating-point number that a value equals, or None. Raises TypeError if the value has no hash."""
     if type(value) is float:
         return value if value == value else None
     value = _plain(value)
@@ -64,13 +64,13 @@ def real(value: Any) -> Optional[float]:
 
 
 class Integers:
-    """Integers from `least` on, as many as 64 bits tell apart."""
+    """The 2**64 integers from `least` on."""
 
     def __init__(self, name: str, least: int) -> None:
         self.name, self._least = name, least
 
     def code(self, key: Any) -> int:
-        """The number of a key."""
+        """Returns the number of a key."""
         number = whole(key)
         if number is None:
             raise TypeError(f"an integer is needed, not {key!r:.60}")
@@ -79,7 +79,7 @@ class Integers:
         return number - self._least
 
     def find(self, value: Any) -> Optional[int]:
-        """The number of the key that a value equals, or None where it equals none."""
+        """Returns the number of the key that a value equals, or None if there is none."""
         number = value if type(value) is int else whole(value)
         if number is None:
             return None
@@ -87,8 +87,8 @@ class Integers:
         return code if 0 <= code <= ALL else None
 
     def bound(self, value: Any) -> tuple[int, bool]:
-        """The number of the first key that is not below a value, 2**64 where there is none, and whether the
-        two are equal."""
+        """Returns the number of the least key not below a value, 2**64 if there is none, and whether the two are
+        equal."""
         number = whole(value)
         exact = number is not None
         if number is None:
@@ -102,12 +102,12 @@ class Integers:
         return (code, exact) if 0 <= code <= ALL else (0 if code < 0 else ALL + 1, False)
 
     def decode(self, code: int) -> int:
-        """The key of a number."""
+        """Returns the key of a number."""
         return code + self._least
 
 
 class Doubles:
-    """Floating-point numbers. There is one zero, and NaN is refused."""
+    """Floating-point numbers. -0.0 equals 0.0, and NaN is not a key."""
 
     name = "float64"
 
@@ -150,18 +150,18 @@ class Doubles:
 
 
 class Texts:
-    """Texts, as their bytes in UTF-8, whose order is that of their code points."""
+    """Texts, as their bytes in UTF-8, whose order is that of the code points."""
 
     name = "str"
 
     def raw(self, key: Any) -> bytes:
-        """A key as bytes in their order."""
+        """Returns a key as bytes that keep the order."""
         if not isinstance(key, str):
             raise TypeError(f"a str is needed, not {key!r:.60}")
         return key.encode("utf-8", "surrogatepass")
 
     def framed(self, key: Any) -> bytes:
-        """A key as bytes in their order, whatever follows them but a byte of all ones."""
+        """Returns a key as bytes that keep the order even if other bytes follow, unless the first of these is 0xff."""
         return framed_text(self.raw(key))
 
 
@@ -180,7 +180,7 @@ class Strings:
 
 
 class Anything:
-    """None, bool, int, float, str, bytes and tuples of these, as the tuple layer of FoundationDB writes them."""
+    """None, bool, int, float, str, bytes and tuples of these, in the encoding of FoundationDB's tuple layer."""
 
     name = "any"
 
@@ -197,23 +197,23 @@ NUMBERS: dict[str, Any] = {
 }
 BYTES: dict[str, Any] = {"str": Texts(), "bytes": Strings(), "any": Anything()}
 KINDS: dict[str, Any] = {**NUMBERS, **BYTES}
-# The kind of keys that are compared by Python's own `<`.
+# The kind of keys that Python's own `<` compares.
 OBJECT = "object"
 
 
 def known(name: Optional[str]) -> None:
-    """ValueError where a name is that of no kind."""
+    """Raises ValueError if a name is not that of a kind."""
     if name is not None and name != OBJECT and name not in KINDS:
         raise ValueError(f"keys is one of {', '.join([*KINDS, OBJECT])}, not {name!r}")
 
 
-# What numpy names the kinds of items that no buffer of numbers has: texts, byte strings, objects, times.
+# The codes of numpy for items without a buffer of numbers: texts, byte strings, objects, times.
 _ITEMS = frozenset("USOMm")
 _WHOLE, _REAL = frozenset("bBhHiIlLqQnN?"), frozenset("efd")
 
 
 def items_of(iterable: Iterable[Any]) -> list[Any]:
-    """The items of an iterable. An array of numbers is read through its buffer; TypeError where an array has
+    """Returns the items of an iterable. Reads an array of numbers through its buffer. Raises TypeError if an array has
     numbers without an order, characters of C, or more than one dimension."""
     if isinstance(iterable, (list, tuple, set, frozenset, dict, range)):
         return list(iterable)
@@ -238,7 +238,7 @@ def items_of(iterable: Iterable[Any]) -> list[Any]:
 
 
 def codes_of(kind: Any, iterable: Iterable[Any]) -> array[int]:
-    """The numbers of many keys of a kind."""
+    """Returns the numbers of many keys of a kind."""
     if type(iterable) in (array, memoryview) or hasattr(iterable, "__array_interface__"):
         view = memoryview(iterable)  # type: ignore[arg-type]
         if view.itemsize == 8 and view.contiguous and view.ndim == 1 and _fits(kind.name, view.format):
@@ -250,17 +250,18 @@ def _fits(name: str, format: str) -> bool:
     return format in {"int64": ("q", "l"), "uint64": ("Q", "L")}.get(name, ())
 
 
-# Each byte with its highest bit turned, and where that of a number of 64 bits stands.
+# Each byte with its highest bit flipped, and the index of the highest byte of a 64-bit number.
 _TURNED, _HIGHEST = bytes(byte ^ 128 for byte in range(256)), 7 if sys.byteorder == "little" else 0
 
 
 def turned(data: Buffer) -> bytearray:
-    """The numbers of 64 bits in some bytes, each with its highest bit turned: two operations for all."""
+    """Returns the 64-bit numbers in some bytes, each with its highest bit flipped, by two operations for all of
+    them."""
     made = bytearray(data)
     made[_HIGHEST::8] = made[_HIGHEST::8].translate(_TURNED)
     return made
 
 
 def flipped(data: bytes, mask: int) -> array[int]:
-    """The numbers of 64 bits in some bytes; with the mask TOP, each with its highest bit turned."""
+    """Returns the 64-bit numbers in some bytes; with the mask TOP, each with its highest bit flipped."""
     return array("Q", turned(data) if mask else data)

@@ -1,4 +1,4 @@
-"""The library's calls by ctypes, and the handles that they take. A call holds the interpreter's lock."""
+"""The library's calls by ctypes, and their handles. A call holds the interpreter's lock."""
 from __future__ import annotations
 
 import atexit
@@ -16,7 +16,7 @@ from ._signatures import CALLS
 NO, YES, MEMORY, NONE, HELD, NUMBERS, UNFIT = range(7)
 GAP = 11
 
-# At most so many changes are made by a call of a logged map.
+# A call of a logged map makes at most this many changes.
 CHANGES = 3
 
 Number, Count = ctypes.c_uint64, ctypes.c_size_t
@@ -43,7 +43,7 @@ def _load() -> Any:
     built = folder.parent.parent.parent / "c" / "out" / "libindexset.so"
     beside = folder / "libindexset.so"
     path = named or str(beside if beside.exists() else built)
-    # PyDLL keeps the interpreter's lock, where CDLL lets it go.
+    # PyDLL keeps the interpreter's lock; CDLL would release it.
     try:
         return ctypes.PyDLL(path)
     except OSError as error:
@@ -68,8 +68,8 @@ _slots: dict[int, _Slot] = {}
 class Handle(int):
     """The address of a handle of the library, which is freed with this object.
 
-    In a cycle that is collected, what a handle leads to outlives each `__del__` that reads it, in whatever
-    order they run: it is freed once the collection has ended, and, where the interpreter ends, not at all.
+    In a cycle that is collected, the collection of a handle outlives each `__del__` that reads it, in any order of
+    these calls: it is freed after the garbage collection, and not at all if the interpreter exits.
     """
 
     __slots__ = ()
@@ -83,13 +83,13 @@ class Handle(int):
             self.end()
 
     def end(self) -> None:
-        """Frees what it leads to."""
+        """Frees the collection of the handle."""
         self._free(self)
         _slots.pop(self, None)
 
 
 class _Collector:
-    """Whether the collector of cycles runs, and the handles that it came upon."""
+    """Whether the garbage collector runs, and the handles that it found."""
 
     def __init__(self) -> None:
         self.runs = self.ended = False
@@ -98,7 +98,7 @@ class _Collector:
         atexit.register(self.end)
 
     def watch(self, phase: str, about: dict[str, Any]) -> None:
-        """Frees what was waiting once a collection has ended, but for what a `__del__` has kept."""
+        """Frees the waiting handles after a garbage collection, except those that a `__del__` has kept."""
         self.runs = phase == "start"
         if not self.runs and self.waiting:
             waiting, self.waiting = self.waiting, []
@@ -110,7 +110,7 @@ class _Collector:
                     found.end()
 
     def end(self) -> None:
-        """Says that the interpreter ends."""
+        """Notes that the interpreter exits."""
         self.ended = True
 
 
@@ -126,23 +126,23 @@ _CLASSES = {what: _class_of(what) for what in ("set", "text_map", "multi", "log"
 
 
 def handle(what: str) -> Handle:
-    """A handle, of a collection of this name, that leads to none."""
+    """Returns a handle of the named type that owns no collection."""
     slot = _Slot()
     address = ctypes.addressof(slot)
     _slots[address] = slot
     return _CLASSES[what](address)
 
 
-# From here on the collector sees the dictionary of handles.
+# From here on the garbage collector tracks the dictionary of handles.
 handle("set")
 
 
 class Spent(OverflowError):
-    """The numbers of a collection are used up."""
+    """The numbers of a collection are exhausted."""
 
 
 def check(status: int) -> bool:
-    """Whether a call did something. Raises what else a status says."""
+    """Returns whether a call changed something. Raises the error of any other status."""
     if status == YES:
         return True
     if status == NO:
@@ -155,24 +155,24 @@ def check(status: int) -> bool:
 
 
 def new(what: str, *words: Any) -> Handle:
-    """A handle with an empty collection."""
+    """Returns a handle with an empty collection."""
     made = handle(what)
     check(getattr(lib, f"indexset_{what}_new")(made, *words))
     return made
 
 
 def zeros(size: int) -> array[int]:
-    """Places for numbers."""
+    """Returns an array of zeros."""
     return array("Q", bytes(8 * size))
 
 
 def memory(items: array[int]) -> int:
-    """Where the items of an array are, for as long as it does not change."""
+    """Returns the address of the items of an array. It is valid until the array changes."""
     return items.buffer_info()[0]
 
 
 def pairs(call: Any, *words: Any, size: int) -> tuple[array[int], array[int]]:
-    """The keys and values that a call writes into two arrays of a size."""
+    """Returns the keys and values that a call writes into two arrays of the given size."""
     keys, values = zeros(size), zeros(size)
     if size:
         count = call(*words, memory(keys), size, memory(values), size)
@@ -181,7 +181,7 @@ def pairs(call: Any, *words: Any, size: int) -> tuple[array[int], array[int]]:
 
 
 def position(index: int, size: int) -> int:
-    """The position from 0 on that an index means among so many. IndexError where there is none."""
+    """Returns the position, counted from 0, of an index into `size` items. Raises IndexError if there is none."""
     at = as_index(index)
     at = at + size if at < 0 else at
     if not 0 <= at < size:
@@ -190,6 +190,11 @@ def position(index: int, size: int) -> int:
 
 
 def version() -> tuple[int, int, int]:
-    """The version of the library."""
+    """Returns the version of the library: major, minor and patch.
+
+    >>> import indexset
+    >>> len(indexset.version())
+    3
+    """
     number = lib.indexset_version()
     return number >> 16, number >> 8 & 255, number & 255

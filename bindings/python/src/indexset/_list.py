@@ -14,19 +14,19 @@ S = TypeVar("S", bound="SortedList[Any]")
 
 
 class SortedList(Sorted[T], MutableSequence[T], Generic[T]):
-    """A list that is kept in order, with the calls of `sortedcontainers.SortedList`. Items may repeat; equal
-    ones stand in the order in which they came.
+    """A sorted list, with the calls of `sortedcontainers.SortedList`. Items may repeat; equal items are in insertion
+    order.
 
-    `keys` names the kind of the items and `key` is a function whose results order them, as for `SortedSet`;
-    with `key` the list is a `SortedKeyList`.
+    `keys` names the kind of the items and `key` is a function whose results order them, as for `SortedSet`; with `key`
+    the list is a `SortedKeyList`.
 
-    Cost: with n items, a call on one item or one position is O(log n), and, where a value is looked for that
-    is no number or `key` is given, linear in the number of items that have its sort key. Iteration, a slice or
-    a batch is linear in its length. Where many numbers came at once, the first change of one is linear in their
-    number. A removal where numbers repeat may raise MemoryError, and then has changed nothing.
+    Cost: with n items, a call on one item or one position is O(log n); a search for a value also takes time linear in
+    the number of items with its sort key, unless the items are numbers without `key`. Iteration, a slice or a batch is
+    linear in its length. After many numbers were added at once, the first change of one is linear in their number. A
+    removal from repeated numbers may raise MemoryError; nothing changes then.
 
-    Reads may go on in several threads at once. An iterator raises RuntimeError once there was a change;
-    changes from several threads are kept apart by the caller.
+    Several threads may read a list at the same time; the caller synchronizes changes. An iterator raises RuntimeError
+    after a change.
 
     >>> numbers = SortedList([3, 1, 2, 1]); numbers
     SortedList([1, 1, 2, 3])
@@ -119,7 +119,7 @@ class SortedList(Sorted[T], MutableSequence[T], Generic[T]):
         return found
 
     def remove(self, value: object) -> None:
-        """Removes the first item that equals a value. ValueError where there is none.
+        """Removes the first item that equals a value. Raises ValueError if there is none.
 
         >>> numbers = SortedList([2, 1, 2]); numbers.remove(2); numbers
         SortedList([1, 2])
@@ -128,8 +128,8 @@ class SortedList(Sorted[T], MutableSequence[T], Generic[T]):
             raise ValueError(f"{value!r} is not there")
 
     def count(self, value: object) -> int:
-        """How many items equal a value, in a time that grows as log n, and, but for numbers without `key`, with
-        the number of items that have its sort key.
+        """Returns the number of items equal to a value. O(log n), and linear in the number of items with its sort key
+        unless the items are numbers without `key`.
 
         >>> SortedList([1, 2, 1]).count(1)
         2
@@ -152,7 +152,8 @@ class SortedList(Sorted[T], MutableSequence[T], Generic[T]):
     # ---- many at once
 
     def update(self, iterable: Iterable[T]) -> None:
-        """Adds items. TypeError, OverflowError or ValueError where one does not fit: then the list is as it was.
+        """Adds items. Raises TypeError, OverflowError or ValueError if an item does not fit; the list is then
+        unchanged.
 
         >>> numbers = SortedList([2]); numbers.update([3, 1]); numbers
         SortedList([1, 2, 3])
@@ -172,12 +173,12 @@ class SortedList(Sorted[T], MutableSequence[T], Generic[T]):
 
     @staticmethod
     def _repeat(items: list[T], order: Numbers) -> bool:
-        """Whether some of the items are equal, or are there already."""
+        """Returns whether some of the items are equal, or already present."""
         found = set(items)
         return len(found) < len(items) or (len(order) > 0 and any(item in order for item in found))
 
     def __add__(self: S, other: Iterable[T]) -> S:
-        """A list of the items of both."""
+        """Returns a list of the items of both."""
         items = self._order.chunk(0, len(self))
         items.extend(other)
         made: S = self._made(items)
@@ -190,7 +191,7 @@ class SortedList(Sorted[T], MutableSequence[T], Generic[T]):
         return self
 
     def __mul__(self: S, count: int) -> S:
-        """A list of each item so many times."""
+        """Returns a list of each item, repeated `count` times."""
         made: S = self._made(self._order.chunk(0, len(self)) * count)
         return made
 
@@ -202,10 +203,10 @@ class SortedList(Sorted[T], MutableSequence[T], Generic[T]):
         self.update(made)
         return self
 
-    # ---- what a sorted list cannot do
+    # ---- calls that a sorted list does not support
 
     def __setitem__(self, index: object, value: object) -> None:
-        """Raises NotImplementedError: the order tells where an item is."""
+        """Raises NotImplementedError: the order determines the position of an item."""
         raise NotImplementedError("use `del items[index]` and `items.add(value)`")
 
     def append(self, value: T) -> None:
@@ -244,7 +245,7 @@ class SortedList(Sorted[T], MutableSequence[T], Generic[T]):
         """
         raise NotImplementedError("use `reversed(items)`")
 
-    # ---- lists beside lists
+    # ---- comparisons of lists
 
     def _beside(self, other: Any, compare: Callable[[Any, Any], bool]) -> bool:
         if not isinstance(other, Sequence):
@@ -273,9 +274,9 @@ class SortedList(Sorted[T], MutableSequence[T], Generic[T]):
 
 
 class SortedKeyList(SortedList[T], Generic[T]):
-    """A `SortedList` whose items are ordered by what a function makes of each; without one, by themselves. The
-    cost is that of a `SortedList`. `SortedListWithKey`, the name that `sortedcontainers` had for it before its
-    version 2, is the same class.
+    """A `SortedList` that is ordered by the results of a function of its items; without a function, by the items. The
+    cost is that of a `SortedList`. `SortedListWithKey`, the name of this class before version 2 of `sortedcontainers`,
+    is the same class.
 
     >>> words = SortedKeyList(["pear", "fig", "apple"], key=len); words
     SortedKeyList(['fig', 'pear', 'apple'], key=<built-in function len>)

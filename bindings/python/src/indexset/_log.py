@@ -15,17 +15,17 @@ V = TypeVar("V")
 
 
 class LoggedDict(Noded[K, V], MutableMapping[K, V], Generic[K, V]):
-    """A dictionary in the order of its keys, which reports each change to `tell`.
+    """A sorted dictionary that reports each change to `tell`.
 
-    `keys` and `values` name the kinds of its keys and values, as for `SortedSet`; where none is named it is
-    that of the first pair, and an item of another kind is refused. A node holds at most `size` pairs, and the
-    first change has the number `next`. What has the nodes of `nodes()` and makes the changes from the number
-    `next` on has the dictionary's nodes. A copy and a pickle have the same pairs in nodes of their own; they
-    report to no one, and their numbers go on from `next`.
+    `keys` and `values` name the kinds of its keys and values, as for `SortedSet`; without names these are the kinds of
+    the first pair. Raises TypeError, OverflowError or ValueError if an item is of another kind. A node holds at most
+    `size` pairs, and the first change has the number `next`. A replica with the nodes of `nodes()` that applies the
+    changes from the number `next` on has the nodes of the dictionary. A copy and a pickle have the same pairs in nodes
+    of their own; they report no changes, and their numbers continue from `next`.
 
-    Cost: with n pairs, a call on one key or one position is O(log n), and a change also linear in the size of
-    a node. Keys that are no numbers are held in Python too. Reads may go on in several threads at once; changes
-    are kept apart by the caller, and none is made while one is reported.
+    Cost: with n pairs, a call on one key or one position is O(log n), and a change also linear in the size of a node.
+    Keys that are not numbers are also kept in Python. Several threads may read a dictionary at the same time; the
+    caller synchronizes changes, and makes none while one is reported.
 
     >>> told = []
     >>> ages = LoggedDict(told.append, size=2); ages[30] = 3; ages[10] = 1; ages[20] = 2
@@ -69,7 +69,7 @@ class LoggedDict(Noded[K, V], MutableMapping[K, V], Generic[K, V]):
         self.update(entries)
 
     def __setitem__(self, key: K, value: V) -> None:
-        """Makes a value that of a key, and tells the changes."""
+        """Sets the value of a key, and reports the changes."""
         if None in self._named:
             self._settle(key, value)
         changes: list[Change] = []
@@ -93,7 +93,7 @@ class LoggedDict(Noded[K, V], MutableMapping[K, V], Generic[K, V]):
         self._told(changes)
 
     def __delitem__(self, key: object) -> None:
-        """Removes a key, and tells the changes. KeyError where it is not there."""
+        """Removes a key, and reports the changes. Raises KeyError if the key is absent."""
         code = self._keys.find(key)
         changes: list[Change] = []
         before = None if code is None else self._removed(code, changes)
@@ -104,7 +104,7 @@ class LoggedDict(Noded[K, V], MutableMapping[K, V], Generic[K, V]):
         self._told(changes)
 
     def _inserted(self, code: int, written: int, changes: list[Change]) -> Optional[int]:
-        """Makes a value that of a key, and returns the value before, if there was one."""
+        """Sets the value of a key, and returns the old value, if any."""
         events, told, before = (Event * library.CHANGES)(), Count(), Number()
         is_new = check(
             lib.indexset_log_insert(
@@ -115,7 +115,7 @@ class LoggedDict(Noded[K, V], MutableMapping[K, V], Generic[K, V]):
         return None if is_new else before.value
 
     def _removed(self, code: int, changes: list[Change]) -> Optional[int]:
-        """Removes a key, and returns its value, if it had one."""
+        """Removes a key, and returns its value, if any."""
         events, told, before = (Event * library.CHANGES)(), Count(), Number()
         was_there = check(
             lib.indexset_log_remove(self._handle, code, place(before), place(events), library.CHANGES, place(told))
@@ -124,7 +124,7 @@ class LoggedDict(Noded[K, V], MutableMapping[K, V], Generic[K, V]):
         return before.value if was_there else None
 
     def _move(self, moves: Moves, changes: list[Change]) -> None:
-        """Has keys have other labels."""
+        """Gives keys other labels."""
         if ALL - self.next < 2 * library.CHANGES * (len(moves) + 1) and moves:
             raise OverflowError("too few numbers are left")
         values = [self._removed(old, changes) for old, _ in moves]
@@ -133,7 +133,7 @@ class LoggedDict(Noded[K, V], MutableMapping[K, V], Generic[K, V]):
             self._inserted(new, value or 0, changes)
 
     def _change(self, event: Event) -> Change:
-        """The change of the library's record of it."""
+        """Returns the change of a record of the library."""
         key, value = self._keys.decode, self._values.decode
         kind = KINDS[event.kind]
         node = key(event.node_key), value(event.node_value)
@@ -142,7 +142,7 @@ class LoggedDict(Noded[K, V], MutableMapping[K, V], Generic[K, V]):
         return Change(event.number, str(kind), node, pair, event.index, label)
 
     def _told(self, changes: list[Change]) -> None:
-        """Tells changes."""
+        """Reports changes."""
         if self._tell is not None:
             for change in changes:
                 self._tell(change)

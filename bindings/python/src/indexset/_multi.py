@@ -15,15 +15,14 @@ Whole = Literal["int64", "uint64"]
 
 
 class SortedMultiDict(Generic[K, V]):
-    """Keys in order, each with values of its own, which are distinct and stand in the order in which they
-    came.
+    """A sorted multimap: a key has several values, which are distinct and in insertion order.
 
-    `keys` and `values` name their kinds, as for `SortedSet`. Numbers are kept in the library's multimap; where
-    no kind is named it is found from the pairs, and numbers are kept so until others come.
+    `keys` and `values` name their kinds, as for `SortedSet`. The library's multimap keeps numbers. Without names the
+    kinds follow from the pairs, and numbers stay in the multimap until other keys or values are added.
 
-    Cost: with n pairs a call on one position is O(log n); one on one key too, and, but for `bisect_left` and
-    `bisect_right`, linear in the number of its values.
-    Reads may go on in several threads at once; changes are kept apart by the caller.
+    Cost: with n pairs, a call on one position is O(log n); a call on one key too, and also linear in the number of its
+    values, except for `bisect_left` and `bisect_right`. Several threads may read a dictionary at the same time; the
+    caller synchronizes changes.
 
     >>> tags = SortedMultiDict([(2, 30), (1, 10), (2, 20)]); tags
     SortedMultiDict([(1, 10), (2, 30), (2, 20)])
@@ -65,7 +64,7 @@ class SortedMultiDict(Generic[K, V]):
         return NumberPairs(keys, values) if keys in NUMBERS and values in NUMBERS else ObjectPairs(keys, values)
 
     def _fit(self, key: Any, value: Any) -> None:
-        """Finds the kinds for a pair that comes, where none were named."""
+        """Finds the kinds for a new pair, if they have no names."""
         now = self._pairs.kinds
         wanted = [
             kind if name is not None else kind_of([item]) for name, kind, item in zip(self._named, now, (key, value))
@@ -88,14 +87,14 @@ class SortedMultiDict(Generic[K, V]):
         return self._pairs.kinds
 
     def __len__(self) -> int:
-        """How many pairs there are."""
+        """Returns the number of pairs."""
         return len(self._pairs)
 
     # ---- pairs
 
     def add(self, key: K, value: V) -> bool:
-        """Adds a value to those of a key, as the last. False where the key has it. TypeError, OverflowError or
-        ValueError where one of the two does not fit.
+        """Adds a value to those of a key, as the last. Returns False if the key has the value. Raises TypeError,
+        OverflowError or ValueError if the key or the value does not fit.
 
         >>> tags = SortedMultiDict(); tags.add(1, 5), tags.add(1, 5)
         (True, False)
@@ -107,7 +106,8 @@ class SortedMultiDict(Generic[K, V]):
         return self._pairs.add(key, value)
 
     def update(self, pairs: Iterable[tuple[K, V]]) -> None:
-        """Adds each pair. TypeError, OverflowError or ValueError at one that does not fit; those before it are added.
+        """Adds each pair. Raises TypeError, OverflowError or ValueError at a pair that does not fit, after adding those
+        before it.
 
         >>> tags = SortedMultiDict([(1, 5)]); tags.update([(1, 4), (0, 3)]); tags
         SortedMultiDict([(0, 3), (1, 5), (1, 4)])
@@ -116,7 +116,8 @@ class SortedMultiDict(Generic[K, V]):
             self.add(key, value)
 
     def remove(self, key: object, value: object) -> None:
-        """Removes a value of a key. KeyError where the key does not have it.
+        """Removes a value of a key. Raises KeyError if the key does not have the value, TypeError if the key has no
+        hash.
 
         >>> tags = SortedMultiDict([(1, 5), (1, 4)]); tags.remove(1, 5); tags
         SortedMultiDict([(1, 4)])
@@ -125,7 +126,7 @@ class SortedMultiDict(Generic[K, V]):
             raise KeyError((key, value))
 
     def discard(self, key: object, value: object) -> bool:
-        """Removes a value of a key, and tells whether the key had it.
+        """Removes a value of a key. Returns whether the key had the value. Raises TypeError if the key has no hash.
 
         >>> SortedMultiDict([(1, 5)]).discard(1, 6)
         False
@@ -133,7 +134,8 @@ class SortedMultiDict(Generic[K, V]):
         return self._pairs.discard(key, value)
 
     def pop(self, key: object) -> V:
-        """Removes the first value of a key and returns it. KeyError where the key is not there.
+        """Removes the first value of a key and returns it. Raises KeyError if the key is absent, TypeError if it has no
+        hash.
 
         >>> SortedMultiDict([(1, 5), (1, 4)]).pop(1)
         5
@@ -142,8 +144,8 @@ class SortedMultiDict(Generic[K, V]):
         return value
 
     def popitem(self, index: int = -1) -> tuple[K, V]:
-        """Removes the pair at a position, the last one if none is given, and returns it. KeyError where the
-        dictionary is empty, IndexError where there is no such position.
+        """Removes the pair at a position, by default the last, and returns it. Raises KeyError if the dictionary is
+        empty, IndexError if there is no such position.
 
         >>> SortedMultiDict([(1, 5), (1, 4), (2, 3)]).popitem(1)
         (1, 4)
@@ -163,11 +165,11 @@ class SortedMultiDict(Generic[K, V]):
     # ---- reads
 
     def __contains__(self, pair: object) -> bool:
-        """Whether a pair of a key and a value is there."""
+        """Returns whether a pair of a key and a value is present."""
         return isinstance(pair, tuple) and len(pair) == 2 and self._pairs.contains(*pair)
 
     def has_key(self, key: object) -> bool:
-        """Whether a key is there.
+        """Returns whether a key is present. Raises TypeError if it has no hash.
 
         >>> SortedMultiDict([(1, 5)]).has_key(1), SortedMultiDict([(1, 5)]).has_key(2)
         (True, False)
@@ -175,7 +177,7 @@ class SortedMultiDict(Generic[K, V]):
         return self._pairs.count(key) > 0
 
     def count(self, key: object) -> int:
-        """How many values a key has.
+        """Returns the number of values of a key. Raises TypeError if the key has no hash.
 
         >>> SortedMultiDict([(1, 5), (1, 4)]).count(1)
         2
@@ -183,7 +185,8 @@ class SortedMultiDict(Generic[K, V]):
         return self._pairs.count(key)
 
     def get(self, key: object) -> list[V]:
-        """The values of a key, in the order in which they came; none where the key is not there.
+        """Returns the values of a key, in insertion order; an empty list if the key is absent. Raises TypeError if the
+        key has no hash.
 
         >>> SortedMultiDict([(1, 5), (1, 4)]).get(1), SortedMultiDict().get(1)
         ([5, 4], [])
@@ -191,14 +194,14 @@ class SortedMultiDict(Generic[K, V]):
         return self._pairs.get(key)
 
     def __getitem__(self, key: object) -> list[V]:
-        """The values of a key. KeyError where the key is not there."""
+        """Returns the values of a key. Raises KeyError if the key is absent."""
         values = self.get(key)
         if not values:
             raise KeyError(key)
         return values
 
     def first(self) -> tuple[K, V]:
-        """The least key with its first value. IndexError where there is none.
+        """Returns the least key with its first value. Raises IndexError if there is none.
 
         >>> SortedMultiDict([(1, 5), (2, 4)]).first()
         (1, 5)
@@ -206,7 +209,7 @@ class SortedMultiDict(Generic[K, V]):
         return self._end(False)
 
     def last(self) -> tuple[K, V]:
-        """The greatest key with its last value. IndexError where there is none.
+        """Returns the greatest key with its last value. Raises IndexError if there is none.
 
         >>> SortedMultiDict([(1, 5), (2, 4)]).last()
         (2, 4)
@@ -222,8 +225,7 @@ class SortedMultiDict(Generic[K, V]):
     # ---- positions
 
     def peekitem(self, index: int = -1) -> tuple[K, V]:
-        """The pair at a position, the last one if none is given. IndexError where there is none. It takes a time
-        that grows as log n.
+        """Returns the pair at a position, by default the last. Raises IndexError if there is none. O(log n).
 
         >>> SortedMultiDict([(1, 5), (1, 4), (2, 3)]).peekitem(1)
         (1, 4)
@@ -231,7 +233,8 @@ class SortedMultiDict(Generic[K, V]):
         return self._pairs.at(position(index, len(self)))
 
     def bisect_left(self, key: object) -> int:
-        """How many pairs have a key below one: the position of the first value of a key that is there.
+        """Returns the number of pairs with keys below a key: the position of the key's first value, if any. Raises
+        TypeError if the key cannot be compared with the keys.
 
         >>> tags = SortedMultiDict([(1, 5), (3, 4), (3, 3)]); tags.bisect_left(3), tags.bisect_right(3)
         (1, 3)
@@ -239,7 +242,8 @@ class SortedMultiDict(Generic[K, V]):
         return self._pairs.bisect(key, False)
 
     def bisect_right(self, key: object) -> int:
-        """How many pairs have a key that is not above one. TypeError where it cannot be compared with the keys.
+        """Returns the number of pairs with keys not above a key. Raises TypeError if it cannot be compared with the
+        keys.
 
         >>> SortedMultiDict([(1, 5), (1, 4), (2, 3)]).bisect_right(1)
         2
@@ -251,8 +255,8 @@ class SortedMultiDict(Generic[K, V]):
     def islice(
         self, start: Optional[int] = None, stop: Optional[int] = None, reverse: bool = False
     ) -> Iterator[tuple[K, V]]:
-        """The pairs at the positions from `start` and before `stop`, as they are at the call. It takes a time
-        that grows as log n and with their number.
+        """Iterates over the pairs at the positions from `start` and before `stop`, as they are at the call. O(log n),
+        and linear in their number.
 
         >>> list(SortedMultiDict([(1, 5), (1, 4), (2, 3)]).islice(1))
         [(1, 4), (2, 3)]
@@ -262,7 +266,8 @@ class SortedMultiDict(Generic[K, V]):
         return reversed(list(pairs)) if reverse else pairs
 
     def irange(self, minimum: object = None, maximum: object = None) -> Iterator[tuple[K, V]]:
-        """The pairs of the keys between two values, both included, as they are at the call.
+        """Iterates over the pairs of the keys between two values, both included, as they are at the call. Raises
+        TypeError if a value cannot be compared with the keys.
 
         >>> list(SortedMultiDict([(1, 10), (3, 30), (3, 31), (5, 50)]).irange(2, 4))
         [(3, 30), (3, 31)]
@@ -270,7 +275,7 @@ class SortedMultiDict(Generic[K, V]):
         return self._pairs.range(minimum, maximum)
 
     def items(self) -> Iterator[tuple[K, V]]:
-        """All pairs, in order, as they are at the call.
+        """Iterates over all pairs, in order, as they are at the call.
 
         >>> list(SortedMultiDict([(2, 4), (1, 5)]).items())
         [(1, 5), (2, 4)]
@@ -282,7 +287,7 @@ class SortedMultiDict(Generic[K, V]):
     # ---- the object
 
     def copy(self: C) -> C:
-        """A dictionary of the same pairs, in a time that grows with their number.
+        """Returns a dictionary of the same pairs. Linear in their number.
 
         >>> SortedMultiDict([(2, 4), (1, 5)]).copy()
         SortedMultiDict([(1, 5), (2, 4)])

@@ -1,4 +1,4 @@
-"""What orders keys: the compiled module `_fast` where it was built, and ctypes else."""
+"""The classes that order keys: of the compiled module `_fast` if it was built, and otherwise of ctypes."""
 from __future__ import annotations
 
 import os
@@ -16,7 +16,7 @@ else:
         from ._fast import BACKEND, Blocks, Coded, DictFront, Front, Multi, Numbers
 
         class Held(Generic[TypeVar("T")]):
-            """What Blocks, Coded and Multi share, which each has in C."""
+            """The base of Blocks, Coded and Multi, which each implement in C."""
 
             __slots__ = ()
 

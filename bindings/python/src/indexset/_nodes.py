@@ -1,4 +1,4 @@
-"""What a logged dictionary and a replica share: changes, and pairs that are read in order."""
+"""The base of a logged dictionary and a replica: changes, and pairs that are read in order."""
 from __future__ import annotations
 
 from collections.abc import Mapping
@@ -20,15 +20,15 @@ PAIRED = ("insert", "remove", "merge")
 
 
 class Change(NamedTuple):
-    """A change of a node. A node is a run of pairs in order; it is named by its last pair before the change.
+    """A change of a node. A node is a run of pairs in order; its name is its last pair before the change.
 
-    `kind` is "insert" or "remove", of the pair at the index; "create", of a node of one pair, or "drop";
-    "split", into the pairs before the index and the rest; or "merge", with the node after it, whose last
-    pair is the pair. What a kind has no use for is 0.
+    `kind` is "insert" or "remove", of the pair at the index; "create", of a node of one pair, or "drop"; "split", into
+    the pairs before the index and the rest; or "merge", with the next node, whose last pair is the pair. Unused fields
+    are 0.
 
-    `label` is what keeps the place of a new key that is no number of 64 bits: a number between those of the
-    keys beside it. Where there is none between two keys, some keys are removed and inserted under labels of
-    their own first, and changes tell of that too.
+    `label` is the order label of a new key that is not a 64-bit number: a number between those of its neighbours. If
+    there is no number between two labels, some keys are first removed and inserted under other labels, which are
+    changes too.
 
     >>> Change(0, "create", (5, 50), (0, 0), 0).kind
     'create'
@@ -43,7 +43,7 @@ class Change(NamedTuple):
 
 
 class Noded(Mapping[K, V], Generic[K, V]):
-    """Pairs in nodes, behind a handle of the library. A subclass names the library's calls."""
+    """Pairs in nodes, owned by a handle of the library. A subclass names the library's calls."""
 
     __slots__ = ("_handle", "_keys", "_values", "_named", "__weakref__")
     __hash__ = None  # type: ignore[assignment]
@@ -60,7 +60,7 @@ class Noded(Mapping[K, V], Generic[K, V]):
     _node_lengths: Any
 
     def _begin(self, keys: Optional[str], values: Optional[str]) -> None:
-        """Names the kinds; one that is not named is found from the first pair."""
+        """Sets the names of the kinds; a kind without a name follows from the first pair."""
         known(keys)
         known(values)
         self._named: list[Optional[str]] = [keys, values]
@@ -68,7 +68,7 @@ class Noded(Mapping[K, V], Generic[K, V]):
         self._values: Any = values_of(values or "int64")
 
     def _settle(self, key: Any, value: Any) -> None:
-        """Finds the kinds that are not named, for a first pair."""
+        """Finds the kinds without names, for a first pair."""
         keys, values = self._named
         if keys is None:
             self._keys = keys_of(kind_of([key]))
@@ -78,7 +78,7 @@ class Noded(Mapping[K, V], Generic[K, V]):
 
     @property
     def kinds(self) -> tuple[str, str]:
-        """The names of the kinds of the keys and of the values, as `SortedSet.kind` has them.
+        """The names of the kinds of the keys and of the values, as in `SortedSet.kind`.
 
         >>> from indexset import LoggedDict
         >>> LoggedDict(entries={"a": 1}).kinds
@@ -96,7 +96,7 @@ class Noded(Mapping[K, V], Generic[K, V]):
         return value
 
     def __contains__(self, key: object) -> bool:
-        """Whether a key is there."""
+        """Returns whether a key is present."""
         code = self._keys.find(key)
         return code is not None and self._get(self._handle, code, place(Number()))
 
@@ -116,7 +116,8 @@ class Noded(Mapping[K, V], Generic[K, V]):
         return number
 
     def irange(self, minimum: object = None, maximum: object = None) -> Iterator[tuple[K, V]]:
-        """The keys between two values, both included, with their values, as they are at the call.
+        """Iterates over the keys between two values, both included, with their values, as they are at the call. Raises
+        TypeError if a value cannot be compared with the keys.
 
         >>> from indexset import LoggedDict
         >>> list(LoggedDict(entries={1: 10, 3: 30, 5: 50}).irange(2, 5))
@@ -136,8 +137,8 @@ class Noded(Mapping[K, V], Generic[K, V]):
     # ---- positions
 
     def peekitem(self, index: int = -1) -> tuple[K, V]:
-        """The key and the value at a position, the last one if none is given. IndexError where there is none. It
-        takes a time that grows as log n.
+        """Returns the key and the value at a position, by default the last. Raises IndexError if there is none. O(log
+        n).
 
         >>> from indexset import LoggedDict
         >>> LoggedDict(entries={2: "b", 1: "a"}).peekitem()
@@ -149,7 +150,8 @@ class Noded(Mapping[K, V], Generic[K, V]):
         return self._keys.decode(key.value), self._values.decode(value.value)
 
     def index(self, value: object, start: Optional[int] = None, stop: Optional[int] = None) -> int:
-        """The position of a key, from `start` and before `stop`. ValueError where it is not there.
+        """Returns the position of a key, from `start` and before `stop`. Raises ValueError if there is none, TypeError
+        if the key has no hash.
 
         >>> from indexset import LoggedDict
         >>> LoggedDict(entries={2: "b", 1: "a"}).index(2)
@@ -163,7 +165,7 @@ class Noded(Mapping[K, V], Generic[K, V]):
         raise ValueError(f"{value!r} is not there")
 
     def bisect_left(self, value: object) -> int:
-        """How many keys are below a value, in a time that grows as log n.
+        """Returns the number of keys below a value. Raises TypeError if it cannot be compared with them. O(log n).
 
         >>> from indexset import LoggedDict
         >>> ages = LoggedDict(entries={10: "a", 30: "b"}); ages.bisect_left(30), ages.bisect_right(30)
@@ -172,7 +174,7 @@ class Noded(Mapping[K, V], Generic[K, V]):
         return self._bisect(value, False)
 
     def bisect_right(self, value: object) -> int:
-        """How many keys are not above a value. TypeError where it cannot be compared with them.
+        """Returns the number of keys not above a value. Raises TypeError if it cannot be compared with them. O(log n).
 
         >>> from indexset import LoggedDict
         >>> LoggedDict(entries={10: "a", 30: "b"}).bisect_right(10)
@@ -191,8 +193,8 @@ class Noded(Mapping[K, V], Generic[K, V]):
     def islice(
         self, start: Optional[int] = None, stop: Optional[int] = None, reverse: bool = False
     ) -> Iterator[tuple[K, V]]:
-        """The keys at the positions from `start` and before `stop`, with their values, as they are at the call. It
-        takes a time that grows as log n and with their number.
+        """Iterates over the keys at the positions from `start` and before `stop`, with their values, as they are at the
+        call. O(log n), and linear in their number.
 
         >>> from indexset import LoggedDict
         >>> list(LoggedDict(entries={1: 10, 3: 30, 5: 50}).islice(1, reverse=True))
@@ -206,13 +208,13 @@ class Noded(Mapping[K, V], Generic[K, V]):
         return self._decoded(*library.pairs(self._run, self._handle, first, size=size))
 
     def _slice(self, index: slice) -> list[tuple[K, V]]:
-        """The pairs at a slice."""
+        """Returns the pairs at a slice."""
         at = range(*index.indices(len(self)))
         first, last = (at[0], at[-1]) if at else (0, -1)
         return self._chunk(min(first, last), max(first, last) + 1)[:: at.step] if at else []
 
     def keys(self) -> NodedKeysView[K]:
-        """A view of the keys, which can be indexed.
+        """Returns a view of the keys, which can be indexed.
 
         >>> from indexset import LoggedDict
         >>> LoggedDict(entries={2: "b", 1: "a"}).keys()[0]
@@ -221,7 +223,7 @@ class Noded(Mapping[K, V], Generic[K, V]):
         return NodedKeysView(self)
 
     def values(self) -> NodedValuesView[V]:
-        """A view of the values in the order of their keys, which can be indexed.
+        """Returns a view of the values in the order of their keys, which can be indexed.
 
         >>> from indexset import LoggedDict
         >>> LoggedDict(entries={2: "b", 1: "a"}).values()[0]
@@ -230,7 +232,7 @@ class Noded(Mapping[K, V], Generic[K, V]):
         return NodedValuesView(self)
 
     def items(self) -> NodedItemsView[K, V]:
-        """A view of the keys with their values, which can be indexed.
+        """Returns a view of the keys with their values, which can be indexed.
 
         >>> from indexset import LoggedDict
         >>> LoggedDict(entries={2: "b", 1: "a"}).items()[-1:]
@@ -241,8 +243,7 @@ class Noded(Mapping[K, V], Generic[K, V]):
     # ---- nodes
 
     def nodes(self) -> list[list[tuple[K, V]]]:
-        """The nodes, each as a list of its keys with their values. It takes a time that grows with the
-        number of pairs.
+        """Returns the nodes, each as a list of its keys with their values. Linear in the number of pairs.
 
         >>> from indexset import LoggedDict
         >>> LoggedDict(entries={1: "a", 2: "b", 3: "c"}, size=2).nodes()
@@ -257,7 +258,7 @@ class Noded(Mapping[K, V], Generic[K, V]):
     # ---- the object
 
     def copy(self: C) -> C:
-        """The same pairs again, in a time that grows with their number.
+        """Returns a copy with the same pairs. Linear in their number.
 
         >>> from indexset import LoggedDict
         >>> LoggedDict(entries={2: "b", 1: "a"}).copy()

@@ -1,4 +1,4 @@
-"""What orders objects: codes of bytes in the library, or Python's own `<`."""
+"""Orders of objects: by byte codes in the library, or by Python's own `<`."""
 from __future__ import annotations
 
 from itertools import product
@@ -11,14 +11,14 @@ T = TypeVar("T")
 KeyFunction = Optional[Callable[[Any], Any]]
 Order = Union[Numbers, "Keyed[Any]"]
 
-# Above each number that follows a code, and below what follows it in the code of a text with a zero byte.
+# Above each number that follows a code, and below the byte 0xff that escapes a zero byte within a text.
 _PAST = b"\xfe"
 
 _UNFIT = (TypeError, OverflowError, ValueError)
 
 
 def forms(key: Any) -> list[Any]:
-    """The keys that equal a key and have a code of their own: numbers of each type, also within tuples."""
+    """Returns the keys that equal a key and have a code of their own: numbers of each type, also within tuples."""
     if isinstance(key, tuple):
         return list(product(*map(forms, key)))
     if key is None or isinstance(key, (str, bytes)):
@@ -30,41 +30,41 @@ def forms(key: Any) -> list[Any]:
 
 
 class Keyed(Held[T]):
-    """Objects in the order of their sort keys, equal ones in the order in which they came. A subclass is also what
-    has the library order them."""
+    """Objects in the order of their sort keys, equal ones in insertion order. A subclass also keeps the order in the
+    library."""
 
     __slots__ = ()
 
     kind: str
 
     def sort_key(self, item: Any) -> Any:
-        """What orders an item."""
+        """Returns the sort key of an item."""
         return item if self.key is None else self.key(item)
 
     def place(self, key: Any, right: bool) -> int:
-        """How many sort keys are below a key, or not above it."""
+        """Returns the number of sort keys below a key, or not above it."""
         return self._placed(key, right)
 
     def _placed(self, key: Any, right: bool) -> int:
         raise NotImplementedError
 
     def matches(self, item: Any) -> Iterator[int]:
-        """The positions that have the sort key of an item."""
+        """Returns the positions with the sort key of an item."""
         raise NotImplementedError
 
     def clone(self) -> Keyed[T]:
-        """The same items again."""
+        """Returns a clone."""
         raise NotImplementedError
 
     def own(self, items: list[T]) -> list[T]:
-        """What items become here: they stay as they are."""
+        """Returns the items as they are stored: unchanged."""
         return items
 
     def _bisect(self, value: Any, right: bool) -> int:
         return self.place(self.sort_key(value), right) if len(self) else 0
 
     def find(self, value: Any) -> int:
-        """The first position of an item that equals a value, or -1."""
+        """Returns the first position of an item that equals a value, or -1."""
         try:
             return self.find_from(value, 0)
         except _UNFIT:
@@ -72,7 +72,7 @@ class Keyed(Held[T]):
         return -1
 
     def find_from(self, value: Any, first: int) -> int:
-        """The same, from a position on."""
+        """Returns the first position of an item that equals a value, from a position on, or -1."""
         for position in self.matches(value):
             if position >= first:
                 item = self[position]
@@ -80,14 +80,14 @@ class Keyed(Held[T]):
                     return position
         return -1
 
-    # What the compiled module asks of sort keys that are not of the kind's own type.
+    # For the compiled module: searches by sort keys that are not of the kind's own type.
     _found, _found_from = find, find_from
 
     def _contains(self, value: Any) -> bool:
         return self.find(value) >= 0
 
     def count(self, value: Any) -> int:
-        """How many items equal a value."""
+        """Returns the number of items equal to a value."""
         try:
             return sum(self[position] == value for position in self.matches(value))
         except _UNFIT:
@@ -100,7 +100,7 @@ class Keyed(Held[T]):
         return position >= 0
 
     def take(self, items: Iterable[T]) -> None:
-        """Adds items, or none where one does not fit or memory is refused."""
+        """Adds items, or none if one does not fit or memory runs out."""
         taken: list[T] = []
         is_there = True  # whether the last one of these was added
         try:
@@ -115,7 +115,7 @@ class Keyed(Held[T]):
             raise
 
     def _sorted(self, items: Iterable[T]) -> list[T]:
-        """Items in order, where they can be sorted so: they come in the quicker for it."""
+        """Returns the items in order, if they can be sorted: adding them is then faster."""
         found = list(items)
         try:
             return found if self.kind == "any" else sorted(found, key=self.sort_key)
@@ -136,7 +136,7 @@ class Spanned(Keyed[T]):
     __slots__ = ()
 
     def _span(self, key: Any) -> tuple[int, int]:
-        """The positions of a sort key."""
+        """Returns the positions of a sort key."""
         raise NotImplementedError
 
     def _placed(self, key: Any, right: bool) -> int:
@@ -156,8 +156,8 @@ class Spanned(Keyed[T]):
 
 
 class Repeated(Multi[T], Spanned[T]):
-    """Objects whose sort keys are numbers of a kind. Those of one sort key are told apart by their positions alone,
-    so that no call is the dearer for them but one that compares the objects."""
+    """Objects whose sort keys are numbers of a kind. Those with equal sort keys differ only in their positions, so only
+    a call that compares objects costs more for them."""
 
     __slots__ = ("kind", "_kind")
 
@@ -179,7 +179,7 @@ class Repeated(Multi[T], Spanned[T]):
         return _number_span(self, self.rank, key) if span is None else span
 
     def _drop(self, item: T) -> None:
-        """It is the last of its sort key, or near it."""
+        """Removes this very item, which is the last with its sort key, or near it."""
         first, past = self._span(self.sort_key(item))
         for position in range(past - 1, first - 1, -1):
             if self[position] is item:
@@ -188,7 +188,7 @@ class Repeated(Multi[T], Spanned[T]):
 
 
 def _number_span(order: Union[Repeated[Any], Run[Any]], below: Callable[[int], int], key: Any) -> tuple[int, int]:
-    """The positions of a sort key that is a number of another type, by how many have codes below one."""
+    """Returns the positions of a sort key that is a number of another type; `below` counts the codes below one."""
     code, exact = NUMBERS[order.kind].bound(key)
     first = below(code) if code <= ALL else len(order)
     if not exact:
@@ -197,12 +197,12 @@ def _number_span(order: Union[Repeated[Any], Run[Any]], below: Callable[[int], i
 
 
 class Run(Blocks[T], Spanned[T]):
-    """Objects that came at once, whose sort keys are of the own type of a kind. Numbers are only read: the first change
-    moves them into another order."""
+    """Objects that were added at once, with sort keys of the own type of a kind. Numbers are read-only: the first
+    change moves them into another order."""
 
     __slots__ = ("kind", "is_fixed", "_repeats")
 
-    if TYPE_CHECKING:  # (of the compiled module alone)
+    if TYPE_CHECKING:  # (only in the compiled module)
 
         def are_distinct(self) -> bool:
             ...
@@ -221,10 +221,10 @@ class Run(Blocks[T], Spanned[T]):
     def __init__(self, kind: str, key: KeyFunction, repeats: bool) -> None:
         super().__init__(kind, key)
         self.kind, self._repeats = kind, repeats
-        self.is_fixed = kind in NUMBERS  # (only read)
+        self.is_fixed = kind in NUMBERS  # (read-only)
 
     def takes(self, items: list[Any]) -> bool:
-        """Whether items can come here, or go where there are none."""
+        """Returns whether items can be added, or, without items, removed."""
         own = str if self.kind == "str" else bytes
         return not self.is_fixed and all(type(self.sort_key(item)) is own for item in items)
 
@@ -243,7 +243,7 @@ class Run(Blocks[T], Spanned[T]):
         return self.own_span(raw if self.kind == "bytes" else raw.decode("utf-8", "surrogatepass"))
 
     def settled(self, repeats: bool = False) -> Order:
-        """What has the same items and takes others, also equal ones."""
+        """Returns an order with the same items that takes others, also equal ones."""
         if self.kind not in NUMBERS:
             made: Order = Encoded[Any](self.kind, self.key, self._repeats or self.key is not None)
         elif self.key is None and not repeats and self.are_distinct():
@@ -257,8 +257,8 @@ class Run(Blocks[T], Spanned[T]):
 
 
 class Encoded(Coded[T], Keyed[T]):
-    """Objects whose sort keys have another kind: their codes are ordered by the library. Where sort keys may
-    repeat, a number that tells them apart follows the code."""
+    """Objects whose sort keys are of another kind: the library orders their codes. If sort keys may repeat, a number
+    after the code keeps them distinct."""
 
     __slots__ = ("kind", "_kind", "_encode", "_repeats")
 
@@ -285,7 +285,7 @@ class Encoded(Coded[T], Keyed[T]):
         return code
 
     def _span(self, key: Any) -> tuple[int, int]:
-        """The positions of the sort keys with the code of a key."""
+        """Returns the positions of the sort keys with the code of a key."""
         span = self.own_span(key)
         if span is not None:
             return span
@@ -294,7 +294,7 @@ class Encoded(Coded[T], Keyed[T]):
         return first, self.rank(code + _PAST) if self._repeats else first + self.has(code)
 
     def _spans(self, key: Any) -> list[tuple[int, int]]:
-        """Those of each key that equals a key."""
+        """Returns the positions of each key that equals a key."""
         return [self._span(form) for form in (forms(key) if self.kind == "any" else (key,))]
 
     def _placed(self, key: Any, right: bool) -> int:
@@ -328,7 +328,7 @@ class Compared(Blocks[T], Keyed[T]):
 
 
 def order_of(kind: str, key: KeyFunction, repeats: bool) -> Order:
-    """What orders items of a kind. Numbers do not repeat at first, also where they may."""
+    """Returns an empty order for items of a kind. Numbers at first do not repeat, even if they may."""
     if kind == OBJECT:
         return Compared[Any](key)
     if kind in NUMBERS:
@@ -337,7 +337,7 @@ def order_of(kind: str, key: KeyFunction, repeats: bool) -> Order:
 
 
 def repeating(order: Numbers) -> Order:
-    """What orders the same numbers, which may repeat there."""
+    """Returns an order of the same numbers in which they may repeat."""
     made = Repeated[Any](order.kind, None)
     made.take(order.chunk(0, len(order)))
     return made
@@ -345,18 +345,18 @@ def repeating(order: Numbers) -> Order:
 
 _EXACT: dict[Any, str] = {int: "int64", float: "float64", str: "str", bytes: "bytes"}
 _OWN = frozenset([*NUMBERS, "str", "bytes"])
-# From how many that come on, beside so many, all are sorted at once.
+# If one item or more is new for this many present ones, all are sorted at once.
 _PART = 4
 
 
 def own_kind(keys: Iterable[Any]) -> str:
-    """The kind of the type of the first sort key."""
+    """Returns the kind of the type of the first sort key."""
     return _EXACT.get(type(next(iter(keys), None)), OBJECT)
 
 
 def kind_of(keys: list[Any]) -> str:
-    """The kind that is found for sort keys: it orders them as Python does. Those of a class below int, float, str or
-    bytes may have another order, and come back as they are."""
+    """Returns the kind for sort keys without a named kind, which orders them as Python does. Subclasses of int, float,
+    str and bytes may have another order, and are returned as they are."""
     kind = _EXACT.get(type(keys[0]), OBJECT)
     if kind == OBJECT or len(set(map(type, keys))) > 1:
         return OBJECT
@@ -366,13 +366,14 @@ def kind_of(keys: list[Any]) -> str:
 
 
 def settled(order: Order, items: list[Any]) -> Order:
-    """An order that takes these items, or, without items, removals: another one if the order is a run of numbers."""
+    """Returns an order that takes these items, or, without items, removals: another one if the order is a run of
+    numbers."""
     return order.settled() if isinstance(order, Run) and not order.takes(items) else order
 
 
 def fitted(order: Order, items: list[Any], key: KeyFunction, repeats: bool) -> Order:
-    """An order whose kind was found, or another with its items, where others come that the kind does not
-    take. It is found anew where there are no items."""
+    """Returns the order, whose kind has no name, or another with its items if its kind does not take the new ones. An
+    empty order gets a new kind."""
     if not items or (order.kind == OBJECT and len(order)) or (isinstance(order, Numbers) and order.are_own(items)):
         return order
     kind = kind_of(items if key is None else [key(item) for item in items])
@@ -386,8 +387,8 @@ def fitted(order: Order, items: list[Any], key: KeyFunction, repeats: bool) -> O
 
 
 def gathered(order: Order, items: list[Any], named: Optional[str], key: KeyFunction, repeats: bool) -> Optional[Order]:
-    """A run of the items of an order and of others that come, if these are many, and all are of a kind's own type. Then
-    their list may be empty afterwards."""
+    """Returns a run of the items of an order and of new ones, if these are many and all are of a kind's own type. Their
+    list may be empty afterwards."""
     if BACKEND != "extension" or not items or len(items) * _PART < len(order):
         return None
     kind = named or _EXACT.get(type(items[0] if key is None else key(items[0])), OBJECT)
@@ -398,7 +399,7 @@ def gathered(order: Order, items: list[Any], named: Optional[str], key: KeyFunct
 
 
 def duplicate(order: Order, repeats: bool) -> Order:
-    """The same items again: a run of them where that is made sooner than a clone."""
+    """Returns an order of the same items: a run of them if that is faster than a clone."""
     if BACKEND == "extension" and isinstance(order, (Repeated, Encoded)) and order.key is None and order.kind in _OWN:
         made = Run[Any](order.kind, None, repeats)
         if made.fill(order.chunk(0, len(order))):

@@ -1,4 +1,4 @@
-"""Pairs of a key and a value, in the order of the keys and then in that in which they came."""
+"""Pairs of a key and a value, in the order of the keys, those of a key in insertion order."""
 from __future__ import annotations
 
 from operator import itemgetter
@@ -13,7 +13,7 @@ Pair = tuple[Any, Any]
 
 
 def between(kind: Any, minimum: Any, maximum: Any) -> Optional[tuple[int, int]]:
-    """The least and the greatest number of the keys between two values, both included, or None."""
+    """Returns the least and the greatest number of the keys between two values, both included, or None."""
     low = 0 if minimum is None else kind.bound(minimum)[0]
     high = ALL
     if maximum is not None:
@@ -23,8 +23,8 @@ def between(kind: Any, minimum: Any, maximum: Any) -> Optional[tuple[int, int]]:
 
 
 def bound(kind: Any, value: Any, right: bool) -> int:
-    """The least number of a key that is not below a value, or to the right of one above it; 2**64 or more where
-    there is none."""
+    """Returns the least number of a key that is not below a value, or, to the right, above it; 2**64 or more if there
+    is none."""
     number, exact = kind.bound(value)
     return int(number + (right and exact))
 
@@ -44,34 +44,34 @@ class NumberPairs:
         return size
 
     def add(self, key: Any, value: Any) -> bool:
-        """Adds a pair behind those of its key, and tells whether it was not there."""
+        """Adds a pair after those of its key. Returns whether it was absent."""
         return check(lib.indexset_multi_insert(self._handle, self._keys.code(key), self._values.code(value)))
 
     def discard(self, key: Any, value: Any) -> bool:
-        """Removes a pair, and tells whether it was there."""
+        """Removes a pair. Returns whether it was present."""
         found = self._keys.find(key), self._values.find(value)
         return None not in found and check(lib.indexset_multi_remove(self._handle, *found))
 
     def pop(self, key: Any) -> Any:
-        """Removes the first value of a key and returns it. KeyError where the key is not there."""
+        """Removes the first value of a key and returns it. Raises KeyError if the key is absent."""
         code, out = self._keys.find(key), Number()
         if code is None or not check(lib.indexset_multi_remove_first(self._handle, code, place(out))):
             raise KeyError(key)
         return self._values.decode(out.value)
 
     def contains(self, key: Any, value: Any) -> bool:
-        """Whether a pair is there."""
+        """Returns whether a pair is present."""
         found = self._keys.find(key), self._values.find(value)
         return None not in found and lib.indexset_multi_contains(self._handle, *found)
 
     def count(self, key: Any) -> int:
-        """How many values a key has."""
+        """Returns the number of values of a key."""
         code = self._keys.find(key)
         count: int = 0 if code is None else lib.indexset_multi_count(self._handle, code)
         return count
 
     def get(self, key: Any) -> list[Any]:
-        """The values of a key."""
+        """Returns the values of a key."""
         size = self.count(key)
         out = zeros(size)
         if size:
@@ -79,7 +79,7 @@ class NumberPairs:
         return list(map(self._values.decode, out))
 
     def end(self, last: bool) -> Optional[Pair]:
-        """The first or the last pair, or None where there is none."""
+        """Returns the first or the last pair, or None if there is none."""
         key, value = Number(), Number()
         call = lib.indexset_multi_last if last else lib.indexset_multi_first
         if not call(self._handle, place(key), place(value)):
@@ -87,7 +87,7 @@ class NumberPairs:
         return self._keys.decode(key.value), self._values.decode(value.value)
 
     def range(self, minimum: Any, maximum: Any) -> Iterator[Pair]:
-        """The pairs of the keys between two values, as they are at the call."""
+        """Iterates over the pairs of the keys between two values, as they are at the call."""
         ends = between(self._keys, minimum, maximum)
         if ends is None:
             return iter(())
@@ -98,18 +98,18 @@ class NumberPairs:
         return zip(map(self._keys.decode, keys), map(self._values.decode, values))
 
     def bisect(self, key: Any, right: bool) -> int:
-        """How many pairs have keys below a key, or not above it."""
+        """Returns the number of pairs with keys below a key, or not above it."""
         size = len(self)
         number = bound(self._keys, key, right) if size else 0
         rank: int = size if number > ALL else lib.indexset_multi_rank(self._handle, number)
         return rank
 
     def at(self, position: int) -> Pair:
-        """The pair at a position. IndexError where there is none."""
+        """Returns the pair at a position. Raises IndexError if there is none."""
         return self._read(lib.indexset_multi_at, position)
 
     def pop_at(self, position: int) -> Pair:
-        """Removes the pair at a position and returns it. IndexError where there is none."""
+        """Removes the pair at a position and returns it. Raises IndexError if there is none."""
         return self._read(lib.indexset_multi_remove_at, position)
 
     def _read(self, call: Any, position: int) -> Pair:
@@ -119,7 +119,7 @@ class NumberPairs:
         return self._keys.decode(key.value), self._values.decode(value.value)
 
     def chunk(self, first: int, past: int) -> Iterator[Pair]:
-        """The pairs at the positions from `first` and before `past`."""
+        """Iterates over the pairs at the positions from `first` and before `past`."""
         size = max(0, past - first)
         return self._decoded(*library.pairs(lib.indexset_multi_range_by_position, self._handle, first, size=size))
 
@@ -129,14 +129,14 @@ class NumberPairs:
 
 
 class ObjectPairs:
-    """Pairs of any keys with an order, and of values that can be hashed."""
+    """Pairs of any keys with an order, and of values with a hash."""
 
     __slots__ = ("_order", "_values", "kinds")
 
     def __init__(self, keys: str, values: str) -> None:
         self.kinds = keys, values
         self._order: Any = order_of(keys, itemgetter(0), True)
-        # The values of a key in the order in which they came.
+        # The values of a key, in insertion order.
         self._values: dict[Any, dict[Any, Pair]] = {}
 
     def __len__(self) -> int:

@@ -1,4 +1,4 @@
-"""A dictionary of keys in order, each at a position, and walks over them."""
+"""A dictionary of keys in order, with access by position, and iteration over them."""
 from __future__ import annotations
 
 from typing import Callable, Generic, Iterator, Optional, SupportsIndex, TypeVar
@@ -10,13 +10,13 @@ V = TypeVar("V")
 
 
 class Placed(DictFront[K, V], Generic[K, V]):
-    """What a sorted dictionary has by the positions of its keys."""
+    """The access by position of a sorted dictionary."""
 
     __slots__ = ()
 
     @property
     def kind(self) -> str:
-        """The name of the kind of the keys, as `SortedSet.kind` has it.
+        """The name of the kind of the keys, as in `SortedSet.kind`.
 
         >>> from indexset import SortedDict
         >>> SortedDict({"a": 1}).kind
@@ -27,7 +27,7 @@ class Placed(DictFront[K, V], Generic[K, V]):
 
     @property
     def key(self) -> Optional[Callable[[K], object]]:
-        """The function whose results order the keys, or None where they order themselves.
+        """The function whose results order the keys, or None if the keys order themselves.
 
         >>> from indexset import SortedDict
         >>> SortedDict(len, {"a": 1}).key
@@ -38,7 +38,7 @@ class Placed(DictFront[K, V], Generic[K, V]):
     # ---- positions
 
     def peekitem(self, index: SupportsIndex = -1) -> tuple[K, V]:
-        """The key and the value at a position, the last one if none is given. IndexError where there is none.
+        """Returns the key and the value at a position, by default the last. Raises IndexError if there is none.
 
         >>> from indexset import SortedDict
         >>> SortedDict({1: "a", 2: "b"}).peekitem()
@@ -48,7 +48,8 @@ class Placed(DictFront[K, V], Generic[K, V]):
         return key, self[key]
 
     def index(self, value: object, start: Optional[int] = None, stop: Optional[int] = None) -> int:
-        """The position of a key, from `start` and before `stop`. ValueError where it is not there.
+        """Returns the position of a key, from `start` and before `stop`. Raises ValueError if there is none, TypeError
+        if the key has no hash.
 
         >>> from indexset import SortedDict
         >>> SortedDict({1: "a", 2: "b"}).index(2)
@@ -62,7 +63,8 @@ class Placed(DictFront[K, V], Generic[K, V]):
         raise ValueError(f"{value!r} is not there")
 
     def bisect_left(self, value: object) -> int:
-        """How many keys are below a value. TypeError where it cannot be compared with them, ValueError where it is NaN.
+        """Returns the number of keys below a value. Raises TypeError if it cannot be compared with them, ValueError if
+        it is NaN.
 
         >>> from indexset import SortedDict
         >>> SortedDict({10: "a", 20: "b"}).bisect_left(20)
@@ -72,7 +74,8 @@ class Placed(DictFront[K, V], Generic[K, V]):
         return position
 
     def bisect_right(self, value: object) -> int:
-        """How many keys are not above a value. TypeError if it cannot be compared with them, ValueError if it is NaN.
+        """Returns the number of keys not above a value. Raises TypeError if it cannot be compared with them, ValueError
+        if it is NaN.
 
         >>> from indexset import SortedDict
         >>> SortedDict({10: "a", 20: "b"}).bisect_right(20)
@@ -84,7 +87,7 @@ class Placed(DictFront[K, V], Generic[K, V]):
     bisect = bisect_right
 
     def bisect_key_left(self, key: object) -> int:
-        """How many keys have a sort key below one. TypeError where it cannot be compared with them.
+        """Returns the number of keys with sort keys below one. Raises TypeError if it cannot be compared with them.
 
         >>> from indexset import SortedDict
         >>> SortedDict(len, {"a": 0, "bb": 1, "cc": 2}).bisect_key_left(2)
@@ -95,7 +98,7 @@ class Placed(DictFront[K, V], Generic[K, V]):
         return position
 
     def bisect_key_right(self, key: object) -> int:
-        """How many keys have a sort key that is not above one. TypeError where it cannot be compared with them.
+        """Returns the number of keys with sort keys not above one. Raises TypeError if it cannot be compared with them.
 
         >>> from indexset import SortedDict
         >>> SortedDict(len, {"a": 0, "bb": 1, "cc": 2}).bisect_key_right(2)
@@ -107,15 +110,16 @@ class Placed(DictFront[K, V], Generic[K, V]):
 
     bisect_key = bisect_key_right
 
-    # ---- walks
+    # ---- iteration
 
     def __reversed__(self) -> Iterator[K]:
-        """Walks over the keys from the last to the first."""
+        """Iterates over the keys from the last to the first."""
         walk: Iterator[K] = self._order.walk(0, len(self), True)
         return walk
 
     def islice(self, start: Optional[int] = None, stop: Optional[int] = None, reverse: bool = False) -> Iterator[K]:
-        """Walks over the keys at the positions from `start` and before `stop`. RuntimeError once keys came or went.
+        """Iterates over the keys at the positions from `start` and before `stop`. The iterator raises RuntimeError
+        after a key was added or removed.
 
         >>> from indexset import SortedDict
         >>> list(SortedDict({1: "a", 2: "b", 3: "c"}).islice(1))
@@ -132,8 +136,8 @@ class Placed(DictFront[K, V], Generic[K, V]):
         inclusive: tuple[bool, bool] = (True, True),
         reverse: bool = False,
     ) -> Iterator[K]:
-        """Walks over the keys between two values, each included or not; None is no bound. RuntimeError once keys came
-        or went, TypeError where a value cannot be compared with them.
+        """Iterates over the keys between two values, each included or not; None is no bound. Raises TypeError if a
+        value cannot be compared with the keys. The iterator raises RuntimeError after a key was added or removed.
 
         >>> from indexset import SortedDict
         >>> list(SortedDict({1: "a", 2: "b", 3: "c"}).irange(2))
@@ -151,8 +155,8 @@ class Placed(DictFront[K, V], Generic[K, V]):
         inclusive: tuple[bool, bool] = (True, True),
         reverse: bool = False,
     ) -> Iterator[K]:
-        """Walks over the keys whose sort keys are between two, each included or not; None is no bound. RuntimeError
-        once keys came or went, TypeError where one cannot be compared with the sort keys.
+        """Iterates over the keys with sort keys between two, each included or not; None is no bound. Raises TypeError
+        if one cannot be compared with the sort keys. The iterator raises RuntimeError after a key was added or removed.
 
         >>> from indexset import SortedDict
         >>> list(SortedDict(len, {"a": 0, "bb": 1, "cc": 2}).irange_key(2))

@@ -1,4 +1,4 @@
-"""What orders numbers, by ctypes: a class that the compiled module `_fast` has too."""
+"""Orders of numbers in the ctypes backend: a class that the compiled module `_fast` has too."""
 from __future__ import annotations
 
 from array import array
@@ -17,15 +17,15 @@ _CHUNK = 512
 
 
 class Ordered(Generic[T]):
-    """Items at positions, and a count of the changes that were made to them."""
+    """Items at positions, and the number of changes made to them."""
 
     __slots__ = ("changes", "_walked", "_out", "_place")
 
     def __init__(self) -> None:
         self.changes = 0
-        # The lists that walks are in, by their addresses.
+        # The lists that iterators are in, by their addresses.
         self._walked: dict[int, list[T]] = {}
-        # Where a change has the library write a number: changes do not go on side by side.
+        # The number that the library writes in a change: changes do not run concurrently.
         self._out = Number()
         self._place = place(self._out)
 
@@ -36,18 +36,18 @@ class Ordered(Generic[T]):
         raise NotImplementedError
 
     def chunk(self, first: int, past: int) -> list[T]:
-        """The items at the positions from `first` and before `past`."""
+        """Returns the items at the positions from `first` and before `past`."""
         raise NotImplementedError
 
     def changed(self) -> None:
-        """Counts a change, and ends the lists that walks are in."""
+        """Counts a change, and ends the lists that iterators are in."""
         self.changes += 1
         if self._walked:
             for part in list(self._walked.values()):
                 part.clear()
 
     def walk(self, first: int, past: int, reverse: bool) -> Iterator[T]:
-        """The same one by one. RuntimeError once there was a change."""
+        """Iterates over the items at these positions. Raises RuntimeError after a change."""
         return chain.from_iterable(self._parts(first, past, reverse))
 
     def _parts(self, first: int, past: int, reverse: bool) -> Iterator[list[T]]:
@@ -65,7 +65,7 @@ class Ordered(Generic[T]):
             raise RuntimeError("it changed during iteration")
 
     def _part(self, first: int, past: int, reverse: bool, seen: int) -> Iterator[list[T]]:
-        """A list that a change empties."""
+        """Yields a list that a change empties."""
         part = self.chunk(first, past)
         if reverse:
             part.reverse()
@@ -77,7 +77,7 @@ class Ordered(Generic[T]):
             del self._walked[id(part)]
 
     def _position(self, index: int) -> int:
-        """A position from 0 on, which may be past the end."""
+        """Returns a position counted from 0, which may be past the end."""
         at = index if type(index) is int else as_index(index)
         at = at + len(self) if at < 0 else at
         if not 0 <= at <= ALL:
@@ -85,7 +85,7 @@ class Ordered(Generic[T]):
         return at
 
 
-# What `array` calls the numbers of each kind.
+# The type codes of `array` for the numbers of each kind.
 ARRAYS = {"int64": "q", "uint64": "Q", "float64": "d"}
 
 
@@ -116,7 +116,7 @@ class Numbers(Ordered[Any]):
         return name
 
     def clone(self) -> Numbers:
-        """The same numbers again."""
+        """Returns a clone."""
         made = Numbers.__new__(Numbers)
         made._begin(self._kind)
         made._decode = self._decode
@@ -132,7 +132,7 @@ class Numbers(Ordered[Any]):
         return self.holds(value)
 
     def holds(self, value: Any) -> bool:
-        """Whether a key equals a value."""
+        """Returns whether a key equals a value."""
         code = self._find(value)
         return code is not None and lib.indexset_set_contains(self._handle, code)
 
@@ -143,11 +143,11 @@ class Numbers(Ordered[Any]):
         return self._decode(out.value)
 
     def add(self, value: Any) -> bool:
-        """Adds a key, and tells whether it was not there."""
+        """Adds a key. Returns whether it was absent."""
         return self._put(self._code(value)) and self._noted(value)
 
     def _noted(self, value: Any) -> bool:
-        """Has -0.0 be handed out where it was added, though its code is that of 0.0."""
+        """Makes the order return -0.0 if that was added, although its code is that of 0.0."""
         if self._own is float and value == 0:
             negative = type(value) is float and str(value) == "-0.0"
             self._decode = _decode_negative if negative else self._kind.decode
@@ -161,14 +161,14 @@ class Numbers(Ordered[Any]):
         return True
 
     def add_own(self, value: Any) -> Optional[bool]:
-        """Adds a key of the kind's own type, and tells whether it was not there; None of another type."""
+        """Adds a key of the kind's own type, and returns whether it was absent; None for another type."""
         if type(value) is not self._own:
             return None
         code = self._find(value)
         return None if code is None else self._put(code) and self._noted(value)
 
     def discard(self, value: Any) -> bool:
-        """Removes a key, and tells whether it was there."""
+        """Removes a key. Returns whether it was present."""
         code = self._find(value)
         if code is None or not lib.indexset_set_remove(self._handle, code):
             return False
@@ -182,7 +182,7 @@ class Numbers(Ordered[Any]):
         return value
 
     def bisect(self, value: Any, right: bool) -> int:
-        """How many keys are below a value, or not above it."""
+        """Returns the number of keys below a value, or not above it."""
         code, exact = (self._find(value), True) if type(value) is self._own else (None, False)
         if code is None:
             size = len(self)
@@ -197,7 +197,7 @@ class Numbers(Ordered[Any]):
     place = bisect
 
     def find(self, value: Any) -> int:
-        """The position of the key that a value equals, or -1."""
+        """Returns the position of the key that a value equals, or -1."""
         code = self._find(value)
         if code is None or not lib.indexset_set_contains(self._handle, code):
             return -1
@@ -205,19 +205,19 @@ class Numbers(Ordered[Any]):
         return rank
 
     def are_own(self, values: list[Any]) -> bool:
-        """Whether all values are of the kind's own type and range."""
+        """Returns whether all values are of the kind's own type and range."""
         if not set(map(type, values)) <= {self._own} or self._own is float:
             return False
         return not values or (self._find(min(values)) is not None and self._find(max(values)) is not None)
 
     def own(self, values: list[Any]) -> list[Any]:
-        """The keys that values become. TypeError, OverflowError or ValueError where one does not fit."""
+        """Returns the keys of values. Raises TypeError, OverflowError or ValueError if one does not fit."""
         if set(map(type, values)) <= {self._own}:
             return values
         return [value if type(value) is self._own else self._decode(self._code(value)) for value in values]
 
     def take(self, values: Iterable[Any]) -> None:
-        """Adds keys that are not there, or none where one does not fit or memory is refused."""
+        """Adds absent keys, or none if one does not fit or memory runs out."""
         values = list(values) if self._own is float else values
         codes = self._codes(values)
         if codes:
@@ -253,18 +253,18 @@ class Numbers(Ordered[Any]):
         return codes.tolist() if name == "uint64" else memoryview(turned(codes)).cast("q").tolist()
 
     def numbers(self) -> bytes:
-        """All numbers, one by one in memory."""
+        """Returns all numbers, contiguous in memory."""
         return array(ARRAYS[self.kind], self.chunk(0, len(self))).tobytes()
 
     def ranks(self, values: Iterable[Any]) -> array[int]:
-        """How many keys are below each key, in one call."""
+        """Returns the number of keys below each key, by one call."""
         codes = self._codes(values)
         out, size = zeros(len(codes)), len(codes)
         lib.indexset_set_ranks(self._handle, memory(codes), size, memory(out), size)
         return out
 
     def at_all(self, positions: Iterable[int]) -> list[Any]:
-        """The keys at positions, in one call."""
+        """Returns the keys at positions, by one call."""
         wanted = array("Q", map(self._position, positions))
         out, size = zeros(len(wanted)), len(wanted)
         if lib.indexset_set_at_all(self._handle, memory(wanted), size, memory(out), size) < size:

@@ -1,4 +1,4 @@
-"""A copy of a logged dictionary that follows it by its changes."""
+"""A replica of a logged dictionary, which follows it by its changes."""
 from __future__ import annotations
 
 from typing import Any, Generic, Iterable, Optional, TypeVar
@@ -29,8 +29,8 @@ NO_SUCH_NODE, VALUE_DIFFERS, OUT_OF_ORDER, NOT_NEIGHBOURS = 12, 14, 16, 18
 
 
 class Refused(ValueError):
-    """A change that a replica did not make. Of those before it, `taken` were taken; the library's status
-    is `status`."""
+    """A change that a replica did not apply. `taken` is the number of changes before it in the call that were
+    processed, and `status` the status of the library."""
 
     def __init__(self, status: int, taken: int, change: Change) -> None:
         super().__init__(f"change {change.number} is refused: {_REASONS[status]}")
@@ -41,18 +41,18 @@ class Refused(ValueError):
 
 
 class Gap(Refused):
-    """A change whose number is above the one that is awaited: changes before it are missing."""
+    """A change with a number above that of the next change: changes before it are missing."""
 
 
 class Replica(Noded[K, V], Generic[K, V]):
-    """A dictionary that follows a `LoggedDict` by its changes, and has its nodes once it has made them.
+    """A dictionary that follows a `LoggedDict` by its changes: it has the same nodes once it has applied them.
 
-    `of` is the dictionary that it begins as a copy of. Without one it begins empty and awaits the change of
-    the number `next`; `keys` and `values` are then the kinds of the dictionary that it is to follow, or are
-    found from the first pair. A copy and a pickle have the same nodes and await the same change.
+    `of` is the dictionary of which it starts as a copy. Without one it starts empty, and its next change has the number
+    `next`; `keys` and `values` then name the kinds of the dictionary that it follows, or follow from the first pair. A
+    copy and a pickle have the same nodes and the same next change.
 
-    Cost: with n pairs, a call on one key or one position takes a time that grows as log n, and a change also
-    with the size of a node. Reads may go on in several threads at once; changes are kept apart by the caller.
+    Cost: with n pairs, a call on one key or one position is O(log n), and a change also linear in the size of a node.
+    Several threads may read a replica at the same time; the caller synchronizes changes.
 
     >>> told = []
     >>> ages = LoggedDict(told.append, size=2); ages[30] = 3; ages[10] = 1
@@ -94,9 +94,9 @@ class Replica(Noded[K, V], Generic[K, V]):
         check(lib.indexset_replica_from_log(self._handle, of._handle))
 
     def apply(self, change: Change) -> bool:
-        """Makes a change. True, or False where its number is below the one that is awaited, so that it was
-        made before. `Gap` where the number is above it, `Refused` where the change does not fit the nodes or
-        the kinds, and then nothing is changed.
+        """Applies a change. Returns True, or False if its number is below that of the next change, so that it was
+        applied before. Raises Gap if the number is above that, Refused if the change does not fit the nodes or the
+        kinds; nothing changes then.
 
         >>> told = []; ages = LoggedDict(told.append, {1: "a"}); replica = Replica()
         >>> replica.apply(told[0]), replica.apply(told[0]), replica
@@ -105,9 +105,9 @@ class Replica(Noded[K, V], Generic[K, V]):
         return self._apply(change, 0)
 
     def apply_all(self, changes: Iterable[Change]) -> int:
-        """Makes changes, first to last, and passes over each that was made before. Returns how many there
-        were. `Gap` or `Refused` at the first that is refused, whose `taken` tells how many came before; their
-        changes are made. Numbers go in by one call.
+        """Applies changes, first to last, and skips those that were applied before. Returns the number of changes.
+        Raises Gap or Refused at the first change that does not apply; its `taken` is the number of changes before it,
+        which are applied. Numbers take one call of the library.
 
         >>> told = []; ages = LoggedDict(told.append, {1: "a", 2: "b"}); replica = Replica()
         >>> replica.apply_all(told), replica
@@ -134,7 +134,8 @@ class Replica(Noded[K, V], Generic[K, V]):
             raise Refused(library.UNFIT, written, every[written]) from error
 
     def _written(self, every: list[Change], events: Any) -> tuple[int, Optional[Exception]]:
-        """How many changes become the library's records, with the error of the first that does not."""
+        """Returns the number of changes that become records of the library, and the error of the first that does
+        not."""
         for at, change in enumerate(every):
             try:
                 self._write(change, events[at])
@@ -143,7 +144,7 @@ class Replica(Noded[K, V], Generic[K, V]):
         return len(every), None
 
     def _write(self, change: Change, event: Event) -> None:
-        """Writes the library's record of a change of numbers. ValueError where its kind is none."""
+        """Writes the library's record of a change of numbers. Raises ValueError if its kind is unknown."""
         self._begin_event(change, event)
         event.node_key, event.node_value = map(self._code, (self._keys, self._values), change.node)
         if change.kind in PAIRED:
@@ -163,7 +164,7 @@ class Replica(Noded[K, V], Generic[K, V]):
         event.number, event.index = count(change.number), count(change.index)
 
     def _apply(self, change: Change, taken: int) -> bool:
-        """Makes a change, behind so many others of a call."""
+        """Applies a change, after `taken` others of a call."""
         begun = self._named, self._keys, self._values
         try:
             return self._applied(change, taken)
@@ -174,7 +175,7 @@ class Replica(Noded[K, V], Generic[K, V]):
             raise Refused(library.UNFIT, taken, change) from error
 
     def _applied(self, change: Change, taken: int) -> bool:
-        """The same, but for the errors of what is of another kind."""
+        """Applies a change, and leaves errors of kinds to the caller."""
         event = Event()
         self._begin_event(change, event)
         if change.number != self.next:
@@ -190,7 +191,7 @@ class Replica(Noded[K, V], Generic[K, V]):
         return True
 
     def _add(self, change: Change, event: Event, taken: int) -> None:
-        """Makes a change that brings a pair."""
+        """Applies a change that adds a pair."""
         key, value = change.node if change.kind == "create" else change.pair
         if not self._keys.fits(key, change.label):
             raise Refused(OUT_OF_ORDER, taken, change)
@@ -206,7 +207,7 @@ class Replica(Noded[K, V], Generic[K, V]):
         self._keys.put(key, change.label)
 
     def _make(self, change: Change, event: Event, taken: int) -> None:
-        """Makes a change that brings none."""
+        """Applies a change that adds none."""
         event.node_key, gone = self._node(change, taken), None
         if change.kind in PAIRED:
             gone = self._keys.find(change.pair[0])
@@ -224,7 +225,7 @@ class Replica(Noded[K, V], Generic[K, V]):
             self._values.drop(before.value)
 
     def _node(self, change: Change, taken: int) -> int:
-        """The code of the key that names a node."""
+        """Returns the code of the key that names a node."""
         code: Optional[int] = self._keys.find(change.node[0])
         if code is None:
             self._keys.code_of(change.node[0], 0)
@@ -238,7 +239,7 @@ class Replica(Noded[K, V], Generic[K, V]):
 
     @staticmethod
     def _refuse(status: int, taken: int, change: Change) -> None:
-        """Raises what a status says, of a change."""
+        """Raises the error of a status, for a change."""
         if status == library.GAP:
             raise Gap(status, taken, change)
         if status in _REASONS:

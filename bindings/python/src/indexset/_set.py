@@ -1,4 +1,4 @@
-"""An ordered set with positions."""
+"""An ordered set with access by position."""
 from __future__ import annotations
 
 from array import array
@@ -15,22 +15,22 @@ S = TypeVar("S")
 
 
 class SortedSet(Sorted[T], MutableSet[T], Generic[T]):
-    """A set that is kept in order, with the calls of `sortedcontainers.SortedSet`.
+    """A sorted set, with the calls of `sortedcontainers.SortedSet`.
 
-    Its items are of any kind that has an order; those with equal values are one, as in a `set`. `keys` names
-    the kind: "int64", "uint64", "float64", "str", "bytes", "any" (None, bool, int, float, str, bytes and
-    tuples of these, in the order of FoundationDB's tuples: integers before floats) or "object" (what Python's
-    own `<` compares); an item that does not fit is refused with TypeError, OverflowError or, for NaN,
-    ValueError. Where none is named, it is found from the items: what is int of 64 bits, float, str or bytes,
-    of one of these types alone, is kept as such until others come; all others, of a class below these too, are
-    compared by `<`. `key` is a function whose results order the items.
+    Its items are of any kind that has an order; items with equal values are one item, as in a `set`. `keys` names the
+    kind: "int64", "uint64", "float64", "str", "bytes", "any" (None, bool, int, float, str, bytes and tuples of these,
+    in the order of FoundationDB's tuples: integers before floats) or "object" (compared by Python's own `<`). Without
+    `keys` the kind follows from the items: 64-bit ints, floats, strs or bytes, if all items are of exactly one of these
+    types, keep that kind until other items are added; all other items, those of subclasses included, are compared by
+    `<`. `key` is a function whose results order the items. Raises TypeError, OverflowError or, for NaN, ValueError if
+    an item does not fit the kind.
 
-    Cost: with n items, a call on one item or one position is O(log n), and with the kind "object" makes that
-    many comparisons; `in` asks a hash table. Iteration, a slice or a batch is linear in its length. Where many
-    numbers came at once, the first change of one is linear in their number.
+    Cost: with n items, a call on one item or one position is O(log n), and with the kind "object" makes that many
+    comparisons; `in` asks a hash table. Iteration, a slice or a batch is linear in its length. After many numbers were
+    added at once, the first change of one is linear in their number.
 
-    Reads may go on in several threads at once. An iterator raises RuntimeError once there was a change;
-    changes from several threads are kept apart by the caller.
+    Several threads may read a set at the same time; the caller synchronizes changes. An iterator raises RuntimeError
+    after a change.
 
     >>> SortedSet([3, 1, 2, 1]), SortedSet(["b", "a"]), SortedSet([(1, "b"), (1, "a")])
     (SortedSet([1, 2, 3]), SortedSet(['a', 'b']), SortedSet([(1, 'a'), (1, 'b')]))
@@ -111,7 +111,7 @@ class SortedSet(Sorted[T], MutableSet[T], Generic[T]):
         return True
 
     def remove(self, value: object) -> None:
-        """Removes an item. KeyError where it is not there, TypeError where it has no hash.
+        """Removes an item. Raises KeyError if it is absent, TypeError if it has no hash.
 
         >>> numbers = SortedSet([1, 2]); numbers.remove(2); numbers
         SortedSet([1])
@@ -120,7 +120,7 @@ class SortedSet(Sorted[T], MutableSet[T], Generic[T]):
             raise KeyError(value)
 
     def count(self, value: object) -> int:
-        """How often an item is there: 0 or 1. TypeError where it has no hash.
+        """Returns the number of items equal to a value: 0 or 1. Raises TypeError if it has no hash.
 
         >>> SortedSet([1, 2]).count(2), SortedSet([1, 2]).count(3)
         (1, 0)
@@ -128,8 +128,7 @@ class SortedSet(Sorted[T], MutableSet[T], Generic[T]):
         return int(value in self)
 
     def pop(self, index: SupportsIndex = -1) -> T:
-        """Removes the item at a position, the last one if none is given, and returns it. IndexError where
-        there is none.
+        """Removes the item at a position, by default the last, and returns it. Raises IndexError if there is none.
 
         >>> numbers = SortedSet([1, 2, 3]); numbers.pop(), numbers.pop(0)
         (3, 1)
@@ -150,8 +149,8 @@ class SortedSet(Sorted[T], MutableSet[T], Generic[T]):
     # ---- many at once
 
     def update(self, *iterables: Iterable[T]) -> SortedSet[T]:
-        """Adds the items of each iterable, and returns the set; many go in by one call. TypeError, OverflowError or
-        ValueError where an item does not fit: then the set is as it was before that iterable.
+        """Adds the items of each iterable, and returns the set. Many items are added by one call of the library. Raises
+        TypeError, OverflowError or ValueError if an item does not fit; the set is then as it was before that iterable.
 
         >>> SortedSet([1]).update([5, 3], [4])
         SortedSet([1, 3, 4, 5])
@@ -173,7 +172,7 @@ class SortedSet(Sorted[T], MutableSet[T], Generic[T]):
             found = set(fresh)
             take = order.take
         else:
-            take = len  # (they are there)
+            take = len  # (they are already present)
         if members:
             try:
                 members.update(found)
@@ -187,8 +186,8 @@ class SortedSet(Sorted[T], MutableSet[T], Generic[T]):
         self._become(order)
 
     def ranks(self, values: Iterable[object]) -> array[int]:
-        """How many items are below each value; of numbers by one call. TypeError where one cannot be compared with
-        the items.
+        """Returns the number of items below each value. Numbers take one call of the library. Raises TypeError if a
+        value cannot be compared with the items.
 
         >>> SortedSet([10, 20, 30]).ranks([5, 25]).tolist()
         [0, 2]
@@ -201,7 +200,8 @@ class SortedSet(Sorted[T], MutableSet[T], Generic[T]):
             return array("Q", map(self.bisect_left, given))
 
     def at_all(self, positions: Iterable[int]) -> list[T]:
-        """The item at each position; of numbers by one call. IndexError where one has none.
+        """Returns the item at each position. Numbers take one call of the library. Raises IndexError if a position has
+        none.
 
         >>> SortedSet([10, 20, 30]).at_all([2, 0])
         [30, 10]
@@ -211,15 +211,15 @@ class SortedSet(Sorted[T], MutableSet[T], Generic[T]):
             return order.at_all(positions)
         return [order[position] for position in positions]
 
-    # ---- sets of sets
+    # ---- set operations
 
     def _from_iterable(self, it: Iterable[S]) -> SortedSet[S]:
         made: SortedSet[S] = self._made(items_of(it))
         return made
 
     def union(self, *iterables: Iterable[S]) -> SortedSet[Union[T, S]]:
-        """A set of the items here and of each iterable. TypeError, OverflowError or ValueError where an item does not
-        fit.
+        """Returns a set of the items of this set and of each iterable. Raises TypeError, OverflowError or ValueError if
+        an item does not fit.
 
         >>> SortedSet([1, 2]) | [5]
         SortedSet([1, 2, 5])
@@ -228,7 +228,7 @@ class SortedSet(Sorted[T], MutableSet[T], Generic[T]):
         return made.update(*iterables)
 
     def intersection(self, *iterables: Iterable[object]) -> SortedSet[T]:
-        """A set of the items that each iterable has too. TypeError where an item has no hash.
+        """Returns a set of the items that each iterable has too. Raises TypeError if an item has no hash.
 
         >>> SortedSet([1, 2, 3]) & [3, 4, 1]
         SortedSet([1, 3])
@@ -240,7 +240,7 @@ class SortedSet(Sorted[T], MutableSet[T], Generic[T]):
         return made
 
     def intersection_update(self, *iterables: Iterable[object]) -> SortedSet[T]:
-        """Keeps the items that each iterable has too, and returns the set. TypeError where an item has no hash.
+        """Keeps the items that each iterable has too, and returns the set. Raises TypeError if an item has no hash.
 
         >>> SortedSet([1, 2, 3]).intersection_update([3, 4, 1])
         SortedSet([1, 3])
@@ -248,7 +248,7 @@ class SortedSet(Sorted[T], MutableSet[T], Generic[T]):
         return self._take_over(self.intersection(*iterables))
 
     def difference(self, *iterables: Iterable[object]) -> SortedSet[T]:
-        """A set of the items that no iterable has. TypeError where an item has no hash.
+        """Returns a set of the items that no iterable has. Raises TypeError if an item has no hash.
 
         >>> SortedSet([1, 2, 3]) - [2]
         SortedSet([1, 3])
@@ -260,7 +260,7 @@ class SortedSet(Sorted[T], MutableSet[T], Generic[T]):
         return made
 
     def difference_update(self, *iterables: Iterable[object]) -> SortedSet[T]:
-        """Removes the items that an iterable has, and returns the set. TypeError where an item has no hash.
+        """Removes the items that an iterable has, and returns the set. Raises TypeError if an item has no hash.
 
         >>> SortedSet([1, 2, 3]).difference_update([2], [5])
         SortedSet([1, 3])
@@ -273,8 +273,8 @@ class SortedSet(Sorted[T], MutableSet[T], Generic[T]):
         return self
 
     def symmetric_difference(self, iterable: Iterable[S]) -> SortedSet[Union[T, S]]:
-        """A set of what stands in one of the two alone. TypeError, OverflowError or ValueError where an item does not
-        fit.
+        """Returns a set of the items that are in exactly one of the two. Raises TypeError, OverflowError or ValueError
+        if an item does not fit.
 
         >>> SortedSet([1, 2]) ^ [2, 3]
         SortedSet([1, 3])
@@ -286,8 +286,8 @@ class SortedSet(Sorted[T], MutableSet[T], Generic[T]):
         return made
 
     def symmetric_difference_update(self, iterable: Iterable[T]) -> SortedSet[T]:
-        """Keeps what stands in one of the two alone, and returns the set. TypeError, OverflowError or ValueError where
-        an item does not fit: then the set is as it was.
+        """Keeps the items that are in exactly one of the two, and returns the set. Raises TypeError, OverflowError or
+        ValueError if an item does not fit; the set is then unchanged.
 
         >>> SortedSet([1, 2]).symmetric_difference_update([2, 3])
         SortedSet([1, 3])
@@ -295,13 +295,13 @@ class SortedSet(Sorted[T], MutableSet[T], Generic[T]):
         return self._take_over(self.symmetric_difference(iterable))
 
     def _take_over(self, made: SortedSet[T]) -> SortedSet[T]:
-        """Takes over the items of a set that is not used further."""
+        """Takes over the items of a set that is not used afterwards."""
         self._order.changed()
         self._order, self._members = made._order, made._members
         return self
 
     def issubset(self, iterable: Iterable[object]) -> bool:
-        """Whether an iterable has each item. TypeError where an item has no hash.
+        """Returns whether an iterable has each item. Raises TypeError if an item has no hash.
 
         >>> SortedSet([1, 2]).issubset([3, 2, 1])
         True
@@ -310,7 +310,7 @@ class SortedSet(Sorted[T], MutableSet[T], Generic[T]):
         return len(self) <= len(other) and all(map(other.__contains__, self))
 
     def issuperset(self, iterable: Iterable[object]) -> bool:
-        """Whether each item of an iterable is here. TypeError where an item has no hash.
+        """Returns whether the set has each item of an iterable. Raises TypeError if an item has no hash.
 
         >>> SortedSet([1, 2]).issuperset([2])
         True
@@ -318,7 +318,7 @@ class SortedSet(Sorted[T], MutableSet[T], Generic[T]):
         return all(map(self.__contains__, iterable))
 
     def isdisjoint(self, iterable: Iterable[object]) -> bool:
-        """Whether no item of an iterable is here. TypeError where an item has no hash.
+        """Returns whether the set has no item of an iterable. Raises TypeError if an item has no hash.
 
         >>> SortedSet([1, 2]).isdisjoint([3])
         True
@@ -348,7 +348,7 @@ OWN_INITS.add(SortedSet.__init__)
 
 
 def _asked(iterable: Iterable[Any]) -> Any:
-    """What can be asked for items quickly."""
+    """Returns a collection with fast membership tests, of the same items."""
     if isinstance(iterable, SortedSet):
         return iterable._members
     return iterable if isinstance(iterable, (Set, dict)) else set(iterable)

@@ -1,4 +1,4 @@
-"""What a sorted set and a sorted list share: items at positions, and walks over them."""
+"""The base of a sorted set and a sorted list: items at positions, and iteration over them."""
 from __future__ import annotations
 
 from array import array
@@ -17,12 +17,12 @@ T = TypeVar("T")
 S = TypeVar("S", bound="Sorted[Any]")
 # The methods `__init__` of the package's own classes.
 OWN_INITS: set[Any] = set()
-# From how many items that go on, beside so many, the others are gathered anew.
+# If one item or more of this many is removed, the order is rebuilt from the others.
 _PART = 8
 
 
 class Sorted(Front[T], Sequence[T], Generic[T]):
-    """Items in order, each at a position. A subclass says which items it takes."""
+    """Items in order, each at a position. A subclass determines which items it takes."""
 
     __slots__ = ("_named",)
 
@@ -38,8 +38,8 @@ class Sorted(Front[T], Sequence[T], Generic[T]):
 
     @property
     def kind(self) -> str:
-        """The name of the kind of the items, or of what `key` makes of them: "int64", "uint64", "float64",
-        "str", "bytes", "any", or "object" for those that Python's own `<` compares.
+        """The name of the kind of the items, or of the results of `key`: "int64", "uint64", "float64", "str", "bytes",
+        "any", or "object" if Python's own `<` compares them.
 
         >>> from indexset import SortedSet
         >>> SortedSet([1]).kind, SortedSet([(1,)]).kind, SortedSet(["ab"], key=len).kind
@@ -50,7 +50,7 @@ class Sorted(Front[T], Sequence[T], Generic[T]):
 
     @property
     def key(self) -> Optional[Callable[[T], object]]:
-        """The function whose results order the items, or None where they order themselves.
+        """The function whose results order the items, or None if the items order themselves.
 
         >>> from indexset import SortedSet
         >>> SortedSet(key=len).key, SortedSet().key
@@ -59,22 +59,22 @@ class Sorted(Front[T], Sequence[T], Generic[T]):
         return getattr(self._order, "key", None)
 
     def _fitting(self, items: list[Any]) -> Any:
-        """What orders the items here once others come: where no kind was named, it may be another than now."""
+        """Returns the order for the items once others are added: without a named kind it may be another than now."""
         return settled(self._order if self._named else fitted(self._order, items, self.key, self._repeats), items)
 
     def _gathered(self, order: Order, items: list[Any]) -> Optional[Order]:
-        """A run of the items of an order and of others, where these are many and fit."""
+        """Returns a run of the items of an order and of others, if these are many and fit."""
         return gathered(order, items, self._named, self.key, self._repeats)
 
     def _settled(self) -> Any:
-        """What orders the items, and can be changed."""
+        """Returns the order of the items, ready for changes."""
         order = self._order
         if isinstance(order, Run) and order.is_fixed:
             self._become(order.settled())
         return self._order
 
     def _become(self, order: Order) -> None:
-        """Has another order, which has the items of the one before and maybe more."""
+        """Replaces the order by another, which has its items and possibly more."""
         if order is not self._order:
             self._order.changed()
             self._order = order
@@ -93,7 +93,7 @@ class Sorted(Front[T], Sequence[T], Generic[T]):
         return found[::step]
 
     def __delitem__(self, position: Union[SupportsIndex, slice]) -> None:
-        """Removes the item at a position, or those at a slice. IndexError where there is none at a position."""
+        """Removes the item at a position, or those at a slice. Raises IndexError if a position has none."""
         if not isinstance(position, slice):
             self.pop(position)
             return
@@ -105,7 +105,7 @@ class Sorted(Front[T], Sequence[T], Generic[T]):
             self.pop(one)
 
     def _cut(self, first: int, past: int) -> None:
-        """Removes the items at the positions from `first` and before `past`, at once where they are many."""
+        """Removes the items at the positions from `first` and before `past`, all at once if they are many."""
         if past - first == len(self):
             self.clear()
             return
@@ -124,7 +124,7 @@ class Sorted(Front[T], Sequence[T], Generic[T]):
             self._become(left)
 
     def _forget(self, first: int, past: int) -> None:
-        """Takes the items at positions out of the set of them, where there is one."""
+        """Removes the items at positions from the set of items, if there is one."""
         members = self._members
         if members is not None and 2 * (past - first) < len(self):
             members.difference_update(self._order.chunk(first, past))
@@ -132,8 +132,8 @@ class Sorted(Front[T], Sequence[T], Generic[T]):
             self._members = set(self._order.chunk(0, first) + self._order.chunk(past, len(self)))
 
     def pop(self, index: SupportsIndex = -1) -> T:
-        """Removes the item at a position, the last one if none is given, and returns it. IndexError where
-        there is none. It takes a time that grows as log n.
+        """Removes the item at a position, by default the last, and returns it. Raises IndexError if there is none.
+        O(log n).
 
         >>> from indexset import SortedList
         >>> numbers = SortedList([3, 1, 2]); numbers.pop(), numbers.pop(0)
@@ -145,8 +145,8 @@ class Sorted(Front[T], Sequence[T], Generic[T]):
         return item
 
     def index(self, value: object, start: Optional[int] = None, stop: Optional[int] = None) -> int:
-        """The first position of a value, from `start` and before `stop`. ValueError where it is not there. It
-        takes a time that grows as log n, and with the number of items that have its sort key.
+        """Returns the first position of a value, from `start` and before `stop`. Raises ValueError if there is none.
+        O(log n), and linear in the number of items with its sort key.
 
         >>> from indexset import SortedList
         >>> SortedList([3, 1, 3]).index(3), SortedList([3, 1, 3]).index(3, 2)
@@ -161,7 +161,7 @@ class Sorted(Front[T], Sequence[T], Generic[T]):
         return position
 
     def _find(self, value: object, first: int) -> int:
-        """The first position of a value from a position on, or -1."""
+        """Returns the first position of a value, from a position on, or -1."""
         order = self._order
         found: int = order.find(value) if len(order) else -1
         if not 0 <= found < first or isinstance(order, Numbers):
@@ -172,7 +172,7 @@ class Sorted(Front[T], Sequence[T], Generic[T]):
         return found
 
     def bisect_key_left(self, key: object) -> int:
-        """How many items have a sort key below a key. TypeError where it cannot be compared with them.
+        """Returns the number of items with sort keys below a key. Raises TypeError if it cannot be compared with them.
 
         >>> from indexset import SortedKeyList
         >>> SortedKeyList(["a", "bb", "cc"], key=len).bisect_key_left(2)
@@ -183,7 +183,8 @@ class Sorted(Front[T], Sequence[T], Generic[T]):
         return position
 
     def bisect_key_right(self, key: object) -> int:
-        """How many items have a sort key that is not above a key. TypeError where it cannot be compared with them.
+        """Returns the number of items with sort keys not above a key. Raises TypeError if it cannot be compared with
+        them.
 
         >>> from indexset import SortedKeyList
         >>> SortedKeyList(["a", "bb", "cc"], key=len).bisect_key_right(2)
@@ -195,15 +196,15 @@ class Sorted(Front[T], Sequence[T], Generic[T]):
 
     bisect_key = bisect_key_right
 
-    # ---- walks
+    # ---- iteration
 
     def __reversed__(self) -> Iterator[T]:
-        """Walks over the items from the last to the first."""
+        """Iterates over the items from the last to the first."""
         return self.islice(reverse=True)
 
     def islice(self, start: Optional[int] = None, stop: Optional[int] = None, reverse: bool = False) -> Iterator[T]:
-        """Walks over the items at the positions from `start` and before `stop`. RuntimeError once there was a
-        change.
+        """Iterates over the items at the positions from `start` and before `stop`. The iterator raises RuntimeError
+        after a change.
 
         >>> from indexset import SortedSet
         >>> list(SortedSet([1, 2, 3]).islice(1)), list(SortedSet([1, 2, 3]).islice(0, 2, reverse=True))
@@ -220,8 +221,8 @@ class Sorted(Front[T], Sequence[T], Generic[T]):
         inclusive: tuple[bool, bool] = (True, True),
         reverse: bool = False,
     ) -> Iterator[T]:
-        """Walks over the items between two values, each included or not; None is no bound. RuntimeError once there
-        was a change, TypeError where a value cannot be compared with the items.
+        """Iterates over the items between two values, each included or not; None is no bound. Raises TypeError if a
+        value cannot be compared with the items. The iterator raises RuntimeError after a change.
 
         >>> from indexset import SortedSet
         >>> list(SortedSet([1, 2, 3]).irange(2)), list(SortedSet([1, 2, 3]).irange(1, 3, (False, False)))
@@ -239,8 +240,8 @@ class Sorted(Front[T], Sequence[T], Generic[T]):
         inclusive: tuple[bool, bool] = (True, True),
         reverse: bool = False,
     ) -> Iterator[T]:
-        """Walks over the items whose sort keys are between two keys, each included or not; None is no bound.
-        RuntimeError once there was a change, TypeError where a key cannot be compared with the sort keys.
+        """Iterates over the items with sort keys between two keys, each included or not; None is no bound. Raises
+        TypeError if a key cannot be compared with the sort keys. The iterator raises RuntimeError after a change.
 
         >>> from indexset import SortedKeyList
         >>> list(SortedKeyList(["a", "bb", "cc", "ddd"], key=len).irange_key(2, 2))
@@ -265,8 +266,9 @@ class Sorted(Front[T], Sequence[T], Generic[T]):
         ...
 
     def to_array(self) -> Union[array[int], array[float]]:
-        """The items as an array of numbers of 64 bits, which has a buffer: `numpy.asarray(items.to_array())` copies
-        none, and `numpy.asarray(items)` goes by it. TypeError where their kind is none of numbers, or `key` is given.
+        """Returns the items as an array of 64-bit numbers, which has a buffer: `numpy.asarray(items.to_array())` copies
+        nothing, and `numpy.asarray(items)` uses it. Raises TypeError if the kind is not one of numbers, or if `key` is
+        given.
 
         >>> from indexset import SortedSet
         >>> SortedSet([3, 1, 2]).to_array(), SortedSet([0.5]).to_array()
@@ -279,7 +281,7 @@ class Sorted(Front[T], Sequence[T], Generic[T]):
         return made  # type: ignore[no-any-return]
 
     def __array__(self, dtype: object = None, copy: object = None) -> object:
-        """What numpy asks for an array."""
+        """Returns the items as an array of numpy."""
         numpy: Any = import_module("numpy")
         if self.kind in ARRAYS and self.key is None:
             numbers: Any = self
@@ -289,7 +291,8 @@ class Sorted(Front[T], Sequence[T], Generic[T]):
     # ---- the object
 
     def _empty(self) -> Any:
-        """Another of the same class, kind and key, without items. What a class below does in `__init__` is done."""
+        """Returns another collection of the same class, kind and key, without items. Runs the `__init__` of a
+        subclass."""
         cls: Any = type(self)
         if cls.__init__ in OWN_INITS:
             made = cls.__new__(cls)
@@ -301,14 +304,14 @@ class Sorted(Front[T], Sequence[T], Generic[T]):
         return made
 
     def _made(self, items: list[Any]) -> Any:
-        """The same with the items of a list that is used no further."""
+        """Returns another collection with the items of a list that is not used afterwards."""
         made = self._empty()
         made._filled(items)
         return made
 
     def copy(self: S) -> S:
-        """Another of the same class with the same items, in a time that grows with their number. MemoryError where
-        memory is refused.
+        """Returns another collection of the same class with the same items. Linear in their number. Raises MemoryError
+        if memory runs out.
 
         >>> from indexset import SortedList
         >>> numbers = SortedList([2, 1]); other = numbers.copy(); other.add(0); numbers, other
@@ -330,7 +333,7 @@ class Sorted(Front[T], Sequence[T], Generic[T]):
         self._filled(items_of(items))
 
     def _filled(self, given: list[T]) -> None:
-        """The same of a list that is used no further."""
+        """Adds the items of a list that is not used afterwards."""
         raise NotImplementedError
 
     def clear(self) -> None:

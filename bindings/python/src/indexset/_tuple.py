@@ -1,7 +1,7 @@
-"""Keys as bytes that keep their order: the encoding of FoundationDB's tuple layer, which others can read.
+"""Keys as bytes that keep their order: the public encoding of FoundationDB's tuple layer.
 
-The order is that of the bytes: None, byte strings, texts, tuples, integers, floating-point numbers, False and
-True. A key is written as a tuple of that one element.
+The order is that of the bytes: None, byte strings, texts, tuples, integers, floating-point numbers, False and True. A
+key is encoded as a tuple of that one element.
 """
 from __future__ import annotations
 
@@ -17,18 +17,19 @@ _ALL = (1 << 64) - 1
 
 
 def framed_bytes(data: bytes) -> bytes:
-    """A byte string as bytes in their order, whatever follows them but a byte of all ones."""
+    """Returns a byte string as bytes that keep the order even if other bytes follow, unless the first of these is
+    0xff."""
     return b"\x01" + data.replace(b"\0", b"\0\xff") + b"\0"
 
 
 def framed_text(data: bytes) -> bytes:
-    """The same of a text, of its bytes in UTF-8."""
+    """Returns a text in UTF-8 as such bytes."""
     return b"\x02" + data.replace(b"\0", b"\0\xff") + b"\0"
 
 
 def pack(key: object) -> bytes:
-    """The bytes of a key: None, a bool, an integer of up to 255 bytes, a floating-point number other than
-    NaN, a text, a byte string or a tuple of such. TypeError, OverflowError or ValueError for others.
+    """Returns the bytes of a key: None, a bool, an integer of up to 255 bytes, a floating-point number other than NaN,
+    a text, a byte string or a tuple of these. Raises TypeError, OverflowError or ValueError for other keys.
 
     >>> pack((b"foo\\x00bar", None, ())).hex()
     '0501666f6f00ff6261720000ff050000'
@@ -55,7 +56,7 @@ def _packed(key: Any) -> bytes:
 
 
 def _number(key: Any) -> bytes:
-    """The bytes of a number of another type, as numpy's are."""
+    """Returns the bytes of a number of another type, such as numpy's."""
     if hasattr(key, "__index__"):
         return _integer(key.__index__())
     if hasattr(key, "__float__") and float(key) == key:
@@ -83,7 +84,7 @@ def _float(number: float) -> bytes:
 
 
 def unpack(data: bytes) -> Any:
-    """The key of some bytes. ValueError where they are those of none.
+    """Returns the key of some bytes. Raises ValueError if they are not the bytes of a key.
 
     >>> unpack(pack((1, "a", (None, -2.5))))
     (1, 'a', (None, -2.5))
@@ -95,7 +96,7 @@ def unpack(data: bytes) -> Any:
 
 
 def _unpacked(data: bytes, at: int, nested: bool) -> tuple[Any, int]:
-    """The key that begins at a byte, and where it ends."""
+    """Returns the key that begins at a byte, and its end."""
     if at >= len(data):
         raise ValueError("the bytes end within a key")
     code = data[at]

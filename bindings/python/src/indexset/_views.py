@@ -13,7 +13,7 @@ T = TypeVar("T")
 
 
 class SortedKeysView(KeysView[K], Sequence[K]):
-    """The keys of a dictionary, in order. A position takes a time that grows as log n.
+    """The keys of a dictionary, in order. Access by position is O(log n).
 
     >>> from indexset import SortedDict
     >>> keys = SortedDict({2: "b", 1: "a"}).keys(); keys[-1], keys & {1, 5}
@@ -53,7 +53,7 @@ class SortedKeysView(KeysView[K], Sequence[K]):
         return walk
 
     def count(self, value: object) -> int:
-        """How often a key is there: 0 or 1. TypeError where it has no hash.
+        """Returns the number of keys equal to a value: 0 or 1. Raises TypeError if it has no hash.
 
         >>> from indexset import SortedDict
         >>> SortedDict({1: "a"}).keys().count(1)
@@ -62,7 +62,8 @@ class SortedKeysView(KeysView[K], Sequence[K]):
         return int(value in self._mapping)
 
     def index(self, value: object, start: Optional[int] = None, stop: Optional[int] = None) -> int:
-        """The position of a key, from `start` and before `stop`. ValueError where it is not there.
+        """Returns the position of a key, from `start` and before `stop`. Raises ValueError if there is none, TypeError
+        if the key has no hash.
 
         >>> from indexset import SortedDict
         >>> SortedDict({2: "b", 1: "a"}).keys().index(2)
@@ -73,7 +74,7 @@ class SortedKeysView(KeysView[K], Sequence[K]):
 
 
 class SortedValuesView(ValuesView[V], Sequence[V]):
-    """The values of a dictionary, in the order of their keys. A position takes a time that grows as log n.
+    """The values of a dictionary, in the order of their keys. Access by position is O(log n).
 
     >>> from indexset import SortedDict
     >>> SortedDict({2: "b", 1: "a"}).values()[0]
@@ -106,7 +107,7 @@ class SortedValuesView(ValuesView[V], Sequence[V]):
 
 
 class SortedItemsView(ItemsView[K, V], Sequence[Tuple[K, V]]):
-    """The keys of a dictionary with their values, in order. A position takes a time that grows as log n.
+    """The keys of a dictionary with their values, in order. Access by position is O(log n).
 
     >>> from indexset import SortedDict
     >>> SortedDict({2: "b", 1: "a"}).items()[0]
@@ -122,7 +123,7 @@ class SortedItemsView(ItemsView[K, V], Sequence[Tuple[K, V]]):
         return SortedSet(it)
 
     def __iter__(self) -> Iterator[tuple[K, V]]:
-        # Neither walk goes on after a change, so that a pair is one that was there.
+        # Neither iterator continues after a change, so each pair was in the dictionary.
         return zip(self._mapping, map(self._mapping.__getitem__, self._mapping))
 
     def __reversed__(self) -> Iterator[tuple[K, V]]:
@@ -145,7 +146,7 @@ class SortedItemsView(ItemsView[K, V], Sequence[Tuple[K, V]]):
 
 
 class _Positions(Sequence[T]):
-    """What a view of a logged dictionary or a replica has by positions, as a part of the pair at each."""
+    """The access by position of a view of a logged dictionary or a replica, by a part of the pair at each."""
 
     __slots__ = ()
 
@@ -177,15 +178,14 @@ class _Positions(Sequence[T]):
 
 
 class NodedKeysView(_Positions[K], KeysView[K], Sequence[K]):
-    """The keys of a `LoggedDict` or a `Replica`, in order, as they are at each call. A position takes a time that
-    grows as log n."""
+    """The keys of a `LoggedDict` or a `Replica`, in order, as they are at each call. Access by position is O(log n)."""
 
     __slots__ = ()
 
     _part = staticmethod(itemgetter(0))
 
     def count(self, value: object) -> int:
-        """How often a key is there: 0 or 1. TypeError where it has no hash.
+        """Returns the number of keys equal to a value: 0 or 1. Raises TypeError if it has no hash.
 
         >>> from indexset import SortedDict
         >>> SortedDict({1: "a"}).keys().count(1)
@@ -194,7 +194,8 @@ class NodedKeysView(_Positions[K], KeysView[K], Sequence[K]):
         return int(value in self._mapping)
 
     def index(self, value: object, start: Optional[int] = None, stop: Optional[int] = None) -> int:
-        """The position of a key, from `start` and before `stop`. ValueError where it is not there.
+        """Returns the position of a key, from `start` and before `stop`. Raises ValueError if there is none, TypeError
+        if the key has no hash.
 
         >>> from indexset import SortedDict
         >>> SortedDict({2: "b", 1: "a"}).keys().index(2)
@@ -213,8 +214,8 @@ class NodedValuesView(_Positions[V], ValuesView[V], Sequence[V]):
 
 
 class NodedItemsView(_Positions[Tuple[K, V]], ItemsView[K, V], Sequence[Tuple[K, V]]):
-    """The keys of a `LoggedDict` or a `Replica` in order, with their values, as they are at each call. A position
-    takes a time that grows as log n."""
+    """The keys of a `LoggedDict` or a `Replica` in order, with their values, as they are at each call. Access by
+    position is O(log n)."""
 
     __slots__ = ()
 

@@ -1,4 +1,4 @@
-/* All numbers of an order, one by one in memory. */
+/* All numbers of an order, contiguous in memory. */
 #include "fast.h"
 
 static enum kind kind_of(PyObject *owner) {
@@ -6,7 +6,7 @@ static enum kind kind_of(PyObject *owner) {
     return IS_BLOCKS(owner) ? ((Blocks *)owner)->by : ((Held *)owner)->kind;
 }
 
-/* What a code stands for, as it lies in memory. Of the two zeros, which have one code, it is that of the object. */
+/* Writes the number of a code. Both zeros have one code: for these the object is read. */
 static uint64_t decoded(enum kind kind, uint64_t code, PyObject *object) {
     double number = 0;
     if (kind == UINT64) return code;

@@ -1,15 +1,15 @@
 /* Calls of a set of numbers on many of them at once. */
 #include "fast.h"
 
-/* Room for numbers; NULL with an error. */
+/* Allocates room for numbers; NULL with an error set. */
 static uint64_t *room(size_t count) {
     uint64_t *made = count < PY_SSIZE_T_MAX / 8 ? PyMem_Malloc(8 * (count + 1)) : NULL;
     if (made == NULL) PyErr_NoMemory();
     return made;
 }
 
-/* The codes of the items of a list or tuple, where all are of the kind's own type, in memory of their own; else
- * NULL, with an error where memory is missing. */
+/* Returns the codes of the items of a list or tuple, allocated, if all are of the kind's own type; otherwise NULL, with
+ * an error set if memory ran out. */
 static uint64_t *own_codes(Numbers *self, PyObject *values) {
     Py_ssize_t count = PySequence_Fast_GET_SIZE(values);
     PyObject **items = PySequence_Fast_ITEMS(values);
@@ -22,7 +22,7 @@ static uint64_t *own_codes(Numbers *self, PyObject *values) {
     return codes;
 }
 
-/* The codes of values of any type, in memory of their own, and how many; NULL with an error. */
+/* Returns the codes of values of any type, allocated, and their number; NULL with an error set. */
 static uint64_t *asked_codes(Numbers *self, PyObject *values, size_t *count) {
     PyObject *array = PyObject_CallMethodObjArgs(kinds, names.codes_of, self->python, values, NULL);
     Py_buffer view;
@@ -40,7 +40,8 @@ static uint64_t *asked_codes(Numbers *self, PyObject *values, size_t *count) {
 
 static int is_list(PyObject *values) { return PyList_CheckExact(values) || PyTuple_CheckExact(values); }
 
-/* The codes of values and how many; and the values themselves as an array, or NULL where they are not kept. */
+/* Returns the codes of values and their number; and the values themselves as an array, or NULL if they are not
+ * stored. */
 static uint64_t *codes_of(Numbers *self, PyObject *values, size_t *count, PyObject ***items) {
     uint64_t *codes = is_list(values) ? own_codes(self, values) : NULL;
     *items = NULL;
@@ -50,7 +51,7 @@ static uint64_t *codes_of(Numbers *self, PyObject *values, size_t *count, PyObje
     return codes;
 }
 
-/* A number that comes: its code, and the object that was given as it, or NULL. */
+/* A new number: its code, and the object that was given as it, or NULL. */
 typedef struct {
     uint64_t code;
     PyObject *given;
@@ -61,7 +62,7 @@ static int by_code(const void *a, const void *b) {
     return (first > second) - (first < second);
 }
 
-/* Puts numbers that are not there in their order, which finds the nodes in the cache: all, or none with an error. */
+/* Adds absent numbers in their order, which finds the nodes in the cache: all, or none with an error set. */
 static int put_all(Numbers *self, Fresh *fresh, size_t count) {
     size_t done = 0;
     qsort(fresh, count, sizeof *fresh, by_code);
@@ -84,7 +85,7 @@ PyObject *numbers_take(Numbers *self, PyObject *values) {
     return PyErr_Occurred() ? NULL : PyErr_NoMemory();
 }
 
-/* How many values of a list are of the kind's own type before one that is not; -1 with an error. */
+/* Returns the number of values of a list before the first that is not of the kind's own type; -1 with an error set. */
 static Py_ssize_t own_count(Numbers *self, PyObject *values) {
     uint64_t code;
     Py_ssize_t count = 0;
@@ -101,7 +102,7 @@ PyObject *numbers_are_own(Numbers *self, PyObject *values) {
     return count < 0 ? NULL : PyBool_FromLong(count == PyList_GET_SIZE(values));
 }
 
-/* The keys that values become: the list itself where all are of the kind's own type. */
+/* Returns the keys of values: the list itself if all are of the kind's own type. */
 PyObject *numbers_own(Numbers *self, PyObject *values) {
     uint64_t code;
     Py_ssize_t first = own_count(self, values);

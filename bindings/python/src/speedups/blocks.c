@@ -1,12 +1,12 @@
-/* Objects in blocks: where each stands, and how some come and go. Nothing here compares. Memory is asked for before
- * anything changes. */
+/* Objects in blocks: their places, insertion and removal. Nothing here compares. Memory is allocated before anything
+ * changes. */
 #include "fast.h"
 
-/* The most objects of a block, and below how many two become one. */
+/* The maximum number of objects of a block, and the number of objects below which two blocks are merged. */
 #define MOST 512
 #define FEW 96
 
-/* ---- positions: a Fenwick tree over the lengths of the blocks, made anew once their number has changed */
+/* ---- positions: a Fenwick tree over the lengths of the blocks, rebuilt once their number has changed */
 
 static void index_blocks(Blocks *self) {
     if (self->count == 0) return;
@@ -44,7 +44,7 @@ Place blocks_place(Blocks *self, size_t position) {
 
 /* ---- room */
 
-/* Has room for so many blocks; 0 with an error. */
+/* Makes room for a number of blocks; 0 with an error set. */
 static int has_blocks(Blocks *self, size_t count) {
     if (count <= self->room) return 1;
     size_t room = count + count / 4 + 4;
@@ -61,7 +61,7 @@ static int has_blocks(Blocks *self, size_t count) {
     return 1;
 }
 
-/* Has room for so many objects in a block; 0 with an error. */
+/* Makes room for a number of objects in a block; 0 with an error set. */
 static int has_room(Block *block, size_t room, int has_keys) {
     if (room <= block->room) return 1;
     PyObject **items = PyMem_Realloc(block->items, room * sizeof *items), **keys = NULL;
@@ -97,7 +97,7 @@ static void copy(Block *to, const Block *from, size_t first, size_t count) {
     to->last = to->keys[count - 1];
 }
 
-/* Moves the second half of a full block into one behind it; 0 with an error. */
+/* Moves the second half of a full block into a new one after it; 0 with an error set. */
 static int split(Blocks *self, size_t at) {
     Block made = {0};
     if (!has_blocks(self, self->count + 1) || !has_room(&made, MOST / 2 + MOST / 8, self->key != NULL)) {
@@ -141,7 +141,7 @@ int blocks_insert(Blocks *self, Place at, PyObject *item, PyObject *key) {
     return 1;
 }
 
-/* Takes a block out that has no objects. */
+/* Removes a block that has no objects. */
 static void drop_block(Blocks *self, size_t at) {
     Block *block = self->blocks + at;
     free_block(block);
@@ -150,7 +150,7 @@ static void drop_block(Blocks *self, size_t at) {
     self->is_indexed = 0;
 }
 
-/* Makes one of a block and the one behind it, where both have few objects. It may be left undone. */
+/* Merges a block and the next one, if both have few objects. It may be left undone. */
 static void merge(Blocks *self, size_t at) {
     if (at + 1 >= self->count || self->blocks[at].count + self->blocks[at + 1].count > MOST / 2) return;
     Block *block = self->blocks + at, *other = block + 1;
@@ -186,7 +186,7 @@ PyObject *blocks_remove(Blocks *self, Place at, PyObject **key) {
 
 /* ---- many objects */
 
-/* A block of objects in a row; 0 with an error. */
+/* Makes a block of consecutive objects; 0 with an error set. */
 static int block_of(Block *block, PyObject **items, PyObject **keys, size_t count) {
     Block from = {.items = items, .keys = keys ? keys : items};
     if (!has_room(block, count, keys != NULL)) {
@@ -197,7 +197,7 @@ static int block_of(Block *block, PyObject **items, PyObject **keys, size_t coun
     return 1;
 }
 
-/* Has no blocks any more, which are left as they are. */
+/* Drops all blocks, and leaves them as they are. */
 static void forget(Blocks *self) {
     self->blocks = NULL;
     self->tree = NULL;
@@ -227,14 +227,15 @@ void blocks_drop(Blocks *self) {
     free_blocks(&before);
 }
 
-/* Has room for the codes of so many keys, where these are numbers; 0 with an error. */
+/* Makes room for the codes of a number of keys, if these are numbers; 0 with an error set. */
 static int has_codes(Blocks *self, size_t count) {
     self->codes = self->by <= FLOAT64 ? PyMem_Malloc((count / GROUP + 1) * sizeof *self->codes) : NULL;
     if (self->codes == NULL && self->by <= FLOAT64) PyErr_NoMemory();
     return self->codes != NULL || self->by > FLOAT64;
 }
 
-/* From empty, has objects that lie in a row, whose references it takes over: 0 with an error, and then it has none. */
+/* Takes over consecutive objects, with their references. It is empty before: 0 with an error set, and then it stays
+ * empty. */
 static int lay(Blocks *self, PyObject **items, PyObject **keys, size_t count) {
     int is_done = has_blocks(self, (count + FILLED - 1) / FILLED) && has_codes(self, count);
     for (size_t at = 0; is_done && at < count; at += FILLED) {
@@ -255,7 +256,7 @@ static int lay(Blocks *self, PyObject **items, PyObject **keys, size_t count) {
     return is_done;
 }
 
-/* They change places. */
+/* Swaps two blocks. */
 static void swap(Blocks *self, Blocks *other) {
     Blocks before = *self;
     size_t from = offsetof(Blocks, blocks), size = sizeof *self - from;
@@ -269,7 +270,7 @@ int blocks_fill(Blocks *self, PyObject *items, PyObject *keys) {
     if (!lay(&made, PySequence_Fast_ITEMS(items), keys ? PySequence_Fast_ITEMS(keys) : NULL,
              (size_t)PyList_GET_SIZE(items)))
         return -1;
-    /* The references are those of the lists, which let none go. */
+    /* The references are those of the lists, which release none. */
     Py_SET_SIZE(items, 0);
     if (keys != NULL) Py_SET_SIZE(keys, 0);
     swap(self, &made);
@@ -286,7 +287,7 @@ int blocks_copy(Blocks *self, Blocks *from) {
     return state;
 }
 
-/* Moves the objects of a block from one on and before another to other places, and their keys where they have some. */
+/* Moves the objects of a block in a range of indices to other places, and their keys if they have some. */
 static void cut_block(Block *block, size_t first, size_t past, PyObject **items, PyObject **keys) {
     memcpy(items, block->items + first, (past - first) * sizeof *items);
     if (block->keys != block->items && keys != NULL) memcpy(keys, block->keys + first, (past - first) * sizeof *keys);

@@ -1,12 +1,12 @@
-/* Objects at byte strings, in the order of these, in a map of the library that leads to them. */
+/* Objects at byte strings, in the order of these, in a map of the library from byte strings to objects. */
 #include "fast.h"
 
-/* Where an object that is being collected leads to: it has no items and takes none. */
+/* The map of an object that is being collected: it has no items and takes none. */
 static indexset_text_map nowhere = INDEXSET_HANDLE;
 
 /* ---- the object */
 
-/* An empty map on the heap; NULL with an error. */
+/* Returns an empty map on the heap; NULL with an error set. */
 static indexset_text_map *map_new(void) {
     indexset_text_map *made = PyMem_Calloc(1, sizeof *made);
     if (made == NULL || indexset_text_map_new(made) != INDEXSET_YES) {
@@ -30,7 +30,7 @@ static PyObject *coded_new(PyTypeObject *type, PyObject *given, PyObject *words)
     return (PyObject *)self;
 }
 
-/* `Coded(kind, key, repeats)`, of the name of a kind that is none of numbers. */
+/* `Coded(kind, key, repeats)`, with the name of a kind that is not one of numbers. */
 static int coded_init(Coded *self, PyObject *given, PyObject *words) {
     const char *kind;
     PyObject *key;
@@ -44,7 +44,7 @@ static int coded_init(Coded *self, PyObject *given, PyObject *words) {
     return 0;
 }
 
-/* The collector calls this before the map is there, too. What is noted leads nowhere. */
+/* The garbage collector calls this before the map is made, too. Pending changes have no references to visit. */
 static int coded_traverse(Coded *self, visitproc visit, void *arg) {
     Py_VISIT(self->key);
     for (size_t at = 0, count = CHUNK; self->map != NULL && count == CHUNK; at += count) {
@@ -55,7 +55,7 @@ static int coded_traverse(Coded *self, visitproc visit, void *arg) {
     return 0;
 }
 
-/* Lets the objects of a map go, which no code can reach any more, and frees it. */
+/* Releases the objects of a map that no code can reach any more, and frees it. */
 static void let_go(indexset_text_map *map) {
     uint64_t read[CHUNK];
     size_t count = CHUNK;
@@ -70,7 +70,7 @@ static void let_go(indexset_text_map *map) {
     }
 }
 
-/* Has another map in place of the one before, whose objects go. */
+/* Replaces the map by another, and releases its objects. */
 static void become(Coded *self, indexset_text_map *map) {
     indexset_text_map *before = self->map;
     self->map = map;
@@ -114,7 +114,7 @@ static void count_objects(indexset_text_map *map) {
     }
 }
 
-/* Becomes a clone of another, from empty. */
+/* Becomes a clone of another. It is empty before. */
 static PyObject *copied(Coded *self, PyObject *given) {
     if (!PyObject_TypeCheck(given, &CodedType) || coded_length(self) != 0) {
         PyErr_SetString(PyExc_TypeError, "what is empty becomes a copy of a Coded");
@@ -188,7 +188,7 @@ static PyObject *has(Coded *self, PyObject *code) {
     return PyBool_FromLong(indexset_text_map_contains(self->map, data, size));
 }
 
-/* The byte string of the object at a position. */
+/* Returns the byte string of the object at a position. */
 static PyObject *code_at(Coded *self, size_t position) {
     char room[64];
     size_t size;
@@ -247,26 +247,27 @@ PyObject *coded_pop(Coded *self, size_t position) {
 /* ---- the type */
 
 static PyMethodDef methods[] = {
-    {"add", (PyCFunction)add_method, METH_O, "Adds an object behind its equals."},
+    {"add", (PyCFunction)add_method, METH_O, "Adds an object after its equals."},
     {"bisect", (PyCFunction)(void (*)(void))bisect_method, METH_FASTCALL,
-     "How many objects are below a value, or not above it."},
+     "Returns the number of objects below a value, or not above it."},
     {"discard", (PyCFunction)discard_method, METH_O,
-     "Removes the first object that equals a value, and tells whether there was one."},
-    {"find", (PyCFunction)find_method, METH_O, "The position of the first object that equals a value, or -1."},
+     "Removes the first object that equals a value; returns whether there was one."},
+    {"find", (PyCFunction)find_method, METH_O, "Returns the position of the first object that equals a value, or -1."},
     {"place", (PyCFunction)(void (*)(void))place_method, METH_FASTCALL,
-     "How many sort keys are below a key, or not above it."},
-    {"own_span", (PyCFunction)own_span_method, METH_O, "The positions of a sort key of the kind's own type, or None."},
+     "Returns the number of sort keys below a key, or not above it."},
+    {"own_span", (PyCFunction)own_span_method, METH_O,
+     "Returns the positions of a sort key of the kind's own type, or None."},
     {"chunk", (PyCFunction)(void (*)(void))chunk_method, METH_FASTCALL,
-     "The objects at the positions from the first and before the second."},
+     "Returns the objects at the positions from the first and before the second."},
     {"changed", (PyCFunction)changed_method, METH_NOARGS, "Counts a change."},
     {"clear", (PyCFunction)clear, METH_NOARGS, "Removes all objects."},
-    {"code", (PyCFunction)code, METH_O, "The byte string of the object at a position."},
-    {"copied", (PyCFunction)copied, METH_O, "Becomes a clone of another, from empty."},
-    {"has", (PyCFunction)has, METH_O, "Whether an object is at a byte string."},
-    {"insert", (PyCFunction)(void (*)(void))insert, METH_FASTCALL, "Puts an object at a byte string, which has none."},
+    {"code", (PyCFunction)code, METH_O, "Returns the byte string of the object at a position."},
+    {"copied", (PyCFunction)copied, METH_O, "Becomes a clone of another. It is empty before."},
+    {"has", (PyCFunction)has, METH_O, "Returns whether an object is at a byte string."},
+    {"insert", (PyCFunction)(void (*)(void))insert, METH_FASTCALL, "Puts an object at an unused byte string."},
     {"pop", (PyCFunction)pop, METH_O, "Removes the object at a position and returns it."},
-    {"rank", (PyCFunction)rank, METH_O, "How many objects are below a byte string."},
-    {"walk", (PyCFunction)(void (*)(void))walk_method, METH_FASTCALL, "The objects at positions one by one."},
+    {"rank", (PyCFunction)rank, METH_O, "Returns the number of objects below a byte string."},
+    {"walk", (PyCFunction)(void (*)(void))walk_method, METH_FASTCALL, "Iterates over the objects at positions."},
     {"__class_getitem__", Py_GenericAlias, METH_O | METH_CLASS, NULL},
     {0},
 };

@@ -1,4 +1,4 @@
-/* Numbers of 64 bits as codes, whose order is that of the numbers, and back. */
+/* The codes of numbers, which are 64-bit numbers in the same order, and back. */
 #include "fast.h"
 
 static uint64_t code_of_double(double number) {
@@ -31,7 +31,7 @@ int number_code(enum kind kind, PyObject *value, uint64_t *code) {
 enum kind kind_of_numbers(const char *name) { return name[0] == 'i' ? INT64 : name[0] == 'u' ? UINT64 : FLOAT64; }
 
 #if PY_VERSION_HEX >= 0x030B0000 && PY_VERSION_HEX < 0x030C0000 && PYLONG_BITS_IN_DIGIT == 30
-/* An integer of two or three digits, which Python's own call makes by loops over them. */
+/* Returns an integer of two or three digits, which Python's own call makes by loops over them. */
 static PyObject *integer(long long value) {
     uint64_t size = value < 0 ? 0 - (uint64_t)value : (uint64_t)value;
     if (size >> 30 == 0) return PyLong_FromLongLong(value);

@@ -1,8 +1,8 @@
-/* Objects in blocks by comparisons. One by `<` may run any code: what it is given is held meanwhile, and where the
- * blocks have changed it is an error. */
+/* Comparisons of objects in blocks. One by `<` may run any code: its arguments are held meanwhile, and it is an error
+ * if the blocks have changed. */
 #include "fast.h"
 
-/* What is looked for, and its code where the kind is one of numbers. */
+/* The sought key, and its code if the kind is one of numbers. */
 typedef struct {
     PyObject *key;
     uint64_t code;
@@ -16,8 +16,8 @@ PyObject *blocks_key(Blocks *self, PyObject *item) {
 
 /* ---- comparisons */
 
-/* Whether an object is below another: 1 or 0, or -1 with an error. Objects of one type are compared by its own
- * function, as `list.sort` does it. */
+/* Returns whether an object is below another: 1 or 0, or -1 with an error set. Objects of one type are compared by its
+ * own function, as `list.sort` does. */
 static int less(PyObject *one, PyObject *other) {
     richcmpfunc compare = Py_TYPE(one)->tp_richcompare;
     if (compare == NULL || Py_TYPE(one) != Py_TYPE(other)) return PyObject_RichCompareBool(one, other, Py_LT);
@@ -37,8 +37,7 @@ static int bytes_order(PyObject *one, PyObject *other) {
     return order ? order : (first > second) - (first < second);
 }
 
-/* Whether a sort key of the blocks stands before what is looked for, or to the right also where they are equal, by `<`.
- */
+/* Returns whether a sort key of the blocks is before the sought key by `<`, or, to the right, not after it. */
 static int is_before_object(Blocks *self, PyObject *other, PyObject *key, int right) {
     unsigned long long changes = self->changes;
     Py_INCREF(other);
@@ -63,7 +62,7 @@ static inline int is_before(Blocks *self, PyObject *other, const Probe *probe, i
     return order < right;
 }
 
-/* Makes what is looked for: 1, or NOT_OWN. */
+/* Makes the sought key. Returns 1, or NOT_OWN. */
 static int probe_of(Blocks *self, PyObject *key, Probe *probe) {
     *probe = (Probe){.key = key};
     switch (self->by) {
@@ -81,7 +80,7 @@ int blocks_is_own(Blocks *self, PyObject *key) {
 
 /* ---- places */
 
-/* The first block whose last key is not before what is looked for, or -1 with an error. */
+/* Returns the first block whose last key is not before the sought key, or -1 with an error set. */
 static Py_ssize_t block_of(Blocks *self, const Probe *probe, int right) {
     size_t low = 0, high = self->count;
     while (low < high) {
@@ -94,8 +93,8 @@ static Py_ssize_t block_of(Blocks *self, const Probe *probe, int right) {
     return (Py_ssize_t)low;
 }
 
-/* Among numbers of a kind, how many sort keys have codes below a limit: by the codes that are kept, without a branch on
- * one, and then by those of the group. */
+/* Returns, among numbers of a kind, the number of sort keys with codes below a limit: by the stored codes, without a
+ * branch on one, and then by those of the group. */
 static size_t count_below(Blocks *self, uint64_t limit) {
     const uint64_t *codes = self->codes;
     size_t left = self->length / GROUP;
@@ -125,7 +124,7 @@ static int bound(Blocks *self, const Probe *probe, int right, Place *place) {
     if (self->by <= FLOAT64) return bound_number(self, probe->code, right, place);
     Py_ssize_t at = block_of(self, probe, right);
     if (at < 0) return -1;
-    if ((size_t)at == self->count) { /* behind all */
+    if ((size_t)at == self->count) { /* after all */
         *place = at > 0 ? (Place){(size_t)at - 1, self->blocks[at - 1].count} : (Place){0, 0};
         return 1;
     }
@@ -160,7 +159,7 @@ int blocks_are_equal(Blocks *self, PyObject *one, PyObject *other) {
     return !is_before(self, one, &probe, 0) && is_before(self, one, &probe, 1);
 }
 
-/* Whether the object at a place equals a value: 1, or 0, or -1 with an error. */
+/* Returns whether the object at a place equals a value: 1, 0, or -1 with an error set. */
 static int is_equal(Blocks *self, Place at, PyObject *value) {
     unsigned long long changes = self->changes;
     PyObject *item = self->blocks[at.block].items[at.index];
@@ -174,7 +173,7 @@ static int is_equal(Blocks *self, Place at, PyObject *value) {
     return state;
 }
 
-/* The same for the first one from a place on that has a sort key. */
+/* Finds the first equal object from a place on with a sort key. */
 static int find(Blocks *self, PyObject *value, const Probe *probe, Place *at) {
     for (; at->block < self->count; at->index++) {
         if (at->index == self->blocks[at->block].count) {

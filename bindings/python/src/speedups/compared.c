@@ -1,9 +1,9 @@
-/* The type `Blocks`, and what front.c and held.c ask of one. */
+/* The type `Blocks`, and the calls of front.c and held.c on it. */
 #include "fast.h"
 
 /* ---- the object */
 
-/* `Blocks(kind, key)`, of the name of a kind. */
+/* `Blocks(kind, key)`, with the name of a kind. */
 static int blocks_init(Blocks *self, PyObject *given, PyObject *words) {
     const char *kind;
     PyObject *key;
@@ -58,7 +58,7 @@ static PyObject *clear(Blocks *self, PyObject *nothing) {
     Py_RETURN_NONE;
 }
 
-/* Becomes a clone of another, from empty. */
+/* Becomes a clone of another. It is empty before. */
 static PyObject *copied(Blocks *self, PyObject *given) {
     if (!PyObject_TypeCheck(given, &BlocksType) || self->length != 0
         || (((Blocks *)given)->key == NULL) != (self->key == NULL)) {
@@ -74,8 +74,8 @@ static Py_ssize_t blocks_length(Blocks *self) { return (Py_ssize_t)self->length;
 
 /* ---- one object */
 
-/* Of a value that cannot be compared with the others a search finds none: 0 in place of the error, but of what is no
- * key of a set either. */
+/* A search for a value that cannot be compared with the others finds none: returns 0 and clears the error, unless the
+ * value has no hash either. */
 static int unfit(Blocks *self, PyObject *value, int state) {
     if (state != -1
         || !(PyErr_ExceptionMatches(PyExc_TypeError) || PyErr_ExceptionMatches(PyExc_OverflowError)
@@ -100,7 +100,7 @@ int blocks_add(Blocks *self, PyObject *item, PyObject *members) {
     return state;
 }
 
-/* Lets the object at a place go. */
+/* Releases the object at a place. */
 static void let_go(Blocks *self, Place place) {
     PyObject *key, *item = blocks_remove(self, place, &key);
     Py_XDECREF(key);
@@ -167,7 +167,7 @@ static PyObject *position_found(Blocks *self, int state, Place place) {
     return state < 0 ? NULL : PyLong_FromSsize_t(state == 1 ? (Py_ssize_t)position_at(self, place) : -1);
 }
 
-/* `_found` and `_found_from` of the class know of sort keys of another type than the kind's own. */
+/* `_found` and `_found_from` of the class handle sort keys of another type than the kind's own. */
 static PyObject *find(Blocks *self, PyObject *value) {
     Place place;
     int state = unfit(self, value, blocks_find(self, value, 0, &place));
@@ -186,7 +186,7 @@ static PyObject *find_from(Blocks *self, PyObject *const *given, Py_ssize_t coun
     return position_found(self, state, place);
 }
 
-/* How many objects from a position on equal a value. */
+/* Returns the number of objects from a position on that equal a value. */
 static PyObject *count(Blocks *self, PyObject *value) {
     Place place;
     Py_ssize_t found = 0;
@@ -201,7 +201,7 @@ static PyObject *count(Blocks *self, PyObject *value) {
 
 /* ---- numbers */
 
-/* How many objects have codes below one. */
+/* Returns the number of objects with codes below one. */
 static PyObject *below(Blocks *self, PyObject *given) {
     Place place;
     uint64_t code = PyLong_AsUnsignedLongLong(given);
@@ -210,7 +210,7 @@ static PyObject *below(Blocks *self, PyObject *given) {
     return PyLong_FromSize_t(position_at(self, place));
 }
 
-/* Whether no two sort keys are equal, of kinds with own types. */
+/* Returns whether no two sort keys are equal, for kinds with own types. */
 static PyObject *are_distinct(Blocks *self, PyObject *nothing) {
     (void)nothing;
     PyObject *before = NULL;
@@ -226,36 +226,37 @@ static PyObject *are_distinct(Blocks *self, PyObject *nothing) {
 /* ---- the type: `fill`, `take` and `cut` are in many.c */
 
 static PyMethodDef methods[] = {
-    {"add", (PyCFunction)add_method, METH_O, "Adds an object behind its equals."},
+    {"add", (PyCFunction)add_method, METH_O, "Adds an object after its equals."},
     {"are_distinct", (PyCFunction)are_distinct, METH_NOARGS,
-     "Whether no two sort keys are equal, of kinds with own types."},
-    {"below", (PyCFunction)below, METH_O, "How many objects have codes below one, of a kind of numbers."},
+     "Returns whether no two sort keys are equal, for kinds with own types."},
+    {"below", (PyCFunction)below, METH_O, "Returns the number of objects with codes below one, for a kind of numbers."},
     {"bisect", (PyCFunction)(void (*)(void))bisect_method, METH_FASTCALL,
-     "How many objects are below a value, or not above it."},
+     "Returns the number of objects below a value, or not above it."},
     {"changed", (PyCFunction)changed_method, METH_NOARGS, "Counts a change."},
     {"chunk", (PyCFunction)(void (*)(void))chunk_method, METH_FASTCALL,
-     "The objects at the positions from the first and before the second."},
+     "Returns the objects at the positions from the first and before the second."},
     {"clear", (PyCFunction)clear, METH_NOARGS, "Removes all objects."},
-    {"copied", (PyCFunction)copied, METH_O, "Becomes a clone of another, from empty."},
-    {"count", (PyCFunction)count, METH_O, "How many objects equal a value."},
+    {"copied", (PyCFunction)copied, METH_O, "Becomes a clone of another. It is empty before."},
+    {"count", (PyCFunction)count, METH_O, "Returns the number of objects equal to a value."},
     {"cut", (PyCFunction)(void (*)(void))blocks_cut_method, METH_FASTCALL,
      "Removes the objects at the positions from the first and before the second."},
     {"discard", (PyCFunction)discard_method, METH_O,
-     "Removes the first object that equals a value, and tells whether there was one."},
+     "Removes the first object that equals a value; returns whether there was one."},
     {"fill", (PyCFunction)blocks_fill_method, METH_O,
-     "Adds the objects of a list at once; False where one is not of the kind's own type."},
-    {"find", (PyCFunction)find, METH_O, "The position of the first object that equals a value, or -1."},
+     "Adds the objects of a list at once; returns False if one is not of the kind's own type."},
+    {"find", (PyCFunction)find, METH_O, "Returns the position of the first object that equals a value, or -1."},
     {"find_from", (PyCFunction)(void (*)(void))find_from, METH_FASTCALL,
-     "The same from a position on; what cannot be compared is an error."},
-    {"numbers", (PyCFunction)numbers_method, METH_NOARGS, "All numbers, one by one in memory."},
-    {"own_span", (PyCFunction)own_span_method, METH_O, "The positions of a sort key of the kind's own type, or None."},
+     "Returns the position of an equal object from a position on, or -1; raises if it cannot be compared."},
+    {"numbers", (PyCFunction)numbers_method, METH_NOARGS, "Returns all numbers, contiguous in memory."},
+    {"own_span", (PyCFunction)own_span_method, METH_O,
+     "Returns the positions of a sort key of the kind's own type, or None."},
     {"place", (PyCFunction)(void (*)(void))place_method, METH_FASTCALL,
-     "How many sort keys are below a key, or not above it."},
+     "Returns the number of sort keys below a key, or not above it."},
     {"pop", (PyCFunction)pop, METH_O, "Removes the object at a position and returns it."},
     {"settle", (PyCFunction)blocks_settle_method, METH_O,
-     "Has an order of the library, which is empty, take all objects; whether it could."},
-    {"take", (PyCFunction)blocks_take_method, METH_O, "Adds the objects of a list, or none where one does not fit."},
-    {"walk", (PyCFunction)(void (*)(void))walk_method, METH_FASTCALL, "The objects at positions one by one."},
+     "Adds all objects to an empty order of the library; returns whether it could."},
+    {"take", (PyCFunction)blocks_take_method, METH_O, "Adds the objects of a list, or none if one does not fit."},
+    {"walk", (PyCFunction)(void (*)(void))walk_method, METH_FASTCALL, "Iterates over the objects at positions."},
     {"__class_getitem__", Py_GenericAlias, METH_O | METH_CLASS, NULL},
     {0},
 };

@@ -1,4 +1,4 @@
-/* A dict whose keys are in order too: what changes one key goes straight to the dict and to the order. */
+/* A dict with an order of its keys: a change of one key goes straight to the dict and to the order. */
 #include "fast.h"
 
 static int dict_traverse(DictFront *self, visitproc visit, void *arg) {
@@ -17,7 +17,8 @@ static void dict_dealloc(DictFront *self) {
     PyDict_Type.tp_dealloc((PyObject *)self);
 }
 
-/* What orders the keys, as a new reference: it outlives what runs meanwhile. There is none before `__init__`. */
+/* Returns the order of the keys, as a new reference: it outlives the code that runs meanwhile. There is none before
+ * `__init__`. */
 static PyObject *order_of(DictFront *self) {
     if (self->order == NULL) PyErr_SetString(PyExc_RuntimeError, "the object was not made");
     Py_XINCREF(self->order);
@@ -26,21 +27,21 @@ static PyObject *order_of(DictFront *self) {
 
 /* ---- one key */
 
-/* Has a key in order that is not there: 1, or NOT_OWN, or -1 with an error. */
+/* Adds an absent key to the order. Returns 1, NOT_OWN, or -1 with an error set. */
 static int add_key(PyObject *order, PyObject *key) {
     uint64_t code;
     if (Py_TYPE(order) != &NumbersType) return is_fresh(order) ? NOT_OWN : held_add(order, key, NULL);
     return number_code(((Numbers *)order)->kind, key, &code) ? numbers_add((Numbers *)order, key) : NOT_OWN;
 }
 
-/* Takes out a key that is there. */
+/* Removes a key that is present. */
 static int discard_key(PyObject *order, PyObject *key) {
     if (Py_TYPE(order) == &NumbersType) return numbers_discard((Numbers *)order, key);
     int state = IS_MULTI(order) || IS_BLOCKS(order) ? NOT_OWN : own_drop((Coded *)order, key);
     return state == NOT_OWN ? held_discard(order, key) : state;
 }
 
-/* The same by `_order_keys` of the class, which finds the kind. */
+/* Adds a key by `_order_keys` of the class, which finds the kind. */
 static int order_key(DictFront *self, PyObject *key) {
     PyObject *keys = PyList_New(1);
     if (keys == NULL) return -1;
@@ -59,7 +60,7 @@ static int add(DictFront *self, PyObject *key) {
     return state == NOT_OWN ? order_key(self, key) : state;
 }
 
-/* What orders the keys, which can change: what only reads becomes another order first. */
+/* Returns the order of the keys, ready for changes: a read-only one is replaced first. */
 static PyObject *changing_order(DictFront *self) {
     PyObject *order = order_of(self);
     if (order == NULL || Py_TYPE(order) == &NumbersType || !IS_BLOCKS(order) || ((Blocks *)order)->by > FLOAT64)
@@ -68,7 +69,7 @@ static PyObject *changing_order(DictFront *self) {
     return PyObject_CallMethodNoArgs((PyObject *)self, names.settled);
 }
 
-/* Takes a key out of the order; an error that there is stays. */
+/* Removes a key from the order; an error that is set stays set. */
 static int discard(DictFront *self, PyObject *key) {
     PyObject *type, *value, *trace, *order;
     PyErr_Fetch(&type, &value, &trace);
@@ -126,14 +127,14 @@ static PyObject *get_order(DictFront *self, void *nothing) {
 
 static PyMethodDef methods[] = {{"__class_getitem__", Py_GenericAlias, METH_O | METH_CLASS, NULL}, {0}};
 static PyGetSetDef properties[] = {{"_order", (getter)get_order, (setter)set_order, NULL, NULL}, {0}};
-/* `in` and `[key]` are dict's: a class below, which has slots from here, goes straight to them, where from dict it
- * would look for the methods at each call. The module has the other slot from dict. */
+/* `in` and `[key]` are those of dict. A subclass inherits these slots from here, and calls them directly; from dict it
+ * would look up the methods at each call. The module has the other slot from dict. */
 static PyMappingMethods mapping = {.mp_ass_subscript = (objobjargproc)assign};
 static PySequenceMethods sequence = {.sq_contains = PyDict_Contains};
 
 PyTypeObject DictFrontType = {
     PyVarObject_HEAD_INIT(NULL, 0).tp_name = "indexset._fast.DictFront",
-    .tp_doc = "A dict whose keys are in order too.",
+    .tp_doc = "A dict with an order of its keys.",
     .tp_basicsize = sizeof(DictFront),
     .tp_flags = Py_TPFLAGS_DEFAULT | Py_TPFLAGS_BASETYPE | Py_TPFLAGS_HAVE_GC,
     .tp_dealloc = (destructor)dict_dealloc,

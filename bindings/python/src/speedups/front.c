@@ -1,4 +1,4 @@
-/* What stands before what orders the items: its calls on one item go straight there. */
+/* A collection over an order: its calls on one item go straight to the order. */
 #include "fast.h"
 
 static int front_traverse(Front *self, visitproc visit, void *arg) {
@@ -19,7 +19,7 @@ static void front_dealloc(Front *self) {
     Py_TYPE(self)->tp_free((PyObject *)self);
 }
 
-/* Whether there is an order; there is none before `__init__`. */
+/* Returns whether there is an order; there is none before `__init__`. */
 static int is_made(Front *self) {
     if (self->order == NULL) PyErr_SetString(PyExc_RuntimeError, "the object was not made");
     return self->order != NULL;
@@ -29,7 +29,7 @@ static int has_members(Front *self) { return self->members != NULL && PySet_Chec
 
 static Py_ssize_t front_length(Front *self) { return is_made(self) ? (Py_ssize_t)length_of(self->order) : -1; }
 
-/* What is asked for a value outlives what runs meanwhile of its type. */
+/* The container that is asked for a value outlives the code of its type that runs meanwhile. */
 static int front_contains(Front *self, PyObject *value) {
     if (!is_made(self)) return -1;
     if (!has_members(self) && length_of(self->order) == 0) return 0;
@@ -47,7 +47,7 @@ static PyObject *front_iter(Front *self) {
     return length < 0 ? NULL : walk_new(self->order, 0, (size_t)length, 0);
 }
 
-/* The items at a slice; `_slice` of the class knows of steps. */
+/* Returns the items at a slice; `_slice` of the class handles steps. */
 static PyObject *slice(Front *self, PyObject *index) {
     Py_ssize_t first, past, step, length = front_length(self);
     if (length < 0 || PySlice_Unpack(index, &first, &past, &step) < 0) return NULL;
@@ -71,8 +71,8 @@ static PyObject *front_subscript(Front *self, PyObject *index) {
     return is_numbers ? numbers_item((Numbers *)self->order, position) : held_item(self->order, position);
 }
 
-/* Adds a number of the kind's own type, also to a set of those that there are, if one is given: 1, or 0 where it
- * is there, or NOT_OWN, or -1 with an error. */
+/* Adds a number of the kind's own type, also to the set of the items, if given. Returns 1, 0 if it is present, NOT_OWN,
+ * or -1 with an error set. */
 static int add_number(Numbers *order, PyObject *members, PyObject *value) {
     uint64_t code;
     if (!number_code(order->kind, value, &code)) return NOT_OWN;
@@ -84,10 +84,10 @@ int is_fresh(PyObject *order) {
     return Py_TYPE(order) != &NumbersType && IS_BLOCKS(order) && ((Blocks *)order)->length == 0;
 }
 
-/* `_add` of the class finds the kind, and keeps apart what is equal. */
+/* `_add` of the class finds the kind, and handles equal items. */
 static PyObject *add(Front *self, PyObject *value) {
     if (!is_made(self)) return NULL;
-    /* They outlive what runs meanwhile of the key function and of comparisons. */
+    /* They outlive the key function and the comparisons that run meanwhile. */
     PyObject *order = self->order, *members = has_members(self) ? self->members : NULL;
     Py_INCREF(order);
     Py_XINCREF(members);
@@ -156,29 +156,29 @@ static PyObject *get_order(Front *self, void *nothing) {
 
 static const char add_text[] =
     "add($self, value, /)\n--\n\n"
-    "Adds an item. One that is there stays, of a set. It takes a time that grows as log n. TypeError,\n"
-    "OverflowError or ValueError where it does not fit, and then nothing changes.\n\n"
+    "Adds an item; a set keeps an equal item that is present. O(log n). Raises TypeError, OverflowError or\n"
+    "ValueError if the item does not fit; nothing changes then.\n\n"
     ">>> from indexset import SortedSet\n"
     ">>> numbers = SortedSet([3, 1]); numbers.add(2); numbers\n"
     "SortedSet([1, 2, 3])";
 static const char discard_text[] =
     "discard($self, value, /)\n--\n\n"
-    "Removes an item that equals a value, where there is one. TypeError where it has no hash and the items\n"
-    "are a set.\n\n"
+    "Removes an item that equals a value, if any. Raises TypeError if the value has no hash and the items are a\n"
+    "set.\n\n"
     ">>> from indexset import SortedSet\n"
     ">>> numbers = SortedSet([1, 2]); numbers.discard(2); numbers.discard(5); numbers\n"
     "SortedSet([1])";
 static const char left_text[] =
     "bisect_left($self, value, /)\n--\n\n"
-    "How many items are below a value. TypeError where it cannot be compared with them, ValueError where it\n"
-    "is NaN.\n\n"
+    "Returns the number of items below a value. Raises TypeError if it cannot be compared with them, ValueError\n"
+    "if it is NaN.\n\n"
     ">>> from indexset import SortedSet\n"
     ">>> SortedSet([10, 20]).bisect_left(20)\n"
     "1";
 static const char right_text[] =
     "bisect_right($self, value, /)\n--\n\n"
-    "How many items are not above a value. TypeError where it cannot be compared with them, ValueError where\n"
-    "it is NaN.\n\n"
+    "Returns the number of items not above a value. Raises TypeError if it cannot be compared with them,\n"
+    "ValueError if it is NaN.\n\n"
     ">>> from indexset import SortedSet\n"
     ">>> SortedSet([10, 20]).bisect_right(20)\n"
     "2";
@@ -199,7 +199,7 @@ static PyMappingMethods mapping = {.mp_length = (lenfunc)front_length, .mp_subsc
 
 PyTypeObject FrontType = {
     PyVarObject_HEAD_INIT(NULL, 0).tp_name = "indexset._fast.Front",
-    .tp_doc = "What stands before what orders the items.",
+    .tp_doc = "A collection over an order.",
     .tp_basicsize = sizeof(Front),
     .tp_flags = Py_TPFLAGS_DEFAULT | Py_TPFLAGS_BASETYPE | Py_TPFLAGS_HAVE_GC,
     .tp_new = PyType_GenericNew,

@@ -1,8 +1,8 @@
-/* What the collections of objects share: calls on one item, by the kind's own type here, and else by a method of
- * the class. */
+/* Calls shared by the collections of objects: calls on one item, by the kind's own type here, and otherwise by a method
+ * of the class. */
 #include "fast.h"
 
-/* ---- one item, where its sort key is of the kind's own type */
+/* ---- one item, if its sort key is of the kind's own type */
 
 int held_add(PyObject *self, PyObject *item, PyObject *members) {
     if (IS_BLOCKS(self)) return blocks_add((Blocks *)self, item, members);
@@ -23,13 +23,14 @@ PyObject *held_item(PyObject *self, Py_ssize_t position) {
     return IS_MULTI(self) ? multi_item((Multi *)self, position) : coded_item((Coded *)self, position);
 }
 
-/* The positions of a sort key of the kind's own type. */
+/* Writes the positions of a sort key of the kind's own type. */
 static int places_of(PyObject *self, PyObject *key, size_t *first, size_t *past) {
     if (IS_BLOCKS(self)) return blocks_places((Blocks *)self, key, first, past);
     return IS_MULTI(self) ? multi_places((Multi *)self, key, first, past) : own_places((Coded *)self, key, first, past);
 }
 
-/* Whether the object at a position equals a value: 1, or 0, or -1 with an error, also where there was a change. */
+/* Returns whether the object at a position equals a value: 1, 0, or -1 with an error set, also if there was a
+ * change. */
 static int is_equal(PyObject *self, size_t position, PyObject *value) {
     unsigned long long changes = ((Held *)self)->changes;
     PyObject *item = held_item(self, (Py_ssize_t)position);
@@ -55,7 +56,7 @@ int held_find(PyObject *self, PyObject *value, size_t from, size_t *position) {
     return state;
 }
 
-/* A value that makes no sort key that can be compared with the others equals none. */
+/* A value without a sort key that can be compared with the others equals none. */
 static int unfit(int state) {
     if (state != -1
         || !(PyErr_ExceptionMatches(PyExc_TypeError) || PyErr_ExceptionMatches(PyExc_OverflowError)
@@ -65,9 +66,9 @@ static int unfit(int state) {
     return 0;
 }
 
-/* ---- or else */
+/* ---- otherwise */
 
-/* A state, or, where it is NOT_OWN, whether a method of the class answers so of a value. */
+/* Returns the state, or, if it is NOT_OWN, whether a method of the class returns true for a value. */
 static int asked(PyObject *self, PyObject *name, PyObject *value, int state) {
     if (state != NOT_OWN) return state;
     PyObject *answer = PyObject_CallMethodOneArg(self, name, value);
@@ -82,7 +83,7 @@ PyObject *add_method(PyObject *self, PyObject *item) {
     return truth(asked(self, names.add, item, held_add(self, item, NULL)));
 }
 
-/* Takes out the object that equals a value, where a function makes the sort keys. */
+/* Removes the object that equals a value, if a function makes the sort keys. */
 static int discard_found(PyObject *self, PyObject *value) {
     size_t position;
     int state = unfit(held_find(self, value, 0, &position));
@@ -175,7 +176,7 @@ PyObject *item_method(PyObject *self, PyObject *index) {
     return position < 0 ? NULL : held_item(self, position);
 }
 
-/* ---- a set of the items beside */
+/* ---- the set of the items */
 
 void discard_quietly(PyObject *members, PyObject *item) {
     PyObject *type, *value, *trace;

@@ -1,9 +1,9 @@
-/* Changes of texts and byte strings that are noted, and made together in the order of their bytes: of those that
- * are near each other, the later ones find in the cache what the first have read. The caller knows that what is
- * added was not there, and that what goes was. */
+/* Pending changes of texts and byte strings, made together in the order of their bytes: of changes that are near each
+ * other, the later ones find in the cache what the first have read. The caller knows that added keys were absent and
+ * that removed keys were present. */
 #include "fast.h"
 
-/* As many are noted, of keys of at most so many bytes: they outlive their removal for a while. */
+/* The maximum number of pending changes, and of bytes of their keys: removed keys are released with some delay. */
 #define MOST 8192
 #define LONG 1024
 
@@ -11,7 +11,7 @@ typedef struct {
     uint64_t head; /* the first bytes, as a number */
     const unsigned char *data;
     size_t size;
-    uint64_t change; /* the address of the object, and 1 where it goes */
+    uint64_t change; /* the address of the object, plus 1 if it is removed */
 } Late;
 
 static int goes(uint64_t change) { return (change & 1) != 0; }
@@ -35,7 +35,7 @@ static int comes_after(const Late *a, const Late *b) {
     return order ? order > 0 : a->size > b->size;
 }
 
-/* Sorts changes, by merging halves: those of one key stay in the order in which they were noted. */
+/* Sorts changes by merging halves: those of one key stay in the order in which they were noted. */
 static void sort(Late *items, Late *room, size_t count) {
     size_t half = count / 2, left = 0, right = half;
     if (count < 2) return;
@@ -48,7 +48,7 @@ static void sort(Late *items, Late *room, size_t count) {
     }
 }
 
-/* Makes a change; 0 with an error. Texts and byte strings run no code as they go. */
+/* Makes a change; 0 with an error set. Releasing texts and byte strings runs no code. */
 static int make(Coded *self, const Late *it) {
     uint64_t other;
     if (goes(it->change)) {
@@ -65,7 +65,7 @@ static int make(Coded *self, const Late *it) {
     return status <= INDEXSET_YES;
 }
 
-/* Makes the changes in order; those from the first on that cannot be made stay noted. */
+/* Makes the changes in order; those from the first one that fails stay pending. */
 static int make_all(Coded *self, Late *items) {
     size_t count = self->late_count, done = 0;
     for (size_t i = 0; i < count; i++) items[i] = late_of(self->late[i]);
@@ -89,7 +89,7 @@ int late_made(Coded *self) {
     return is_done;
 }
 
-/* Has room for one more; 0 with an error. */
+/* Makes room for one more; 0 with an error set. */
 static int has_room(Coded *self) {
     if (self->late_count == MOST) return late_made(self) && has_room(self);
     if (self->late_count < self->late_room) return 1;

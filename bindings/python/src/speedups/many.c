@@ -1,11 +1,12 @@
-/* Many objects that come to blocks or go at once: those that come are compared first, and then all come, or none with
- * an error. */
+/* Insertion and removal of many objects in blocks: new objects are compared first, and then all are added, or none with
+ * an error set. */
 #include "fast.h"
 
-/* From how many that come on, beside so many, all are sorted: the others are put in one by one. */
+/* If one object or more is new for this many present ones, all are sorted; otherwise the new ones are inserted one by
+ * one. */
 #define PART 4
 
-/* The sort keys of the items of a list, as a list; NULL with an error. */
+/* Returns the sort keys of the items of a list, as a list; NULL with an error set. */
 static PyObject *keys_of(Blocks *self, PyObject *items) {
     PyObject *made = PyList_New(0);
     for (Py_ssize_t i = 0; made != NULL && i < PyList_GET_SIZE(items); i++) {
@@ -19,7 +20,7 @@ static PyObject *keys_of(Blocks *self, PyObject *items) {
     return made;
 }
 
-/* The objects here, or their keys, with those of a list behind them; the list itself where there are none here. */
+/* Returns the objects here, or their keys, followed by those of a list; the list itself if there are none here. */
 static PyObject *joined_list(Blocks *self, PyObject *more, int of_keys) {
     if (self->length == 0) {
         Py_INCREF(more);
@@ -30,14 +31,14 @@ static PyObject *joined_list(Blocks *self, PyObject *more, int of_keys) {
     return made;
 }
 
-/* Whether the blocks are as they were; else an error says so. */
+/* Returns whether the blocks are unchanged; sets an error if not. */
 static int is_same(Blocks *self, unsigned long long changes) {
     if (self->changes != changes) PyErr_SetString(PyExc_RuntimeError, "it changed meanwhile");
     return self->changes == changes;
 }
 
-/* All objects here and those of a list become the objects: 1, or 0 where a key is not of the kind's own type, or -1
- * with an error. */
+/* Replaces the objects by all objects here and those of a list. Returns 1, 0 if a key is not of the kind's own type, or
+ * -1 with an error set. */
 static int fill(Blocks *self, PyObject *values, PyObject *more_keys) {
     unsigned long long changes = self->changes;
     int has_keys = self->key != NULL;
@@ -49,9 +50,9 @@ static int fill(Blocks *self, PyObject *values, PyObject *more_keys) {
     return state;
 }
 
-/* ---- a few beside many */
+/* ---- few new objects */
 
-/* Writes the positions at which sorted keys have their places: 1, or -1 with an error. */
+/* Writes the positions of sorted keys. Returns 1, or -1 with an error set. */
 static int places_of(Blocks *self, PyObject *keys, size_t *positions) {
     int state = 1;
     for (Py_ssize_t i = 0; state == 1 && i < PyList_GET_SIZE(keys); i++) {
@@ -71,7 +72,8 @@ static int insert_at(Blocks *self, size_t position, PyObject *item, PyObject *ke
     return blocks_insert(self, place, item, key);
 }
 
-/* Puts sorted objects at their positions, from the last to the first; where memory is refused, those put go again. */
+/* Puts sorted objects at their positions, from the last to the first; if memory runs out, those already put are removed
+ * again. */
 static int insert_all(Blocks *self, PyObject *items, PyObject *keys, const size_t *positions) {
     Py_ssize_t count = PyList_GET_SIZE(items), left = count;
     while (left > 0
@@ -130,7 +132,7 @@ PyObject *blocks_fill_method(Blocks *self, PyObject *values) {
     return state < 0 ? NULL : PyBool_FromLong(state);
 }
 
-/* The same where what is left lies anew. */
+/* Removes positions by rebuilding the blocks of the rest. */
 static int cut_run(Blocks *self, size_t first, size_t past, int has_keys) {
     unsigned long long changes = self->changes;
     PyObject *left[2] = {NULL, NULL};
@@ -147,7 +149,7 @@ static int cut_run(Blocks *self, size_t first, size_t past, int has_keys) {
     return state;
 }
 
-/* Has an order take all that is here, which is empty. */
+/* Moves all objects into an order, which is empty. */
 static int settle(Blocks *self, PyObject *order) {
     uint64_t code;
     int state = 1;
@@ -171,7 +173,7 @@ PyObject *blocks_settle_method(Blocks *self, PyObject *order) {
     return state == -1 ? NULL : PyBool_FromLong(state == 1);
 }
 
-/* Takes out positions; the objects and keys go once they are out. */
+/* Removes positions; the objects and keys are released afterwards. */
 static int cut(Blocks *self, size_t first, size_t past) {
     unsigned long long changes = self->changes;
     Py_ssize_t count = (Py_ssize_t)(past - first);

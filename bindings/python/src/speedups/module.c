@@ -7,7 +7,7 @@ struct names names;
 static struct PyModuleDef module = {
     PyModuleDef_HEAD_INIT,
     .m_name = "indexset._fast",
-    .m_doc = "What orders keys, compiled: the classes of `indexset._pure`.",
+    .m_doc = "The compiled classes that order keys, as in `indexset._pure`.",
     .m_size = -1,
 };
 

@@ -1,5 +1,5 @@
-/* Objects at numbers of 64 bits, in the order of these and then in that in which they came, in a multimap of the
- * library that leads to them. No call compares what has the same number. */
+/* Objects at numbers of 64 bits, in the order of these, those of one number in insertion order, in a multimap of the
+ * library from numbers to objects. No call compares objects of one number. */
 #include "fast.h"
 
 /* ---- the object */
@@ -15,7 +15,7 @@ static PyObject *multi_new(PyTypeObject *type, PyObject *given, PyObject *words)
     return (PyObject *)self;
 }
 
-/* `Multi(kind, key)`, of the name of a kind of numbers. */
+/* `Multi(kind, key)`, with the name of a kind of numbers. */
 static int multi_init(Multi *self, PyObject *given, PyObject *words) {
     const char *kind;
     PyObject *key;
@@ -34,7 +34,7 @@ static void read_pairs(const indexset_multi *pairs, size_t from, Part *part) {
     part->count = indexset_multi_range_by_position(pairs, from, part->codes, CHUNK, part->objects, CHUNK);
 }
 
-/* The collector calls this before the multimap is there, too. */
+/* The garbage collector calls this before the multimap is made, too. */
 static int multi_traverse(Multi *self, visitproc visit, void *arg) {
     Part part;
     Py_VISIT(self->key);
@@ -43,7 +43,7 @@ static int multi_traverse(Multi *self, visitproc visit, void *arg) {
     return 0;
 }
 
-/* Lets the objects of a multimap go, which no code can reach any more, and frees it. */
+/* Releases the objects of a multimap that no code can reach any more, and frees it. */
 static void let_go(indexset_multi *pairs) {
     Part part;
     for (size_t at = 0; read_pairs(pairs, at, &part), part.count > 0; at += part.count) {
@@ -53,14 +53,14 @@ static void let_go(indexset_multi *pairs) {
     indexset_multi_free(pairs);
 }
 
-/* Has another multimap in place of the one before, whose objects go. */
+/* Replaces the multimap by another, and releases its objects. */
 static void become(Multi *self, indexset_multi *pairs) {
     indexset_multi_swap(&self->pairs, pairs);
     self->changes++;
     let_go(pairs);
 }
 
-/* It is left with no multimap: it has no objects and takes none. */
+/* It keeps no multimap: it has no objects and takes none. */
 static int multi_clear(Multi *self) {
     indexset_multi none = INDEXSET_HANDLE;
     become(self, &none);
@@ -84,7 +84,7 @@ static PyObject *clear(Multi *self, PyObject *nothing) {
 
 Py_ssize_t multi_length(Multi *self) { return (Py_ssize_t)indexset_multi_len(&self->pairs); }
 
-/* Raises what a status says. */
+/* Sets the error of a status. */
 static int refused(uint32_t status) {
     if (status == INDEXSET_MEMORY)
         PyErr_NoMemory();
@@ -95,7 +95,7 @@ static int refused(uint32_t status) {
     return -1;
 }
 
-/* Pushes an object, with a reference to it: 1, or -1 with an error. */
+/* Pushes an object, with a reference to it. Returns 1, or -1 with an error set. */
 static int push(indexset_multi *pairs, uint64_t code, PyObject *item) {
     uint32_t status = indexset_multi_push(pairs, code, ADDRESS(item));
     if (status != INDEXSET_YES) return refused(status);
@@ -112,7 +112,7 @@ static int push_all(indexset_multi *to, const indexset_multi *from) {
     return state;
 }
 
-/* Becomes a clone of another, from empty. */
+/* Becomes a clone of another. It is empty before. */
 static PyObject *copied(Multi *self, PyObject *given) {
     indexset_multi made = INDEXSET_HANDLE;
     if (!PyObject_TypeCheck(given, &MultiType) || multi_length(self) != 0) {
@@ -146,7 +146,7 @@ static PyObject *insert(Multi *self, PyObject *const *given, Py_ssize_t count) {
     Py_RETURN_NONE;
 }
 
-/* How many objects are at numbers below a number, or not above it. */
+/* Returns the number of objects at numbers below a number, or not above it. */
 static size_t rank_of(Multi *self, uint64_t code, int right) {
     if (right && code == UINT64_MAX) return indexset_multi_len(&self->pairs);
     return indexset_multi_rank(&self->pairs, code + (uint64_t)right);
@@ -185,12 +185,12 @@ PyObject *multi_pop(Multi *self, size_t position) {
 
 /* ---- items whose sort keys are of the kind's own type */
 
-/* Writes the code of a sort key: 1, or NOT_OWN. */
+/* Writes the code of a sort key. Returns 1, or NOT_OWN. */
 static int code_of(Multi *self, PyObject *key, uint64_t *code) {
     return number_code(self->kind, key, code) ? 1 : NOT_OWN;
 }
 
-/* Writes that of an item: 1, or NOT_OWN, or -1. */
+/* Writes the code of the sort key of an item. Returns 1, NOT_OWN, or -1. */
 static int item_code(Multi *self, PyObject *item, uint64_t *code) {
     if (self->key == NULL) return code_of(self, item, code);
     PyObject *key = PyObject_CallOneArg(self->key, item);
@@ -216,7 +216,7 @@ Py_ssize_t multi_bisect(Multi *self, PyObject *value, int right) {
     return state == 1 ? (Py_ssize_t)rank_of(self, code, right) : state;
 }
 
-/* An item equals those of its code where it orders itself. */
+/* An item equals the items with its code if it orders itself. */
 int multi_contains(Multi *self, PyObject *item) {
     uint64_t code;
     int state = self->key == NULL ? code_of(self, item, &code) : NOT_OWN;
@@ -250,26 +250,27 @@ int multi_add_keyed(Multi *self, PyObject *item, PyObject *key) {
 /* ---- the type */
 
 static PyMethodDef methods[] = {
-    {"add", (PyCFunction)add_method, METH_O, "Adds an object behind its equals."},
+    {"add", (PyCFunction)add_method, METH_O, "Adds an object after its equals."},
     {"bisect", (PyCFunction)(void (*)(void))bisect_method, METH_FASTCALL,
-     "How many objects are below a value, or not above it."},
+     "Returns the number of objects below a value, or not above it."},
     {"discard", (PyCFunction)discard_method, METH_O,
-     "Removes the first object that equals a value, and tells whether there was one."},
-    {"find", (PyCFunction)find_method, METH_O, "The position of the first object that equals a value, or -1."},
+     "Removes the first object that equals a value; returns whether there was one."},
+    {"find", (PyCFunction)find_method, METH_O, "Returns the position of the first object that equals a value, or -1."},
     {"place", (PyCFunction)(void (*)(void))place_method, METH_FASTCALL,
-     "How many sort keys are below a key, or not above it."},
-    {"numbers", (PyCFunction)numbers_method, METH_NOARGS, "All numbers, one by one in memory."},
-    {"own_span", (PyCFunction)own_span_method, METH_O, "The positions of a sort key of the kind's own type, or None."},
+     "Returns the number of sort keys below a key, or not above it."},
+    {"numbers", (PyCFunction)numbers_method, METH_NOARGS, "Returns all numbers, contiguous in memory."},
+    {"own_span", (PyCFunction)own_span_method, METH_O,
+     "Returns the positions of a sort key of the kind's own type, or None."},
     {"chunk", (PyCFunction)(void (*)(void))chunk_method, METH_FASTCALL,
-     "The objects at the positions from the first and before the second."},
+     "Returns the objects at the positions from the first and before the second."},
     {"changed", (PyCFunction)changed_method, METH_NOARGS, "Counts a change."},
     {"clear", (PyCFunction)clear, METH_NOARGS, "Removes all objects."},
-    {"copied", (PyCFunction)copied, METH_O, "Becomes a clone of another, from empty."},
+    {"copied", (PyCFunction)copied, METH_O, "Becomes a clone of another. It is empty before."},
     {"insert", (PyCFunction)(void (*)(void))insert, METH_FASTCALL,
-     "Puts an object at a number, behind those that are there."},
+     "Puts an object at a number, after those already there."},
     {"pop", (PyCFunction)pop, METH_O, "Removes the object at a position and returns it."},
-    {"rank", (PyCFunction)rank, METH_O, "How many objects are at numbers below a number."},
-    {"walk", (PyCFunction)(void (*)(void))walk_method, METH_FASTCALL, "The objects at positions one by one."},
+    {"rank", (PyCFunction)rank, METH_O, "Returns the number of objects at numbers below a number."},
+    {"walk", (PyCFunction)(void (*)(void))walk_method, METH_FASTCALL, "Iterates over the objects at positions."},
     {"__class_getitem__", Py_GenericAlias, METH_O | METH_CLASS, NULL},
     {0},
 };

@@ -1,4 +1,4 @@
-/* Distinct numbers of a kind, in order, in a map of the library that leads to the objects that were given. */
+/* Distinct numbers of a kind, in order, in a map of the library from their codes to the objects that were given. */
 #include "fast.h"
 
 /* ---- codes */
@@ -44,7 +44,7 @@ static PyObject *numbers_new(PyTypeObject *type, PyObject *given, PyObject *word
     return (PyObject *)self;
 }
 
-/* Counts a reference to each object, or one less: numbers run no code as they go. */
+/* Counts a reference to each object, or one less: releasing numbers runs no code. */
 static void count_objects(Numbers *self, int more) {
     Part part;
     size_t at = 0;
@@ -222,25 +222,27 @@ static PyObject *kind_name(Numbers *self, void *nothing) {
 }
 
 static PyMethodDef methods[] = {
-    {"add", (PyCFunction)add, METH_O, "Adds a key, and tells whether it was not there."},
+    {"add", (PyCFunction)add, METH_O, "Adds a key; returns whether it was absent."},
     {"are_own", (PyCFunction)numbers_are_own, METH_O,
-     "Whether all values of a list are of the kind's own type and range."},
-    {"at_all", (PyCFunction)at_all, METH_O, "The keys at positions, in one call."},
-    {"bisect", (PyCFunction)(void (*)(void))bisect, METH_FASTCALL, "How many keys are below a value, or not above it."},
+     "Returns whether all values of a list are of the kind's own type and range."},
+    {"at_all", (PyCFunction)at_all, METH_O, "Returns the keys at positions, by one call."},
+    {"bisect", (PyCFunction)(void (*)(void))bisect, METH_FASTCALL,
+     "Returns the number of keys below a value, or not above it."},
     {"chunk", (PyCFunction)(void (*)(void))chunk_method, METH_FASTCALL,
-     "The keys at the positions from the first and before the second."},
+     "Returns the keys at the positions from the first and before the second."},
     {"changed", (PyCFunction)changed, METH_NOARGS, "Counts a change."},
     {"clear", (PyCFunction)clear, METH_NOARGS, "Removes all keys."},
-    {"clone", (PyCFunction)numbers_clone, METH_NOARGS, "The same numbers again."},
-    {"discard", (PyCFunction)discard, METH_O, "Removes a key, and tells whether it was there."},
-    {"find", (PyCFunction)find, METH_O, "The position of the key that a value equals, or -1."},
-    {"numbers", (PyCFunction)numbers_method, METH_NOARGS, "All numbers, one by one in memory."},
-    {"own", (PyCFunction)numbers_own, METH_O, "The keys that values become, as a list."},
-    {"place", (PyCFunction)(void (*)(void))bisect, METH_FASTCALL, "The same."},
+    {"clone", (PyCFunction)numbers_clone, METH_NOARGS, "Returns a clone."},
+    {"discard", (PyCFunction)discard, METH_O, "Removes a key; returns whether it was present."},
+    {"find", (PyCFunction)find, METH_O, "Returns the position of the key that a value equals, or -1."},
+    {"numbers", (PyCFunction)numbers_method, METH_NOARGS, "Returns all numbers, contiguous in memory."},
+    {"own", (PyCFunction)numbers_own, METH_O, "Returns the keys of values, as a list."},
+    {"place", (PyCFunction)(void (*)(void))bisect, METH_FASTCALL,
+     "Returns the number of keys below a key, or not above it."},
     {"pop", (PyCFunction)pop, METH_O, "Removes the key at a position and returns it."},
-    {"ranks", (PyCFunction)numbers_ranks, METH_O, "How many keys are below each key, in one call."},
-    {"take", (PyCFunction)numbers_take, METH_O, "Adds keys that are not there, or none where one does not fit."},
-    {"walk", (PyCFunction)(void (*)(void))walk_method, METH_FASTCALL, "The keys at positions one by one."},
+    {"ranks", (PyCFunction)numbers_ranks, METH_O, "Returns the number of keys below each key, by one call."},
+    {"take", (PyCFunction)numbers_take, METH_O, "Adds absent keys, or none if one does not fit."},
+    {"walk", (PyCFunction)(void (*)(void))walk_method, METH_FASTCALL, "Iterates over the keys at positions."},
     {0},
 };
 static PyMemberDef members[] = {{"changes", T_ULONGLONG, offsetof(Numbers, changes), READONLY, NULL}, {0}};

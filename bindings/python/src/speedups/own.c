@@ -16,7 +16,7 @@ static void put_number(unsigned char *to, uint64_t number) {
     for (int i = 0; i < 8; i++) to[i] = (unsigned char)(number >> (56 - 8 * i));
 }
 
-/* Makes room for a code of at most so many bytes; 0 with an error. */
+/* Makes room for a code of a number of bytes; 0 with an error set. */
 static int make_room(Code *code, size_t size) {
     code->owned = size + 9 <= SHORT ? NULL : PyMem_Malloc(size + 9);
     code->data = size + 9 <= SHORT ? code->brief : code->owned;
@@ -24,7 +24,7 @@ static int make_room(Code *code, size_t size) {
     return code->data != NULL;
 }
 
-/* The bytes of a text or a byte string, framed as `_tuple.py` has it. */
+/* Writes the bytes of a text or a byte string, framed as in `_tuple.py`. */
 static int encode_framed(Code *code, const char *data, size_t size, unsigned char first) {
     size_t zeros = 0;
     for (size_t i = 0; i < size; i++) zeros += data[i] == 0;
@@ -44,7 +44,7 @@ static int encode_framed(Code *code, const char *data, size_t size, unsigned cha
     return 1;
 }
 
-/* The same, framed where sort keys may repeat: they do where a function makes them. */
+/* Writes the bytes of a text or a byte string, framed if sort keys may repeat: they do if a function makes them. */
 static int encode_bytes(Coded *self, Code *code, const char *data, size_t size, unsigned char first) {
     if (self->repeats || self->key != NULL) return encode_framed(code, data, size, first);
     code->data = (unsigned char *)data;
@@ -53,7 +53,7 @@ static int encode_bytes(Coded *self, Code *code, const char *data, size_t size, 
     return 1;
 }
 
-/* Encodes a sort key: 1, or NOT_OWN, or -1. */
+/* Encodes a sort key. Returns 1, NOT_OWN, or -1. */
 static int encode(Coded *self, PyObject *key, Code *code) {
     if (self->kind == BYTES && PyBytes_CheckExact(key))
         return encode_bytes(self, code, PyBytes_AS_STRING(key), (size_t)PyBytes_GET_SIZE(key), 1);
@@ -77,7 +77,8 @@ static int encode_item(Coded *self, PyObject *item, Code *code) {
     return state;
 }
 
-/* The positions of a code, which gets a byte more where sort keys may repeat: 1, or -1 with an error. */
+/* Writes the positions of a code, which gets one more byte if sort keys may repeat. Returns 1, or -1 with an error
+ * set. */
 static int places_of(Coded *self, Code *code, size_t *first, size_t *past) {
     if (coded_map(self) == NULL) return -1;
     *first = indexset_text_map_rank(self->map, code->data, code->size);
@@ -117,7 +118,8 @@ Py_ssize_t own_bisect(Coded *self, PyObject *value, int right) {
     return position;
 }
 
-/* Whether an object is at a code. Where sort keys may repeat, the code becomes the whole one of the first. */
+/* Returns whether an object is at a code. If sort keys may repeat, the code becomes the complete one of the first
+ * object. */
 static int is_there(Coded *self, Code *code) {
     if (coded_map(self) == NULL) return -1;
     if (!self->repeats) return indexset_text_map_contains(self->map, code->data, code->size);
@@ -136,7 +138,7 @@ static int is_there(Coded *self, Code *code) {
     return is_first;
 }
 
-/* An item equals those of its code where it orders itself: the types are the kind's own. */
+/* An item equals the items with its code if it orders itself: the types are the kind's own. */
 int own_contains(Coded *self, PyObject *item) {
     Code code;
     int state = self->key == NULL ? encode(self, item, &code) : NOT_OWN;
@@ -158,7 +160,7 @@ int own_discard(Coded *self, PyObject *item) {
     return state;
 }
 
-/* Whether a code is the bytes of an item itself, which are there for as long as the item is. */
+/* Returns whether a code is the bytes of an item itself, which live as long as the item. */
 static int is_items(const Code *code) { return code->data != code->brief && code->owned == NULL; }
 
 int own_drop(Coded *self, PyObject *item) {
@@ -175,7 +177,7 @@ static int insert(Coded *self, Code *code, PyObject *item) {
     return state == 0 ? coded_insert(self, code->data, code->size, item) : state;
 }
 
-/* Adds an item, also to a set of those that there are, if one is given: 1, or 0 where it is there. */
+/* Adds an item, also to the set of the items, if given. Returns 1, or 0 if it is present. */
 static int add_code(Coded *self, PyObject *item, PyObject *members, Code *code) {
     int state = join(members, item);
     if (state != 1) return state;

@@ -1,13 +1,13 @@
-/* Many objects in the order of their sort keys: numbers by their codes, others as `list.sort` does it. */
+/* Sorting of objects by their sort keys: numbers by their codes, others as `list.sort` does. */
 #include "fast.h"
 
-/* A number that is sorted: its code, and which one it is. */
+/* A number to sort: its code, and its index. */
 typedef struct {
     uint64_t code;
     uint64_t at;
 } Ranked;
 
-/* Sorts by one byte of the codes into other room, where not all are the same; tells whether it did. */
+/* Sorts by one byte of the codes into another array, unless all are the same; returns whether it did. */
 static int pass(const Ranked *from, Ranked *to, size_t count, unsigned shift) {
     size_t places[256] = {0}, sum = 0;
     for (size_t i = 0; i < count; i++) places[from[i].code >> shift & 255]++;
@@ -21,7 +21,7 @@ static int pass(const Ranked *from, Ranked *to, size_t count, unsigned shift) {
     return 1;
 }
 
-/* So many are moved one by one. */
+/* The maximum number of items that are moved one by one. */
 #define SOME 48
 
 static Ranked *insertion_sort(Ranked *items, size_t count) {
@@ -34,7 +34,7 @@ static Ranked *insertion_sort(Ranked *items, size_t count) {
     return items;
 }
 
-/* The same by all bytes, from the last to the first: what is equal stays in its order. */
+/* Sorts by all bytes, from the last to the first: the sort is stable. */
 static Ranked *radix_sort(Ranked *items, Ranked *room, size_t count) {
     if (count <= SOME) return insertion_sort(items, count);
     for (unsigned shift = 0; shift < 64; shift += 8)
@@ -46,7 +46,7 @@ static Ranked *radix_sort(Ranked *items, Ranked *room, size_t count) {
     return items;
 }
 
-/* Has the objects of a list in the order of some numbers. */
+/* Puts the objects of a list into the order of some numbers. */
 static void arrange(PyObject *list, const Ranked *order, size_t count, PyObject **room) {
     PyObject **items = PySequence_Fast_ITEMS(list);
     memcpy(room, items, count * sizeof *room);
@@ -57,7 +57,7 @@ void codes_of_groups(enum kind by, PyObject *const *keys, size_t count, uint64_t
     for (size_t i = 0; i < count / GROUP; i++) number_code(by, keys[i * GROUP + GROUP - 1], codes + i);
 }
 
-/* Merges two runs in a row into other room. */
+/* Merges two consecutive runs into another array. */
 static void merge(const Ranked *from, size_t half, size_t count, Ranked *to) {
     size_t left = 0, right = half;
     for (size_t at = 0; at < count; at++) {
@@ -66,17 +66,17 @@ static void merge(const Ranked *from, size_t half, size_t count, Ranked *to) {
     }
 }
 
-/* Up to so many runs are merged, where each ascends. */
+/* The maximum number of ascending runs that are merged. */
 #define RUNS 8
 
-/* Sorts what is some runs in a row, which end at these places. */
+/* Sorts consecutive runs, which end at these places. */
 static Ranked *merge_runs(Ranked *items, Ranked *room, size_t *ends, size_t runs) {
     for (; runs > 1; runs = (runs + 1) / 2) {
         for (size_t i = 0; i < runs; i += 2) {
             size_t first = i ? ends[i - 1] : 0, past = i + 1 < runs ? ends[i + 1] : ends[i];
             merge(items + first, ends[i] - first, past - first, room + first);
         }
-        for (size_t i = 0; i < runs; i += 2) /* (of ends that are read no more) */
+        for (size_t i = 0; i < runs; i += 2) /* (of ends that are not read again) */
             ends[i / 2] = i + 1 < runs ? ends[i + 1] : ends[i];
         Ranked *merged = room;
         room = items;
@@ -85,8 +85,8 @@ static Ranked *merge_runs(Ranked *items, Ranked *room, size_t *ends, size_t runs
     return items;
 }
 
-/* Writes the codes of keys, and where each of the first runs ends; how many runs there are, RUNS + 1 where they are
- * more, or 0 where a key is not of the kind's own type. */
+/* Writes the codes of keys and the ends of the first runs. Returns the number of runs, RUNS + 1 if there are more, or 0
+ * if a key is not of the kind's own type. */
 static size_t codes_of(enum kind by, PyObject *keys, Ranked *codes, size_t count, size_t *ends) {
     size_t runs = 1;
     for (size_t i = 0; i < count; i++) {
@@ -98,7 +98,7 @@ static size_t codes_of(enum kind by, PyObject *keys, Ranked *codes, size_t count
     return runs;
 }
 
-/* Whether keys ascend: 1, or 0, also where one is not of the kind's own type. */
+/* Returns whether keys ascend: 1, or 0, also if one is not of the kind's own type. */
 static int ascends(enum kind by, PyObject *keys) {
     uint64_t code, before = 0;
     for (Py_ssize_t i = 0; i < PyList_GET_SIZE(keys); i++, before = code)
@@ -126,7 +126,7 @@ static int sort_numbers(enum kind by, PyObject *items, PyObject *keys) {
     return runs > 0;
 }
 
-/* What `list.sort` asks for the key of each of its items: the next one of an iterator. */
+/* The key function for `list.sort`: returns the next one of an iterator for each item. */
 static PyObject *next_key(PyObject *iterator, PyObject *item) {
     (void)item;
     return PyIter_Next(iterator);
@@ -134,7 +134,7 @@ static PyObject *next_key(PyObject *iterator, PyObject *item) {
 
 static PyMethodDef next_key_method = {"next_key", next_key, METH_O, NULL};
 
-/* Has the positions of some keys sorted by these. */
+/* Sorts the positions of some keys by these. */
 static int sort_positions(PyObject *positions, PyObject *keys) {
     PyObject *iterator = PyObject_GetIter(keys), *next = iterator ? PyCFunction_New(&next_key_method, iterator) : NULL;
     PyObject *sort = next ? PyObject_GetAttrString(positions, "sort") : NULL,
@@ -176,7 +176,7 @@ static int sort_by_keys(PyObject *items, PyObject *keys) {
     return state;
 }
 
-/* Whether all keys of a list are of the own type of a kind of texts or byte strings. */
+/* Returns whether all keys of a list are of the own type of a kind of texts or byte strings. */
 static int are_own(enum kind by, PyObject *keys) {
     PyTypeObject *type = by == TEXT ? &PyUnicode_Type : &PyBytes_Type;
     for (Py_ssize_t i = 0; i < PyList_GET_SIZE(keys); i++)

@@ -1,10 +1,11 @@
-/* Walks over positions, and what the methods of the collections share. */
+/* Iterators over positions, and functions shared by the methods of the collections. */
 #include "fast.h"
 
-/* How many objects are fetched before they are handed out. */
+/* The number of objects that are prefetched before they are returned. */
 #define AHEAD 32
 
-/* From how many items on a part is read by a cursor, so that it needs no search: a walk reads 1, 8, 64 .. at a time. */
+/* The number of items from which on a part is read by a cursor, without a search: an iterator reads 1, 8, 64 .. at a
+ * time. */
 #define WALKED 64
 
 /* ---- parts */
@@ -15,13 +16,13 @@ size_t length_of(PyObject *owner) {
     return (size_t)(IS_MULTI(owner) ? multi_length((Multi *)owner) : coded_length((Coded *)owner));
 }
 
-/* Makes the changes that are noted; 0 with an error. */
+/* Makes the pending changes; 0 with an error set. */
 static int is_ready(PyObject *owner) {
     return Py_TYPE(owner) == &NumbersType || IS_MULTI(owner) || IS_BLOCKS(owner) || coded_map((Coded *)owner) != NULL;
 }
 
-/* Where the objects lie is known by then, so that some of them are fetched side by side, and each later one as one so
- * many before it is handed out. */
+/* The addresses of the objects are known by then, so that some of them are fetched concurrently, and each later one
+ * this many items before it is returned. */
 static size_t read_blocks(PyObject *owner, size_t from, size_t size, Part *part) {
     return blocks_read((Blocks *)owner, from, 0, (PyObject **)part->objects, size);
 }
@@ -34,7 +35,7 @@ static inline void fetch_first(const Part *part) {
     for (size_t i = 0; i < AHEAD && i < part->count; i++) fetch(part, i);
 }
 
-/* No change is noted here. */
+/* No change is pending here. */
 void read_part(PyObject *owner, size_t from, size_t size, Part *part) {
     if (Py_TYPE(owner) == &NumbersType)
         part->count =
@@ -49,7 +50,7 @@ void read_part(PyObject *owner, size_t from, size_t size, Part *part) {
     fetch_first(part);
 }
 
-/* A cursor at a position. */
+/* Sets a cursor to a position. */
 static indexset_cursor cursor_at(PyObject *owner, size_t position) {
     indexset_cursor cursor = INDEXSET_CURSOR;
     if (position > 0 && Py_TYPE(owner) == &NumbersType)
@@ -59,8 +60,8 @@ static indexset_cursor cursor_at(PyObject *owner, size_t position) {
     return cursor;
 }
 
-/* Reads the items from a position on, where the cursor is, and moves that past them. Those at byte strings are read
- * by their position, which writes no lengths. */
+/* Reads the items from a position on, which is that of the cursor, and moves the cursor past them. Those at byte
+ * strings are read by position, which writes no lengths. */
 static void read_on(PyObject *owner, indexset_cursor *cursor, size_t from, size_t size, Part *part) {
     if (Py_TYPE(owner) == &NumbersType)
         part->count =
@@ -75,7 +76,7 @@ static void read_on(PyObject *owner, indexset_cursor *cursor, size_t from, size_
     fetch_first(part);
 }
 
-/* An item of a part, as a new reference. */
+/* Returns an item of a part, as a new reference. */
 static inline PyObject *item_of(PyObject *owner, const Part *part, size_t i) {
     PyObject *item = OBJECT(part->objects[i]);
     if (item == NULL) return number_of(((Numbers *)owner)->kind, part->codes[i]);
@@ -146,20 +147,20 @@ PyObject *walk_method(PyObject *self, PyObject *const *given, Py_ssize_t count) 
     return reverse < 0 ? NULL : walk_new(self, first, past, reverse);
 }
 
-/* ---- walks */
+/* ---- iterators */
 
 typedef struct {
     PyObject_HEAD PyObject *owner; /* Numbers, Coded, Multi or Blocks; NULL at the end */
     size_t first, past;
     unsigned long long *counter, changes; /* of the owner, now and at the start */
     int reverse;
-    size_t at, next;        /* in `part`, and how many are read next */
-    indexset_cursor cursor; /* at `first`, once there were several parts and where it goes forward */
+    size_t at, next;        /* in `part`, and the number of items to read next */
+    indexset_cursor cursor; /* at `first`, after several parts, if it moves forward */
     Part part;
 } Walk;
 
 PyObject *walk_new(PyObject *owner, size_t first, size_t past, int reverse) {
-    Py_INCREF(owner); /* before the walk is made, which may run a `__del__` */
+    Py_INCREF(owner); /* before the iterator is made, which may run a `__del__` */
     Walk *self = PyObject_GC_New(Walk, &WalkType);
     if (self == NULL) {
         Py_DECREF(owner);
@@ -200,7 +201,7 @@ static void walk_dealloc(Walk *self) {
     PyObject_GC_Del(self);
 }
 
-/* Reads the next items; 0 where there are none. */
+/* Reads the next items; 0 if there are none. */
 static int read_more(Walk *self) {
     size_t left = self->past - self->first, size = left < self->next ? left : self->next;
     if (size == 0) return 0;
@@ -220,7 +221,7 @@ static int read_more(Walk *self) {
     return 1;
 }
 
-/* The same at the end of a part, at the end, after a change, or backwards. */
+/* Returns the next item at the end of a part, at the end, after a change, or backwards. */
 static PyObject *next_of_any(Walk *self) {
     if (self->owner == NULL) return NULL;
     if (*self->counter != self->changes) {
@@ -238,7 +239,7 @@ static PyObject *next_of_any(Walk *self) {
     return item_of(self->owner, &self->part, at);
 }
 
-/* The next item of the part that was read, where that is an object. */
+/* Returns the next item of the part that was read, if that is an object. */
 static PyObject *walk_next(Walk *self) {
     size_t at = self->at;
     if (self->owner != NULL && at < self->part.count && !self->reverse && *self->counter == self->changes) {
@@ -258,7 +259,7 @@ static PyObject *length_hint(Walk *self, PyObject *nothing) {
     return PyLong_FromSize_t(self->owner ? self->part.count - self->at + self->past - self->first : 0);
 }
 
-/* A pickle of a walk is that of the list of what is left. */
+/* A pickle of an iterator is that of the list of its remaining items. */
 static PyObject *reduce(Walk *self, PyObject *nothing) {
     (void)nothing;
     size_t left = self->part.count - self->at;
@@ -285,7 +286,7 @@ static PyMethodDef methods[] = {
 
 PyTypeObject WalkType = {
     PyVarObject_HEAD_INIT(NULL, 0).tp_name = "indexset._fast.Walk",
-    .tp_doc = "A walk over positions. RuntimeError once there was a change.",
+    .tp_doc = "An iterator over positions. Raises RuntimeError after a change.",
     .tp_basicsize = sizeof(Walk),
     .tp_flags = Py_TPFLAGS_DEFAULT | Py_TPFLAGS_HAVE_GC,
     .tp_dealloc = (destructor)walk_dealloc,
