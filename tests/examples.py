@@ -65,7 +65,7 @@ use indexset::base::refusal::Refusal;
 use indexset::cdc::change::{ChangeEvent, Id};
 use indexset::concurrent::{map, multimap, set};
 use indexset::replica::Replica;
-use indexset::text::{ByStr, OnKey};
+use indexset::base::probe::{ByItem, ByKey};
 use indexset::{BTreeMap, BTreeSet};
 use std::ops::Bound;
 use std::test::Fail;

@@ -3,8 +3,8 @@
 //!
 //! This crate re-exports the collections under the paths of the Rust crate. [`BTreeSet`] and
 //! [`BTreeMap`] with their iterators are at the root. The logged set, map and multimap are in
-//! [`concurrent`], their events in [`cdc`], the parts of both families in [`base`], look-ups by
-//! borrowed text in [`text`], and the replica, which follows a tree by its events, in [`replica`].
+//! [`concurrent`], their events in [`cdc`], the parts of both families in [`base`], and the replica,
+//! which follows a tree by its events, in [`replica`].
 //! Laws of sets are in [`laws`], laws of iterators over maps in [`map_laws`].
 //!
 //! `Rattle.indexset.specs.Words` has the words of the contracts, and `docs/guide.md` is the page
@@ -51,11 +51,6 @@ pub mod concurrent {
 /// The events of a tree's changes, laws on lists of them, and their texts.
 pub mod cdc {
     pub use indexset_events::{change, laws, spelling};
-}
-
-/// Comparators for look-ups of a `&str` among text keys.
-pub mod text {
-    pub use indexset_core::text_probe::{ByStr, OnKey};
 }
 
 /// A replica, which follows a tree by its events.

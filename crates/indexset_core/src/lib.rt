@@ -31,6 +31,5 @@ pub mod refusal;
 pub mod search;
 pub mod steps;
 pub mod text;
-pub mod text_probe;
 
 const _: () = prove!(size_of::<steps::Steps>() == 0);

@@ -332,7 +332,7 @@ impl<K: Ord + Clone + Drop, V: Clone + Drop, Node: NodeLike<Pair<K, V>>> BTreeMa
     /// // A text key, found by a &str without an allocation.
     /// let mut prices: map::BTreeMap<String, u64, Vec<Pair<String, u64>>> = map::BTreeMap::new(alloc);
     /// prices.insert(String::from_str(alloc, "pear")?, 120)?;
-    /// let mut sought = OnKey::new(ByStr::new("pear"));
+    /// let mut sought = ByKey::new(&"pear");
     /// assert!(rt; prices.get_by(&mut sought).is_some_and(|pair| pair.value == 120));
     /// ```
     ///

@@ -333,7 +333,7 @@ impl<T: Ord + Clone + Drop, Node: NodeLike<T>> BTreeSet<T, Node> {
     /// // A text, found by a &str without an allocation.
     /// let mut names: set::BTreeSet<String, Vec<String>> = set::BTreeSet::new(alloc);
     /// names.insert(String::from_str(alloc, "pear")?)?;
-    /// assert!(rt; names.get_by(&mut ByStr::new("pear")).is_some());
+    /// assert!(rt; names.get_by(&mut ByItem::new(&"pear")).is_some());
     /// ```
     ///
     /// # Complexity

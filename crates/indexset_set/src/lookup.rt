@@ -220,7 +220,7 @@ impl<T: Ord> BTreeSet<T> {
     /// // An element of text, found by a &str without an allocation.
     /// let mut names = BTreeSet::new(alloc)?;
     /// names.insert(String::from_str(alloc, "pear")?)?;
-    /// assert!(rt; names.get_by(&mut ByStr::new("pear")).is_some());
+    /// assert!(rt; names.get_by(&mut ByItem::new(&"pear")).is_some());
     /// ```
     ///
     /// # Complexity

@@ -1,8 +1,7 @@
 //! Worked examples of look-ups by borrowed text, in a logged map and in a replica of its pairs.
 use indexset_core::pair::Pair;
-use indexset_core::probe::Counting;
+use indexset_core::probe::{ByKey, Counting};
 use indexset_core::text::Text;
-use indexset_core::text_probe::{ByStr, OnKey};
 use indexset_log::map::BTreeMap;
 use indexset_replica::Replica;
 use std::alloc::{AllocError, Global};
@@ -30,7 +29,7 @@ fn named(alloc: Global, name: &str, value: u64) -> Result<Named, AllocError> {
 fn value_in(map: &BTreeMap<Text, u64>, name: &str) -> (Option<u64>, u64) {
     // For the proof: the names ascend.
     let _nodes = map.node_count();
-    let mut probe = Counting::new(OnKey::new(ByStr::new(name)));
+    let mut probe = Counting::new(ByKey::new(&name));
     let value = map.get_by(&mut probe).map(|pair| pair.value);
     (value, probe.asked())
 }
@@ -39,7 +38,7 @@ fn value_in(map: &BTreeMap<Text, u64>, name: &str) -> (Option<u64>, u64) {
 fn value_of(replica: &Replica<Named>, name: &str) -> (Option<u64>, u64) {
     // For the proof: the names ascend.
     let _nodes = replica.nodes();
-    let mut probe = Counting::new(OnKey::new(ByStr::new(name)));
+    let mut probe = Counting::new(ByKey::new(&name));
     let value = replica.get_by(&mut probe).map(|pair| pair.value);
     (value, probe.asked())
 }

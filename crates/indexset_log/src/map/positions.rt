@@ -54,7 +54,7 @@ impl<K: Ord + Clone + Drop, V: Clone + Drop, Node: NodeLike<Pair<K, V>>> BTreeMa
     /// ```
     /// let mut prices: map::BTreeMap<String, u64, Vec<Pair<String, u64>>> = map::BTreeMap::new(alloc);
     /// prices.insert(String::from_str(alloc, "pear")?, 120)?;
-    /// let mut sought = OnKey::new(ByStr::new("pear"));
+    /// let mut sought = ByKey::new(&"pear");
     /// assert!(rt; prices.get_key_value_by(&mut sought).is_some_and(|(_, price)| *price == 120));
     /// ```
     ///

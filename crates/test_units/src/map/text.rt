@@ -1,8 +1,7 @@
 //! Look-ups by borrowed text.
 use super::put;
-use indexset_core::probe::Counting;
+use indexset_core::probe::{ByKey, Counting};
 use indexset_core::text::Text;
-use indexset_core::text_probe::{ByStr, OnKey};
 use indexset_map::BTreeMap;
 use std::test::Fail;
 
@@ -10,7 +9,7 @@ use std::test::Fail;
 fn value_of(map: &BTreeMap<Text, u64>, name: &str) -> (Option<u64>, u64) {
     // For the proof: the names ascend.
     let _len = map.len();
-    let mut probe = Counting::new(OnKey::new(ByStr::new(name)));
+    let mut probe = Counting::new(ByKey::new(&name));
     let value = map.get_by(&mut probe).copied();
     (value, probe.asked())
 }
@@ -19,7 +18,7 @@ fn value_of(map: &BTreeMap<Text, u64>, name: &str) -> (Option<u64>, u64) {
 fn has_pair(map: &BTreeMap<Text, u64>, name: &str, value: Option<u64>) -> bool {
     // For the proof: the names ascend.
     let _len = map.len();
-    match map.get_key_value_by(&mut OnKey::new(ByStr::new(name))) {
+    match map.get_key_value_by(&mut ByKey::new(&name)) {
         Some((key, held)) => key.as_bytes() == name.as_bytes() && Some(*held) == value,
         None => value.is_none(),
     }
