@@ -1,12 +1,23 @@
-"""Draws docs/speed.svg: times by number of keys, a panel for each row, a line for each library."""
+#!/usr/bin/env python3
+"""Draws docs/speed.svg from the tables of docs/benchmarks.md: times by number of keys, a line a library."""
 
 from __future__ import annotations
 
 import math
+import pathlib
+import re
+import sys
 from collections.abc import Callable
 
-from tables import Figures
+TREE = pathlib.Path(__file__).resolve().parent.parent
+sys.dont_write_bytecode = True
+sys.path.insert(0, str(TREE / "scripts"))
+import drawing  # noqa: E402
+from drawing import Shapes, paint, text, title  # noqa: E402
+from tables import Rows  # noqa: E402
 
+PAGE = TREE / "docs/benchmarks.md"
+MARKS = ("<!-- bench/run: sets -->", "<!-- bench/run: end of sets -->")
 PANELS = [
     "insert",
     "insert, ascending",
@@ -21,9 +32,9 @@ PANELS = [
     "equality",
     "iterate",
 ]
-COLOURS = ["#1f4e9c", "#c2571a", "#3f8f3f", "#8a3f8f", "#7a6a1f"]
+COLOURS = ["blue", "orange", "green", "purple", "olive"]
 WIDTH, HEIGHT, LEFT, RIGHT, TOP, COLUMNS = 300, 200, 52, 34, 30, 3
-HEAD, FOOT = 64, 24  # the space above the panels, and below them
+HEAD, FOOT = 64, 24  # the height of the legend above the panels, and of the line below them
 SAID = (
     "Nanoseconds (ns) or microseconds (µs) an operation, by number of keys; lower is better."
     " Both scales are logarithmic."
@@ -31,7 +42,22 @@ SAID = (
 LEAST = 0.1  # nanoseconds: smaller times are drawn as this
 
 Points = list[tuple[int, float]]  # numbers of keys, each with its nanoseconds
-Shapes = list[str]
+Times = dict[str, dict[int, Rows]]  # rows by library and number of keys
+
+
+def on_page() -> tuple[list[str], Times]:
+    """The libraries of the tables of sets, and their figures."""
+    part = PAGE.read_text(encoding="utf-8").split(MARKS[0])[1].split(MARKS[1])[0]
+    names: list[str] = []
+    found: Times = {}
+    for keys, table in re.findall(r"^### ([\d,]+) keys\n\n(.*?)\n\n", part, re.M | re.S):
+        head, _, *lines = ([cell.strip() for cell in line.strip("|").split("|")] for line in table.splitlines())
+        names = head[1:]
+        for what, *cells in lines:
+            for name, cell in zip(names, cells):
+                rows = found.setdefault(name, {}).setdefault(int(keys.replace(",", "")), {})
+                rows.update({} if cell == "–" else {what: float(cell)})
+    return names, found
 
 
 def unit(nanoseconds: float) -> str:
@@ -43,7 +69,7 @@ def keys_in_short(keys: int) -> str:
 
 
 def across(keys: list[int], x0: int) -> Callable[[int], float]:
-    """Returns the place of a number of keys in a panel."""
+    """The place of a number of keys in a panel."""
     low, high = math.log10(min(keys)), math.log10(max(keys))
     return lambda k: x0 + LEFT + (math.log10(k) - low) / max(high - low, 1) * (WIDTH - LEFT - RIGHT)
 
@@ -53,9 +79,14 @@ def scale(low: int, high: int, x0: int, y: Callable[[float], float]) -> Shapes:
     out: Shapes = []
     for power in range(low, high + 1):
         at = y(10**power)
-        out.append(f'<line x1="{x0 + LEFT}" x2="{x0 + WIDTH - RIGHT}" y1="{at:.1f}" y2="{at:.1f}" stroke="#ddd"/>')
-        out.append(f'<text x="{x0 + LEFT - 4}" y="{at + 4:.1f}" text-anchor="end">{unit(10**power)}</text>')
+        ends = f'x1="{x0 + LEFT}" x2="{x0 + WIDTH - RIGHT}" y1="{at:.1f}" y2="{at:.1f}"'
+        out.append(f"<line {ends} {paint(line='rule')}/>")
+        out += text(x0 + LEFT - 4, round(at + 4, 1), unit(10**power), "end")
     return out
+
+
+def dot(x: float, y: float, colour: str) -> str:
+    return f'<circle cx="{x:.1f}" cy="{y:.1f}" r="2.5" {paint(colour)}/>'
 
 
 def panel(what: str, lines: list[Points], x0: int, y0: int) -> Shapes:
@@ -69,44 +100,41 @@ def panel(what: str, lines: list[Points], x0: int, y0: int) -> Shapes:
     def y(time: float) -> float:
         return y0 + HEIGHT - 28 - (math.log10(time) - low) / (high - low) * (HEIGHT - TOP - 36)
 
-    out = [f'<text x="{x0 + LEFT}" y="{y0 + 18}" font-weight="bold">{what}</text>', *scale(low, high, x0, y)]
+    out = title(x0 + LEFT, y0 + 18, what) + scale(low, high, x0, y)
     for k in sorted(set(keys)):
-        out.append(f'<text x="{x(k):.1f}" y="{y0 + HEIGHT - 10}" text-anchor="middle">{keys_in_short(k)}</text>')
+        out += text(round(x(k), 1), y0 + HEIGHT - 10, keys_in_short(k), "middle")
     for points, colour in zip(lines, COLOURS):
         path = " ".join(f"{x(k):.1f},{y(t):.1f}" for k, t in points)
-        out.append(f'<polyline points="{path}" fill="none" stroke="{colour}" stroke-width="2"/>')
-        out += [f'<circle cx="{x(k):.1f}" cy="{y(t):.1f}" r="2.5" fill="{colour}"/>' for k, t in points]
+        out.append(f'<polyline points="{path}" fill="none" {paint(line=colour)} stroke-width="2"/>')
+        out += [dot(x(k), y(t), colour) for k, t in points]
     return out
 
 
 def legend(names: list[str]) -> Shapes:
-    """Draws the description of the picture, and the line of each library."""
-    out = [f'<text x="20" y="20" font-size="13" font-weight="bold">{SAID}</text>']
+    """What the picture shows, and the line of each library."""
+    out = text(20, 20, SAID, more='font-size="13" font-weight="bold"')
     for at, (name, colour) in enumerate(zip(names, COLOURS)):
         x = 20 + 160 * at
-        out.append(f'<line x1="{x}" x2="{x + 28}" y1="42" y2="42" stroke="{colour}" stroke-width="2"/>')
-        out.append(f'<circle cx="{x + 14}" cy="42" r="2.5" fill="{colour}"/>')
-        out.append(f'<text x="{x + 36}" y="46" font-size="13">{name}</text>')
+        out.append(f'<line x1="{x}" x2="{x + 28}" y1="42" y2="42" {paint(line=colour)} stroke-width="2"/>')
+        out += [dot(x + 14, 42, colour), *text(x + 36, 46, name, more='font-size="13"')]
     return out
 
 
-def plot(names: list[str], keys: list[int], figures: Figures) -> str:
-    """Returns the picture of figures in nanoseconds."""
+def draw() -> str:
+    """The picture of the figures on the page."""
+    names, figures = on_page()
 
     def points(name: str, what: str) -> Points:
-        return [(k, max(figures[name][k][what], LEAST)) for k in keys if what in figures[name][k]]
+        return [(k, max(rows[what], LEAST)) for k, rows in figures[name].items() if what in rows]
 
     shown = [what for what in PANELS if any(points(name, what) for name in names)]
     width, height = WIDTH * COLUMNS, HEIGHT * -(-len(shown) // COLUMNS) + HEAD + FOOT
-    out = [
-        f'<svg xmlns="http://www.w3.org/2000/svg" width="{width}" height="{height}"'
-        ' font-family="sans-serif" font-size="11">'
-    ]
-    out += [f'<rect width="{width}" height="{height}" fill="white"/>', *legend(names)]
+    out = legend(names)
     for at, what in enumerate(shown):
         out += panel(what, [points(name, what) for name in names], at % COLUMNS * WIDTH, at // COLUMNS * HEIGHT + HEAD)
-    out.append(
-        f'<text x="{width / 2:g}" y="{height - 8}" text-anchor="middle">'
-        f"number of keys (less than {LEAST:g} ns is shown as {LEAST:g} ns)</text>"
-    )
-    return "\n".join([*out, "</svg>"]) + "\n"
+    least = f"number of keys (less than {LEAST:g} ns is shown as {LEAST:g} ns)"
+    return drawing.svg(width, height, out + text(width // 2, height - 8, least, "middle"), size=11)
+
+
+if __name__ == "__main__":
+    drawing.main("Draws docs/speed.svg from docs/benchmarks.md.", "speed.svg", draw)

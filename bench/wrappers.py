@@ -93,9 +93,12 @@ def of_kinds(count: int) -> str:
         _, kind, row, ours, other = line.split("\t")
         cells[kind, row] = f"{float(ours):.0f}/{float(other):.0f}"
     rows = list(dict.fromkeys(row for _, row in cells))
-    return table(
-        [f"{count:,} items", *KINDS], [[f"`{row}`", *(cells.get((kind, row), "–") for kind in KINDS)] for row in rows]
-    )
+    lines = [[as_cell(row), *(cells.get((kind, row), "–") for kind in KINDS)] for row in rows]
+    return table([f"{count:,} items", *KINDS], lines)
+
+
+def as_cell(row: str) -> str:
+    return "`" + row.replace("|", "\\|") + "`"
 
 
 def of_python(found: dict[str, Cells], keys: list[int]) -> str:

@@ -6,9 +6,7 @@ All lines are from a run, which this script makes: it needs the built `indexset_
 
 from __future__ import annotations
 
-import argparse
 import contextlib
-import html
 import pathlib
 import signal
 import sqlite3
@@ -16,15 +14,14 @@ import subprocess
 import sys
 import tempfile
 
-TOP = pathlib.Path(__file__).resolve().parent.parent
 sys.dont_write_bytecode = True
-sys.path.insert(0, str(TOP / "scripts"))
+import drawing  # noqa: E402
+from drawing import Shapes, box, code, paint, title  # noqa: E402
 from programs import built  # noqa: E402
 
 BEFORE = ("#1 put 5 50", "#2 put 3 30", "#3 put 9 90")
 AFTER = ("sum", "#4 put 7 70")
-LINE, LEFT, TOP_OF, WIDE, HIGH = 19, 14, 62, 930, 366
-INK, SOFT, PAPER, ASKED, LOST = "#222", "#666", "#f6f8fb", "#1d4f91", "#b3261e"
+LINE, LEFT, TOP_OF, WIDE, HIGH = 19, 14, 62, 930, 374
 COLUMNS = ((12, 250, "a leader, --keep map.db"), (280, 350, "the rows of map.db"), (648, 270, "started again"))
 
 Lines = list[tuple[str, str]]  # (each with its colour)
@@ -37,16 +34,16 @@ def talk(path: pathlib.Path, commands: tuple[str, ...], is_killed: bool) -> Line
     with subprocess.Popen(words, stdin=subprocess.PIPE, stdout=subprocess.PIPE, text=True, bufsize=1) as run:
         assert run.stdin and run.stdout
         for command in commands:
-            said.append((f"> {command}", ASKED))
+            said.append((f"> {command}", "sent"))
             print(command, file=run.stdin)
             while True:
                 answer = run.stdout.readline().rstrip()
-                said.append((answer, INK))
+                said.append((answer, "ink"))
                 if not answer or answer.startswith(("next ", "sum ")):
                     break
         if is_killed:
             run.send_signal(signal.SIGKILL)
-            said.append(("kill -9", LOST))
+            said.append(("kill -9", "lost"))
         run.stdin.close()
     return said
 
@@ -54,36 +51,26 @@ def talk(path: pathlib.Path, commands: tuple[str, ...], is_killed: bool) -> Line
 def rows(path: pathlib.Path) -> Lines:
     """Returns the stored rows, as SQLite itself reads them."""
     with contextlib.closing(sqlite3.connect(path)) as base:
-        return [
-            (f"{number}  {line}", INK) for number, line in base.execute("SELECT number, line FROM kept ORDER BY number")
-        ]
+        found = base.execute("SELECT number, line FROM kept ORDER BY number")
+        return [(f"{number}\N{NO-BREAK SPACE} {line}", "ink") for number, line in found]
 
 
-def panel(x: int, wide: int, head: str, lines: Lines) -> list[str]:
-    box = f'<rect x="{x}" y="40" width="{wide}" height="{HIGH - 52}" rx="6" fill="{PAPER}" stroke="{SOFT}"/>'
-    title = f'<text x="{x}" y="28" font-weight="bold" fill="{INK}">{html.escape(head)}</text>'
-    body = [
-        f'<text x="{x + LEFT}" y="{TOP_OF + LINE * at}" font-family="monospace" font-size="13" fill="{colour}">'
-        f"{html.escape(line)}</text>"
-        for at, (line, colour) in enumerate(lines)
-    ]
-    return [title, box, *body]
+def panel(x: int, wide: int, head: str, lines: Lines) -> Shapes:
+    shapes = title(x, 28, head) + box(x, 40, wide, HIGH - 52, paint("card", "soft"), 'rx="6"')
+    for at, (line, colour) in enumerate(lines):
+        shapes += code(x + LEFT, TOP_OF + LINE * at, line, colour=colour)
+    return shapes
 
 
-def main() -> None:
-    argparse.ArgumentParser(description=__doc__).parse_args()
+def draw() -> str:
     with tempfile.TemporaryDirectory() as room:
         path = pathlib.Path(room, "map.db")
-        told = talk(path, BEFORE, is_killed=True)
+        before = talk(path, BEFORE, is_killed=True)
         kept = rows(path)
         again = talk(path, AFTER, is_killed=False)
-    shapes = [shape for column, lines in zip(COLUMNS, (told, kept, again)) for shape in panel(*column, lines)]
-    head = (
-        f'<svg xmlns="http://www.w3.org/2000/svg" viewBox="0 0 {WIDE} {HIGH}" font-family="sans-serif" font-size="14">'
-    )
-    back = f'<rect width="{WIDE}" height="{HIGH}" fill="white"/>'
-    (TOP / "docs/kill.svg").write_text("\n".join([head, back, *shapes, "</svg>", ""]), encoding="utf-8")
+    panels = [panel(*column, lines) for column, lines in zip(COLUMNS, (before, kept, again))]
+    return drawing.svg(WIDE, HIGH, sum(panels, Shapes()), size=14)
 
 
 if __name__ == "__main__":
-    main()
+    drawing.main("Draws docs/kill.svg; it runs the built `indexset_store`.", "kill.svg", draw)

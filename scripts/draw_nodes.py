@@ -3,33 +3,19 @@
 
 from __future__ import annotations
 
-import argparse
-import math
-import pathlib
+import sys
 from collections.abc import Sequence
 
+sys.dont_write_bytecode = True
+import drawing  # noqa: E402
+from drawing import Number, Shapes, arrow, box, code, paint, text, title  # noqa: E402
+
 CELL, HIGH, GAP = 32, 28, 18
-INK, SOFT, NODE, NEW, INDEX = "#222", "#777", "#e8eef8", "#fbe3b4", "#e3f1e3"
-
-Number = int | float  # (written unchanged: 24 and not 24.0)
-Shapes = list[str]
-
-
-def text(x: Number, y: Number, words: str | int, anchor: str = "start", colour: str = INK, more: str = "") -> Shapes:
-    return [f'<text x="{x}" y="{y}" text-anchor="{anchor}" fill="{colour}" {more}>{words}</text>']
-
-
-def title(x: Number, y: Number, words: str | int) -> Shapes:
-    return text(x, y, words, more='font-weight="bold"')
-
-
-def code(x: Number, y: Number, words: str, anchor: str = "start") -> Shapes:
-    return text(x, y, words, anchor, INK, 'font-family="monospace" font-size="13"')
+WIDE, TALL = 860, 412
 
 
 def cell(x: Number, y: Number, words: int, fill: str, width: int = CELL) -> Shapes:
-    box = f'<rect x="{x}" y="{y}" width="{width}" height="{HIGH}" fill="{fill}" stroke="{SOFT}"/>'
-    return [box, *text(x + width / 2, y + 19, words, "middle")]
+    return box(x, y, width, HIGH, paint(fill, "soft")) + text(x + width / 2, y + 19, words, "middle")
 
 
 def lefts(x: int, lists: list[list[int]]) -> list[int]:
@@ -42,23 +28,9 @@ def nodes(x: int, y: int, lists: list[list[int]], new: Sequence[int] = ()) -> Sh
     out: Shapes = []
     for left, items in zip(lefts(x, lists), lists):
         for at, item in enumerate(items):
-            out += cell(left + CELL * at, y, item, NEW if item in new else NODE)
-        width = CELL * len(items)
-        out.append(
-            f'<rect x="{left}" y="{y}" width="{width}" height="{HIGH}" fill="none" stroke="{INK}" stroke-width="2"/>'
-        )
+            out += cell(left + CELL * at, y, item, "new" if item in new else "node")
+        out += box(left, y, CELL * len(items), HIGH, paint(line="ink"), 'fill="none" stroke-width="2"')
     return out
-
-
-def arrow(x0: Number, y0: Number, x1: Number, y1: Number) -> Shapes:
-    length = math.hypot(x1 - x0, y1 - y0)
-    ex, ey = (x1 - x0) / length, (y1 - y0) / length
-    wings = [(x1 - 8 * ex - 4 * side * ey, y1 - 8 * ey + 4 * side * ex) for side in (1, -1)]
-    head = " ".join(f"{x:.1f},{y:.1f}" for x, y in [(x1, y1), *wings])
-    return [
-        f'<line x1="{x0}" y1="{y0}" x2="{x1 - 6 * ex:.1f}" y2="{y1 - 6 * ey:.1f}" stroke="{INK}" stroke-width="1.4"/>',
-        f'<polygon points="{head}" fill="{INK}"/>',
-    ]
 
 
 def two_levels(x: int, y: int) -> Shapes:
@@ -67,33 +39,33 @@ def two_levels(x: int, y: int) -> Shapes:
     edges = lefts(x, lists)
     out = title(x, y, "A set: one ascending list, partitioned into nodes") + nodes(x, y + 80, lists)
     for left, items, (sum_of, total) in zip(edges, lists, [("length", 3), ("3 + 2", 5), ("length", 4)]):
-        out += text(left + CELL * len(items) / 2, y + 18, sum_of, "middle", SOFT)
-        out += cell(left, y + 24, total, INDEX, CELL * len(items))
+        out += text(left + CELL * len(items) / 2, y + 18, sum_of, "middle", "soft")
+        out += cell(left, y + 24, total, "index", CELL * len(items))
     side = edges[-1] + CELL * 4 + 24
-    out += text(side, y + 35, "the index, a Fenwick tree: a cell is the length of its node,", colour=SOFT)
-    out += text(side, y + 51, "every second one with that of the node before, and so on", colour=SOFT)
-    out += text(side, y + 99, "the nodes: each within the node size, none empty", colour=SOFT)
+    out += text(side, y + 35, "the index, a Fenwick tree: a cell is the length of its node,", colour="soft")
+    out += text(side, y + 51, "every second one with that of the node before, and so on", colour="soft")
+    out += text(side, y + 99, "the nodes: each within the node size, none empty", colour="soft")
     middle = edges[1] + CELL * 1.5
     out += arrow(edges[1] + CELL, y + 52, middle, y + 79)
     out += arrow(middle, y + 137, middle, y + 109) + code(middle + 12, y + 151, "get_index(4)", "end")
     found = edges[2] + CELL * 1.5
-    out += arrow(found, y + 137, found, y + 109) + code(found - 30, y + 151, "contains(&amp;19)")
-    out += text(side, y + 135, "a position is found through the index; a key among", colour=SOFT)
-    out += text(side, y + 151, "the nodes' last items, and then in one node", colour=SOFT)
+    out += arrow(found, y + 137, found, y + 109) + code(found - 30, y + 151, "contains(&19)")
+    out += text(side, y + 135, "a position is found through the index; a key among", colour="soft")
+    out += text(side, y + 151, "the nodes' last items, and then in one node", colour="soft")
     return out
 
 
 def a_set_that_changes(x: int, y: int) -> Shapes:
-    """Draws a put into a full node."""
-    out = text(x, y + 26, "the set, node size 4", colour=SOFT)
+    """A put into a full node."""
+    out = text(x, y + 26, "the set, node size 4", colour="soft")
     out += nodes(x, y + 36, [[0, 2, 4, 6]])
     out += arrow(x + 64, y + 66, x + 64, y + 121) + code(x + 74, y + 97, "put_cdc(3)")
     return out + nodes(x, y + 122, [[0, 2], [3, 4, 6]], [3])
 
 
 def an_event(x: int, y: int, number: int, words: Sequence[str], arrow_to: tuple[int, int]) -> Shapes:
-    """Draws an event with its number, and an arrow from it."""
-    out = [f'<rect x="{x}" y="{y}" width="236" height="44" rx="6" fill="#fff" stroke="{INK}"/>']
+    """An event with its number, and an arrow from it."""
+    out = box(x, y, 236, 44, paint("back", "ink"), 'rx="6"')
     out += title(x + 12, y + 27, number)
     out += text(x + 34, y + 19, words[0])
     out += text(x + 34, y + 36, words[1])
@@ -101,8 +73,8 @@ def an_event(x: int, y: int, number: int, words: Sequence[str], arrow_to: tuple[
 
 
 def a_replica(x: int, y: int) -> Shapes:
-    """Draws the nodes of a replica, before the events and after each."""
-    out = text(x, y + 26, "the replica, after each event", colour=SOFT)
+    """The nodes of a replica, before the events and after each."""
+    out = text(x, y + 26, "the replica, after each event", colour="soft")
     out += nodes(x, y + 36, [[0, 2, 4, 6]])
     out += nodes(x, y + 79, [[0, 2], [4, 6]])
     return out + nodes(x, y + 122, [[0, 2], [3, 4, 6]], [3])
@@ -112,7 +84,7 @@ def a_change(x: int, y: int) -> Shapes:
     """Draws a put into a full node, its two events, and a replica that applies them."""
     middle, right = x + 262, x + 562
     out = title(x, y, "A logged set: a change, its events, a replica") + a_set_that_changes(x, y)
-    out += text(middle, y + 26, "numbered events, in order", colour=SOFT)
+    out += text(middle, y + 26, "numbered events, in order", colour="soft")
     split = ("split the node that ends in 6,", "after its first 2 items")
     insert = ("insert 3 into the node", "that ends in 6, at index 0")
     out += an_event(middle, y + 36, 7, split, (right - 8, y + 93))
@@ -121,19 +93,9 @@ def a_change(x: int, y: int) -> Shapes:
     return out + a_replica(right, y)
 
 
-def main() -> None:
-    argparse.ArgumentParser(description="Draws docs/nodes.svg.").parse_args()
-    width, height = 860, 412
-    out = [
-        f'<svg xmlns="http://www.w3.org/2000/svg" width="{width}" height="{height}" viewBox="0 0 {width} {height}"'
-        ' font-family="sans-serif" font-size="13">',
-        f'<rect width="{width}" height="{height}" fill="white"/>',
-    ]
-    out += two_levels(24, 30) + a_change(24, 238) + ["</svg>"]
-    (pathlib.Path(__file__).resolve().parent.parent / "docs/nodes.svg").write_text(
-        "\n".join(out) + "\n", encoding="utf-8"
-    )
+def draw() -> str:
+    return drawing.svg(WIDE, TALL, two_levels(24, 30) + a_change(24, 238))
 
 
 if __name__ == "__main__":
-    main()
+    drawing.main("Draws docs/nodes.svg.", "nodes.svg", draw)

@@ -1,11 +1,12 @@
 #!/usr/bin/env python3
-"""Checks the pages: links, phrases and the version.
+"""Checks the pages: links, pictures, phrases and the version.
 
     tests/prose.py [--sources]
 
-A link names a file of the repository, and a heading of that page; a clause that a link shows as code, for a call of the
-reference, is a word of that call. A path that is shown as code exists. No page has a phrase of `PHRASES`; with
---sources the lines of sources that have one are counted, which is not a fault. The version is the one of
+A link names a file of the repository, and a heading of that page; what is shown as code for a call of the reference, as
+a clause, is a word of that call. A path that is shown as code exists. A picture has colours for light and for dark: an
+SVG by its style, any other by a `<picture>` of two files. No page has a phrase of `PHRASES`; with --sources
+the lines of sources that have one are counted, which is no fault. The version is the one of
 bindings/python/pyproject.toml, which pkg-config, CMake and Python read. The last line is 'N pages, M faults'.
 """
 
@@ -25,9 +26,9 @@ PHRASES = re.compile(
     re.I,
 )
 REFERENCE = TOP / "docs/reference"
+DARK = "prefers-color-scheme:dark"
 COMMENT = re.compile(r"(?://|--|#|/?\*|\"\"\").*")
 GENERATED = ("docs/reference", "docs/GLOSSARY.md")  # from comments in the sources
-OTHERS = ("CONTRIBUTING.md",)  # not checked for the phrases yet
 PAGES = ["*.md", "docs/**/*.md", "bindings/**/*.md", "crates/*/README.md", "examples/**/*.md", "tests/**/*.md"]
 
 
@@ -83,9 +84,24 @@ def lost_paths(page: pathlib.Path) -> Iterator[str]:
             yield f"{page.relative_to(TOP)}: no such path: {path}"
 
 
+def lost_pictures(page: pathlib.Path) -> Iterator[str]:
+    """The pictures of a page that do not exist, or that have no colours for dark."""
+    text = prose(page)
+    for path in re.findall(r"!\[[^\]]*\]\(([^)\s]+)\)", text):
+        picture = page.parent / path
+        if picture.exists() and not (picture.suffix == ".svg" and DARK in picture.read_text(encoding="utf-8")):
+            yield f"{page.relative_to(TOP)}: no colours for dark: {path}"
+    for whole in re.findall(r"<picture>.*?</picture>", text, re.S):
+        if f'<source media="({DARK.replace(":", ": ")})"' not in whole:
+            yield f"{page.relative_to(TOP)}: no colours for dark: {whole}"
+        for path in re.findall(r'src(?:set)?="([^"]*)"', whole):
+            if not (page.parent / path).exists():
+                yield f"{page.relative_to(TOP)}: no such file: {path}"
+
+
 def phrases_of(page: pathlib.Path) -> Iterator[str]:
-    """Yields the lines of a page that have one of the phrases."""
-    if str(page.relative_to(TOP)).startswith((*GENERATED, *OTHERS)):
+    """The lines of a page that have a phrase which is not to be written."""
+    if str(page.relative_to(TOP)).startswith(GENERATED):
         return
     for number, line in enumerate(prose(page).splitlines(), 1):
         for phrase in PHRASES.findall(re.sub(r"`[^`]*`|<!--.*?-->|\]\([^)]*\)", "", line)):
@@ -126,7 +142,7 @@ def main() -> int:
         print(*phrases_in_sources(), sep="\n")
     read, sections_of = pages(), dict[pathlib.Path, dict[str, str]]()
     faults = [fault for page in read for fault in lost_links(page, sections_of)]
-    faults += [fault for page in read for fault in [*lost_paths(page), *phrases_of(page)]]
+    faults += [fault for page in read for fault in [*lost_paths(page), *lost_pictures(page), *phrases_of(page)]]
     faults += other_versions()
     print(*faults, sep="\n")
     print(f"{len(read)} pages, {len(faults)} faults")

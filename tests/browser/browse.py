@@ -3,8 +3,8 @@
 
     tests/browser/browse.py [--seed N] [--write] [--pairs N]
 
-Pictures of it, light, dark and narrow, are written to out/watch; with --write the light one also to docs/watch.png. The
-last line is 'N passed, M failed'.
+Pictures of it, light, dark and narrow, go to out/watch; with --write the light one also to docs/watch.png, and the dark
+one to docs/watch-dark.png. The last line is 'N passed, M failed'.
 """
 
 from __future__ import annotations
@@ -29,6 +29,7 @@ from watched import Watched, reached  # noqa: E402
 PICTURES = TOP / "out/watch"
 ALL_SAME = "both followers hold the nodes of the leader"
 QUICK = 100  # milliseconds
+ON_PAGES = {"light": "watch.png", "dark": "watch-dark.png"}
 SIGHTS = [("light", "light", 1280), ("dark", "dark", 1280), ("middle", "dark", 820), ("narrow", "light", 390)]
 
 # Elements without a name that have a role, which a person operates or is notified by.
@@ -352,7 +353,7 @@ def main() -> None:
     ask = argparse.ArgumentParser(description="Plays the story of examples/watch in a browser.")
     ask.add_argument("--seed", type=int, default=1, metavar="N", help="default: %(default)s")
     ask.add_argument("--pairs", type=int, default=10_000, metavar="N", help="how many at last (%(default)s)")
-    ask.add_argument("--write", action="store_true", help="writes docs/watch.png")
+    ask.add_argument("--write", action="store_true", help="write the pictures of docs")
     given = ask.parse_args()
     watch = Watched("--seed", str(given.seed))
     try:
@@ -365,8 +366,8 @@ def main() -> None:
     finally:
         watch.process.terminate()
         watch.process.wait()
-    if given.write:
-        (TOP / "docs/watch.png").write_bytes(small((PICTURES / "light.png").read_bytes()))
+    for sight, name in ON_PAGES.items() if given.write else ():
+        (TOP / "docs" / name).write_bytes(small((PICTURES / f"{sight}.png").read_bytes()))
     story.results.end()
 
 
