@@ -115,26 +115,26 @@ module _ {X Z : Type 0} where
     pub left : w.items ≡ take (length u.items / 2) u.items
     pub right : r.items ≡ drop (length u.items / 2) u.items
 
-  module _ {ns : List (List X)} {vs : List (Vec X Z)} {s : Spot} {u w r : Vec X Z} (node_list : IsHalved ns vs s u w r) where
+  module _ {ns : List (List X)} {vs : List (Vec X Z)} {s : Spot} {u w r : Vec X Z} (halved : IsHalved ns vs s u w r) where
     half_is : vec_len w ≡ length u.items / 2
-    half_is = w.ok.0 ∙ (ap (λ (l : List X). length l) node_list.left ∙ length-take-le (length u.items / 2) u.items (omega arith))
+    half_is = w.ok.0 ∙ (ap (λ (l : List X). length l) halved.left ∙ length-take-le (length u.items / 2) u.items (omega arith))
 
     pub half_of : vec_len w ≡ length (node_at ns s.node) / 2
-    half_of = half_is ∙ (ap (λ n. length n / 2) (sym (node_is vs s.node u node_list.node_in node_list.node)) ∙ ap (λ ms. length (node_at ms s.node) / 2) node_list.same)
+    half_of = half_is ∙ (ap (λ n. length n / 2) (sym (node_is vs s.node u halved.node_in halved.node)) ∙ ap (λ ms. length (node_at ms s.node) / 2) halved.same)
 
     inside : s.node < length ns
-    inside = subst (λ (ms : List (List X)). s.node < length ms) node_list.same node_list.node_in
+    inside = subst (λ (ms : List (List X)). s.node < length ms) halved.same halved.node_in
 
     cut_lists : vec_items (insert (slice_set vs s.node w) (s.node + 1) r) ≡ splice ns s.node (s.node + 1) (take (vec_len w) (node_at ns s.node) ∷ drop (vec_len w) (node_at ns s.node) ∷ [])
     cut_lists =
-        let h = node_list.node_in in
+        let h = halved.node_in in
         ap vec_items (insert_after vs s.node w r (omega (arith, length-vec_items vs)))
         ∙ (vec_items-splice vs (w ∷ r ∷ []) s.node (s.node + 1)
-        ∙ (ap (λ l. splice (vec_items vs) s.node (s.node + 1) (l ∷ r.items ∷ [])) node_list.left
-        ∙ (ap (λ l. splice (vec_items vs) s.node (s.node + 1) (take (length u.items / 2) u.items ∷ l ∷ [])) node_list.right
+        ∙ (ap (λ l. splice (vec_items vs) s.node (s.node + 1) (l ∷ r.items ∷ [])) halved.left
+        ∙ (ap (λ l. splice (vec_items vs) s.node (s.node + 1) (take (length u.items / 2) u.items ∷ l ∷ [])) halved.right
         ∙ (ap (λ i. splice (vec_items vs) s.node (s.node + 1) (take i u.items ∷ drop i u.items ∷ [])) (sym half_is)
-        ∙ (ap (λ n. splice (vec_items vs) s.node (s.node + 1) (take (vec_len w) n ∷ drop (vec_len w) n ∷ [])) (sym (node_is vs s.node u h node_list.node))
-        ∙ ap (λ ms. splice ms s.node (s.node + 1) (take (vec_len w) (node_at ms s.node) ∷ drop (vec_len w) (node_at ms s.node) ∷ [])) node_list.same)))))
+        ∙ (ap (λ n. splice (vec_items vs) s.node (s.node + 1) (take (vec_len w) n ∷ drop (vec_len w) n ∷ [])) (sym (node_is vs s.node u h halved.node))
+        ∙ ap (λ ms. splice ms s.node (s.node + 1) (take (vec_len w) (node_at ms s.node) ∷ drop (vec_len w) (node_at ms s.node) ∷ [])) halved.same)))))
 
     pub halved_lists : vec_items (insert (slice_set vs s.node w) (s.node + 1) r) ≡ with_halved ns s.node
     unfolding with_halved

@@ -15,7 +15,7 @@ use Rattle.indexset_spine.proofs.VecNodes.{length-vec_items, node_read}
 
 -- n is the k-th node of the spine s, in which the search ends
 pub record NodeFound {X : Type 0} (answer : X → Ordering) (s : NodeList X) (k : ℕ) (n : List X) : Type 0 where
-  pub node_list : AreNodeLengths (node_lengths s.nodes) s.size
+  pub lengths : AreNodeLengths (node_lengths s.nodes) s.size
   pub named : k ≡ node_for answer s.nodes
   pub inside : k < length s.nodes
   pub node : node_at s.nodes k ≡ n
@@ -24,14 +24,14 @@ pub read_node : {X Z : Type 0} (vs : List (Vec X Z)) (size : ℕ) (s : NodeList 
     → (answer : X → Ordering) (k : ℕ) (v : Vec X Z) → k ≡ node_for answer (vec_items vs) → v ≡ get_or vs k v → NodeFound answer s k v.items
 read_node {X} vs size s view is answer k v found at =
     let inside : k < length vs = omega (arith, found, is.some, length-vec_items vs, length-map (vec_items vs) (λ n. length n)) in
-    subst (λ (t : NodeList X). NodeFound answer t k v.items) view (record { node_list = is; named = found; inside = omega (arith, inside, length-vec_items vs); node = node_read vs k v inside at [] })
+    subst (λ (t : NodeList X). NodeFound answer t k v.items) view (record { lengths = is; named = found; inside = omega (arith, inside, length-vec_items vs); node = node_read vs k v inside at [] })
 
 module _ {X : Type 0} (answer : X → Ordering) (s : NodeList X) (k : ℕ) (n : List X) (h : NodeFound answer s k n) where
   pub node_within : length n ≤ s.size
   node_within =
       let long = length-map s.nodes (λ n. length n) in
       let here : get_or (node_lengths s.nodes) k 0 ≡ length (node_at s.nodes k) = get_or-map (λ n. length n) s.nodes k [] 0 h.inside in
-      omega (arith, here, ap (λ (l : List X). length l) h.node, h.cut.bounded k 0 (omega (arith, h.inside, long)))
+      omega (arith, here, ap (λ (l : List X). length l) h.node, h.lengths.bounded k 0 (omega (arith, h.inside, long)))
 
   module _ (parted : IsParted answer (items s)) where
     pub node_parted : IsParted answer n
@@ -40,7 +40,7 @@ module _ {X : Type 0} (answer : X → Ordering) (s : NodeList X) (k : ℕ) (n : 
     -- the offset that a search of the node returns
     module _ (o : ℕ) (at : o ≡ less_count answer n) where
       filled : 2 ≤ length s.nodes → All (λ n. 1 ≤ n) (node_lengths s.nodes)
-      filled two = h.cut.filled (omega (arith, two, length-map s.nodes (λ n. length n)))
+      filled two = h.lengths.filled (omega (arith, two, length-map s.nodes (λ n. length n)))
 
       some : 1 ≤ length s.nodes
       some = omega (arith, h.inside)
