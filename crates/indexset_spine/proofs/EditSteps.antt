@@ -150,22 +150,22 @@ module _ {X Z : Type 0} where
     left_puts v upto = ap (λ ms. with_item_in ms s v) cut_lists ∙ put_left ns s (vec_len w) v inside half_of upto
 
     two_in : 2 ≤ length (node_at ns s.node) → 2 ≤ vec_len u
-    two_in two = omega (arith, two, node_len vs s.node u node_list.node_in node_list.node, ap (λ (ms : List (List X)). length (node_at ms s.node)) node_list.same)
+    two_in two = omega (arith, two, node_len vs s.node u halved.node_in halved.node, ap (λ (ms : List (List X)). length (node_at ms s.node)) halved.same)
 
     pub right_room : 2 ≤ length (node_at ns s.node) → length u.items ≤ vec_capacity r → HoldsAt (λ v. vec_len v < vec_capacity v) (insert (slice_set vs s.node w) (s.node + 1) r) (s.node + 1)
     right_room two room d =
         let long = length-set vs s.node w in
-        let e : get_or (insert (slice_set vs s.node w) (s.node + 1) r) (s.node + 1) d ≡ r = get_or-insert_at (slice_set vs s.node w) (s.node + 1) r d (omega (arith, node_list.node_in, length-vec_items vs)) in
-        let n : vec_len r ≡ length (drop (length u.items / 2) u.items) = r.ok.0 ∙ ap (λ (l : List X). length l) node_list.right in
+        let e : get_or (insert (slice_set vs s.node w) (s.node + 1) r) (s.node + 1) d ≡ r = get_or-insert_at (slice_set vs s.node w) (s.node + 1) r d (omega (arith, halved.node_in, length-vec_items vs)) in
+        let n : vec_len r ≡ length (drop (length u.items / 2) u.items) = r.ok.0 ∙ ap (λ (l : List X). length l) halved.right in
         subst (λ (v : Vec X Z). vec_len v < vec_capacity v) (sym e) (omega (arith, n, room, two_in two, u.ok, length-drop (length u.items / 2) u.items))
 
     pub left_room : 2 ≤ length (node_at ns s.node) → length u.items ≤ vec_capacity w → HoldsAt (λ v. vec_len v < vec_capacity v) (insert (slice_set vs s.node w) (s.node + 1) r) s.node
     left_room two room d =
-        let h = node_list.node_in in
+        let h = halved.node_in in
         let long = length-set vs s.node w in
         let e : get_or (insert (slice_set vs s.node w) (s.node + 1) r) s.node d ≡ w =
         get_or-insert_below (slice_set vs s.node w) (s.node + 1) r d s.node (omega arith) (omega (arith, length-vec_items vs)) ∙ get_or-set_same vs s.node w d (omega (arith, length-vec_items vs)) in
-        let n : vec_len w ≡ length (take (length u.items / 2) u.items) = w.ok.0 ∙ ap (λ (l : List X). length l) node_list.left in
+        let n : vec_len w ≡ length (take (length u.items / 2) u.items) = w.ok.0 ∙ ap (λ (l : List X). length l) halved.left in
         subst (λ (v : Vec X Z). vec_len v < vec_capacity v) (sym e) (omega (arith, n, room, two_in two, u.ok, length-take (length u.items / 2) u.items))
 
 -- a spot, in the nodes as the code stores them
