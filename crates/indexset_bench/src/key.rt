@@ -1,5 +1,6 @@
 //! Keys and values that have a text.
 
+ghost use Rattle.indexset_core.specs.Clones.{AreIdentical};
 ghost use Rattle.std.specs.Prelude.{◌≡◌, Bool, false, IfErr, IfOk, IsOk, OnOk, Some, refl};
 ghost use Rattle.std.specs.Io.KnownBytes.{Appends};
 ghost use Rattle.indexset_bench.specs.Texts.{AreWords, Texts, number_texts, number_words, pair_of, two_keys};
@@ -46,7 +47,7 @@ pub trait Key: Ord + Clone + fmt::Display + Drop {
     ghost words: { AreWords texts };
 
     /// A clone is identical to its source.
-    ghost identical: { (x y : Self) → Self.is_clone x y → y ≡ x };
+    ghost identical: { AreIdentical Self.is_clone };
 }
 
 impl Key for u64 {

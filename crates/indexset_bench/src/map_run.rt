@@ -1,5 +1,6 @@
 //! Lists of commands to a map, and their replies.
 
+ghost use Rattle.indexset_core.specs.Clones.{AreIdentical};
 ghost use Rattle.std.specs.Prelude.{◌≡◌, ◌<◌, ◌++◌, [], ◌∷◌, IfOk, OnOk, IfErr, OnErr, IfSome, OnSome, IfNone, length, take};
 ghost use Rattle.indexset_bench.specs.Replies.{AppendsReply, AreReplies};
 ghost use Rattle.indexset_bench.specs.MapRun.{IsMapReply, map_reply, map_after, map_replies, map_after_all};
@@ -65,7 +66,7 @@ pub fn run_map<K: Ord + Clone + Drop, V: Clone + Drop>(
     ensures cloned { AreReplies (map_after K.cmp) (IsMapReply K.cmp K.is_clone V.is_clone)
         map.old.pairs
         (take (length result.replies.items) commands.items) result.replies.items }
-    ensures replies { ((x y : K) → K.is_clone x y → y ≡ x) → ((x y : V) → V.is_clone x y → y ≡ x)
+    ensures replies { AreIdentical K.is_clone → AreIdentical V.is_clone
         → result.replies.items ≡ map_replies K.cmp map.old.pairs
         (take (length result.replies.items) commands.items) }
     ensures contents { map.new.pairs ≡ map_after_all K.cmp map.old.pairs
@@ -101,7 +102,7 @@ fn answer<K: Ord + Clone + Drop, V: Clone + Drop>(
     ensures cloned { OnOk result (AppendsReply
         (IsMapReply K.cmp K.is_clone V.is_clone map.old.pairs command) replies.old.items
         replies.new.items) }
-    ensures told { ((x y : K) → K.is_clone x y → y ≡ x) → ((x y : V) → V.is_clone x y → y ≡ x)
+    ensures told { AreIdentical K.is_clone → AreIdentical V.is_clone
         → OnOk result (replies.new.items
         ≡ replies.old.items ++ map_reply K.cmp map.old.pairs command ∷ []) }
     ensures ok { OnOk result (map.new.pairs ≡ map_after K.cmp map.old.pairs command) }
@@ -123,7 +124,7 @@ fn act<K: Ord + Clone + Drop, V: Clone + Drop>(
 ) -> Result<MapReply<K, V>, Refusal>
     ensures cloned { IfOk result (λ reply. IsMapReply K.cmp K.is_clone V.is_clone map.old.pairs
         command reply) }
-    ensures reply { ((x y : K) → K.is_clone x y → y ≡ x) → ((x y : V) → V.is_clone x y → y ≡ x)
+    ensures reply { AreIdentical K.is_clone → AreIdentical V.is_clone
         → IfOk result (λ reply. reply ≡ map_reply K.cmp map.old.pairs command) }
     ensures ok { OnOk result (map.new.pairs ≡ map_after K.cmp map.old.pairs command) }
     ensures size { map.new.size ≡ map.old.size }

@@ -1,5 +1,6 @@
 //! Lists of commands to a set, and their replies.
 
+ghost use Rattle.indexset_core.specs.Clones.{AreIdentical};
 ghost use Rattle.std.specs.Prelude.{◌≡◌, ◌<◌, ◌++◌, [], ◌∷◌, IfOk, OnOk, IfErr, OnErr, IfSome, OnSome, IfNone, length, take};
 ghost use Rattle.indexset_spine.specs.NodeList.{items};
 ghost use Rattle.indexset_bench.specs.Replies.{AppendsReply, AreReplies};
@@ -71,7 +72,7 @@ pub fn run_set<T: Ord + Clone + Drop>(
     // The replies are those to the first commands, one each.
     ensures cloned { AreReplies (set_after T.cmp) (IsSetReply T.cmp T.is_clone) (items set.old)
         (take (length result.replies.items) commands.items) result.replies.items }
-    ensures replies { ((x y : T) → T.is_clone x y → y ≡ x)
+    ensures replies { AreIdentical T.is_clone
         → result.replies.items ≡ set_replies T.cmp (items set.old)
         (take (length result.replies.items) commands.items) }
     ensures contents { items set.new ≡ set_after_all T.cmp (items set.old)
@@ -106,7 +107,7 @@ fn answer<T: Ord + Clone + Drop>(
 ) -> Result<(), Refusal>
     ensures cloned { OnOk result (AppendsReply (IsSetReply T.cmp T.is_clone (items set.old) command)
         replies.old.items replies.new.items) }
-    ensures told { ((x y : T) → T.is_clone x y → y ≡ x) → OnOk result (replies.new.items
+    ensures told { AreIdentical T.is_clone → OnOk result (replies.new.items
         ≡ replies.old.items ++ set_reply T.cmp (items set.old) command ∷ []) }
     ensures ok { OnOk result (items set.new ≡ set_after T.cmp (items set.old) command) }
     ensures size { set.new.size ≡ set.old.size }
@@ -127,7 +128,7 @@ fn act<T: Ord + Clone + Drop>(
 ) -> Result<SetReply<T>, Refusal>
     ensures cloned { IfOk result (λ reply. IsSetReply T.cmp T.is_clone (items set.old) command
         reply) }
-    ensures reply { ((x y : T) → T.is_clone x y → y ≡ x)
+    ensures reply { AreIdentical T.is_clone
         → IfOk result (λ reply. reply ≡ set_reply T.cmp (items set.old) command) }
     ensures ok { OnOk result (items set.new ≡ set_after T.cmp (items set.old) command) }
     ensures size { set.new.size ≡ set.old.size }

@@ -1,5 +1,6 @@
 pub mod KeyRange
 pub mod ByteOrder
+pub mod Clones
 pub mod Digits
 pub mod MultiPairs
 pub mod Nodes

@@ -31,7 +31,3 @@ IsEventClone C e f = (event_shape f ≡ event_shape e) × AllZip C (event_items 
 -- the events are those of the table, numbered from s, with clones in the place of their items
 abbrev pub AreTableEvents : {T : Type 0} → (T → T → Type 0) → ℕ → List (ChangeEventUnassigned T) → List (ChangeEvent T) → Type 0
 AreTableEvents C s table events = AllZip (IsEventClone C) (numbered_from s table) events
-
--- a clone is identical to its source
-abbrev pub AreIdentical : {T : Type 0} → (T → T → Type 0) → Type 0
-AreIdentical {T} C = (x y : T) → C x y → y ≡ x

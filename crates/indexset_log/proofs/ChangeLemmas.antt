@@ -9,7 +9,8 @@ use Rattle.indexset_core.specs.Nodes.{concat, node_at, IsLawful}
 use Rattle.indexset_core.specs.Order.{equal_element, has_equal, keep, put, without}
 use Rattle.indexset_core.specs.Pairs.{by_key}
 use Rattle.indexset_log.specs.Changed.{Change, Changed, Fits, ItemEvents, PairEvents, AreEventsOf, checked_put_change, put_change, removal_change, place_removal}
-use Rattle.indexset_events.specs.Clones.{AreIdentical, IsEventClone, AreTableEvents}
+use Rattle.indexset_events.specs.Clones.{IsEventClone, AreTableEvents}
+use Rattle.indexset_core.specs.Clones.{AreIdentical}
 use Rattle.indexset_events.specs.Edits.{with_removed}
 use Rattle.indexset_log.specs.Edits.{after_put, after_removal, after_removal_by, after_place_removal}
 use Rattle.indexset_events.specs.Merging.{IsDense, item_removed, merge_after, with_merged}

@@ -7,7 +7,8 @@ use Rattle.indexset_core.specs.declared.refusal.Refusal.{Refusal}
 use Rattle.indexset_core.specs.Nodes.{concat}
 use Rattle.indexset_core.specs.Order.{keep, put, without}
 use Rattle.indexset_core.specs.Pairs.{by_key, without_key}
-use Rattle.indexset_events.specs.Clones.{AreIdentical, AreTableEvents}
+use Rattle.indexset_events.specs.Clones.{AreTableEvents}
+use Rattle.indexset_core.specs.Clones.{AreIdentical}
 use Rattle.indexset_events.specs.Edits.{with_removed}
 use Rattle.indexset_log.specs.Edits.{after_checked_put, after_put, after_removal, after_place_removal}
 use Rattle.indexset_events.specs.Ends.{removal_events_at}

@@ -1,4 +1,5 @@
 -- A copy of a map: clones of its pairs, in the order of the cloned keys.
+use Rattle.indexset_core.specs.Clones.{AreIdentical}
 use Rattle.std.specs.Prelude.{◌≡◌, List, [], ◌∷◌}
 use Rattle.std.specs.List.{AllZip, fold}
 use Rattle.std.specs.declared.cmp.Ordering.{Ordering}
@@ -31,4 +32,4 @@ module _ {K V : Type 0} (C : K → K → Type 0) (D : V → V → Type 0) where
     pub copied : IsMapCopy cmp m copy
     pub cloned : ((x y : K) → C x y → cmp x y ≡ Equal) → AllZip IsPairClone m.pairs copy.pairs
     pub lengths : ((x y : K) → C x y → cmp x y ≡ Equal) → copy.lengths ≡ m.lengths
-    pub ok : ((x y : K) → C x y → y ≡ x) → ((x y : V) → D x y → y ≡ x) → copy ≡ m
+    pub ok : AreIdentical C → AreIdentical D → copy ≡ m

@@ -9,7 +9,8 @@ use Rattle.indexset_core.specs.MultiPairs.{by_number, numbered_pair}
 use Rattle.indexset_core.specs.Nodes.{concat}
 use Rattle.indexset_core.specs.Order.{put}
 use Rattle.indexset_log.specs.Changed.{Change, AreEventsOf}
-use Rattle.indexset_events.specs.Clones.{AreIdentical, AreTableEvents}
+use Rattle.indexset_events.specs.Clones.{AreTableEvents}
+use Rattle.indexset_core.specs.Clones.{AreIdentical}
 use Rattle.indexset_events.specs.Merging.{IsDense}
 use Rattle.indexset_events.specs.Replay.{IsNumberedFrom, numbered_from, replay}
 use Rattle.indexset_log.specs.Tree.{Tree, refusal_for}

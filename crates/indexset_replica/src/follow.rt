@@ -1,4 +1,5 @@
 //! Events that are delivered with losses, repeats and in any order.
+ghost use Rattle.indexset_core.specs.Clones.{AreIdentical};
 ghost use Rattle.std.specs.Prelude.{◌≡◌, ◌<◌, ◌≤◌, ◌+◌, ◌-◌, ℕ, List, Some, IfErr, OnOk, OnErr, length, take};
 ghost use Rattle.std.specs.List.{All};
 ghost use Rattle.indexset_replica.specs.Delivery.{failure, followed, numbers_from, CopiesAll, CopiesPrefix, HasStopped, IsCaughtUp, IsAlike, IsAt, IsPrefix, IsDelivered, IsDelivery, IsEventLog, IsFollowed, IsStopped, IsSubsequence};
@@ -44,13 +45,13 @@ impl<T: Ord + Clone + Drop> Replica<T> {
         requires inside { All (λ p. p < length events.now) order.now }
         ensures cloned { OnOk result (IsFollowed T.cmp T.is_clone events.now self.old order.now
             self.new) }
-        ensures followed { ((x y : T) → T.is_clone x y → y ≡ x)
+        ensures followed { AreIdentical T.is_clone
             → OnOk result (followed T.cmp events.now self.old order.now ≡ Some self.new) }
         ensures cloned_stopped { IfErr result
             (λ e. HasStopped T.cmp T.is_clone events.now self.old order.now e self.new) }
-        ensures stopped { ((x y : T) → T.is_clone x y → y ≡ x)
+        ensures stopped { AreIdentical T.is_clone
             → IfErr result (λ e. IsStopped T.cmp events.now self.old order.now e self.new) }
-        ensures delivery { ((x y : T) → T.is_clone x y → y ≡ x) → (s j : ℕ) (ns : List (List T))
+        ensures delivery { AreIdentical T.is_clone → (s j : ℕ) (ns : List (List T))
             → IsEventLog T.cmp s ns events.now → IsAt T.cmp s ns events.now j self.old
             → OnOk result (IsDelivered T.cmp s ns events.now j order.now self.new) }
         ensures alike { (s j : ℕ) (ns : List (List T)) → IsEventLog T.cmp s ns events.now
@@ -60,7 +61,7 @@ impl<T: Ord + Clone + Drop> Replica<T> {
         ensures memory_alone { (s j : ℕ) (ns : List (List T)) → IsEventLog T.cmp s ns events.now
             → IsAt T.cmp s ns events.now j self.old
             → IfErr result (λ e. e ≡ Refusal.Memory) }
-        ensures partly { ((x y : T) → T.is_clone x y → y ≡ x) → (s j : ℕ) (ns : List (List T))
+        ensures partly { AreIdentical T.is_clone → (s j : ℕ) (ns : List (List T))
             → IsEventLog T.cmp s ns events.now → IsAt T.cmp s ns events.now j self.old
             → OnErr result ((k : ℕ) × (k ≤ length order.now)
             × IsDelivered T.cmp s ns events.now j (take k order.now) self.new) }
@@ -72,16 +73,16 @@ impl<T: Ord + Clone + Drop> Replica<T> {
 
         // From a prefix of a feed to a longer one.
         ensures onwards { self.old.next ≤ self.new.next }
-        ensures beginning { ((x y : T) → T.is_clone x y → y ≡ x) → (s : ℕ) (ns : List (List T))
+        ensures beginning { AreIdentical T.is_clone → (s : ℕ) (ns : List (List T))
             → IsEventLog T.cmp s ns events.now
             → IsPrefix T.cmp s ns events.now self.old
             → IsPrefix T.cmp s ns events.now self.new }
-        ensures all_came { ((x y : T) → T.is_clone x y → y ≡ x) → (s : ℕ) (ns : List (List T))
+        ensures all_came { AreIdentical T.is_clone → (s : ℕ) (ns : List (List T))
             → IsEventLog T.cmp s ns events.now → IsPrefix T.cmp s ns events.now self.old
             → IsSubsequence (numbers_from (self.old.next - s)
             (length events.now - (self.old.next - s))) order.now
             → OnOk result (IsCaughtUp T.cmp s ns events.now self.new) }
-        ensures all_held { ((x y : T) → T.is_clone x y → y ≡ x) → (s : ℕ) (ns : List (List T))
+        ensures all_held { AreIdentical T.is_clone → (s : ℕ) (ns : List (List T))
             → IsEventLog T.cmp s ns events.now → IsPrefix T.cmp s ns events.now self.old
             → self.new.next ≡ s + length events.now
             → replay T.cmp ns events.now ≡ Some self.new.nodes }

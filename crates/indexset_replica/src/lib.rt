@@ -14,6 +14,7 @@
 //! the nodes.
 #![tactic(auto)]
 
+ghost use Rattle.indexset_core.specs.Clones.{AreIdentical};
 ghost use Rattle.std.specs.Prelude.{◌≡◌, ◌+◌, ◌≤◌, [], insert, length, None, Some, OnOk, IfErr, OnErr, unwrap_or};
 ghost use Rattle.indexset_core.specs.Nodes.{IsNodeList, vec_items};
 ghost use Rattle.indexset_replica.specs.Replica.{apply_refusal, IsClonedStep};
@@ -222,7 +223,7 @@ impl<T: Ord + Clone + Drop> Replica<T> {
     pub fn apply(&mut self, event: &ChangeEvent<T>) -> Result<(), Refusal>
         ensures cloned { OnOk result (IsClonedStep T.cmp T.is_clone self.old.nodes
             (unassigned event.now) self.new.nodes) }
-        ensures step { ((x y : T) → T.is_clone x y → y ≡ x)
+        ensures step { AreIdentical T.is_clone
             → OnOk result (step T.cmp self.old.nodes event.now ≡ Some self.new.nodes) }
         ensures next { OnOk result (self.new.next ≡ self.old.next + 1) }
         ensures fits { OnOk result (apply_refusal T.cmp self.old.nodes self.old.next event.now

@@ -1,4 +1,5 @@
 -- Copies of a set, which hold clones of its elements.
+use Rattle.indexset_core.specs.Clones.{AreIdentical}
 use Rattle.std.specs.Prelude.{◌≡◌, ℕ, List, [], ◌∷◌}
 use Rattle.std.specs.List.{AllZip, fold}
 use Rattle.std.specs.declared.cmp.Ordering.{Ordering}
@@ -23,7 +24,7 @@ pub record IsSetCopy {T : Type 0} (cmp : T → T → Ordering) (C : T → T → 
 pub record IsSetClone {T : Type 0} (cmp : T → T → Ordering) (C : T → T → Type 0) (s copy : NodeList T) : Type 0 where
   pub copied : IsSetCopy cmp C s copy
   pub cloned : ((x y : T) → C x y → cmp x y ≡ Equal) → AllZip (AllZip C) s.nodes copy.nodes
-  pub ok : ((x y : T) → C x y → y ≡ x) → copy ≡ s
+  pub ok : AreIdentical C → copy ≡ s
 
 -- a set of clones of xs, inserted in order unless an equal one is present; its elements are xs if
 -- clones are identical to their sources
@@ -32,5 +33,5 @@ pub record IsSetOf {T : Type 0} (cmp : T → T → Ordering) (C : T → T → Ty
   pub cloned : AllZip C xs clones
   pub elements : items s ≡ fold (keep cmp) [] clones
   pub nodes : s.nodes ≡ nodes_kept_all cmp (node_list ([] ∷ []) node_size) clones
-  pub same : ((x y : T) → C x y → y ≡ x) → items s ≡ xs
+  pub same : AreIdentical C → items s ≡ xs
   pub size : s.size ≡ node_size

@@ -1,4 +1,5 @@
 //! The creation of sets.
+ghost use Rattle.indexset_core.specs.Clones.{AreIdentical};
 ghost use Rattle.std.specs.Prelude.{◌≡◌, ◌≤◌, false, IsTrue, List, [], ◌∷◌, IfOk, IfErr, OnOk, fold};
 ghost use Rattle.std.specs.declared.cmp.Ordering.TheVariants.{Equal};
 ghost use Rattle.std.specs.List.{AllZip};
@@ -293,7 +294,7 @@ impl<T: Ord + Drop> BTreeSet<T> {
         ensures copy { IfOk result (λ s. IsSetCopy T.cmp T.is_clone self.now s) }
         ensures cloned { ((x y : T) → T.is_clone x y → T.cmp x y ≡ Equal)
             → IfOk result (λ s. AllZip (AllZip T.is_clone) self.now.nodes s.nodes) }
-        ensures ok { ((x y : T) → T.is_clone x y → y ≡ x) → IfOk result (λ s. s ≡ self.now) }
+        ensures ok { AreIdentical T.is_clone → IfOk result (λ s. s ≡ self.now) }
         ensures size { IfOk result (λ s. s.size ≡ self.now.size) }
         ensures refusal { IfErr result (λ e. e ≡ Refusal.Memory) }
     {

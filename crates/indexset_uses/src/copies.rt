@@ -1,4 +1,5 @@
 //! Replicas of trees: the events of a call, applied in order.
+ghost use Rattle.indexset_core.specs.Clones.{AreIdentical};
 ghost use Rattle.std.specs.Prelude.{◌≡◌, ◌+◌, ◌-◌, ◌<◌, ◌≤◌, List, length, slice_get, take, unwrap_or, Some, IfErr, IfSome, OnErr, OnOk};
 ghost use Rattle.std.specs.List.{AllZip};
 ghost use Rattle.indexset.specs.Words.{apply_refusal, replay, AreClonesEqual, AreCopies, IsEventClone};
@@ -18,9 +19,9 @@ pub fn apply_all<T: Ord + Clone + Drop>(
     copy: &mut Replica<T>,
     events: &[ChangeEvent<T>],
 ) -> Result<(), Refusal>
-    ensures unchanged { ((x y : T) → T.is_clone x y → y ≡ x)
+    ensures unchanged { AreIdentical T.is_clone
         → OnOk result (replay T.cmp copy.old.nodes events.now ≡ Some copy.new.nodes) }
-    ensures applied { ((x y : T) → T.is_clone x y → y ≡ x) → replay T.cmp copy.old.nodes
+    ensures applied { AreIdentical T.is_clone → replay T.cmp copy.old.nodes
         (take (copy.new.next - copy.old.next) events.now) ≡ Some copy.new.nodes }
     ensures next { OnOk result (copy.new.next ≡ copy.old.next + length events.now) }
     ensures onwards { copy.old.next ≤ copy.new.next }

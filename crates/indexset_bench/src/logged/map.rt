@@ -31,6 +31,7 @@ pub enum LoggedMapReply<K, V> {
 
 impl<K: Ord + Clone + Drop, V: Clone + Drop, Node: NodeLike<Pair<K, V>>> Logged
     for BTreeMap<K, V, Node> {
+    ghost use Rattle.indexset_core.specs.Clones.{AreIdentical};
     ghost use Rattle.std.specs.Prelude.{◌≡◌, ◌+◌, List, length, nat_lt};
     ghost use Rattle.std.below.core.specs.declared.int.u64.TheConstants.{MAX};
     ghost use Rattle.indexset_core.specs.Nodes.{concat};
@@ -64,7 +65,7 @@ impl<K: Ord + Clone + Drop, V: Clone + Drop, Node: NodeLike<Pair<K, V>>> Logged
     ghost lacks_numbers = { λ t command. nat_lt MAX
         (t.next + length (logged_map_events K.cmp t command)) };
 
-    ghost clones = { ((x y : K) → K.is_clone x y → y ≡ x) × ((x y : V) → V.is_clone x y → y ≡ x) };
+    ghost clones = { AreIdentical K.is_clone × AreIdentical V.is_clone };
 
     ghost cloned = { λ p q. K.is_clone p.key q.key × V.is_clone p.value q.value };
 

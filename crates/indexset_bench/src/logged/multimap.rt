@@ -30,6 +30,7 @@ pub enum LoggedMultiReply<K, V> {
 
 impl<K: Ord + Clone + Drop, V: Eq + Clone + Drop, Node: NodeLike<MultiPair<K, V>>> Logged
     for BTreeMultiMap<K, V, Node> {
+    ghost use Rattle.indexset_core.specs.Clones.{AreIdentical};
     ghost use Rattle.std.specs.Prelude.{◌≡◌, ◌+◌, ◌||◌, List, length, nat_lt};
     ghost use Rattle.std.below.core.specs.declared.int.u64.TheConstants.{MAX};
     ghost use Rattle.indexset_core.specs.Nodes.{concat};
@@ -63,7 +64,7 @@ impl<K: Ord + Clone + Drop, V: Eq + Clone + Drop, Node: NodeLike<MultiPair<K, V>
     ghost lacks_numbers = { λ m command. lacks_pair_number K.cmp V.eq m command || nat_lt MAX
         (m.next + length (logged_multi_events K.cmp V.eq m command)) };
 
-    ghost clones = { ((x y : K) → K.is_clone x y → y ≡ x) × ((x y : V) → V.is_clone x y → y ≡ x) };
+    ghost clones = { AreIdentical K.is_clone × AreIdentical V.is_clone };
 
     ghost cloned = { λ p q. K.is_clone p.key q.key
         × (V.is_clone p.value q.value × (q.discriminator ≡ p.discriminator)) };

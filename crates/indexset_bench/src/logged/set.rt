@@ -27,6 +27,7 @@ pub enum LoggedSetReply<T> {
 }
 
 impl<T: Ord + Clone + Drop, Node: NodeLike<T>> Logged for BTreeSet<T, Node> {
+    ghost use Rattle.indexset_core.specs.Clones.{AreIdentical};
     ghost use Rattle.std.specs.Prelude.{◌≡◌, ◌+◌, List, length, nat_lt};
     ghost use Rattle.std.below.core.specs.declared.int.u64.TheConstants.{MAX};
     ghost use Rattle.indexset_core.specs.Nodes.{concat};
@@ -59,7 +60,7 @@ impl<T: Ord + Clone + Drop, Node: NodeLike<T>> Logged for BTreeSet<T, Node> {
     ghost lacks_numbers = { λ t command. nat_lt MAX
         (t.next + length (logged_set_events T.cmp t command)) };
 
-    ghost clones = { (x y : T) → T.is_clone x y → y ≡ x };
+    ghost clones = { AreIdentical T.is_clone };
 
     ghost cloned = { T.is_clone };
 

@@ -1,6 +1,7 @@
 //! Types whose clones equal their sources by the order, which the law [`super::replay_of_clones`]
 //! and the calls that cite it require.
 
+ghost use Rattle.indexset_core.specs.Clones.{AreIdentical};
 ghost use Rattle.std.specs.Prelude.{◌≡◌};
 ghost use Rattle.indexset_core.specs.MultiPairs.{by_number};
 ghost use Rattle.indexset_core.specs.Pairs.{by_key};
@@ -24,7 +25,7 @@ pub fn numbers()
 
 /// Clones that are identical to their sources equal them, as those of all numbers and of `Text`.
 pub fn identical<T: Ord + Clone>()
-    ensures { ((x y : T) → T.is_clone x y → y ≡ x) → AreClonesEqual T.cmp T.is_clone }
+    ensures { AreIdentical T.is_clone → AreClonesEqual T.cmp T.is_clone }
 {}
 
 /// Clones of lists, options and boxes equal their sources if those of their items do.

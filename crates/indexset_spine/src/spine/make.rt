@@ -1,4 +1,5 @@
 //! The creation of a spine, and `clear`.
+ghost use Rattle.indexset_core.specs.Clones.{AreIdentical};
 ghost use Rattle.std.specs.Prelude.{◌≡◌, ◌+◌, ◌*◌, ◌/◌, ◌<◌, ◌≤◌, [], ◌∷◌, IfOk, IfErr};
 ghost use Rattle.std.specs.List.{AllZip};
 ghost use Rattle.indexset_core.specs.Nodes.{node_lengths, vec_items};
@@ -71,7 +72,7 @@ impl<T: Drop> Spine<T> {
         ensures cloned { IfOk result (λ s. AllZip (AllZip T.is_clone) self.now.nodes s.nodes) }
         ensures lengths { IfOk result (λ s. node_lengths s.nodes ≡ node_lengths self.now.nodes) }
         ensures size { IfOk result (λ s. s.size ≡ self.now.size) }
-        ensures ok { ((x y : T) → T.is_clone x y → y ≡ x) → IfOk result (λ s. s ≡ self.now) }
+        ensures ok { AreIdentical T.is_clone → IfOk result (λ s. s ≡ self.now) }
         ensures refusal { IfErr result (λ e. e ≡ Refusal.Memory) }
     {
         let alloc = *self.nodes.allocator();
@@ -107,7 +108,7 @@ fn clone_nodes<T: Clone + Drop>(alloc: Global, nodes: &[Vec<T>]) -> Result<Vec<V
         (vec_items copies.items)) }
     ensures lengths { IfOk result (λ copies. node_lengths (vec_items copies.items)
         ≡ node_lengths (vec_items nodes.now)) }
-    ensures nodes { ((x y : T) → T.is_clone x y → y ≡ x)
+    ensures nodes { AreIdentical T.is_clone
         → IfOk result (λ copies. vec_items copies.items ≡ vec_items nodes.now) }
     ensures refusal { IfErr result (λ e. e ≡ Refusal.Memory) }
 {
