@@ -63,6 +63,20 @@ def is_definition(line: str) -> bool:
     return bool(re.match(r"(?:  )?(?:(?:abbrev|unfoldable) )?pub (?!use|mod)", line))
 
 
+def definition_of(name: str, lines: list[str], at: int) -> str:
+    """Returns the first line of a word's definition joined with its continuation lines, or nothing if there is none.
+    The word's signature begins at line `at`."""
+    indent = len(lines[at]) - len(lines[at].lstrip())
+    parts: list[str] = []
+    for line in lines[at + 1 :]:
+        is_further = len(line) - len(line.lstrip()) > indent
+        if parts and not is_further or not line.strip():
+            break
+        if parts or not is_further and line.strip().startswith(name + " "):
+            parts.append(line.strip())
+    return " ".join(parts)
+
+
 def words_of(text: str) -> Iterator[Word]:
     """Returns the words of a specs file."""
     lines = text.splitlines()
@@ -74,15 +88,15 @@ def words_of(text: str) -> Iterator[Word]:
             continue
         found = re.match(r"(?:(?:abbrev|unfoldable) )?pub (?:record |opaque )?(\S+)", text)
         if found and is_definition(line):
-            definition = [it.strip() for it in lines[at + 1 : at + 3] if it.strip().startswith(found[1] + " ")]
-            is_short = bool(definition) and len(definition[0]) <= LONGEST
-            yield Word(found[1], " ".join(comment) or (f"`{definition[0]}`" if is_short else ""))
+            definition = definition_of(found[1], lines, at)
+            is_short = 0 < len(definition) <= LONGEST
+            yield Word(found[1], " ".join(comment) or (f"`{definition}`" if is_short else ""))
         comment = []
 
 
 def passed_on() -> set[str]:
     """Returns the words that indexset re-exports."""
-    lists = re.findall(r"^(?:unfoldable )?pub use [\w.]+\.\{(.*?)\}", WORDS.read_text(encoding="utf-8"), re.M)
+    lists = re.findall(r"^(?:unfoldable )?pub use [\w.]+\.\{([^}]*)\}", WORDS.read_text(encoding="utf-8"), re.M)
     return {name.strip() for names in lists for name in names.split(",")}
 
 
