@@ -47,7 +47,7 @@ returns c =
     let was : Some m ≡ c.args.log.now.slot.value = ap Some c.deref_mut.ensures.value ∙ c.in-Some.ensures.taken in
     rw (← was) (elim c.match-insert_told.branch [
       | in-Ok+then-write w ↦
-          let e = w.in-Ok.ensures in let told : c.match-insert_told.told ≡ n = w.told-is ∙ e.told in
+          let e = w.in-Ok.ensures in let told : c.match-insert_told.told ≡ n = w.told-is ∙ e.event_count in
           record {
             before = (λ h. not_at s NO YES w.status-is refl h, λ h. sym e.before ∙ w.write.ensures.found w.if-write.true ∙ ap Some (sym w.before-is));
             ok = λ h. rw told (new ∙ ap Some e.ok);
@@ -60,7 +60,7 @@ returns c =
             status = ((λ h. not_at s NO NONE w.status-is refl h, λ h. absurd (none-some _ (sym h))), (λ h. not_at s NO UNFIT w.status-is refl h, λ h. absurd (omega (arith, c.if-events-lt3.false, h.1))), rw w.status-is (leb-true NO UNFIT refl), λ h. not_at s NO HELD w.status-is refl h);
           }
       | in-Ok+else-write w ↦
-          let e = w.in-Ok.ensures in let told : c.match-insert_told.told ≡ n = w.told-is ∙ e.told in
+          let e = w.in-Ok.ensures in let told : c.match-insert_told.told ≡ n = w.told-is ∙ e.event_count in
           record {
             before = (λ h. sym e.before ∙ w.write.ensures.absent w.if-write.false, λ h. not_at s YES NO w.status-is refl h);
             ok = λ h. rw told (new ∙ ap Some e.ok);

@@ -49,7 +49,7 @@ returns c =
     let was : Some m ≡ c.args.log.now.slot.value = ap Some c.deref_mut.ensures.value ∙ c.in-Some.ensures.taken in
     rw (← was) (elim c.match-remove_told.branch [
       | in-Ok+then-write w ↦
-          let e = w.in-Ok.ensures in let told : c.match-remove_told.told ≡ n = w.told-is ∙ e.told in
+          let e = w.in-Ok.ensures in let told : c.match-remove_told.told ≡ n = w.told-is ∙ e.event_count in
           record {
             found = (λ h. sym e.found ∙ w.write.ensures.found w.if-write.true ∙ ap Some (sym w.out-is), λ h. not_at s YES NO w.status-is refl h, λ none enough. absurd (none-some _ (sym none ∙ (sym e.found ∙ w.write.ensures.found w.if-write.true))));
             rest = λ h. rw new e.changed.contents;
@@ -62,8 +62,8 @@ returns c =
             status = ((λ h. not_at s YES UNFIT w.status-is refl h, λ h. absurd (omega (arith, c.if-events-lt3.false, h.1))), rw w.status-is (leb-true YES UNFIT refl), (λ h. not_at s YES NONE w.status-is refl h), (λ h. not_at s YES HELD w.status-is refl h));
           }
       | in-Ok+else-write w ↦
-          let e = w.in-Ok.ensures in let told : c.match-remove_told.told ≡ n = w.told-is ∙ e.told in
-          let gone = e.absent (w.write.ensures.absent w.if-write.false) in let zero : n ≡ 0 = sym e.told ∙ gone.0 in
+          let e = w.in-Ok.ensures in let told : c.match-remove_told.told ≡ n = w.told-is ∙ e.event_count in
+          let gone = e.absent (w.write.ensures.absent w.if-write.false) in let zero : n ≡ 0 = sym e.event_count ∙ gone.0 in
           record {
             found = (λ h. not_at s NO YES w.status-is refl h, λ h. sym e.found ∙ w.write.ensures.absent w.if-write.false, λ none enough. w.status-is);
             rest = λ h. rw new e.changed.contents;
