@@ -50,7 +50,7 @@ pub fn count_words(counts: &mut BTreeMap<u8, u32>, words: &[u8]) -> Result<(), R
 }
 
 /// Removes a key.
-pub fn take_out(m: &mut BTreeMap<u8, u32>, key: u8) -> Option<u32>
+pub fn take(m: &mut BTreeMap<u8, u32>, key: u8) -> Option<u32>
     ensures rest { m.new ≡ without_entry nat_cmp m.old key }
     ensures value { result ≡ value_of nat_cmp m.old.pairs key }
 {

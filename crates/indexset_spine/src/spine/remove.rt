@@ -23,7 +23,7 @@ impl<T: Drop> Spine<T> {
         ensures size { self.new.size ≡ self.old.size }
     {
         self.len -= 1;
-        take_out(&mut self.nodes, &mut self.index, spot)
+        remove_from_node(&mut self.nodes, &mut self.index, spot)
     }
 
     /// Replaces the item at a spot, and returns the old one.
@@ -41,7 +41,7 @@ impl<T: Drop> Spine<T> {
 }
 
 // Removes the item at a spot, and an emptied node unless it is the only one, and updates the index.
-fn take_out<T: Drop>(nodes: &mut Vec<Vec<T>>, index: &mut Fenwick, spot: Spot) -> T
+fn remove_from_node<T: Drop>(nodes: &mut Vec<Vec<T>>, index: &mut Fenwick, spot: Spot) -> T
     requires spot { IsItemSpot (vec_items nodes.old.items) spot }
     requires index { index.old.lengths ≡ node_lengths (vec_items nodes.old.items) }
     ensures value { slice_get (node_at (vec_items nodes.old.items) spot.node) spot.offset

@@ -13,17 +13,17 @@ pub invariant_of-self : goal.invariant_of-self
 invariant_of-self g c =
     let spot = item_spot_in _ _ c.args.self.now c.args.spot c.self.view_is c.requires in
     record {
-      is_spine = rw c.take_out.ensures.nodes (spine_without _ _ _ c.args.spot spot c.self.invariant.is_spine);
-      index_is = c.take_out.ensures.index;
+      is_spine = rw c.remove_from_node.ensures.nodes (spine_without _ _ _ c.args.spot spot c.self.invariant.is_spine);
+      index_is = c.remove_from_node.ensures.index;
     }
 
 pub returns-clause-value : goal.returns-clause-value
 returns-clause-value g c =
     let spot = item_spot_in _ _ c.args.self.now c.args.spot c.self.view_is c.requires in
-    rw (← c.self.view_is) (item_at_spot _ c.args.spot spot ∙ c.take_out.ensures.value)
+    rw (← c.self.view_is) (item_at_spot _ c.args.spot spot ∙ c.remove_from_node.ensures.value)
 
 pub returns-clause-items : goal.returns-clause-items
 returns-clause-items g c =
     let spot = item_spot_in _ _ c.args.self.now c.args.spot c.self.view_is c.requires in
-    ap concat c.take_out.ensures.nodes
+    ap concat c.remove_from_node.ensures.nodes
     ∙ (joined_without _ c.args.spot spot ∙ ap (λ (t : NodeList g.row.T.Denot). remove (items t) (position_of t.nodes c.args.spot)) c.self.view_is)

@@ -3,7 +3,7 @@ use Rattle.indexset_core.specs.Nodes.{node_lengths, vec_items}
 use Rattle.indexset_spine.proofs.RemoveSteps.{item_taken, item_out}
 use Rattle.indexset_index.proofs.CallerLemmas.{count-lengths, length-at}
 use Rattle.indexset_spine.proofs.IndexLemmas.{lengths-less}
-use Rattle.indexset_spine.proofs.spine.remove.take_out.Goals as goal
+use Rattle.indexset_spine.proofs.spine.remove.remove_from_node.Goals as goal
 
 pub sub-requires-clause-inside : goal.sub-requires-clause-inside
 sub-requires-clause-inside g c = rw c.requires.index (omega (arith, c.requires.spot.node_in, count-lengths (vec_items c.args.nodes.now.items)))
