@@ -20,7 +20,7 @@ pub loop-low-preserved-then-is_gt : goal.loop-low-preserved-then-is_gt
 loop-low-preserved-then-is_gt g c =
     let at = c.loop-low in let inv = at.invariant in
     let len = length c.args.items.now in
-    let inside = next_inside c.args.from at.low at.high len (g.P.Probe.asked at.probe) (g.P.Probe.asked c.args.probe.now) inv.order c.loop-low-test.true inv.within inv.at_most_three_events in
+    let inside = next_inside c.args.from at.low at.high len (g.P.Probe.asked at.probe) (g.P.Probe.asked c.args.probe.now) inv.order c.loop-low-test.true inv.within inv.comparisons in
     let past : is_gt (g.P.Probe.answer c.args.probe.now c.index-items-at.result) ≡ true = cc in
     record {
       order = inv.order;
@@ -28,14 +28,14 @@ loop-low-preserved-then-is_gt g c =
       past = stops (g.P.Probe.answer c.args.probe.now) c.args.items.now c.requires.parted c.next_step-at.result c.index-items-at.result (slice_get_read c.args.items.now len c.next_step-at.result c.index-items-at.result refl (omega (arith, inside.1, c.next_step-at.ensures, inv.within)) c.index-items-at.is) past;
       within = omega (arith, inside.1, c.next_step-at.ensures, inv.within);
       fixed = cc;
-      comparisons = rw c.place.ensures.counted (stepped_back c.args.from at.low at.high len (g.P.Probe.asked at.probe) (g.P.Probe.asked c.args.probe.now) inv.order c.loop-low-test.true inv.within inv.at_most_three_events c.next_step-at.result c.next_step-at.ensures);
+      comparisons = rw c.place.ensures.counted (stepped_back c.args.from at.low at.high len (g.P.Probe.asked at.probe) (g.P.Probe.asked c.args.probe.now) inv.order c.loop-low-test.true inv.within inv.comparisons c.next_step-at.result c.next_step-at.ensures);
     }
 
 pub loop-low-preserved : goal.loop-low-preserved
 loop-low-preserved g c =
     let at = c.loop-low in let inv = at.invariant in
     let len = length c.args.items.now in
-    let inside = next_inside c.args.from at.low at.high len (g.P.Probe.asked at.probe) (g.P.Probe.asked c.args.probe.now) inv.order c.loop-low-test.true inv.within inv.at_most_three_events in
+    let inside = next_inside c.args.from at.low at.high len (g.P.Probe.asked at.probe) (g.P.Probe.asked c.args.probe.now) inv.order c.loop-low-test.true inv.within inv.comparisons in
     let passes : is_gt (g.P.Probe.answer c.args.probe.now c.index-items-at.result) ≡ false = cc in
     record {
       order = omega (arith, inside.0, c.next_step-at.ensures, inv.order);
@@ -43,5 +43,5 @@ loop-low-preserved g c =
       past = inv.past;
       within = inv.within;
       fixed = cc;
-      comparisons = rw c.place.ensures.counted (stepped_on c.args.from at.low at.high len (g.P.Probe.asked at.probe) (g.P.Probe.asked c.args.probe.now) inv.order c.loop-low-test.true inv.within inv.at_most_three_events c.next_step-at.result c.next_step-at.ensures);
+      comparisons = rw c.place.ensures.counted (stepped_on c.args.from at.low at.high len (g.P.Probe.asked at.probe) (g.P.Probe.asked c.args.probe.now) inv.order c.loop-low-test.true inv.within inv.comparisons c.next_step-at.result c.next_step-at.ensures);
     }
