@@ -6,7 +6,7 @@ pub mod FreeNumberLemmas
 pub mod InsertLemmas
 pub mod KeyListLemmas
 pub mod NumberedPairLemmas
-pub mod PositionRange
+pub mod PositionLemmas
 pub mod PutLemmas
 pub mod RemovalRunLemmas
 pub mod ReadingLemmas

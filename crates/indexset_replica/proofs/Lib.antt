@@ -4,7 +4,7 @@ pub mod CallerLemmas
 pub mod PrefixLemmas
 pub mod CloneLemmas
 pub mod CopyLemmas
-pub mod CopiedPositionRange
+pub mod CopyPositionLemmas
 pub mod DeliveryLemmas
 pub mod EqualCloneLemmas
 pub mod KeySearchLemmas
