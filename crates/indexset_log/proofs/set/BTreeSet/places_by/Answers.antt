@@ -42,7 +42,7 @@ record Found (g : Over) (c : After-first_not_less_near-offset g) : Type 0 where
   pub before : items_before c.args.self.now.nodes (c.node_by-node.result, c.first_not_less_near-offset.result.0) ≡ less_count (g.P.Probe.answer c.args.probe.now) (concat c.args.self.now.nodes)
   pub told : equal_at (g.P.Probe.answer c.args.probe.now) (concat c.args.self.now.nodes) (less_count (g.P.Probe.answer c.args.probe.now) (concat c.args.self.now.nodes)) ≡ c.first_not_less_near-offset.result.1
   pub fixed : g.P.Probe.answer c.first_not_less_near-offset.new.probe ≡ g.P.Probe.answer c.args.probe.now
-  pub few : g.P.Probe.asked c.first_not_less_near-offset.new.probe ≤ g.P.Probe.asked c.args.probe.now + (digits (length c.args.self.now.nodes) + digits c.args.self.now.size)
+  pub comparisons : g.P.Probe.asked c.first_not_less_near-offset.new.probe ≤ g.P.Probe.asked c.args.probe.now + (digits (length c.args.self.now.nodes) + digits c.args.self.now.size)
 
 found : (g : Over) (c : After-first_not_less_near-offset g) → Read (g.P.Probe.answer c.args.probe.now) c.args.self.now.nodes c.node_by-node.result c.as_slice-2.result.now → Found g c
 found g c r =
@@ -98,7 +98,7 @@ pub returns-then-found-clause-comparisons : goal.returns-then-found-clause-compa
 returns-then-found-clause-comparisons g c =
     let at = goal.at.returns-then-found-clause-comparisons g c in
     let f = found g at.After-first_not_less_near-offset (read g at.After-as_slice-2) in
-    omega (arith, f.few, c.end_from.ensures.comparisons)
+    omega (arith, f.comparisons, c.end_from.ensures.comparisons)
 
 pub returns-else-found-clause-before : goal.returns-else-found-clause-before
 returns-else-found-clause-before g c =
@@ -116,7 +116,7 @@ pub returns-else-found-clause-comparisons : goal.returns-else-found-clause-compa
 returns-else-found-clause-comparisons g c =
     let at = goal.at.returns-else-found-clause-comparisons g c in
     let f = found g at.After-first_not_less_near-offset (read g at.After-as_slice-2) in
-    omega (arith, f.few)
+    omega (arith, f.comparisons)
 
 pub end_from-requires-clause-parted : goal.end_from-requires-clause-parted
 end_from-requires-clause-parted g c = rw (c.first_not_less_near-offset.ensures.fixed, c.node_by-node.ensures.fixed) c.requires
