@@ -9,10 +9,10 @@ use Rattle.indexset_events.specs.Table.{checked_put_events, put_events, target_e
 use Rattle.indexset_events.specs.declared.change.ChangeEvent.{ChangeEvent}
 use Rattle.indexset_events.specs.declared.change.ChangeEventUnassigned.{ChangeEventUnassigned}
 use Rattle.indexset_events.specs.declared.change.ChangeEventUnassigned.TheVariants.{InsertAt, RemoveAt, CreateNode, RemoveNode, SplitNode, MergeNodes}
-use Rattle.indexset_core.specs.Nodes.{concat, IsLawful}
+use Rattle.indexset_core.specs.Nodes.{concat, IsLawful, IsNodeList}
 use Rattle.indexset_events.specs.Nodes.{are_nodes, last_of, is_filled}
-use Rattle.indexset_core.specs.Nodes.{IsNodeList}
-use Rattle.indexset_events.specs.Replay.{earlier_replay, is_joining, edit, step, step_plain, replay_plain, replay, numbered_from, assigned, unassigned, event_number, IsNumberedFrom}
+use Rattle.indexset_events.specs.Replay.{edit, step, step_plain, replay_plain, replay, numbered_from, assigned, unassigned, event_number, IsNumberedFrom}
+use Rattle.indexset_events.specs.WithoutMerges.{is_merge, replay_without_merges}
 use Rattle.indexset_events.proofs.AscendingListLemmas.{tested_nodes, last_answer, Up, up-left, up-right, Ruled, lawful_from}
 
 number_off : {T : Type 0} (s : ℕ) (e : ChangeEventUnassigned T) → unassigned (assigned s e) ≡ e
@@ -108,16 +108,16 @@ replay-append cmp ns [] b = refl
 replay-append cmp ns (e ∷ a) b = replay_rest cmp a b (step cmp ns e) (λ r. replay-append cmp r a b)
 
 -- a list without merges
-earlier_rest : {T : Type 0} (cmp : T → T → Ordering) (es : List (ChangeEvent T)) (o : Option (List (List T))) → ((ns : List (List T)) → earlier_replay cmp ns es ≡ replay cmp ns es) → option_and_then (λ r. earlier_replay cmp r es) o ≡ option_and_then (λ r. replay cmp r es) o
-earlier_rest cmp es None h = refl
-earlier_rest cmp es (Some ns) h = h ns
+without_merges_rest : {T : Type 0} (cmp : T → T → Ordering) (es : List (ChangeEvent T)) (o : Option (List (List T))) → ((ns : List (List T)) → replay_without_merges cmp ns es ≡ replay cmp ns es) → option_and_then (λ r. replay_without_merges cmp r es) o ≡ option_and_then (λ r. replay cmp r es) o
+without_merges_rest cmp es None h = refl
+without_merges_rest cmp es (Some ns) h = h ns
 
-pub earlier_same : {T : Type 0} (cmp : T → T → Ordering) (ns : List (List T)) (es : List (ChangeEvent T)) → list_any is_joining es ≡ false → earlier_replay cmp ns es ≡ replay cmp ns es
-earlier_same cmp ns [] none = refl
-earlier_same cmp ns (e ∷ es) none =
-    elim (is_joining e) as (λ b. is_joining e ≡ b → (b || list_any is_joining es) ≡ false → option_and_then (λ r. earlier_replay cmp r es) (if b then None else step cmp ns e) ≡ option_and_then (λ r. replay cmp r es) (step cmp ns e)) [
+pub without_merges_same : {T : Type 0} (cmp : T → T → Ordering) (ns : List (List T)) (es : List (ChangeEvent T)) → list_any is_merge es ≡ false → replay_without_merges cmp ns es ≡ replay cmp ns es
+without_merges_same cmp ns [] none = refl
+without_merges_same cmp ns (e ∷ es) none =
+    elim (is_merge e) as (λ b. is_merge e ≡ b → (b || list_any is_merge es) ≡ false → option_and_then (λ r. replay_without_merges cmp r es) (if b then None else step cmp ns e) ≡ option_and_then (λ r. replay cmp r es) (step cmp ns e)) [
       | true ↦ λ is h. absurd (false≢true (sym h))
-      | false ↦ λ is h. earlier_rest cmp es (step cmp ns e) (λ r. earlier_same cmp r es h)
+      | false ↦ λ is h. without_merges_rest cmp es (step cmp ns e) (λ r. without_merges_same cmp r es h)
     ] refl none
 
 pub numbers_off : {T : Type 0} (s : ℕ) (es : List (ChangeEventUnassigned T)) → map unassigned (numbered_from s es) ≡ es

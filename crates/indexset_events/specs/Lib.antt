@@ -12,3 +12,4 @@ pub mod Replay
 pub mod Spelling
 pub mod Table
 pub mod Text
+pub mod WithoutMerges

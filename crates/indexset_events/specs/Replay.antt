@@ -1,5 +1,5 @@
 -- The effect of an event on a list of nodes.
-use Rattle.std.specs.Prelude.{◌≡◌, ℕ, ◌+◌, ◌<◌, length, Bool, true, false, not, List, [], ◌∷◌, ◌&&◌, if◌then◌else◌, ltb, leb, ◌==◌, get_or, take, drop, insert, remove, position, Option, Some, None, option_map, option_and_then}
+use Rattle.std.specs.Prelude.{◌≡◌, ℕ, ◌+◌, ◌<◌, length, Bool, not, List, [], ◌∷◌, ◌&&◌, if◌then◌else◌, ltb, leb, ◌==◌, get_or, take, drop, insert, remove, position, Option, Some, None, option_map, option_and_then}
 use Rattle.std.specs.declared.cmp.Ordering.{Ordering}
 use Rattle.std.specs.Ordering.{is_eq}
 use Rattle.std.specs.List.{position_or_len, HoldsAt, splice}
@@ -88,20 +88,6 @@ step cmp ns e = step_plain cmp ns (unassigned e)
 abbrev pub replay : {T : Type 0} → (T → T → Ordering) → List (List T) → List (ChangeEvent T) → Option (List (List T))
 replay cmp ns [] = Some ns
 replay cmp ns (e ∷ es) = option_and_then (λ r. replay cmp r es) (step cmp ns e)
-
--- the event is a merge
-abbrev pub is_joining : {T : Type 0} → ChangeEvent T → Bool
-is_joining (numbered.InsertAt id m v i) = false
-is_joining (numbered.RemoveAt id m v i) = false
-is_joining (numbered.CreateNode id m) = false
-is_joining (numbered.RemoveNode id m) = false
-is_joining (numbered.SplitNode id m k) = false
-is_joining (numbered.MergeNodes id m w) = true
-
--- the replay that does not apply merges
-abbrev pub earlier_replay : {T : Type 0} → (T → T → Ordering) → List (List T) → List (ChangeEvent T) → Option (List (List T))
-earlier_replay cmp ns [] = Some ns
-earlier_replay cmp ns (e ∷ es) = option_and_then (λ r. earlier_replay cmp r es) (if is_joining e then None else step cmp ns e)
 
 -- the events with the numbers from s on
 abbrev pub numbered_from : {T : Type 0} → ℕ → List (ChangeEventUnassigned T) → List (ChangeEvent T)

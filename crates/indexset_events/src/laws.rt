@@ -13,10 +13,11 @@ ghost use Rattle.indexset_events.specs.EventText.{EventInRange, event_reading, e
 ghost use Rattle.indexset_events.specs.Merging.{IsDense, merge_after};
 ghost use Rattle.indexset_events.specs.Keys.{key_removal_events};
 ghost use Rattle.indexset_events.specs.Nodes.{are_nodes};
-ghost use Rattle.indexset_events.specs.Replay.{earlier_replay, is_joining, step, step_plain, replay, numbered_from, unassigned, IsNumberedFrom};
+ghost use Rattle.indexset_events.specs.Replay.{step, step_plain, replay, numbered_from, unassigned, IsNumberedFrom};
 ghost use Rattle.indexset_events.specs.Spelling.{lacks};
 ghost use Rattle.indexset_events.specs.Table.{checked_put_events, put_events, removal_events, place_removal_count};
 ghost use Rattle.indexset_events.specs.Text.{event_shown};
+ghost use Rattle.indexset_events.specs.WithoutMerges.{is_merge, replay_without_merges};
 ghost use Rattle.indexset_events.specs.declared.change.ChangeEvent.{ChangeEvent};
 ghost use Rattle.indexset_events.specs.declared.change.ChangeEventUnassigned.{ChangeEventUnassigned};
 ghost use Rattle.indexset_events.specs.declared.change.ChangeEventUnassigned.TheVariants.{InsertAt, RemoveAt, CreateNode, RemoveNode, SplitNode, MergeNodes};
@@ -30,10 +31,10 @@ pub fn replay_in_parts<T: Ord>()
         (replay T.cmp ns first) }
 {}
 
-/// `earlier_replay`, which applies no merge, equals `replay` on events without `MergeNodes`.
+/// `replay_without_merges`, which applies no merge, equals `replay` on events without `MergeNodes`.
 pub fn earlier_events_replayed<T: Ord>()
     ensures { (ns : List (List T)) (events : List (ChangeEvent T))
-        → list_any is_joining events ≡ false → earlier_replay T.cmp ns events
+        → list_any is_merge events ≡ false → replay_without_merges T.cmp ns events
         ≡ replay T.cmp ns events }
 {}
 

@@ -1,5 +1,5 @@
-use Rattle.indexset_events.proofs.ReplayTheorem.{earlier_same}
+use Rattle.indexset_events.proofs.ReplayTheorem.{without_merges_same}
 use Rattle.indexset_events.proofs.laws.earlier_events_replayed.Goals as goal
 
 pub returns : goal.returns
-returns g c = earlier_same g.T.Ord.cmp
+returns g c = without_merges_same g.T.Ord.cmp
