@@ -16,7 +16,7 @@ use std::fmt;
 /// ```
 /// # use indexset::cdc::spelling::Spelled;
 /// let number: u64 = 250;
-/// number.attest();
+/// number.recall_range();
 /// assert!(rt; u64::read(b"250") == Some(number) && u64::read(b"0250").is_none());
 /// assert!(rt; u8::read(b"256").is_none());
 /// ```
@@ -35,7 +35,7 @@ pub trait Spelled: fmt::Display {
         ensures { result ≡ reading text.now };
 
     /// Does nothing; its contract states that the value is in range.
-    fn attest(&self)
+    fn recall_range(&self)
         ensures { in_range self.now };
 
     /// `{}` writes the text.

@@ -56,7 +56,7 @@ impl Spelled for Side {
         }
     }
 
-    fn attest(&self) {}
+    fn recall_range(&self) {}
 }
 
 impl Word for Side {
@@ -73,7 +73,7 @@ pub fn resent<T: Spelled + Drop>(
 ) -> Result<Option<ChangeEvent<T>>, fmt::Error>
     ensures { IfOk result (λ read. read ≡ Some event.now) }
 {
-    event.attest();
+    event.recall_range();
     texts_are_read::<T>();
     let line = format!(in alloc; "{event}")?;
     Ok(read_event(line.as_bytes()))

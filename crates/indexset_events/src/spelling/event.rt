@@ -207,9 +207,9 @@ impl<T: Spelled> ChangeEvent<T> {
     ///
     /// ```
     /// let event = ChangeEvent::CreateNode { event_id: Id::from(7), max_value: 5u64 };
-    /// event.attest();
+    /// event.recall_range();
     /// ```
-    pub fn attest(&self)
+    pub fn recall_range(&self)
         ensures { EventInRange T.in_range self.now }
     {
         match self {
@@ -219,9 +219,10 @@ impl<T: Spelled> ChangeEvent<T> {
                 value,
                 index,
             } => {
-                let _numbers = (event_id.inner(), *index);
-                max_value.attest();
-                value.attest();
+                event_id.inner().recall_range();
+                index.recall_range();
+                max_value.recall_range();
+                value.recall_range();
             }
             ChangeEvent::RemoveAt {
                 event_id,
@@ -229,40 +230,42 @@ impl<T: Spelled> ChangeEvent<T> {
                 value,
                 index,
             } => {
-                let _numbers = (event_id.inner(), *index);
-                max_value.attest();
-                value.attest();
+                event_id.inner().recall_range();
+                index.recall_range();
+                max_value.recall_range();
+                value.recall_range();
             }
             ChangeEvent::CreateNode {
                 event_id,
                 max_value,
             } => {
-                let _number = event_id.inner();
-                max_value.attest();
+                event_id.inner().recall_range();
+                max_value.recall_range();
             }
             ChangeEvent::RemoveNode {
                 event_id,
                 max_value,
             } => {
-                let _number = event_id.inner();
-                max_value.attest();
+                event_id.inner().recall_range();
+                max_value.recall_range();
             }
             ChangeEvent::SplitNode {
                 event_id,
                 max_value,
                 split_index,
             } => {
-                let _numbers = (event_id.inner(), *split_index);
-                max_value.attest();
+                event_id.inner().recall_range();
+                split_index.recall_range();
+                max_value.recall_range();
             }
             ChangeEvent::MergeNodes {
                 event_id,
                 max_value,
                 next_max_value,
             } => {
-                let _number = event_id.inner();
-                max_value.attest();
-                next_max_value.attest();
+                event_id.inner().recall_range();
+                max_value.recall_range();
+                next_max_value.recall_range();
             }
         }
     }

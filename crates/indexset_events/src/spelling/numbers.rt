@@ -32,7 +32,7 @@ impl Spelled for u8 {
         }
     }
 
-    fn attest(&self) {
+    fn recall_range(&self) {
         let _number = *self;
     }
 }
@@ -65,7 +65,7 @@ impl Spelled for u16 {
         }
     }
 
-    fn attest(&self) {
+    fn recall_range(&self) {
         let _number = *self;
     }
 }
@@ -98,7 +98,7 @@ impl Spelled for u32 {
         }
     }
 
-    fn attest(&self) {
+    fn recall_range(&self) {
         let _number = *self;
     }
 }
@@ -126,7 +126,7 @@ impl Spelled for u64 {
         read_number(text)
     }
 
-    fn attest(&self) {
+    fn recall_range(&self) {
         let _number = *self;
     }
 }
@@ -154,7 +154,7 @@ impl Spelled for usize {
         Some(read_number(text)? as usize)
     }
 
-    fn attest(&self) {
+    fn recall_range(&self) {
         let _number = *self;
     }
 }
@@ -182,7 +182,7 @@ impl Spelled for i8 {
         signed_text(text, 1 << 7)?.parse().ok()
     }
 
-    fn attest(&self) {
+    fn recall_range(&self) {
         let _number = *self;
     }
 }
@@ -210,7 +210,7 @@ impl Spelled for i16 {
         signed_text(text, 1 << 15)?.parse().ok()
     }
 
-    fn attest(&self) {
+    fn recall_range(&self) {
         let _number = *self;
     }
 }
@@ -238,7 +238,7 @@ impl Spelled for i32 {
         signed_text(text, 1 << 31)?.parse().ok()
     }
 
-    fn attest(&self) {
+    fn recall_range(&self) {
         let _number = *self;
     }
 }
@@ -266,7 +266,7 @@ impl Spelled for i64 {
         signed_text(text, 1 << 63)?.parse().ok()
     }
 
-    fn attest(&self) {
+    fn recall_range(&self) {
         let _number = *self;
     }
 }
@@ -294,7 +294,7 @@ impl Spelled for isize {
         signed_text(text, 1 << 63)?.parse().ok()
     }
 
-    fn attest(&self) {
+    fn recall_range(&self) {
         let _number = *self;
     }
 }

@@ -30,9 +30,9 @@ impl<K: Word + Drop, V: Word + Drop> Spelled for Pair<K, V> {
         Some(Pair { key, value })
     }
 
-    fn attest(&self) {
-        self.key.attest();
-        self.value.attest();
+    fn recall_range(&self) {
+        self.key.recall_range();
+        self.value.recall_range();
     }
 }
 
@@ -64,9 +64,9 @@ impl<K: Word + Drop, V: Word + Drop> Spelled for MultiPair<K, V> {
         })
     }
 
-    fn attest(&self) {
-        self.key.attest();
-        self.value.attest();
-        let _number = self.discriminator;
+    fn recall_range(&self) {
+        self.key.recall_range();
+        self.value.recall_range();
+        self.discriminator.recall_range();
     }
 }
