@@ -15,9 +15,7 @@ use Rattle.indexset_events.proofs.SearchLemmas.{found_at}
 use Rattle.indexset_events.proofs.RemovalLemmas.{found_contents, found_events, taken_replay}
 use Rattle.indexset_events.proofs.NodeViewLemmas.{lawful_ascends, lawful_filled, lawful_parted}
 use Rattle.indexset_core.proofs.CallerLemmas.{equal_read, get_in_node, places_order, rank-slice_get, end_at, end_gap, end_node, end_offset}
-use Rattle.indexset_events.specs.Located.{IsFoundIn}
 use Rattle.indexset_core.specs.Places.{items_before, located}
-use Rattle.indexset_events.proofs.SearchLemmas.{found_at}
 
 -- two items with equally many items before them are the same
 module _ {T : Type 0} (ns : List (List T)) (p q : ℕ × ℕ) (p_node : p.0 < length ns) (p_in : p.1 < length (node_at ns p.0)) (q_node : q.0 < length ns) (q_in : q.1 < length (node_at ns q.0)) (same : items_before ns p ≡ items_before ns q) where

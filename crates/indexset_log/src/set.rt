@@ -6,7 +6,6 @@ ghost use Rattle.indexset_core.specs.Nodes.{concat, IsLawful};
 ghost use Rattle.indexset_core.specs.Digits.{digits};
 ghost use Rattle.indexset_core.specs.Order.{has_equal, equal_element};
 ghost use Rattle.indexset_core.specs.Parted.{IsParted};
-ghost use Rattle.indexset_events.specs.Located.{IsFoundIn};
 ghost use Rattle.indexset_core.specs.Places.{located};
 ghost use Rattle.indexset_events.specs.Located.{IsFoundIn};
 

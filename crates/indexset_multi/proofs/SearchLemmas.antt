@@ -14,7 +14,6 @@ use Rattle.indexset_multi.specs.Places.{IsItemPlace, placed_item}
 use Rattle.indexset_core.specs.LookupKey.{OrdersAsItem, acts_as_itself, acts_on_numbered}
 use Rattle.indexset_core.proofs.CallerLemmas.{parted_by_sought, is_some-find, end_found, end_node, end_offset, gap_found, get_in_node}
 use Rattle.indexset_core.specs.Places.{items_before, located}
-use Rattle.indexset_events.proofs.CallerLemmas.{lawful_ascends, lawful_filled}
 
 module _ {T : Type 0} (cmp : T → T → Ordering) (size : ℕ) (ns : List (List T)) (law : IsLawful cmp size ns) (answer : T → Ordering) (parted : IsParted answer (concat ns)) (r : Result (ℕ × ℕ) (ℕ × ℕ)) (e : r ≡ located answer ns) where
   -- it is the place of an item if the search found one
