@@ -65,7 +65,7 @@ pub use Rattle.indexset_set.specs.SetExtract.{CalledOn, ExtractsOne, extract_ite
 pub use Rattle.indexset_set.specs.SetRanges.{not_below, upper_element}
 pub use Rattle.indexset_map.specs.Contents.{with_entry, with_pairs, without_at, without_entry}
 pub use Rattle.indexset_map.specs.Extract.{ExtractsPair, extract_map, extract_map_pred, extract_pairs}
-pub use Rattle.indexset_map.specs.ItemIter.{HasWritten, walk_back, walk_front, written}
+pub use Rattle.indexset_map.specs.Walk.{HasWritten, walk_back, walk_front, written}
 pub use Rattle.indexset_core.specs.Nodes.{concat, vec_items, IsNodeList}
 pub use Rattle.indexset_events.specs.Clones.{IsEventClone}
 pub use Rattle.indexset_events.specs.declared.change.ChangeEvent.{ChangeEvent}

@@ -3,7 +3,7 @@ use Rattle.std.specs.declared.ops.Bound.TheVariants.{Included, Excluded}
 use Rattle.std.specs.Ordering.{nat_cmp}
 use Rattle.indexset_core.specs.KeyRange.{is_within}
 use Rattle.indexset_map.specs.Contents.{with_pairs}
-use Rattle.indexset_map.specs.ItemIter.{walk_back, walk_front, walk_map}
+use Rattle.indexset_map.specs.Walk.{walk_back, walk_front, walk_map}
 use Rattle.indexset_map.proofs.CallerLemmas.{nothing_written, pair_written, range_written}
 use Rattle.test_units.specs.Callers.{more, raised_within}
 use Rattle.test_units.proofs.callers.add_hundred.Goals as goal

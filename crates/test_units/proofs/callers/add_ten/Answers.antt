@@ -1,6 +1,6 @@
 use Rattle.std.proofs.Common.{◌≡◌, ◌<◌, map, rules, arith}
 use Rattle.indexset_map.specs.Contents.{with_pairs}
-use Rattle.indexset_map.specs.ItemIter.{walk_back, walk_front, walk_map}
+use Rattle.indexset_map.specs.Walk.{walk_back, walk_front, walk_map}
 use Rattle.indexset_map.proofs.CallerLemmas.{all_written, nothing_written, pair_written}
 use Rattle.test_units.specs.Callers.{more, raised}
 use Rattle.test_units.proofs.callers.add_ten.Goals as goal

@@ -1,6 +1,6 @@
 -- The values before the iterator were increased by 10, and the others are unchanged.
 use Rattle.std.proofs.Common.{◌-◌}
-use Rattle.indexset_map.specs.ItemIter.{HasWritten, walk_back, walk_front}
+use Rattle.indexset_map.specs.Walk.{HasWritten, walk_back, walk_front}
 use Rattle.test_units.specs.Callers.{more}
 use Rattle.test_units.proofs.callers.add_ten.Given as goal
 

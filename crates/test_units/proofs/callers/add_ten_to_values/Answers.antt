@@ -1,7 +1,7 @@
 use Rattle.std.proofs.Common.{◌≡◌, map, rules, arith}
 use Rattle.indexset_map.specs.Contents.{with_pairs}
 use Rattle.indexset_map.specs.ValuesWalk.{values_walk}
-use Rattle.indexset_map.specs.ItemIter.{walk_map}
+use Rattle.indexset_map.specs.Walk.{walk_map}
 use Rattle.indexset_map.proofs.CallerLemmas.{all_written, nothing_written, value_written}
 use Rattle.test_units.specs.Callers.{more, raised}
 use Rattle.test_units.proofs.callers.add_ten_to_values.Goals as goal
