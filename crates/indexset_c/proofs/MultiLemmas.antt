@@ -11,7 +11,7 @@ use Rattle.indexset_multi.specs.Keys.{entries, key_and_value}
 use Rattle.indexset_core.specs.declared.refusal.Refusal.{Refusal}
 use Rattle.indexset_core.specs.declared.refusal.Refusal.TheVariants as refusals
 use Rattle.indexset_log.specs.Tree.{refusal_for}
-use Rattle.indexset_multi.specs.Tree.{MultiTree, after_removal, insertion_events, insertion_refusal, lacks_number}
+use Rattle.indexset_multi.specs.Tree.{MultiTree, after_pair_removal, insertion_events, insertion_refusal, lacks_number}
 use Rattle.indexset_c.proofs.StatusLemmas.{for_events}
 
 -- the key and the value that a removal writes for the pair that it found
@@ -27,9 +27,9 @@ pub no_pair : (o : Option (MultiPair ℕ ℕ)) → None ≡ option_map key_and_v
 no_pair None h = refl
 no_pair (Some p) h = absurd (none-some (key_and_value p) h)
 
-pub none_removed : (m : MultiTree ℕ ℕ) (o : Option (MultiPair ℕ ℕ)) → o ≡ None → after_removal nat_cmp m o ≡ m
-none_removed m o none = ap (after_removal nat_cmp m) none ∙ kept where
-  kept : after_removal nat_cmp m None ≡ m
+pub none_removed : (m : MultiTree ℕ ℕ) (o : Option (MultiPair ℕ ℕ)) → o ≡ None → after_pair_removal nat_cmp m o ≡ m
+none_removed m o none = ap (after_pair_removal nat_cmp m) none ∙ kept where
+  kept : after_pair_removal nat_cmp m None ≡ m
   kept = let same : m.next + 0 ≡ m.next = omega arith in λ i. record { nodes = m.nodes; size = m.size; next = same i; pair_next = m.pair_next }
 
 -- the values of a list of pairs with another appended

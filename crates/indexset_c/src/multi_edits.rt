@@ -7,7 +7,7 @@ ghost use Rattle.indexset_core.specs.Nodes.{concat};
 ghost use Rattle.indexset_core.specs.Order.{put};
 ghost use Rattle.indexset_multi.specs.Changed.{addition, addition_refusal};
 ghost use Rattle.indexset_multi.specs.Keys.{equal_pair, first_pair, pairs_of, without_first, without_named};
-ghost use Rattle.indexset_multi.specs.Tree.{after_insertion, after_removal, insertion_refusal, pair_removal_events};
+ghost use Rattle.indexset_multi.specs.Tree.{after_insertion, after_pair_removal, insertion_refusal, pair_removal_events};
 ghost use Rattle.indexset_log.specs.Tree.{refusal_for};
 ghost use Rattle.indexset_ffi.specs.Elements.{numbered_pairs, values_of};
 ghost use Rattle.indexset_ffi.specs.Statuses.{IsToldAs};
@@ -130,7 +130,7 @@ pub extern "C" fn indexset_multi_remove(
         (length (pair_removal_events nat_cmp m.size m.nodes
         (equal_pair nat_cmp nat_eq (concat m.nodes) key value))))) }
     ensures tree { result ≡ YES → IfSome multi.old.slot.value (λ m. multi.new.slot.value
-        ≡ Some (after_removal nat_cmp m (equal_pair nat_cmp nat_eq (concat m.nodes) key value))) }
+        ≡ Some (after_pair_removal nat_cmp m (equal_pair nat_cmp nat_eq (concat m.nodes) key value))) }
     ensures status { (result ≤ NUMBERS) × (result ≢ NONE) × (result ≢ HELD) }
 {
     let Some(mut held) = multi.take(alloc) else {
@@ -177,7 +177,7 @@ pub extern "C" fn indexset_multi_remove_first(
         (length (pair_removal_events nat_cmp m.size m.nodes
         (first_pair nat_cmp (concat m.nodes) key))))) }
     ensures tree { result ≡ YES → IfSome multi.old.slot.value (λ m. multi.new.slot.value
-        ≡ Some (after_removal nat_cmp m (first_pair nat_cmp (concat m.nodes) key))) }
+        ≡ Some (after_pair_removal nat_cmp m (first_pair nat_cmp (concat m.nodes) key))) }
     ensures status { (result ≤ NUMBERS) × (result ≢ NONE) × (result ≢ HELD) }
 {
     let Some(mut held) = multi.take(alloc) else {

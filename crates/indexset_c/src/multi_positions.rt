@@ -7,7 +7,7 @@ ghost use Rattle.indexset_core.specs.Nodes.{concat};
 ghost use Rattle.indexset_core.specs.Pairs.{pair_keys, pair_values};
 ghost use Rattle.indexset_log.specs.Tree.{refusal_for};
 ghost use Rattle.indexset_multi.specs.Keys.{entries, key_and_value, without_named};
-ghost use Rattle.indexset_multi.specs.Tree.{after_removal, pair_removal_events};
+ghost use Rattle.indexset_multi.specs.Tree.{after_pair_removal, pair_removal_events};
 ghost use Rattle.indexset_ffi.specs.Elements.{numbered_pairs, written};
 ghost use Rattle.indexset_ffi.specs.Statuses.{IsToldAs};
 
@@ -115,7 +115,7 @@ pub extern "C" fn indexset_multi_remove_at(
         (length (pair_removal_events nat_cmp m.size m.nodes
         (slice_get (concat m.nodes) position))))) }
     ensures tree { result ≡ YES → IfSome multi.old.slot.value (λ m. multi.new.slot.value
-        ≡ Some (after_removal nat_cmp m (slice_get (concat m.nodes) position))) }
+        ≡ Some (after_pair_removal nat_cmp m (slice_get (concat m.nodes) position))) }
     ensures status { (result ≤ NUMBERS) × (result ≢ NONE) × (result ≢ HELD) }
 {
     let Some(mut held) = multi.take(alloc) else {

@@ -18,7 +18,7 @@ use Rattle.indexset_core.specs.Order.{IsAscending, put, without, unequal}
 use Rattle.indexset_core.specs.LookupKey.{OrdersAsItem}
 use Rattle.indexset_core.proofs.CallerLemmas.{equal_from, is_some-find}
 use Rattle.indexset_events.proofs.CallerLemmas.{Each, all_each, around, each-map, lawful_ascends, parts-put, parts-without, rises}
-use Rattle.indexset_multi.specs.Keys.{AreNumberedBelow, entries, equal_pair, first_pair, has_pair_of, kept_number, pairs_of, without_first, without_key, without_named}
+use Rattle.indexset_multi.specs.Keys.{AreNumberedBelow, entries, equal_pair, first_pair, has_pair_of, kept_number, pairs_of, without_first, without_pairs_of, without_named}
 use Rattle.indexset_multi.specs.Tree.{MultiTree, inserted_pair, takes_number}
 use Rattle.indexset_multi.proofs.NumberedPairLemmas.{below_less, numbers_total}
 
@@ -278,7 +278,7 @@ module _ {K V Q : Type 0} {cmp : K → K → Ordering} (o : IsTotalOrder cmp) {o
 
   -- all of them are unchanged, in order
   module _ (k : Q) (l : List (MultiPair K V)) where
-    rest_left : (x : MultiPair K V) → find (λ _. true) (pairs_of order l k) ≡ Some x → without_key order (without (by_number cmp) l x) k ≡ without_key order l k
+    rest_left : (x : MultiPair K V) → find (λ _. true) (pairs_of order l k) ≡ Some x → without_pairs_of order (without (by_number cmp) l x) k ≡ without_pairs_of order l k
     unfolding unequal
     rest_left x e =
         let found = found_each (λ p. is_eq (order p.key k)) (λ _. true) (λ z. Unit {0}) l x (any_each l) e in
@@ -286,10 +286,10 @@ module _ {K V Q : Type 0} {cmp : K → K → Ordering} (o : IsTotalOrder cmp) {o
         let here : is_eq (order p.key k) ≡ true = ap is_eq (alike k p x tied) ∙ found.1 in
         false≢true (ap not (sym here) ∙ other))) l (any_each l))
 
-    pub rest_left_first : without_key order (without_named cmp l (first_pair order l k)) k ≡ without_key order l k
+    pub rest_left_first : without_pairs_of order (without_named cmp l (first_pair order l k)) k ≡ without_pairs_of order l k
     rest_left_first =
-        ap (λ f. without_key order (without_named cmp l f) k) (first_filtered (λ p. is_eq (order p.key k)) l)
-        ∙ elim (find (λ _. true) (pairs_of order l k)) as (λ f. find (λ _. true) (pairs_of order l k) ≡ f → without_key order (without_named cmp l f) k ≡ without_key order l k) [
+        ap (λ f. without_pairs_of order (without_named cmp l f) k) (first_filtered (λ p. is_eq (order p.key k)) l)
+        ∙ elim (find (λ _. true) (pairs_of order l k)) as (λ f. find (λ _. true) (pairs_of order l k) ≡ f → without_pairs_of order (without_named cmp l f) k ≡ without_pairs_of order l k) [
           | None ↦ λ e. refl
           | Some x ↦ λ e. rest_left x e
         ] refl

@@ -11,7 +11,7 @@ use Rattle.indexset_log.specs.Changed.{Changed, put_change}
 use Rattle.indexset_log.specs.Tree.{Tree, refusal_for}
 use Rattle.indexset_multi.specs.Changed.{MultiChanged, MultiPairEvents, insertion, set_tree}
 use Rattle.indexset_multi.specs.Keys.{AreNumberedBelow}
-use Rattle.indexset_multi.specs.Tree.{IsPairClone, MultiTree, inserted_pair, pair_next_after}
+use Rattle.indexset_multi.specs.Tree.{IsMultiPairClone, MultiTree, inserted_pair, pair_next_after}
 use Rattle.indexset_multi.proofs.InsertLemmas.{insertion_tree, numbered_after}
 use Rattle.indexset_multi.proofs.PairRemovalLemmas.{multi_changed, multi_told}
 
@@ -48,5 +48,5 @@ module _ {K V : Type 0} (cmp : K → K → Ordering) (eq : V → V → Bool) (m 
         })
 
     -- the events that it returns
-    pub put_told : {C : K → K → Type 0} {D : V → V → Type 0} (told : List (ChangeEvent (MultiPair K V))) → AreTableEvents (IsPairClone C D) set.next (put_events (by_number cmp) set.size set.nodes pair) told → MultiPairEvents cmp C D m new (insertion cmp eq m k w) told
-    put_told {C} {D} told clones = multi_told C D told put_changed (subst (λ p. AreTableEvents (IsPairClone C D) m.next (put_events (by_number cmp) m.size m.nodes p) told) is (subst (λ t. AreTableEvents (IsPairClone C D) t.next (put_events (by_number cmp) t.size t.nodes pair) told) seen clones))
+    pub put_told : {C : K → K → Type 0} {D : V → V → Type 0} (told : List (ChangeEvent (MultiPair K V))) → AreTableEvents (IsMultiPairClone C D) set.next (put_events (by_number cmp) set.size set.nodes pair) told → MultiPairEvents cmp C D m new (insertion cmp eq m k w) told
+    put_told {C} {D} told clones = multi_told C D told put_changed (subst (λ p. AreTableEvents (IsMultiPairClone C D) m.next (put_events (by_number cmp) m.size m.nodes p) told) is (subst (λ t. AreTableEvents (IsMultiPairClone C D) t.next (put_events (by_number cmp) t.size t.nodes pair) told) seen clones))

@@ -22,9 +22,9 @@ use Rattle.indexset_events.specs.Replay.{assigned, replay, numbered_from}
 use Rattle.indexset_log.specs.Tree.{IsTree}
 use Rattle.indexset_events.proofs.CallerLemmas.{clones_numbered, event_same, lawful_ascends, length-numbered, numbered_is, numbered-append, replay-append, zip_on}
 use Rattle.indexset_multi.specs.Changed.{AreRemoved, RemovalEvents}
-use Rattle.indexset_multi.specs.Keys.{first_pair, pairs_of, without_key}
+use Rattle.indexset_multi.specs.Keys.{first_pair, pairs_of, without_pairs_of}
 use Rattle.indexset_multi.specs.Appended.{AppendsEvents}
-use Rattle.indexset_multi.specs.Tree.{EvolvesBy, EvolvesTo, IsPairClone, MultiTree, after_removal, after_removals, first_events, key_events, pair_removal_events, removals_events}
+use Rattle.indexset_multi.specs.Tree.{EvolvesBy, EvolvesTo, IsMultiPairClone, MultiTree, after_pair_removal, after_removals, first_events, key_events, pair_removal_events, removals_events}
 use Rattle.indexset_multi.proofs.KeyListLemmas.{first_pair_gone, others_left_first, rest_left_first}
 use Rattle.indexset_multi.proofs.PairRemovalLemmas.{pair_altered, pair_same, pair_tree}
 
@@ -100,7 +100,7 @@ module _ {K V Q : Type 0} {cmp : K → K → Ordering} (o : IsTotalOrder cmp) {o
   pub record Gone (n : ℕ) (now : MultiTree K V) : Type 0 where
     pub rule : IsTree (by_number cmp) most now.nodes now.size (length (concat now.nodes))
     pub gone : pairs_of order (concat now.nodes) k ≡ drop n (pairs_of order (concat old.nodes) k)
-    pub rest : without_key order (concat now.nodes) k ≡ without_key order (concat old.nodes) k
+    pub rest : without_pairs_of order (concat now.nodes) k ≡ without_pairs_of order (concat old.nodes) k
     pub others : (other : K) → is_eq (order other k) ≡ false → pairs_of cmp (concat now.nodes) other ≡ pairs_of cmp (concat old.nodes) other
     pub led : EvolvesTo cmp old now
     pub table : replay (by_number cmp) old.nodes (numbered_from old.next (removals_events cmp order old k n)) ≡ Some now.nodes
@@ -131,9 +131,9 @@ module _ {K V Q : Type 0} {cmp : K → K → Ordering} (o : IsTotalOrder cmp) {o
       record {
         rule = pair_tree o m g.rule first refl;
         gone = ap (λ l. pairs_of order l k) d.contents ∙ (first_pair_gone o acts k (concat m.nodes) up ∙ (ap (λ l. drop 1 l) g.gone ∙ drop_one (pairs_of order (concat old.nodes) k) n));
-        rest = ap (λ l. without_key order l k) d.contents ∙ (rest_left_first o acts k (concat m.nodes) ∙ g.rest);
+        rest = ap (λ l. without_pairs_of order l k) d.contents ∙ (rest_left_first o acts k (concat m.nodes) ∙ g.rest);
         others = λ other ne. ap (λ l. pairs_of cmp l other) d.contents ∙ (others_left_first o acts k (concat m.nodes) other ne ∙ g.others other ne);
-        led = led_further cmp old m (after_removal cmp m first) g.led (led_once cmp m (after_removal cmp m first) (pair_removal_events cmp m.size m.nodes first) d.table d.next);
+        led = led_further cmp old m (after_pair_removal cmp m first) g.led (led_once cmp m (after_pair_removal cmp m first) (pair_removal_events cmp m.size m.nodes first) d.table d.next);
         table = rw (numbered_on old.next (removals_events cmp order old k n) (first_events cmp order m k)) (replay-append (by_number cmp) old.nodes (numbered_from old.next (removals_events cmp order old k n)) (numbered_from (old.next + length (removals_events cmp order old k n)) (first_events cmp order m k)) ∙ rw (g.table, ← g.next) d.table);
         next = omega (arith, d.next, g.next, length-append (removals_events cmp order old k n) (first_events cmp order m k));
         size = g.size;
@@ -145,8 +145,8 @@ module _ {K V Q : Type 0} {cmp : K → K → Ordering} (o : IsTotalOrder cmp) {o
     pub now_gone : Gone n now
     now_gone = subst (Gone n) (sym is) (many_gone n)
 
-    pub one_more : {new : MultiTree K V} → new ≡ after_removal cmp now (first_pair order (concat now.nodes) k) → new ≡ after_removals cmp order old k (n + 1)
-    one_more e = rw add-one (e ∙ ap (λ t. after_removal cmp t (first_pair order (concat t.nodes) k)) is)
+    pub one_more : {new : MultiTree K V} → new ≡ after_pair_removal cmp now (first_pair order (concat now.nodes) k) → new ≡ after_removals cmp order old k (n + 1)
+    one_more e = rw add-one (e ∙ ap (λ t. after_pair_removal cmp t (first_pair order (concat t.nodes) k)) is)
 
     -- the returned events with those of one more removal
     pub told_more : (C : MultiPair K V → MultiPair K V → Type 0) (fs gs : List (ChangeEvent (MultiPair K V))) → AreTableEvents C old.next (removals_events cmp order old k n) fs → AppendsEvents C now.next (first_events cmp order now k) fs gs → AreTableEvents C old.next (removals_events cmp order old k (n + 1)) gs
@@ -207,11 +207,11 @@ module _ {K V Q : Type 0} {cmp : K → K → Ordering} (o : IsTotalOrder cmp) {o
           let g = now_gone in
           record { tree = tree_is; left = left_is; rest = g.rest; others = g.others; led = g.led; table = table_is; size = g.size; dense = g.dense; pair_next = g.pair_next }
 
-      pub removals_told : (C : K → K → Type 0) (D : V → V → Type 0) (fs : List (ChangeEvent (MultiPair K V))) → AreTableEvents (IsPairClone C D) old.next (removals_events cmp order old k n) fs → RemovalEvents cmp order C D old now k fs
+      pub removals_told : (C : K → K → Type 0) (D : V → V → Type 0) (fs : List (ChangeEvent (MultiPair K V))) → AreTableEvents (IsMultiPairClone C D) old.next (removals_events cmp order old k n) fs → RemovalEvents cmp order C D old now k fs
       removals_told C D fs told = record {
-        clones = told_is (IsPairClone C D) fs told;
-        numbered = clones_numbered (IsPairClone C D) old.next (removals_events cmp order old k n) fs told;
-        replay = λ h. led_by (IsPairClone C D) fs told (pair_same h.0 h.1);
+        clones = told_is (IsMultiPairClone C D) fs told;
+        numbered = clones_numbered (IsMultiPairClone C D) old.next (removals_events cmp order old k n) fs told;
+        replay = λ h. led_by (IsMultiPairClone C D) fs told (pair_same h.0 h.1);
       }
 
       -- the removal that found no pair changed nothing, and all pairs of the key are removed
@@ -222,10 +222,10 @@ module _ {K V Q : Type 0} {cmp : K → K → Ordering} (o : IsTotalOrder cmp) {o
         pub all_removed : n ≡ length (pairs_of order (concat old.nodes) k)
         all_removed = omega (arith, number, within, ap (λ l. length l) none_left)
 
-        pub all_kept : concat now.nodes ≡ without_key order (concat old.nodes) k
+        pub all_kept : concat now.nodes ≡ without_pairs_of order (concat old.nodes) k
         all_kept = let g = now_gone in sym (none_go (λ p. is_eq (order p.key k)) (concat now.nodes) none_left) ∙ g.rest
 
-        pub stays : {new : MultiTree K V} → new ≡ after_removal cmp now (first_pair order (concat now.nodes) k) → new ≡ now
+        pub stays : {new : MultiTree K V} → new ≡ after_pair_removal cmp now (first_pair order (concat now.nodes) k) → new ≡ now
         stays e =
             let gone = none_from (first_pair order (concat now.nodes) k) none in
             let after = rw gone at e in

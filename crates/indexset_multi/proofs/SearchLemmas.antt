@@ -10,15 +10,15 @@ use Rattle.indexset_core.specs.MultiPairs.{by_number}
 use Rattle.indexset_core.specs.Nodes.{concat, node_at, IsLawful}
 use Rattle.indexset_core.specs.Parted.{IsParted}
 use Rattle.indexset_events.proofs.CallerLemmas.{lawful_ascends, lawful_filled}
-use Rattle.indexset_multi.specs.Places.{IsItemPlace, placed_item}
+use Rattle.indexset_multi.specs.Places.{IsItemPlaceInNodes, placed_item}
 use Rattle.indexset_core.specs.LookupKey.{OrdersAsItem, acts_as_itself, acts_on_numbered}
 use Rattle.indexset_core.proofs.CallerLemmas.{parted_by_sought, is_some-find, end_found, end_node, end_offset, gap_found, get_in_node}
 use Rattle.indexset_core.specs.Places.{items_before, located}
 
 module _ {T : Type 0} (cmp : T → T → Ordering) (size : ℕ) (ns : List (List T)) (law : IsLawful cmp size ns) (answer : T → Ordering) (parted : IsParted answer (concat ns)) (r : Result (ℕ × ℕ) (ℕ × ℕ)) (e : r ≡ located answer ns) where
   -- it is the place of an item if the search found one
-  pub ok_place : IsItemPlace ns (result_ok r)
-  ok_place = elim r as (λ s. r ≡ s → IsItemPlace ns (result_ok s)) [
+  pub ok_place : IsItemPlaceInNodes ns (result_ok r)
+  ok_place = elim r as (λ s. r ≡ s → IsItemPlaceInNodes ns (result_ok s)) [
     | Ok p ↦ λ is. (end_node answer ns (lawful_filled cmp size ns law) parted r e p is, end_offset answer ns (lawful_filled cmp size ns law) parted r e p is)
     | Err p ↦ λ is. tt
   ] refl
@@ -37,7 +37,7 @@ module _ {T : Type 0} (cmp : T → T → Ordering) (size : ℕ) (ns : List (List
     some_read (x ∷ xs) zero lt = refl
     some_read (x ∷ xs) (suc i) lt = some_read xs i (omega arith)
 
-    told : (r : Result (ℕ × ℕ) (ℕ × ℕ)) → IsItemPlace ns (result_ok r) → is_ok r ≡ is_some (placed_item ns (result_ok r))
+    told : (r : Result (ℕ × ℕ) (ℕ × ℕ)) → IsItemPlaceInNodes ns (result_ok r) → is_ok r ≡ is_some (placed_item ns (result_ok r))
     told (Ok p) place = sym (some_read (node_at ns p.0) p.1 place.1)
     told (Err p) place = refl
 
@@ -54,7 +54,7 @@ module _ {T : Type 0} (ns : List (List T)) (i : ℕ) where
   abbrev pub IsPlaceAt : Option (ℕ × ℕ) → Type 0
   IsPlaceAt r = MatchOption r (length (concat ns) ≤ i) (λ p. (p.0 < length ns) × (p.1 < length (node_at ns p.0)) × (items_before ns p ≡ i))
 
-  pub at_place : (r : Option (ℕ × ℕ)) → IsPlaceAt r → IsItemPlace ns r
+  pub at_place : (r : Option (ℕ × ℕ)) → IsPlaceAt r → IsItemPlaceInNodes ns r
   at_place None h = tt
   at_place (Some p) h = (h.0, h.1)
 

@@ -16,8 +16,8 @@ use Rattle.indexset_events.specs.Replay.{IsNumberedFrom, numbered_from, replay}
 use Rattle.indexset_log.specs.Tree.{Tree, refusal_for}
 use Rattle.indexset_events.specs.declared.change.ChangeEvent.{ChangeEvent}
 use Rattle.indexset_events.specs.declared.change.ChangeEventUnassigned.{ChangeEventUnassigned}
-use Rattle.indexset_multi.specs.Keys.{equal_pair, first_pair, pairs_of, without_key, without_named}
-use Rattle.indexset_multi.specs.Tree.{EvolvesBy, EvolvesTo, IsPairClone, MultiTree, after_insertion, after_removal, after_removals, inserted_pair, insertion_events, insertion_refusal, key_events, pair_removal_events, takes_number}
+use Rattle.indexset_multi.specs.Keys.{equal_pair, first_pair, pairs_of, without_pairs_of, without_named}
+use Rattle.indexset_multi.specs.Tree.{EvolvesBy, EvolvesTo, IsMultiPairClone, MultiTree, after_insertion, after_pair_removal, after_removals, inserted_pair, insertion_events, insertion_refusal, key_events, pair_removal_events, takes_number}
 
 -- a change of a multimap: the new multimap, its pairs, and the events of the change
 pub record MultiChange (K V : Type 0) : Type 0 where
@@ -41,7 +41,7 @@ module _ {K V : Type 0} (cmp : K → K → Ordering) (m : MultiTree K V) (k : K)
 module _ {K V : Type 0} (cmp : K → K → Ordering) where
   -- the removal of an optional pair
   abbrev pub named_removal : MultiTree K V → Option (MultiPair K V) → MultiChange K V
-  named_removal m pair = record { tree = after_removal cmp m pair; items = without_named cmp (concat m.nodes) pair; events = pair_removal_events cmp m.size m.nodes pair }
+  named_removal m pair = record { tree = after_pair_removal cmp m pair; items = without_named cmp (concat m.nodes) pair; events = pair_removal_events cmp m.size m.nodes pair }
 
   -- the removal of the key's first pair, if any
   abbrev pub some_removal : {Q : Type 0} → (K → Q → Ordering) → MultiTree K V → Q → MultiChange K V
@@ -52,25 +52,25 @@ module _ {K V : Type 0} (cmp : K → K → Ordering) where
   equal_removal order eq m k w = named_removal m (equal_pair order eq (concat m.nodes) k w)
 
   -- the removal of the first pair of the multimap, if any
-  abbrev pub first_removal : MultiTree K V → MultiChange K V
-  first_removal m =
+  abbrev pub first_pair_removal : MultiTree K V → MultiChange K V
+  first_pair_removal m =
       let pair = slice_get (concat m.nodes) 0 in
-      record { tree = after_removal cmp m pair; items = drop 1 (concat m.nodes); events = pair_removal_events cmp m.size m.nodes pair }
+      record { tree = after_pair_removal cmp m pair; items = drop 1 (concat m.nodes); events = pair_removal_events cmp m.size m.nodes pair }
 
   -- the removal of the last pair of the multimap, if any
-  abbrev pub last_removal : MultiTree K V → MultiChange K V
-  last_removal m =
+  abbrev pub last_pair_removal : MultiTree K V → MultiChange K V
+  last_pair_removal m =
       let last = length (concat m.nodes) - 1 in
       let pair = slice_get (concat m.nodes) last in
-      record { tree = after_removal cmp m pair; items = take last (concat m.nodes); events = pair_removal_events cmp m.size m.nodes pair }
+      record { tree = after_pair_removal cmp m pair; items = take last (concat m.nodes); events = pair_removal_events cmp m.size m.nodes pair }
 
 -- the numbers of the change's events fit the counter
-abbrev pub Fits : {K V : Type 0} → MultiTree K V → MultiChange K V → Type 0
-Fits m made = m.next + length made.events ≤ MAX
+abbrev pub MultiFits : {K V : Type 0} → MultiTree K V → MultiChange K V → Type 0
+MultiFits m made = m.next + length made.events ≤ MAX
 
 -- the error of a failed call that would make the change
-abbrev pub refusal_of : {K V : Type 0} → MultiTree K V → MultiChange K V → Refusal
-refusal_of m made = refusal_for m.next (length made.events)
+abbrev pub multi_refusal_of : {K V : Type 0} → MultiTree K V → MultiChange K V → Refusal
+multi_refusal_of m made = refusal_for m.next (length made.events)
 
 -- the new multimap is the old one after the change
 pub record MultiChanged {K V : Type 0} (cmp : K → K → Ordering) (old new : MultiTree K V) (made : MultiChange K V) : Type 0 where
@@ -95,32 +95,32 @@ set_change made = record { tree = set_tree made.tree; items = made.items; events
 
 -- the events that a multimap returns
 abbrev pub MultiPairEvents : {K V : Type 0} → (K → K → Ordering) → (K → K → Type 0) → (V → V → Type 0) → MultiTree K V → MultiTree K V → MultiChange K V → List (ChangeEvent (MultiPair K V)) → Type 0
-MultiPairEvents cmp C D old new made told = AreEventsOf (AreIdentical C × AreIdentical D) (by_number cmp) (IsPairClone C D) (set_tree old) (set_tree new) (set_change made) told
+MultiPairEvents cmp C D old new made told = AreEventsOf (AreIdentical C × AreIdentical D) (by_number cmp) (IsMultiPairClone C D) (set_tree old) (set_tree new) (set_change made) told
 
 module _ {K V : Type 0} (cmp : K → K → Ordering) where
   -- each key that `order` does not find Equal to k has the same pairs in the new multimap as in the
   -- old one
-  abbrev pub KeepsOthers : {Q : Type 0} → (K → Q → Ordering) → MultiTree K V → MultiTree K V → Q → Type 0
-  KeepsOthers order old new k = (other : K) → is_eq (order other k) ≡ false → pairs_of cmp (concat new.nodes) other ≡ pairs_of cmp (concat old.nodes) other
+  abbrev pub KeepsOtherPairs : {Q : Type 0} → (K → Q → Ordering) → MultiTree K V → MultiTree K V → Q → Type 0
+  KeepsOtherPairs order old new k = (other : K) → is_eq (order other k) ≡ false → pairs_of cmp (concat new.nodes) other ≡ pairs_of cmp (concat old.nodes) other
 
   -- the key has the inserted pair, as its last pair if its number is new; the other keys keep their
   -- pairs
   pub record IsInserted (eq : V → V → Bool) (old new : MultiTree K V) (k : K) (w : V) : Type 0 where
     pub contains : equal_pair cmp eq (concat new.nodes) k w ≡ Some (inserted_pair cmp eq old k w)
     pub last : takes_number cmp eq old k w ≡ true → pairs_of cmp (concat new.nodes) k ≡ pairs_of cmp (concat old.nodes) k ++ inserted_pair cmp eq old k w ∷ []
-    pub others : KeepsOthers cmp old new k
+    pub others : KeepsOtherPairs cmp old new k
 
   -- the key has the new pair as its last pair; the other keys keep their pairs
   pub record IsAdded (old new : MultiTree K V) (k : K) (w : V) : Type 0 where
     pub last : pairs_of cmp (concat new.nodes) k ≡ pairs_of cmp (concat old.nodes) k ++ numbered_pair k w old.pair_next ∷ []
-    pub others : KeepsOthers cmp old new k
+    pub others : KeepsOtherPairs cmp old new k
 
   -- some first pairs of the key were removed, one after another
   pub record AreRemoved {Q : Type 0} (order : K → Q → Ordering) (old new : MultiTree K V) (k : Q) : Type 0 where
     pub tree : new ≡ after_removals cmp order old k (length (pairs_of order (concat old.nodes) k) - length (pairs_of order (concat new.nodes) k))
     pub left : pairs_of order (concat new.nodes) k ≡ drop (length (pairs_of order (concat old.nodes) k) - length (pairs_of order (concat new.nodes) k)) (pairs_of order (concat old.nodes) k)
-    pub rest : without_key order (concat new.nodes) k ≡ without_key order (concat old.nodes) k
-    pub others : KeepsOthers order old new k
+    pub rest : without_pairs_of order (concat new.nodes) k ≡ without_pairs_of order (concat old.nodes) k
+    pub others : KeepsOtherPairs order old new k
     pub led : EvolvesTo cmp old new
     pub table : replay (by_number cmp) old.nodes (numbered_from old.next (key_events cmp order old new k)) ≡ Some new.nodes
     pub size : new.size ≡ old.size
@@ -129,6 +129,6 @@ module _ {K V : Type 0} (cmp : K → K → Ordering) where
 
   -- the events that these removals return
   pub record RemovalEvents {Q : Type 0} (order : K → Q → Ordering) (C : K → K → Type 0) (D : V → V → Type 0) (old new : MultiTree K V) (k : Q) (told : List (ChangeEvent (MultiPair K V))) : Type 0 where
-    pub clones : AreTableEvents (IsPairClone C D) old.next (key_events cmp order old new k) told
+    pub clones : AreTableEvents (IsMultiPairClone C D) old.next (key_events cmp order old new k) told
     pub numbered : IsNumberedFrom old.next told
     pub replay : AreIdentical C × AreIdentical D → EvolvesBy cmp old new told

@@ -48,8 +48,8 @@ module _ {K V : Type 0} where
     first_pair l k = find (λ p. is_eq (cmp p.key k)) l
 
     -- the pairs of other keys
-    abbrev pub without_key : List (MultiPair K V) → Q → List (MultiPair K V)
-    without_key l k = filter (λ p. not (is_eq (cmp p.key k))) l
+    abbrev pub without_pairs_of : List (MultiPair K V) → Q → List (MultiPair K V)
+    without_pairs_of l k = filter (λ p. not (is_eq (cmp p.key k))) l
 
     -- the first pair of the key whose value equals w, if any
     abbrev pub equal_pair : (V → V → Bool) → List (MultiPair K V) → Q → V → Option (MultiPair K V)

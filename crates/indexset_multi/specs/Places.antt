@@ -9,5 +9,5 @@ module _ {X : Type 0} where
   placed_item ns place = option_and_then (λ p. slice_get (node_at ns p.0) p.1) place
 
   -- an optional place is that of an item
-  abbrev pub IsItemPlace : List (List X) → Option (ℕ × ℕ) → Type 0
-  IsItemPlace ns place = IfSome place (λ p. (p.0 < length ns) × (p.1 < length (node_at ns p.0)))
+  abbrev pub IsItemPlaceInNodes : List (List X) → Option (ℕ × ℕ) → Type 0
+  IsItemPlaceInNodes ns place = IfSome place (λ p. (p.0 < length ns) × (p.1 < length (node_at ns p.0)))

@@ -28,8 +28,8 @@ abbrev pub pair_removal_events : {K V : Type 0} → (K → K → Ordering) → �
 pair_removal_events cmp size ns pair = option_map_or (λ p. removal_events (by_number cmp) size ns p) pair []
 
 -- the multimap after that removal, with the nodes after the replay of its events
-abbrev pub after_removal : {K V : Type 0} → (K → K → Ordering) → MultiTree K V → Option (MultiPair K V) → MultiTree K V
-after_removal cmp m pair =
+abbrev pub after_pair_removal : {K V : Type 0} → (K → K → Ordering) → MultiTree K V → Option (MultiPair K V) → MultiTree K V
+after_pair_removal cmp m pair =
     let events = pair_removal_events cmp m.size m.nodes pair in
     record {
       nodes = unwrap_or (replay (by_number cmp) m.nodes (numbered_from m.next events)) m.nodes;
@@ -41,7 +41,7 @@ after_removal cmp m pair =
 -- the multimap after n removals of the key's first pair
 abbrev pub after_removals : {K V Q : Type 0} → (K → K → Ordering) → (K → Q → Ordering) → MultiTree K V → Q → ℕ → MultiTree K V
 after_removals cmp order m k zero = m
-after_removals cmp order m k (suc n) = let t = after_removals cmp order m k n in after_removal cmp t (first_pair order (concat t.nodes) k)
+after_removals cmp order m k (suc n) = let t = after_removals cmp order m k n in after_pair_removal cmp t (first_pair order (concat t.nodes) k)
 
 -- the events of the removal of the key's first pair
 abbrev pub first_events : {K V Q : Type 0} → (K → K → Ordering) → (K → Q → Ordering) → MultiTree K V → Q → List (ChangeEventUnassigned (MultiPair K V))
@@ -57,8 +57,8 @@ abbrev pub key_events : {K V Q : Type 0} → (K → K → Ordering) → (K → Q
 key_events cmp order m n k = removals_events cmp order m k (length (pairs_of order (concat m.nodes) k) - length (pairs_of order (concat n.nodes) k))
 
 -- q is p with clones of its key and its value, and with its number
-abbrev pub IsPairClone : {K V : Type 0} → (K → K → Type 0) → (V → V → Type 0) → MultiPair K V → MultiPair K V → Type 0
-IsPairClone C D p q = C p.key q.key × (D p.value q.value × (q.discriminator ≡ p.discriminator))
+abbrev pub IsMultiPairClone : {K V : Type 0} → (K → K → Type 0) → (V → V → Type 0) → MultiPair K V → MultiPair K V → Type 0
+IsMultiPairClone C D p q = C p.key q.key × (D p.value q.value × (q.discriminator ≡ p.discriminator))
 
 -- the events are numbered from the next number of m, their replay turns the nodes of m into those
 -- of n, and the next number of n follows theirs

@@ -4,7 +4,7 @@ ghost use Rattle.std.specs.Option.{option_map};
 ghost use Rattle.indexset_core.specs.Nodes.{concat};
 ghost use Rattle.indexset_core.specs.Order.{above, below};
 ghost use Rattle.indexset_core.specs.Pairs.{pair_keys};
-ghost use Rattle.indexset_multi.specs.Changed.{Fits, MultiChanged, MultiPairEvents, first_removal, last_removal, refusal_of};
+ghost use Rattle.indexset_multi.specs.Changed.{MultiFits, MultiChanged, MultiPairEvents, first_pair_removal, last_pair_removal, multi_refusal_of};
 ghost use Rattle.indexset_multi.specs.Keys.{entries, key_and_value};
 
 use super::BTreeMultiMap;
@@ -100,14 +100,14 @@ impl<K: Ord + Clone + Drop, V: Eq + Clone + Drop, Node: NodeLike<MultiPair<K, V>
     ) -> Result<(Option<(K, V)>, Vec<ChangeEvent<MultiPair<K, V>>>), Refusal>
         ensures answer { IfOk result (λ r.
             r.0 ≡ option_map key_and_value (slice_get (concat self.old.nodes) 0)) }
-        ensures refusal { IfErr result (λ e. e ≡ refusal_of self.old
-            (first_removal K.cmp self.old)) }
-        ensures no_event { (first_removal K.cmp self.old).events ≡ [] → IsOk result }
+        ensures refusal { IfErr result (λ e. e ≡ multi_refusal_of self.old
+            (first_pair_removal K.cmp self.old)) }
+        ensures no_event { (first_pair_removal K.cmp self.old).events ≡ [] → IsOk result }
         ensures unchanged { OnErr result (self.new ≡ self.old) }
         ensures changed { OnOk result (MultiChanged K.cmp self.old self.new
-            (first_removal K.cmp self.old)) }
+            (first_pair_removal K.cmp self.old)) }
         ensures events { IfOk result (λ r. MultiPairEvents K.cmp K.is_clone V.is_clone self.old self.new
-            (first_removal K.cmp self.old) r.1.items) }
+            (first_pair_removal K.cmp self.old) r.1.items) }
     {
         let (pair, events) = self.set.pop_first_cdc()?;
         Ok((entry_of(pair), events))
@@ -139,16 +139,16 @@ impl<K: Ord + Clone + Drop, V: Eq + Clone + Drop, Node: NodeLike<MultiPair<K, V>
     pub fn pop_first(&mut self) -> Result<Option<(K, V)>, Refusal>
         ensures answer { IfOk result (λ entry.
             entry ≡ option_map key_and_value (slice_get (concat self.old.nodes) 0)) }
-        ensures refusal { IfErr result (λ e. e ≡ refusal_of self.old
-            (first_removal K.cmp self.old)) }
-        ensures no_event { (first_removal K.cmp self.old).events ≡ [] → IsOk result }
-        ensures no_memory { length (first_removal K.cmp self.old).events ≤ 1
-            → Fits self.old (first_removal K.cmp self.old) → IsOk result }
+        ensures refusal { IfErr result (λ e. e ≡ multi_refusal_of self.old
+            (first_pair_removal K.cmp self.old)) }
+        ensures no_event { (first_pair_removal K.cmp self.old).events ≡ [] → IsOk result }
+        ensures no_memory { length (first_pair_removal K.cmp self.old).events ≤ 1
+            → MultiFits self.old (first_pair_removal K.cmp self.old) → IsOk result }
         ensures never { Node.allocates ≡ false
-            → Fits self.old (first_removal K.cmp self.old) → IsOk result }
+            → MultiFits self.old (first_pair_removal K.cmp self.old) → IsOk result }
         ensures unchanged { OnErr result (self.new ≡ self.old) }
         ensures changed { OnOk result (MultiChanged K.cmp self.old self.new
-            (first_removal K.cmp self.old)) }
+            (first_pair_removal K.cmp self.old)) }
     {
         let pair = self.set.pop_first()?;
         Ok(entry_of(pair))
@@ -182,14 +182,14 @@ impl<K: Ord + Clone + Drop, V: Eq + Clone + Drop, Node: NodeLike<MultiPair<K, V>
     ) -> Result<(Option<(K, V)>, Vec<ChangeEvent<MultiPair<K, V>>>), Refusal>
         ensures answer { IfOk result (λ r. r.0 ≡ option_map key_and_value
             (slice_get (concat self.old.nodes) (length (concat self.old.nodes) - 1))) }
-        ensures refusal { IfErr result (λ e. e ≡ refusal_of self.old
-            (last_removal K.cmp self.old)) }
-        ensures no_event { (last_removal K.cmp self.old).events ≡ [] → IsOk result }
+        ensures refusal { IfErr result (λ e. e ≡ multi_refusal_of self.old
+            (last_pair_removal K.cmp self.old)) }
+        ensures no_event { (last_pair_removal K.cmp self.old).events ≡ [] → IsOk result }
         ensures unchanged { OnErr result (self.new ≡ self.old) }
         ensures changed { OnOk result (MultiChanged K.cmp self.old self.new
-            (last_removal K.cmp self.old)) }
+            (last_pair_removal K.cmp self.old)) }
         ensures events { IfOk result (λ r. MultiPairEvents K.cmp K.is_clone V.is_clone self.old self.new
-            (last_removal K.cmp self.old) r.1.items) }
+            (last_pair_removal K.cmp self.old) r.1.items) }
     {
         let (pair, events) = self.set.pop_last_cdc()?;
         Ok((entry_of(pair), events))
@@ -221,16 +221,16 @@ impl<K: Ord + Clone + Drop, V: Eq + Clone + Drop, Node: NodeLike<MultiPair<K, V>
     pub fn pop_last(&mut self) -> Result<Option<(K, V)>, Refusal>
         ensures answer { IfOk result (λ entry. entry ≡ option_map key_and_value
             (slice_get (concat self.old.nodes) (length (concat self.old.nodes) - 1))) }
-        ensures refusal { IfErr result (λ e. e ≡ refusal_of self.old
-            (last_removal K.cmp self.old)) }
-        ensures no_event { (last_removal K.cmp self.old).events ≡ [] → IsOk result }
-        ensures no_memory { length (last_removal K.cmp self.old).events ≤ 1
-            → Fits self.old (last_removal K.cmp self.old) → IsOk result }
+        ensures refusal { IfErr result (λ e. e ≡ multi_refusal_of self.old
+            (last_pair_removal K.cmp self.old)) }
+        ensures no_event { (last_pair_removal K.cmp self.old).events ≡ [] → IsOk result }
+        ensures no_memory { length (last_pair_removal K.cmp self.old).events ≤ 1
+            → MultiFits self.old (last_pair_removal K.cmp self.old) → IsOk result }
         ensures never { Node.allocates ≡ false
-            → Fits self.old (last_removal K.cmp self.old) → IsOk result }
+            → MultiFits self.old (last_pair_removal K.cmp self.old) → IsOk result }
         ensures unchanged { OnErr result (self.new ≡ self.old) }
         ensures changed { OnOk result (MultiChanged K.cmp self.old self.new
-            (last_removal K.cmp self.old)) }
+            (last_pair_removal K.cmp self.old)) }
     {
         let pair = self.set.pop_last()?;
         Ok(entry_of(pair))

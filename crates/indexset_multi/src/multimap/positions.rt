@@ -7,7 +7,7 @@ ghost use Rattle.std.specs.Ordering.{is_lt};
 ghost use Rattle.indexset_core.specs.KeyRange.{in_positions};
 ghost use Rattle.indexset_core.specs.Nodes.{concat};
 ghost use Rattle.indexset_core.specs.Pairs.{pair_deref};
-ghost use Rattle.indexset_multi.specs.Changed.{Fits, MultiChanged, MultiPairEvents, named_removal, refusal_of};
+ghost use Rattle.indexset_multi.specs.Changed.{MultiFits, MultiChanged, MultiPairEvents, named_removal, multi_refusal_of};
 ghost use Rattle.indexset_multi.specs.Keys.{entries, equal_pair, first_pair, has_pair_of, key_and_value, pairs_of};
 
 use super::BTreeMultiMap;
@@ -180,7 +180,7 @@ impl<K: Ord + Clone + Drop, V: Eq + Clone + Drop, Node: NodeLike<MultiPair<K, V>
     ) -> Result<(Option<(K, V)>, Vec<ChangeEvent<MultiPair<K, V>>>), Refusal>
         ensures answer { IfOk result (λ r.
             r.0 ≡ option_map key_and_value (slice_get (concat self.old.nodes) i)) }
-        ensures refusal { IfErr result (λ e. e ≡ refusal_of self.old
+        ensures refusal { IfErr result (λ e. e ≡ multi_refusal_of self.old
             (named_removal K.cmp self.old (slice_get (concat self.old.nodes) i))) }
         ensures no_event { length (concat self.old.nodes) ≤ i → IsOk result }
         ensures unchanged { OnErr result (self.new ≡ self.old) }
@@ -219,13 +219,13 @@ impl<K: Ord + Clone + Drop, V: Eq + Clone + Drop, Node: NodeLike<MultiPair<K, V>
     pub fn pop_index(&mut self, i: usize) -> Result<Option<(K, V)>, Refusal>
         ensures answer { IfOk result (λ entry.
             entry ≡ option_map key_and_value (slice_get (concat self.old.nodes) i)) }
-        ensures refusal { IfErr result (λ e. e ≡ refusal_of self.old
+        ensures refusal { IfErr result (λ e. e ≡ multi_refusal_of self.old
             (named_removal K.cmp self.old (slice_get (concat self.old.nodes) i))) }
         ensures no_event { length (concat self.old.nodes) ≤ i → IsOk result }
         ensures no_memory { length (named_removal K.cmp self.old
-            (slice_get (concat self.old.nodes) i)).events ≤ 1 → Fits self.old
+            (slice_get (concat self.old.nodes) i)).events ≤ 1 → MultiFits self.old
             (named_removal K.cmp self.old (slice_get (concat self.old.nodes) i)) → IsOk result }
-        ensures never { Node.allocates ≡ false → Fits self.old
+        ensures never { Node.allocates ≡ false → MultiFits self.old
             (named_removal K.cmp self.old (slice_get (concat self.old.nodes) i)) → IsOk result }
         ensures unchanged { OnErr result (self.new ≡ self.old) }
         ensures changed { OnOk result (MultiChanged K.cmp self.old self.new

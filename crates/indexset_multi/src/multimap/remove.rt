@@ -5,10 +5,10 @@ ghost use Rattle.indexset_core.specs.MultiPairs.{by_number};
 ghost use Rattle.indexset_core.specs.Nodes.{concat};
 ghost use Rattle.indexset_events.specs.Clones.{AreTableEvents};
 ghost use Rattle.indexset_log.specs.Tree.{IsTree, refusal_for};
-ghost use Rattle.indexset_multi.specs.Changed.{Fits, KeepsOthers, MultiChanged, MultiPairEvents, equal_removal, refusal_of, some_removal};
+ghost use Rattle.indexset_multi.specs.Changed.{MultiFits, KeepsOtherPairs, MultiChanged, MultiPairEvents, equal_removal, multi_refusal_of, some_removal};
 ghost use Rattle.indexset_multi.specs.Keys.{equal_pair, first_pair, key_and_value, pairs_of, without_first};
-ghost use Rattle.indexset_multi.specs.Places.{IsItemPlace, placed_item};
-ghost use Rattle.indexset_multi.specs.Tree.{IsPairClone, after_removal, pair_removal_events};
+ghost use Rattle.indexset_multi.specs.Places.{IsItemPlaceInNodes, placed_item};
+ghost use Rattle.indexset_multi.specs.Tree.{IsMultiPairClone, after_pair_removal, pair_removal_events};
 
 use super::BTreeMultiMap;
 use indexset_core::lookup_key::LookupKey;
@@ -52,13 +52,13 @@ impl<K: Ord + Clone + Drop, V: Eq + Clone + Drop, Node: NodeLike<MultiPair<K, V>
     ) -> Result<(Option<(K, V)>, Vec<ChangeEvent<MultiPair<K, V>>>), Refusal>
         ensures answer { IfOk result (λ r.
             r.0 ≡ option_map key_and_value (first_pair Q.order (concat self.old.nodes) key)) }
-        ensures refusal { IfErr result (λ e. e ≡ refusal_of self.old
+        ensures refusal { IfErr result (λ e. e ≡ multi_refusal_of self.old
             (some_removal K.cmp Q.order self.old key)) }
         ensures no_event { (some_removal K.cmp Q.order self.old key).events ≡ [] → IsOk result }
         ensures unchanged { OnErr result (self.new ≡ self.old) }
         ensures gone { OnOk result (pairs_of Q.order (concat self.new.nodes) key
             ≡ drop 1 (pairs_of Q.order (concat self.old.nodes) key)) }
-        ensures others { OnOk result (KeepsOthers K.cmp Q.order self.old self.new key) }
+        ensures others { OnOk result (KeepsOtherPairs K.cmp Q.order self.old self.new key) }
         ensures changed { OnOk result (MultiChanged K.cmp self.old self.new
             (some_removal K.cmp Q.order self.old key)) }
         ensures events { IfOk result (λ r. MultiPairEvents K.cmp K.is_clone V.is_clone self.old self.new
@@ -90,17 +90,17 @@ impl<K: Ord + Clone + Drop, V: Eq + Clone + Drop, Node: NodeLike<MultiPair<K, V>
     pub fn remove_some<Q: LookupKey<K> + Drop>(&mut self, key: Q) -> Result<Option<(K, V)>, Refusal>
         ensures answer { IfOk result (λ entry.
             entry ≡ option_map key_and_value (first_pair Q.order (concat self.old.nodes) key)) }
-        ensures refusal { IfErr result (λ e. e ≡ refusal_of self.old
+        ensures refusal { IfErr result (λ e. e ≡ multi_refusal_of self.old
             (some_removal K.cmp Q.order self.old key)) }
         ensures no_event { (some_removal K.cmp Q.order self.old key).events ≡ [] → IsOk result }
         ensures no_memory { length (some_removal K.cmp Q.order self.old key).events ≤ 1
-            → Fits self.old (some_removal K.cmp Q.order self.old key) → IsOk result }
+            → MultiFits self.old (some_removal K.cmp Q.order self.old key) → IsOk result }
         ensures never { Node.allocates ≡ false
-            → Fits self.old (some_removal K.cmp Q.order self.old key) → IsOk result }
+            → MultiFits self.old (some_removal K.cmp Q.order self.old key) → IsOk result }
         ensures unchanged { OnErr result (self.new ≡ self.old) }
         ensures gone { OnOk result (pairs_of Q.order (concat self.new.nodes) key
             ≡ drop 1 (pairs_of Q.order (concat self.old.nodes) key)) }
-        ensures others { OnOk result (KeepsOthers K.cmp Q.order self.old self.new key) }
+        ensures others { OnOk result (KeepsOtherPairs K.cmp Q.order self.old self.new key) }
         ensures changed { OnOk result (MultiChanged K.cmp self.old self.new
             (some_removal K.cmp Q.order self.old key)) }
     {
@@ -139,7 +139,7 @@ impl<K: Ord + Clone + Drop, V: Eq + Clone + Drop, Node: NodeLike<MultiPair<K, V>
     ) -> Result<(Option<(K, V)>, Vec<ChangeEvent<MultiPair<K, V>>>), Refusal>
         ensures answer { IfOk result (λ r. r.0 ≡ option_map key_and_value
             (equal_pair Q.order V.eq (concat self.old.nodes) key value.now)) }
-        ensures refusal { IfErr result (λ e. e ≡ refusal_of self.old
+        ensures refusal { IfErr result (λ e. e ≡ multi_refusal_of self.old
             (equal_removal K.cmp Q.order V.eq self.old key value.now)) }
         ensures no_event { (equal_removal K.cmp Q.order V.eq self.old key value.now).events ≡ []
             → IsOk result }
@@ -147,7 +147,7 @@ impl<K: Ord + Clone + Drop, V: Eq + Clone + Drop, Node: NodeLike<MultiPair<K, V>
         ensures gone { OnOk result (pairs_of Q.order (concat self.new.nodes) key
             ≡ without_first (λ p. V.eq p.value value.now)
             (pairs_of Q.order (concat self.old.nodes) key)) }
-        ensures others { OnOk result (KeepsOthers K.cmp Q.order self.old self.new key) }
+        ensures others { OnOk result (KeepsOtherPairs K.cmp Q.order self.old self.new key) }
         ensures changed { OnOk result (MultiChanged K.cmp self.old self.new
             (equal_removal K.cmp Q.order V.eq self.old key value.now)) }
         ensures events { IfOk result (λ r. MultiPairEvents K.cmp K.is_clone V.is_clone self.old self.new
@@ -186,19 +186,19 @@ impl<K: Ord + Clone + Drop, V: Eq + Clone + Drop, Node: NodeLike<MultiPair<K, V>
     ) -> Result<Option<(K, V)>, Refusal>
         ensures answer { IfOk result (λ entry. entry ≡ option_map key_and_value
             (equal_pair Q.order V.eq (concat self.old.nodes) key value.now)) }
-        ensures refusal { IfErr result (λ e. e ≡ refusal_of self.old
+        ensures refusal { IfErr result (λ e. e ≡ multi_refusal_of self.old
             (equal_removal K.cmp Q.order V.eq self.old key value.now)) }
         ensures no_event { (equal_removal K.cmp Q.order V.eq self.old key value.now).events ≡ []
             → IsOk result }
         ensures no_memory { length (equal_removal K.cmp Q.order V.eq self.old key value.now).events ≤ 1
-            → Fits self.old (equal_removal K.cmp Q.order V.eq self.old key value.now) → IsOk result }
+            → MultiFits self.old (equal_removal K.cmp Q.order V.eq self.old key value.now) → IsOk result }
         ensures never { Node.allocates ≡ false
-            → Fits self.old (equal_removal K.cmp Q.order V.eq self.old key value.now) → IsOk result }
+            → MultiFits self.old (equal_removal K.cmp Q.order V.eq self.old key value.now) → IsOk result }
         ensures unchanged { OnErr result (self.new ≡ self.old) }
         ensures gone { OnOk result (pairs_of Q.order (concat self.new.nodes) key
             ≡ without_first (λ p. V.eq p.value value.now)
             (pairs_of Q.order (concat self.old.nodes) key)) }
-        ensures others { OnOk result (KeepsOthers K.cmp Q.order self.old self.new key) }
+        ensures others { OnOk result (KeepsOtherPairs K.cmp Q.order self.old self.new key) }
         ensures changed { OnOk result (MultiChanged K.cmp self.old self.new
             (equal_removal K.cmp Q.order V.eq self.old key value.now)) }
     {
@@ -208,7 +208,7 @@ impl<K: Ord + Clone + Drop, V: Eq + Clone + Drop, Node: NodeLike<MultiPair<K, V>
 
     // Returns the place of the first pair of a key, if any.
     pub(super) fn first_place<Q: LookupKey<K>>(&self, key: &Q) -> Option<(usize, usize)>
-        ensures place { IsItemPlace self.now.nodes result }
+        ensures place { IsItemPlaceInNodes self.now.nodes result }
         ensures pair { placed_item self.now.nodes result
             ≡ first_pair Q.order (concat self.now.nodes) key.now }
     {
@@ -217,7 +217,7 @@ impl<K: Ord + Clone + Drop, V: Eq + Clone + Drop, Node: NodeLike<MultiPair<K, V>
 
     // Returns the place of the first pair of a key with an equal value, if any.
     pub(super) fn equal_place<Q: LookupKey<K>>(&self, key: &Q, value: &V) -> Option<(usize, usize)>
-        ensures place { IsItemPlace self.now.nodes result }
+        ensures place { IsItemPlaceInNodes self.now.nodes result }
         ensures pair { placed_item self.now.nodes result
             ≡ equal_pair Q.order V.eq (concat self.now.nodes) key.now value.now }
     {
@@ -231,12 +231,12 @@ impl<K: Ord + Clone + Drop, V: Eq + Clone + Drop, Node: NodeLike<MultiPair<K, V>
         &mut self,
         place: Option<(usize, usize)>,
     ) -> Result<(Option<(K, V)>, Vec<ChangeEvent<MultiPair<K, V>>>), Refusal>
-        requires { IsItemPlace self.old.nodes place }
-        ensures tree { OnOk result (self.new ≡ after_removal K.cmp self.old
+        requires { IsItemPlaceInNodes self.old.nodes place }
+        ensures tree { OnOk result (self.new ≡ after_pair_removal K.cmp self.old
             (placed_item self.old.nodes place)) }
         ensures answer { IfOk result (λ r. r.0 ≡ option_map key_and_value
             (placed_item self.old.nodes place)) }
-        ensures events { IfOk result (λ r. AreTableEvents (IsPairClone K.is_clone V.is_clone) self.old.next
+        ensures events { IfOk result (λ r. AreTableEvents (IsMultiPairClone K.is_clone V.is_clone) self.old.next
             (pair_removal_events K.cmp self.old.size self.old.nodes
             (placed_item self.old.nodes place)) r.1.items) }
         ensures fits { OnOk result (self.old.next + length
@@ -263,8 +263,8 @@ impl<K: Ord + Clone + Drop, V: Eq + Clone + Drop, Node: NodeLike<MultiPair<K, V>
 
     // Removes the pair at a place, if given, and returns it.
     pub(super) fn take(&mut self, place: Option<(usize, usize)>) -> Result<Option<(K, V)>, Refusal>
-        requires { IsItemPlace self.old.nodes place }
-        ensures tree { OnOk result (self.new ≡ after_removal K.cmp self.old
+        requires { IsItemPlaceInNodes self.old.nodes place }
+        ensures tree { OnOk result (self.new ≡ after_pair_removal K.cmp self.old
             (placed_item self.old.nodes place)) }
         ensures answer { IfOk result (λ entry. entry ≡ option_map key_and_value
             (placed_item self.old.nodes place)) }

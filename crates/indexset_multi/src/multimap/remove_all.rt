@@ -3,10 +3,10 @@ ghost use Rattle.std.specs.Prelude.{◌≡◌, [], length, false, true, is_some,
 ghost use Rattle.std.specs.Option.{option_map};
 ghost use Rattle.indexset_core.specs.Nodes.{concat};
 ghost use Rattle.indexset_log.specs.Tree.{refusal_for};
-ghost use Rattle.indexset_multi.specs.Changed.{AreRemoved, RemovalEvents, refusal_of, some_removal};
-ghost use Rattle.indexset_multi.specs.Keys.{first_pair, key_and_value, pairs_of, without_key};
+ghost use Rattle.indexset_multi.specs.Changed.{AreRemoved, RemovalEvents, multi_refusal_of, some_removal};
+ghost use Rattle.indexset_multi.specs.Keys.{first_pair, key_and_value, pairs_of, without_pairs_of};
 ghost use Rattle.indexset_multi.specs.Appended.{AppendsEvents};
-ghost use Rattle.indexset_multi.specs.Tree.{IsPairClone, after_removal, first_events};
+ghost use Rattle.indexset_multi.specs.Tree.{IsMultiPairClone, after_pair_removal, first_events};
 
 use super::BTreeMultiMap;
 use indexset_core::lookup_key::LookupKey;
@@ -41,9 +41,9 @@ impl<K: Ord + Clone + Drop, V: Eq + Clone + Drop, Node: NodeLike<MultiPair<K, V>
         ensures count { IfOk result (λ n. n ≡ length (pairs_of Q.order
             (concat self.old.nodes) key)) }
         ensures contents { OnOk result (concat self.new.nodes
-            ≡ without_key Q.order (concat self.old.nodes) key) }
+            ≡ without_pairs_of Q.order (concat self.old.nodes) key) }
         ensures gone { OnOk result (pairs_of Q.order (concat self.new.nodes) key ≡ []) }
-        ensures refusal { IfErr result (λ e. e ≡ refusal_of self.new
+        ensures refusal { IfErr result (λ e. e ≡ multi_refusal_of self.new
             (some_removal K.cmp Q.order self.new key)) }
         ensures no_event { pairs_of Q.order (concat self.old.nodes) key ≡ [] → IsOk result }
         ensures removed { AreRemoved K.cmp Q.order self.old self.new key }
@@ -88,9 +88,9 @@ impl<K: Ord + Clone + Drop, V: Eq + Clone + Drop, Node: NodeLike<MultiPair<K, V>
         ensures count { IfOk result (λ r.
             r.0 ≡ length (pairs_of Q.order (concat self.old.nodes) key)) }
         ensures contents { OnOk result (concat self.new.nodes
-            ≡ without_key Q.order (concat self.old.nodes) key) }
+            ≡ without_pairs_of Q.order (concat self.old.nodes) key) }
         ensures gone { OnOk result (pairs_of Q.order (concat self.new.nodes) key ≡ []) }
-        ensures refusal { IfErr result (λ e. e.cause ≡ refusal_of self.new
+        ensures refusal { IfErr result (λ e. e.cause ≡ multi_refusal_of self.new
             (some_removal K.cmp Q.order self.new key)) }
         ensures no_event { pairs_of Q.order (concat self.old.nodes) key ≡ [] → IsOk result }
         ensures removed { AreRemoved K.cmp Q.order self.old self.new key }
@@ -120,7 +120,7 @@ impl<K: Ord + Clone + Drop, V: Eq + Clone + Drop, Node: NodeLike<MultiPair<K, V>
 
     // Removes the first pair of a key, if any, and returns it. A failed call changes nothing.
     fn remove_first<Q: LookupKey<K>>(&mut self, key: &Q) -> Result<Option<(K, V)>, Refusal>
-        ensures tree { OnOk result (self.new ≡ after_removal K.cmp self.old
+        ensures tree { OnOk result (self.new ≡ after_pair_removal K.cmp self.old
             (first_pair Q.order (concat self.old.nodes) key.now)) }
         ensures answer { IfOk result (λ entry. entry ≡ option_map key_and_value
             (first_pair Q.order (concat self.old.nodes) key.now)) }
@@ -140,12 +140,12 @@ impl<K: Ord + Clone + Drop, V: Eq + Clone + Drop, Node: NodeLike<MultiPair<K, V>
         key: &Q,
         events: &mut Vec<ChangeEvent<MultiPair<K, V>>>,
     ) -> Result<bool, Refusal>
-        ensures tree { OnOk result (self.new ≡ after_removal K.cmp self.old
+        ensures tree { OnOk result (self.new ≡ after_pair_removal K.cmp self.old
             (first_pair Q.order (concat self.old.nodes) key.now)) }
         ensures found { IfOk result (λ found. found ≡ is_some
             (first_pair Q.order (concat self.old.nodes) key.now)) }
         ensures events { IfOk result (λ found. found ≡ true
-            → AppendsEvents (IsPairClone K.is_clone V.is_clone) self.old.next
+            → AppendsEvents (IsMultiPairClone K.is_clone V.is_clone) self.old.next
             (first_events K.cmp Q.order self.old key.now) events.old.items events.new.items) }
         ensures untold { IfOk result (λ found.
             found ≡ false → events.new.items ≡ events.old.items) }

@@ -5,11 +5,10 @@ use Rattle.std.proofs.lemmas.Bool.{false≢true}
 use Rattle.std.proofs.lemmas.List.Elements.{All-take}
 use Rattle.indexset_core.specs.MultiPairs.{by_number}
 use Rattle.indexset_core.specs.Nodes.{concat}
-use Rattle.indexset_log.specs.Changed.{Changed}
-use Rattle.indexset_log.specs.Changed.{last_removal as last_item_removal}
+use Rattle.indexset_log.specs.Changed.{Changed, last_removal}
 use Rattle.indexset_events.specs.Replay.{numbered_from, replay}
 use Rattle.indexset_log.specs.Tree.{refusal_for}
-use Rattle.indexset_multi.specs.Changed.{last_removal, set_tree}
+use Rattle.indexset_multi.specs.Changed.{last_pair_removal, set_tree}
 use Rattle.indexset_multi.specs.Keys.{AreNumberedBelow, key_and_value}
 use Rattle.indexset_multi.proofs.EndLemmas.{told_at}
 use Rattle.indexset_multi.proofs.PairRemovalLemmas.{multi_changed, removal_tree}
@@ -56,12 +55,12 @@ returns g c =
     let next : c.self.inside.set.next ≡ m.next = ap (λ t. t.next) c.self.view_is in
     let seen : c.self.inside.set ≡ set_tree m = λ i. record { nodes = same i; size = size i; next = next i } in
     let told = told_at g.K.Ord.cmp (λ t. length (concat t.nodes) - 1) {m = m} {n = m} refl in
-    let made = subst (λ t. Changed (by_number g.K.Ord.cmp) t after (last_item_removal (by_number g.K.Ord.cmp) t)) seen done.changed in
+    let made = subst (λ t. Changed (by_number g.K.Ord.cmp) t after (last_removal (by_number g.K.Ord.cmp) t)) seen done.changed in
     let replayed = subst (λ es. replay (by_number g.K.Ord.cmp) m.nodes (numbered_from m.next es) ≡ Some after.nodes) told made.table in
     let all_next = made.next ∙ ap (λ es. m.next + length es) told in
     let pair_next = ap (λ t. t.pair_next) c.self.view_is in
     let tree = removal_tree g.K.Ord.cmp m (slice_get (concat m.nodes) (length (concat m.nodes) - 1)) replayed made.size all_next pair_next in
-    let changed = multi_changed {cmp = g.K.Ord.cmp} {old = m} {made = last_removal g.K.Ord.cmp m} tree (subst (λ es. m.next + length es ≤ MAX) told made.fits) (record {
+    let changed = multi_changed {cmp = g.K.Ord.cmp} {old = m} {made = last_pair_removal g.K.Ord.cmp m} tree (subst (λ es. m.next + length es ≤ MAX) told made.fits) (record {
       contents = made.contents;
       size = made.size;
       next = all_next;

@@ -5,15 +5,14 @@ use Rattle.std.proofs.lemmas.Bool.{false≢true}
 use Rattle.std.proofs.lemmas.List.Elements.{All-take}
 use Rattle.indexset_core.specs.MultiPairs.{by_number}
 use Rattle.indexset_core.specs.Nodes.{concat}
-use Rattle.indexset_log.specs.Changed.{Changed}
-use Rattle.indexset_log.specs.Changed.{last_removal as last_item_removal}
+use Rattle.indexset_log.specs.Changed.{Changed, last_removal}
 use Rattle.indexset_events.specs.Clones.{AreTableEvents}
 use Rattle.indexset_events.specs.Ends.{removal_events_at}
 use Rattle.indexset_events.specs.Replay.{numbered_from, replay}
 use Rattle.indexset_log.specs.Tree.{refusal_for}
-use Rattle.indexset_multi.specs.Changed.{last_removal, set_tree}
+use Rattle.indexset_multi.specs.Changed.{last_pair_removal, set_tree}
 use Rattle.indexset_multi.specs.Keys.{AreNumberedBelow, key_and_value}
-use Rattle.indexset_multi.specs.Tree.{IsPairClone}
+use Rattle.indexset_multi.specs.Tree.{IsMultiPairClone}
 use Rattle.indexset_multi.proofs.EndLemmas.{told_at}
 use Rattle.indexset_multi.proofs.PairRemovalLemmas.{multi_changed, multi_told, removal_tree}
 use Rattle.indexset_multi.proofs.multimap.BTreeMultiMap.pop_last_cdc.Goals as goal
@@ -47,12 +46,12 @@ returns g c =
     let next : c.self.inside.set.next ≡ m.next = ap (λ t. t.next) c.self.view_is in
     let seen : c.self.inside.set ≡ set_tree m = λ i. record { nodes = same i; size = size i; next = next i } in
     let told = told_at g.K.Ord.cmp (λ t. length (concat t.nodes) - 1) {m = m} {n = m} refl in
-    let made = subst (λ t. Changed (by_number g.K.Ord.cmp) t after (last_item_removal (by_number g.K.Ord.cmp) t)) seen done.changed in
+    let made = subst (λ t. Changed (by_number g.K.Ord.cmp) t after (last_removal (by_number g.K.Ord.cmp) t)) seen done.changed in
     let replayed = subst (λ es. replay (by_number g.K.Ord.cmp) m.nodes (numbered_from m.next es) ≡ Some after.nodes) told made.table in
     let all_next = made.next ∙ ap (λ es. m.next + length es) told in
     let pair_next = ap (λ t. t.pair_next) c.self.view_is in
     let tree = removal_tree g.K.Ord.cmp m (slice_get (concat m.nodes) (length (concat m.nodes) - 1)) replayed made.size all_next pair_next in
-    let changed = multi_changed {cmp = g.K.Ord.cmp} {old = m} {made = last_removal g.K.Ord.cmp m} tree (subst (λ es. m.next + length es ≤ MAX) told made.fits) (record {
+    let changed = multi_changed {cmp = g.K.Ord.cmp} {old = m} {made = last_pair_removal g.K.Ord.cmp m} tree (subst (λ es. m.next + length es ≤ MAX) told made.fits) (record {
       contents = made.contents;
       size = made.size;
       next = all_next;
@@ -60,8 +59,8 @@ returns g c =
       at_most_three_events = subst (λ es. length es ≤ 3) told made.at_most_three_events;
       dense = made.dense;
     }) in
-    let all = subst (λ es. AreTableEvents (IsPairClone g.K.Clone.is_clone g.V.Clone.is_clone) m.next es c.in_ok-pair.events.items) told
-    (subst (λ t. AreTableEvents (IsPairClone g.K.Clone.is_clone g.V.Clone.is_clone) t.next (removal_events_at (by_number g.K.Ord.cmp) t.size t.nodes (length (concat t.nodes) - 1)) c.in_ok-pair.events.items) seen done.events.clones) in
+    let all = subst (λ es. AreTableEvents (IsMultiPairClone g.K.Clone.is_clone g.V.Clone.is_clone) m.next es c.in_ok-pair.events.items) told
+    (subst (λ t. AreTableEvents (IsMultiPairClone g.K.Clone.is_clone g.V.Clone.is_clone) t.next (removal_events_at (by_number g.K.Ord.cmp) t.size t.nodes (length (concat t.nodes) - 1)) c.in_ok-pair.events.items) seen done.events.clones) in
     record {
       answer = c.entry_of.ensures ∙ ap (option_map key_and_value) (done.answer ∙ (λ i. slice_get (concat (same i)) (length (concat (same i)) - 1)));
       refusal = tt;

@@ -2,7 +2,7 @@ use Rattle.std.proofs.Common.{◌≡◌, ◌+◌, ◌-◌, ◌<◌, true, false,
 use Rattle.indexset_core.specs.Nodes.{concat}
 use Rattle.indexset_events.specs.Clones.{AreTableEvents}
 use Rattle.indexset_multi.specs.Keys.{first_pair, pairs_of}
-use Rattle.indexset_multi.specs.Tree.{IsPairClone, removals_events}
+use Rattle.indexset_multi.specs.Tree.{IsMultiPairClone, removals_events}
 use Rattle.indexset_multi.proofs.RemovalRunLemmas.{all_kept, all_removed, are_removed, more_left, none_left, one_more, removals_told, removed_fit, stays, told_more}
 use Rattle.indexset_multi.proofs.multimap.BTreeMultiMap.remove_all_cdc.Goals as goal
 
@@ -38,7 +38,7 @@ loop-count-preserved g c =
     record {
       tree = one_more g.met.K.Ord.total g.met.Q.LookupKey.acts_as_key old c.rule.ensures.tree k at.count at.invariant.tree c.in-Ok-true.ensures.tree;
       within = more_left g.met.K.Ord.total g.met.Q.LookupKey.acts_as_key old c.rule.ensures.tree k at.count at.invariant.tree found;
-      events = told_more g.met.K.Ord.total g.met.Q.LookupKey.acts_as_key old c.rule.ensures.tree k at.count at.invariant.tree (IsPairClone g.K.Clone.is_clone g.V.Clone.is_clone) _ _ at.invariant.events (c.in-Ok-true.ensures.events c.in-Ok-true.field-0-test);
+      events = told_more g.met.K.Ord.total g.met.Q.LookupKey.acts_as_key old c.rule.ensures.tree k at.count at.invariant.tree (IsMultiPairClone g.K.Clone.is_clone g.V.Clone.is_clone) _ _ at.invariant.events (c.in-Ok-true.ensures.events c.in-Ok-true.field-0-test);
     }
 
 pub returns-in-Ok-false : goal.returns-in-Ok-false
@@ -53,7 +53,7 @@ returns-in-Ok-false g c =
     let gone = subst (λ m. is_some (first_pair order (concat m.nodes) k) ≡ false) (sym same) none in
     let C = g.K.Clone.is_clone in
     let D = g.V.Clone.is_clone in
-    let told = subst (λ l. AreTableEvents (IsPairClone C D) old.next (removals_events g.K.Ord.cmp order old k at.count) l) (sym (c.in-Ok-false.ensures.untold c.in-Ok-false.field-0-test)) at.invariant.events in
+    let told = subst (λ l. AreTableEvents (IsMultiPairClone C D) old.next (removals_events g.K.Ord.cmp order old k at.count) l) (sym (c.in-Ok-false.ensures.untold c.in-Ok-false.field-0-test)) at.invariant.events in
     record {
       count = all_removed g.met.K.Ord.total g.met.Q.LookupKey.acts_as_key old c.rule.ensures.tree k at.count is at.invariant.within gone;
       contents = all_kept g.met.K.Ord.total g.met.Q.LookupKey.acts_as_key old c.rule.ensures.tree k at.count is at.invariant.within gone;
@@ -73,7 +73,7 @@ returns-in-Err g c =
     let is = c.in-Err.ensures.unchanged ∙ at.invariant.tree in
     let C = g.K.Clone.is_clone in
     let D = g.V.Clone.is_clone in
-    let told = subst (λ l. AreTableEvents (IsPairClone C D) old.next (removals_events g.K.Ord.cmp g.Q.LookupKey.order old k at.count) l) (sym c.in-Err.ensures.kept) at.invariant.events in
+    let told = subst (λ l. AreTableEvents (IsMultiPairClone C D) old.next (removals_events g.K.Ord.cmp g.Q.LookupKey.order old k at.count) l) (sym c.in-Err.ensures.kept) at.invariant.events in
     record {
       count = tt;
       contents = tt;
