@@ -7,9 +7,9 @@ ghost use Rattle.indexset_core.specs.Pairs.{pair};
 ghost use Rattle.indexset_follow.specs.Early.{consecutive, first_number, with_early};
 
 use crate::event::Event;
-use indexset_bench::RunFault;
 use indexset_bench::key::Key;
 use indexset_bench::pair_text::EventText;
+use indexset_lines::RunFault;
 use indexset_map::BTreeMap;
 use std::alloc::Global;
 use std::marker::Model;

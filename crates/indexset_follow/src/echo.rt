@@ -4,10 +4,10 @@ ghost use Rattle.std.specs.Prelude.{◌≡◌, IfErr, IfOk};
 ghost use Rattle.indexset_follow.specs.Echo.{change_of, command_of, done_by, echo_of, echoed_of};
 
 use crate::reads::query::read_query;
-use indexset_bench::RunFault;
 use indexset_bench::key::Key;
 use indexset_bench::pair_command::{PairCommand, parse_pairs};
 use indexset_events::parts::{cut, read_number};
+use indexset_lines::RunFault;
 use std::alloc::Global;
 
 /// A command, and its command number.

@@ -3,11 +3,11 @@
 ghost use Rattle.std.specs.Prelude.{◌≡◌, IfErr, IfOk};
 ghost use Rattle.indexset_follow.specs.EventLine.{event_of, item_event, named_event, word_event};
 
-use indexset_bench::RunFault;
 use indexset_bench::key::{Key, read_pair};
 use indexset_core::pair::Pair;
 use indexset_events::change::{ChangeEvent, Id};
 use indexset_events::parts::{cut, read_number};
+use indexset_lines::RunFault;
 use std::alloc::Global;
 
 /// An event whose items are pairs.

@@ -14,9 +14,9 @@ use crate::reads::query::read_query;
 use crate::reads::{answer_other, answer_query};
 use crate::reply::Reply;
 use crate::write::{write_mark, write_reply};
-use indexset_bench::RunFault;
 use indexset_bench::key::Key;
 use indexset_bench::pairs::answer_pairs;
+use indexset_lines::RunFault;
 use std::alloc::Global;
 use std::io::Write;
 

@@ -4,10 +4,10 @@ ghost use Rattle.std.specs.Prelude.{◌≡◌, [], ◌∷◌, ◌++◌, IfOk, On
 ghost use Rattle.std.specs.Option.{option_map};
 ghost use Rattle.indexset_follow.specs.NodeLine.{node_of, pairs_of, words};
 
-use indexset_bench::RunFault;
 use indexset_bench::key::{Key, read_pair};
 use indexset_core::pair::Pair;
 use indexset_events::parts::cut;
+use indexset_lines::RunFault;
 use std::alloc::Global;
 
 /// A node of a snapshot.

@@ -12,8 +12,8 @@ use crate::reads::{Reads, reply_to_head};
 use crate::reason::Reason;
 use crate::reply::Reply;
 use crate::write::Nodes;
-use indexset_bench::RunFault;
 use indexset_bench::key::Key;
+use indexset_lines::RunFault;
 use std::alloc::Global;
 use std::mem;
 

@@ -4,10 +4,10 @@ ghost use Rattle.std.specs.Prelude.{◌≡◌, IfErr, IfOk};
 ghost use Rattle.indexset_follow.specs.Copy.{copy};
 
 use crate::write::Nodes;
-use indexset_bench::RunFault;
 use indexset_bench::key::Key;
 use indexset_bench::pairs::Pairs;
 use indexset_core::pair::Pair;
+use indexset_lines::RunFault;
 use std::alloc::Global;
 
 /// Returns copies of the nodes of a leader, as a follower that awaits the leader's next event.

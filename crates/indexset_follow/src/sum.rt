@@ -6,8 +6,8 @@ ghost use Rattle.indexset_follow.specs.Copy.{copy, sum_of};
 use crate::mark::Mark;
 use crate::reads::nodes::WalkNodes;
 use crate::write::{write_mark, write_node_line};
-use indexset_bench::RunFault;
 use indexset_bench::key::Key;
+use indexset_lines::RunFault;
 use sha2::{Digest, Sha256};
 use std::alloc::Global;
 

@@ -13,10 +13,11 @@ use crate::mark::Mark;
 use crate::others::Voice;
 use crate::reads::nodes::WalkNodes;
 use crate::reply::Reply;
+use indexset_bench::Replica;
 use indexset_bench::key::Key;
 use indexset_bench::write::{write_bytes, write_node, write_number};
-use indexset_bench::{Replica, RunFault};
 use indexset_core::pair::Pair;
+use indexset_lines::RunFault;
 use std::io::Write;
 
 /// The nodes of a follower.

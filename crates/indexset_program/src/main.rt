@@ -1,7 +1,8 @@
 //! Executes commands to a set and a map of numbers, one from each line of standard input.
 #![tactic(auto)]
 
-use indexset_bench::{RunFault, run};
+use indexset_bench::run;
+use indexset_lines::RunFault;
 use std::io::{self, BufReader, BufWriter};
 use std::process::ExitCode;
 

@@ -2,8 +2,9 @@
 //! space and `^` for a carriage return.
 
 use crate::source::{Failing, FailingAfter, Interrupted};
-use indexset_bench::{RunFault, run};
+use indexset_bench::run;
 use indexset_core::refusal::Refusal;
+use indexset_lines::RunFault;
 use std::alloc::Global;
 use std::io::{BufReader, ErrorKind, Read, Write};
 use std::str::SplitWhitespace;

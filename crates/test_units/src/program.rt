@@ -1,7 +1,8 @@
 //! Long runs, and writers that fail.
 
-use indexset_bench::{RunFault, run};
+use indexset_bench::run;
 use indexset_core::refusal::Refusal;
+use indexset_lines::RunFault;
 use std::alloc::Global;
 use std::io::{self, ErrorKind, Read, Write};
 use std::test::Fail;

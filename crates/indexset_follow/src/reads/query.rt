@@ -4,9 +4,9 @@ ghost use Rattle.std.specs.Prelude.{◌≡◌, IfErr, IfOk};
 ghost use Rattle.indexset_follow.specs.Query.{keyed_query, numbered_query, query_of, word_query};
 
 use crate::numbers::read_two;
-use indexset_bench::RunFault;
 use indexset_bench::key::{Key, read_key, read_two_keys};
 use indexset_events::parts::{cut, read_number};
+use indexset_lines::RunFault;
 use std::alloc::Global;
 
 /// A read of a map. Positions are counted from 0, in the order of the keys.

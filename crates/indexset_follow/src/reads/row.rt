@@ -8,9 +8,9 @@ ghost use Rattle.indexset_follow.specs.Reads.{row_text};
 
 use crate::reply::Reply;
 use crate::write::write_reply;
-use indexset_bench::RunFault;
 use indexset_bench::key::Key;
 use indexset_bench::pair_text::EntryText;
+use indexset_lines::RunFault;
 use std::io::Write;
 
 /// An iterator over pairs.
