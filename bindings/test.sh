@@ -1,7 +1,7 @@
 #!/usr/bin/env bash
 # Builds both bindings, each in its folder out/, and runs their tests concurrently. A tool that is not installed is a
 # failure (scripts/needs.py installs them). The last line counts them. With UNPROVED=1 in the environment, the library
-# is one that scripts/unproved.py builds in minutes, and the test of the wheel is left out.
+# is one that scripts/unproved.py builds in minutes.
 #
 #     bindings/test.sh
 set -u
@@ -28,13 +28,21 @@ try() {
     names+=("$*")
 }
 
-# The extension under sanitizers, in a folder of its own.
+# Builds the extension into a folder of python, with more flags of the compiler.
+extension() {
+    local to=$1
+    shift
+    (cd python && CFLAGS="-Wall -Wextra -Werror -Wno-missing-field-initializers -Wno-cast-function-type $*" \
+        python3 setup.py -q build_ext --build-lib "$to")
+}
+
+# The extension under sanitizers, with the assertions of Python's headers, in a folder of its own.
 sanitized() {
     local preload
     preload="$(gcc -print-file-name=libasan.so) $(gcc -print-file-name=libubsan.so)"
     mkdir python/out/sanitized
     cp -r python/src/indexset python/tests/test_*.py python/out/sanitized
-    python3 python/build_fast.py --sanitize --library "c/$out/libindexset.a" python/out/sanitized || return 1
+    extension out/sanitized -g -UNDEBUG -fsanitize=address,undefined || return 1
     for test in test_answers test_blocks test_defects test_equals test_indexset test_kinds test_list test_text; do
         LD_PRELOAD="$preload" ASAN_OPTIONS=detect_leaks=0 python3 "python/out/sanitized/$test.py" || return 1
     done
@@ -45,9 +53,10 @@ for compiler in g++ clang++; do
     try make -s -j "$(nproc)" -C c "check-$compiler"
 done
 try c/tests/test_install.sh
-[ -n "${UNPROVED-}" ] || try python3 python/tests/test_package.py
+# By Debian's Python, for which Debian has setuptools and wheel.
+try /usr/bin/python3 python/tests/test_package.py
 try env PYTHONPATH=python/out python3 -m doctest python/README.md ../README.md
-python3 python/build_fast.py --library "c/$out/libindexset.a" python/out || exit 1
+extension out || exit 1
 for backend in ctypes extension; do
     for test in test_answers test_blocks test_defects test_equals test_indexset test_kinds test_list test_logged \
         test_numbers test_text; do

@@ -10,6 +10,7 @@ is installed.
 from __future__ import annotations
 
 import argparse
+import glob
 import importlib.util
 import os
 import shutil
@@ -35,19 +36,25 @@ COMMANDS = {
     "pkg-config": "pkg-config",
     "shellcheck": "shellcheck",
 }
-# Files of packages without a command.
+# Files, by pattern, of packages without a command, and of those for Debian's Python, which may not be the first on the
+# path: with them bindings/test.sh builds the package of Python.
 FILES = {
+    "/usr/bin/python3-config": "python3-dev",
     "/usr/include/absl/container/btree_map.h": "libabsl-dev",
+    "/usr/lib/python3.*/ensurepip/__init__.py": "python3-venv",
     "/usr/lib/python3/dist-packages/numpy/__init__.py": "python3-numpy",
+    "/usr/lib/python3/dist-packages/setuptools/__init__.py": "python3-setuptools",
+    "/usr/lib/python3/dist-packages/wheel/__init__.py": "python3-wheel",
 }
+# What the first Python on the path needs to build the compiled module.
 HEADER = os.path.join(sysconfig.get_path("include"), "Python.h")
-MODULES = {"ensurepip": "python3-venv"}
+MODULES = {"setuptools": "python3-setuptools"}
 
 
 def missing() -> list[str]:
     """Returns the packages whose commands or files are missing."""
     lacking = {package for command, package in COMMANDS.items() if not shutil.which(command)}
-    lacking |= {package for file, package in FILES.items() if not os.path.exists(file)}
+    lacking |= {package for file, package in FILES.items() if not glob.glob(file)}
     lacking |= {package for module, package in MODULES.items() if not importlib.util.find_spec(module)}
     lacking |= set() if os.path.exists(HEADER) else {"python3-dev"}
     return sorted(lacking)

@@ -1,4 +1,8 @@
-"""Tests the package as pip builds it, in an environment of its own, without a network."""
+"""Tests the package as pip and setuptools build it, in an environment of its own, without a network.
+
+The Python that runs it needs the packages setuptools and wheel. With UNPROVED=1 in the environment the library is the
+one of `make -C bindings/c UNPROVED=1`.
+"""
 import os
 import pathlib
 import shutil
@@ -10,13 +14,21 @@ import unittest
 import zipfile
 
 HERE = pathlib.Path(__file__).resolve().parent.parent
-SAYS = "import indexset; print(indexset.BACKEND, indexset.SortedSet([2, 1]), len(indexset.LoggedDict(None, {'a': 1})))"
-sys.path.insert(0, str(HERE))
+IS_PROVED = not os.environ.get("UNPROVED")
+MADE_BY = "make -C bindings/c" if IS_PROVED else "make -C bindings/c UNPROVED=1"
+SAYS = (
+    "import indexset; print(indexset.BACKEND, indexset.PROVED, indexset.SortedSet([2, 1]),"
+    " len(indexset.LoggedDict(None, {'a': 1})))"
+)
 
-from build_fast import compiler  # noqa: E402
+
+def has_compiler():
+    """Returns whether there are a C compiler and Python's headers, so that setuptools builds the compiled module."""
+    header = pathlib.Path(sysconfig.get_path("include"), "Python.h")
+    return shutil.which("cc") is not None and header.exists()
 
 
-def ran(*words, **more):
+def ran(*words, folder="/", **more):
     """Returns the status of a command and its output."""
     where = {name: value for name, value in os.environ.items() if not name.startswith("INDEXSET_")}
     done = subprocess.run(
@@ -24,10 +36,15 @@ def ran(*words, **more):
         stdout=subprocess.PIPE,
         stderr=subprocess.STDOUT,
         text=True,
-        cwd="/",
+        cwd=folder,
         env={**where, **more},
     )
     return done.returncode, done.stdout
+
+
+def present():
+    """Returns the files and folders of the sources, without those of the other tests, which run at the same time."""
+    return {it for it in HERE.rglob("*") if HERE / "out" not in (it, *it.parents) and "__pycache__" not in it.parts}
 
 
 class Package(unittest.TestCase):
@@ -35,43 +52,52 @@ class Package(unittest.TestCase):
     def setUpClass(cls):
         cls.room = tempfile.TemporaryDirectory()
         cls.folder = pathlib.Path(cls.room.name)
-        cls.backend = "extension" if compiler() else "ctypes"
-        status, said = ran(sys.executable, "-m", "venv", cls.folder / "fresh")
+        cls.backend = "extension" if has_compiler() else "ctypes"
+        status, said = ran(sys.executable, "-m", "venv", "--system-site-packages", cls.folder / "fresh")
         if status:
             raise unittest.SkipTest(f"no environment can be made: {said.splitlines()[-1]}")
         cls.python = cls.folder / "fresh/bin/python"
+        cls.pip = cls.python, "-m", "pip", "--disable-pip-version-check"
 
     @classmethod
     def tearDownClass(cls):
         cls.room.cleanup()
 
-    def install(self, *words, backend, **more):
-        pip = self.python, "-m", "pip", "--disable-pip-version-check"
-        status, said = ran(*pip, "install", "--no-index", "--force-reinstall", *words, **more)
-        self.assertEqual(status, 0, said)
-        self.assertEqual(ran(self.python, "-c", SAYS)[1], f"{backend} SortedSet([1, 2]) 1\n")
-        about = ran(*pip, "show", "indexset")[1]
-        self.assertIn("License: Apache-2.0", about)
-        self.assertEqual(ran(*pip, "uninstall", "-y", "indexset")[0], 0)
+    def setUp(self):
+        self.before = present()
 
-    def built(self, call, folder=HERE, **more):
-        """Returns the file that a hook of the backend builds."""
-        made = (
-            f"import sys; sys.path.insert(0, {str(folder)!r}); import wheel_backend;"
-            f" print(wheel_backend.{call}({str(self.folder)!r}))"
-        )
-        status, said = ran(sys.executable, "-c", made, **more)
+    def tearDown(self):
+        self.assertEqual(present(), self.before, "a build leaves files among the sources")
+
+    def install(self, *words, backend, where=None, **more):
+        offline = "--no-index", "--no-build-isolation"
+        status, said = ran(*self.pip, "install", *offline, "--force-reinstall", *words, **more)
         self.assertEqual(status, 0, said)
-        return self.folder / said.splitlines()[-1]
+        said = ran(self.python, "-c", SAYS, **(where or {}))[1]
+        self.assertEqual(said, f"{backend} {IS_PROVED} SortedSet([1, 2]) 1\n")
+        about = ran(*self.pip, "show", "indexset")[1]
+        self.assertIn("License: Apache-2.0", about)
+        self.assertEqual(ran(*self.pip, "uninstall", "-y", "indexset")[0], 0)
+
+    def wheel(self, **more):
+        """Returns the wheel that pip builds."""
+        to = pathlib.Path(tempfile.mkdtemp(dir=self.folder))
+        offline = "--no-index", "--no-build-isolation"
+        status, said = ran(*self.pip, "wheel", *offline, "--no-deps", "-w", to, HERE, **more)
+        self.assertEqual(status, 0, said)
+        return next(to.iterdir())
 
     def test_folder(self):
         self.install(HERE, backend=self.backend)
 
     def test_source_distribution(self):
-        self.install(self.built("build_sdist"), backend=self.backend)
+        status, said = ran(self.python, "setup.py", "-q", "sdist", "-d", self.folder, folder=HERE)
+        self.assertEqual(status, 0, said)
+        self.install(self.folder / "indexset-0.2.0.tar.gz", backend=self.backend)
 
     def test_editable(self):
-        self.install("-e", HERE, backend="ctypes")
+        library = {} if IS_PROVED else {"INDEXSET_LIBRARY": str(HERE.parent / "c/out/unproved/libindexset.so")}
+        self.install("-e", HERE, backend="ctypes", where=library)
 
     def test_without_a_compiler(self):
         self.install(HERE, backend="ctypes", PATH="/nowhere", CC="no-compiler")
@@ -79,25 +105,25 @@ class Package(unittest.TestCase):
     def test_tags(self):
         platform = sysconfig.get_platform().replace("-", "_").replace(".", "_")
         python = f"cp{sys.version_info.major}{sys.version_info.minor}"
-        tags = {None: f"py3-none-{platform}", "cc": f"{python}-{python}-{platform}"}
-        made = self.built("build_wheel")
-        self.assertEqual(made.name, f"indexset-0.2.0-{tags['cc' if compiler() else None]}.whl")
+        tags = {"ctypes": f"py3-none-{platform}", "extension": f"{python}-{python}-{platform}"}
+        made = self.wheel()
+        self.assertEqual(made.name, f"indexset-0.2.0-{tags[self.backend]}.whl")
         names = set(zipfile.ZipFile(made).namelist())
-        for name in ("indexset/py.typed", "indexset/libindexset.so", "indexset-0.2.0.dist-info/LICENSE"):
+        for name in ("indexset/py.typed", "indexset/libindexset.so"):
             self.assertIn(name, names)
-        self.assertEqual(
-            self.built("build_wheel", PATH="/nowhere", CC="no-compiler").name, f"indexset-0.2.0-{tags[None]}.whl"
-        )
+        self.assertRegex("\n".join(names), "(?m)^indexset-0.2.0.dist-info/(licenses/)?LICENSE$")
+        made = self.wheel(PATH="/nowhere", CC="no-compiler")
+        self.assertEqual(made.name, f"indexset-0.2.0-{tags['ctypes']}.whl")
+        self.assertNotIn("_fast", "".join(zipfile.ZipFile(made).namelist()))
 
     def test_without_the_library(self):
         shutil.copytree(HERE, self.folder / "bare/bindings/python", ignore=shutil.ignore_patterns("out"))
-        status, said = ran(self.python, "-m", "pip", "install", "--no-index", self.folder / "bare/bindings/python")
+        bare = self.folder / "bare/bindings/python"
+        status, said = ran(*self.pip, "install", "--no-index", "--no-build-isolation", bare)
         self.assertNotEqual(status, 0)
         self.assertNotIn("Traceback", said)
-        self.assertRegex(said, "libindexset.so is missing; `make -C bindings/c` makes it")
-        status, said = ran(
-            sys.executable, "-c", "import indexset", PYTHONPATH=str(self.folder / "bare/bindings/python/src")
-        )
+        self.assertRegex(said, f"libindexset.so is missing; `{MADE_BY}` makes it")
+        status, said = ran(sys.executable, "-c", "import indexset", PYTHONPATH=str(bare / "src"))
         self.assertRegex(said.splitlines()[-1], "^ImportError: indexset lacks its library")
 
 
