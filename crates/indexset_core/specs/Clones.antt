@@ -1,4 +1,5 @@
 -- Clones.
+use Rattle.std.specs.Prelude.{◌≡◌}
 
 -- each clone is identical to its source
 abbrev pub AreIdentical : {T : Type 0} → (T → T → Type 0) → Type 0
