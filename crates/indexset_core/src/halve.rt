@@ -11,13 +11,20 @@ use crate::refusal::Refusal;
 ///
 /// Fails with `Memory` only. A failed call leaves the items as they were.
 pub fn halve_node<T>(node: &mut Vec<T>) -> Result<Vec<T>, Refusal>
-    ensures left { OnOk result (node.new.items ≡ take (length node.old.items / 2) node.old.items) }
-    ensures left_room { OnOk result (length node.old.items ≤ vec_capacity node.new) }
+    // Result.
     ensures right { IfOk result (λ rest. rest.items
         ≡ drop (length node.old.items / 2) node.old.items) }
-    ensures right_room { IfOk result (λ rest. length node.old.items ≤ vec_capacity rest) }
+
+    // Contents.
+    ensures left { OnOk result (node.new.items ≡ take (length node.old.items / 2) node.old.items) }
+
+    // Failure.
     ensures refusal { IfErr result (λ e. e ≡ Refusal.Memory) }
     ensures unchanged { OnErr result (node.new.items ≡ node.old.items) }
+
+    // Memory.
+    ensures left_room { OnOk result (length node.old.items ≤ vec_capacity node.new) }
+    ensures right_room { IfOk result (λ rest. length node.old.items ≤ vec_capacity rest) }
 {
     let half = node.len() / 2;
     let mut rest = node.split_off(half)?;
