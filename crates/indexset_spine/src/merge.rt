@@ -37,9 +37,13 @@ pub(crate) fn merge_first<T: Ord + Drop>(
     requires order { IsAscending T.cmp items.old.items }
     requires from_order { IsAscending T.cmp from.old.items }
     requires within { count ≤ length from.old.items }
+
+    // Contents.
     ensures merged { OnOk result (items.new.items
         ≡ fold (put T.cmp) items.old.items (take count from.old.items)) }
     ensures rest { OnOk result (from.new.items ≡ drop count from.old.items) }
+
+    // Failure.
     ensures refusal { IfErr result (λ e. e ≡ Refusal.Memory) }
     ensures unchanged { OnErr result (items.new.items ≡ items.old.items) }
     ensures from_unchanged { OnErr result (from.new.items ≡ from.old.items) }

@@ -106,6 +106,8 @@ impl<T> Spine<T> {
     #[inline(always)]
     pub fn locate_by<P: Probe<T>>(&self, probe: &mut P) -> Spot
         requires { IsParted (P.answer probe.old) (items self.now) }
+
+        // Result.
         ensures node { result.node ≡ node_for (P.answer probe.old) self.now.nodes }
         ensures offset { result.offset ≡ less_count (P.answer probe.old)
             (node_at self.now.nodes result.node) }
@@ -115,6 +117,8 @@ impl<T> Spine<T> {
         ensures item { IsTrue result.found → IsItemSpot self.now.nodes result }
         ensures position { position_of self.now.nodes result
             ≡ less_count (P.answer probe.old) (items self.now) }
+
+        // Contents.
         ensures fixed { P.answer probe.new ≡ P.answer probe.old }
         ensures comparisons { P.asked probe.new ≤ P.asked probe.old
             + (digits (length self.now.nodes) + digits self.now.size + 1) }
@@ -131,6 +135,8 @@ impl<T> Spine<T> {
     /// One comparison if the last item compares Less, else one more than `locate_by`.
     pub fn locate_from_end_by<P: Probe<T>>(&self, probe: &mut P) -> Spot
         requires { IsParted (P.answer probe.old) (items self.now) }
+
+        // Result.
         ensures node { result.node ≡ node_for (P.answer probe.old) self.now.nodes }
         ensures offset { result.offset ≡ less_count (P.answer probe.old)
             (node_at self.now.nodes result.node) }
@@ -140,6 +146,8 @@ impl<T> Spine<T> {
         ensures item { IsTrue result.found → IsItemSpot self.now.nodes result }
         ensures position { position_of self.now.nodes result
             ≡ less_count (P.answer probe.old) (items self.now) }
+
+        // Contents.
         ensures fixed { P.answer probe.new ≡ P.answer probe.old }
         ensures comparisons { P.asked probe.new ≤ P.asked probe.old
             + (digits (length self.now.nodes) + digits self.now.size + 2) }
@@ -166,6 +174,8 @@ impl<T> Spine<T> {
     /// Two comparisons more than `locate_by` at most.
     pub fn locate_near_by<P: Probe<T>>(&self, near: usize, probe: &mut P) -> Spot
         requires { IsParted (P.answer probe.old) (items self.now) }
+
+        // Result.
         ensures node { result.node ≡ node_for (P.answer probe.old) self.now.nodes }
         ensures offset { result.offset ≡ less_count (P.answer probe.old)
             (node_at self.now.nodes result.node) }
@@ -175,6 +185,8 @@ impl<T> Spine<T> {
         ensures item { IsTrue result.found → IsItemSpot self.now.nodes result }
         ensures position { position_of self.now.nodes result
             ≡ less_count (P.answer probe.old) (items self.now) }
+
+        // Contents.
         ensures fixed { P.answer probe.new ≡ P.answer probe.old }
         ensures comparisons { P.asked probe.new ≤ P.asked probe.old
             + (digits (length self.now.nodes) + digits self.now.size + 3) }
@@ -189,6 +201,8 @@ impl<T> Spine<T> {
     #[inline(always)]
     fn locate_among<P: Probe<T>>(&self, probe: &mut P, node_count: usize) -> Spot
         requires { IsParted (P.answer probe.old) (items self.now) }
+
+        // Result.
         ensures node { result.node ≡ node_for (P.answer probe.old) self.now.nodes }
         ensures offset { result.offset ≡ less_count (P.answer probe.old)
             (node_at self.now.nodes result.node) }
@@ -198,6 +212,8 @@ impl<T> Spine<T> {
         ensures item { IsTrue result.found → IsItemSpot self.now.nodes result }
         ensures position { position_of self.now.nodes result
             ≡ less_count (P.answer probe.old) (items self.now) }
+
+        // Contents.
         ensures fixed { P.answer probe.new ≡ P.answer probe.old }
         ensures comparisons { P.asked probe.new ≤ P.asked probe.old
             + (digits (length self.now.nodes) + digits self.now.size + 1) }
@@ -210,6 +226,8 @@ impl<T> Spine<T> {
     fn locate_in<P: Probe<T>>(&self, node: usize, probe: &mut P, node_count: usize) -> Spot
         requires parted { IsParted (P.answer probe.old) (items self.now) }
         requires node { node ≡ node_for (P.answer probe.old) self.now.nodes }
+
+        // Result.
         ensures node { result.node ≡ node }
         ensures offset { result.offset ≡ less_count (P.answer probe.old)
             (node_at self.now.nodes result.node) }
@@ -219,6 +237,8 @@ impl<T> Spine<T> {
         ensures item { IsTrue result.found → IsItemSpot self.now.nodes result }
         ensures position { position_of self.now.nodes result
             ≡ less_count (P.answer probe.old) (items self.now) }
+
+        // Contents.
         ensures fixed { P.answer probe.new ≡ P.answer probe.old }
         ensures comparisons { P.asked probe.new ≤ P.asked probe.old + (digits self.now.size + 1) }
     {

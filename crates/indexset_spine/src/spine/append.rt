@@ -20,16 +20,21 @@ impl<T: Drop> Spine<T> {
     /// Fails with `Memory` only. A failed call has moved a prefix, and leaves the other items in
     /// their spine.
     pub fn append(&mut self, other: &mut Spine<T>) -> Result<(), Refusal>
-        ensures nodes { OnOk result (self.new.nodes
-            ≡ with_all_last self.old.size self.old.nodes (items other.old)) }
+        // Contents.
         ensures items { items self.new ++ items other.new ≡ items self.old ++ items other.old }
         ensures emptied { OnOk result (other.new.nodes ≡ [] ∷ []) }
+
+        // Failure.
+        ensures refusal { IfErr result (λ e. e ≡ Refusal.Memory) }
+        ensures some_left { OnErr result (0 < length (items other.new)) }
+
+        // Nodes.
+        ensures nodes { OnOk result (self.new.nodes
+            ≡ with_all_last self.old.size self.old.nodes (items other.old)) }
         ensures size { self.new.size ≡ self.old.size }
         ensures other_size { other.new.size ≡ other.old.size }
-        ensures refusal { IfErr result (λ e. e ≡ Refusal.Memory) }
         ensures moved { FoldsPrefix (with_last self.old.size) self.old.nodes (items other.old)
             self.new.nodes (items other.new) }
-        ensures some_left { OnErr result (0 < length (items other.new)) }
     {
         let _count = self.node_count();
         let moved = move_nodes(self, &mut other.nodes);
@@ -50,15 +55,20 @@ impl<T: Drop> Spine<T> {
     /// Fails with `Memory` only. A failed call has moved a prefix, and leaves the others in the
     /// list.
     pub fn append_items(&mut self, from: &mut Vec<T>) -> Result<(), Refusal>
-        ensures nodes { OnOk result (self.new.nodes
-            ≡ with_all_last self.old.size self.old.nodes from.old.items) }
+        // Contents.
         ensures items { items self.new ++ from.new.items ≡ items self.old ++ from.old.items }
         ensures emptied { OnOk result (from.new.items ≡ []) }
-        ensures size { self.new.size ≡ self.old.size }
+
+        // Failure.
         ensures refusal { IfErr result (λ e. e ≡ Refusal.Memory) }
+        ensures some_left { OnErr result (0 < length from.new.items) }
+
+        // Nodes.
+        ensures nodes { OnOk result (self.new.nodes
+            ≡ with_all_last self.old.size self.old.nodes from.old.items) }
+        ensures size { self.new.size ≡ self.old.size }
         ensures moved { FoldsPrefix (with_last self.old.size) self.old.nodes from.old.items
             self.new.nodes from.new.items }
-        ensures some_left { OnErr result (0 < length from.new.items) }
     {
         let _count = self.node_count();
         while !from.is_empty() {
@@ -71,13 +81,19 @@ impl<T: Drop> Spine<T> {
     // was full. A failed call changes neither.
     fn append_block(&mut self, from: &mut Vec<T>) -> Result<(), Refusal>
         requires { 0 < length from.old.items }
-        ensures moved { FoldsPrefix (with_last self.old.size) self.old.nodes from.old.items
-            self.new.nodes from.new.items }
+
+        // Contents.
         ensures fewer { OnOk result (length from.new.items < length from.old.items) }
-        ensures size { self.new.size ≡ self.old.size }
+
+        // Failure.
         ensures refusal { IfErr result (λ e. e ≡ Refusal.Memory) }
         ensures unchanged { OnErr result (self.new ≡ self.old) }
         ensures from_unchanged { OnErr result (from.new.items ≡ from.old.items) }
+
+        // Nodes.
+        ensures moved { FoldsPrefix (with_last self.old.size) self.old.nodes from.old.items
+            self.new.nodes from.new.items }
+        ensures size { self.new.size ≡ self.old.size }
     {
         if self.len == usize::MAX {
             return Err(Refusal::Memory);
@@ -98,15 +114,20 @@ impl<T: Drop> Spine<T> {
 // Appends the items of nodes to a spine, first to last, and leaves each node that it moved empty. A
 // failed call has moved a prefix.
 fn move_nodes<T: Drop>(spine: &mut Spine<T>, from: &mut Vec<Vec<T>>) -> Result<(), Refusal>
+    // Contents.
+    ensures emptied { OnOk result (concat (vec_items from.new.items) ≡ []) }
+
+    // Failure.
+    ensures refusal { IfErr result (λ e. e ≡ Refusal.Memory) }
+    ensures some_left { OnErr result (0 < length (concat (vec_items from.new.items))) }
+
+    // Nodes.
     ensures moved { FoldsPrefix (with_last spine.old.size) spine.old.nodes
         (concat (vec_items from.old.items)) spine.new.nodes (concat (vec_items from.new.items)) }
-    ensures emptied { OnOk result (concat (vec_items from.new.items) ≡ []) }
     ensures size { spine.new.size ≡ spine.old.size }
     ensures as_many { length from.new.items ≡ length from.old.items }
     ensures bounded { (n : ℕ) → All (λ l. l ≤ n) (node_lengths (vec_items from.old.items))
         → All (λ l. l ≤ n) (node_lengths (vec_items from.new.items)) }
-    ensures refusal { IfErr result (λ e. e ≡ Refusal.Memory) }
-    ensures some_left { OnErr result (0 < length (concat (vec_items from.new.items))) }
 {
     let mut k = 0;
     while k < from.len() {

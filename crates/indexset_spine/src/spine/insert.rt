@@ -24,15 +24,23 @@ impl<T: Drop> Spine<T> {
     /// Fails with `Memory` only. A failed call returns the item in the error and changes nothing.
     pub fn insert(&mut self, spot: Spot, value: T) -> Result<Spot, Refused<T>>
         requires { IsSpot self.old.nodes spot }
-        ensures nodes { OnOk result (self.new.nodes
-            ≡ with_inserted self.old.size self.old.nodes spot value) }
-        ensures items { OnOk result (items self.new
-            ≡ insert (items self.old) (position_of self.old.nodes spot) value) }
+
+        // Result.
         ensures stands { IfOk result (λ to. IsItemSpot self.new.nodes to
             × (position_of self.new.nodes to ≡ position_of self.old.nodes spot) × IsTrue to.found) }
-        ensures size { self.new.size ≡ self.old.size }
+
+        // Contents.
+        ensures items { OnOk result (items self.new
+            ≡ insert (items self.old) (position_of self.old.nodes spot) value) }
+
+        // Failure.
         ensures given_back { IfErr result (λ e. (e.value ≡ value) × (e.cause ≡ Refusal.Memory)) }
         ensures unchanged { OnErr result (self.new ≡ self.old) }
+
+        // Nodes.
+        ensures nodes { OnOk result (self.new.nodes
+            ≡ with_inserted self.old.size self.old.nodes spot value) }
+        ensures size { self.new.size ≡ self.old.size }
     {
         if self.len == usize::MAX {
             return Err(Refused {
@@ -64,18 +72,24 @@ impl<T: Drop> Spine<T> {
     pub fn insert_from(&mut self, spot: Spot, other: &mut Spine<T>) -> Result<(), Refusal>
         requires spot { IsSpot self.old.nodes spot }
         requires other { 0 < length (items other.old) }
-        ensures nodes { OnOk result (IfSome (slice_get (items other.old) 0)
-            (λ x. self.new.nodes ≡ with_inserted self.old.size self.old.nodes spot x)) }
+
+        // Contents.
         ensures items { OnOk result (IfSome (slice_get (items other.old) 0)
             (λ x. items self.new ≡ insert (items self.old) (position_of self.old.nodes spot) x)) }
-        ensures rest_nodes { OnOk result (other.new.nodes
-            ≡ without_item other.old.nodes first_spot) }
         ensures rest { OnOk result (items other.new ≡ drop 1 (items other.old)) }
-        ensures size { self.new.size ≡ self.old.size }
-        ensures other_size { other.new.size ≡ other.old.size }
+
+        // Failure.
         ensures refusal { IfErr result (λ e. e ≡ Refusal.Memory) }
         ensures unchanged { OnErr result (self.new ≡ self.old) }
         ensures other_unchanged { OnErr result (other.new ≡ other.old) }
+
+        // Nodes.
+        ensures nodes { OnOk result (IfSome (slice_get (items other.old) 0)
+            (λ x. self.new.nodes ≡ with_inserted self.old.size self.old.nodes spot x)) }
+        ensures rest_nodes { OnOk result (other.new.nodes
+            ≡ without_item other.old.nodes first_spot) }
+        ensures size { self.new.size ≡ self.old.size }
+        ensures other_size { other.new.size ≡ other.old.size }
     {
         if self.len == usize::MAX {
             return Err(Refusal::Memory);
@@ -110,20 +124,28 @@ pub(super) fn make_room<T>(
     requires some { 1 ≤ more }
     requires index { index.old.lengths ≡ node_lengths (vec_items nodes.old.items) }
     requires fits { sum index.old.lengths < 2 ^ 64 }
+
+    // Result.
     ensures spot { IfOk result (λ to. IsSpot (vec_items nodes.new.items) to) }
-    ensures room { IfOk result (λ to. HoldsAt (λ node. vec_len node < vec_capacity node)
-        nodes.new.items to.node) }
-    ensures nodes { IfOk result (λ to. (value : T)
-        → with_item_in (vec_items nodes.new.items) to value
-        ≡ with_inserted size (vec_items nodes.old.items) spot value) }
     ensures position { IfOk result (λ to. position_of (vec_items nodes.new.items) to
         ≡ position_of (vec_items nodes.old.items) spot) }
     ensures end { IsShortEnd (size + 1) (vec_items nodes.old.items) spot
         → IfOk result (λ to. IsShortEnd size (vec_items nodes.new.items) to) }
-    ensures index { index.new.lengths ≡ node_lengths (vec_items nodes.new.items) }
-    ensures sum { sum index.new.lengths ≡ sum index.old.lengths }
+
+    // Failure.
     ensures refusal { IfErr result (λ e. e ≡ Refusal.Memory) }
     ensures unchanged { OnErr result (vec_items nodes.new.items ≡ vec_items nodes.old.items) }
+
+    // Memory.
+    ensures room { IfOk result (λ to. HoldsAt (λ node. vec_len node < vec_capacity node)
+        nodes.new.items to.node) }
+
+    // Nodes.
+    ensures nodes { IfOk result (λ to. (value : T)
+        → with_item_in (vec_items nodes.new.items) to value
+        ≡ with_inserted size (vec_items nodes.old.items) spot value) }
+    ensures index { index.new.lengths ≡ node_lengths (vec_items nodes.new.items) }
+    ensures sum { sum index.new.lengths ≡ sum index.old.lengths }
 {
     if nodes[spot.node].len() < size {
         nodes[spot.node].reserve(more)?;
@@ -139,21 +161,29 @@ pub(super) fn make_room<T>(
 fn halve_at<T>(nodes: &mut Vec<Vec<T>>, spot: Spot) -> Result<Spot, Refusal>
     requires spot { IsSpot (vec_items nodes.old.items) spot }
     requires two { 2 ≤ length (node_at (vec_items nodes.old.items) spot.node) }
+
+    // Result.
     ensures spot { IfOk result (λ to. IsSpot (vec_items nodes.new.items) to) }
-    ensures room { IfOk result (λ to. HoldsAt (λ node. vec_len node < vec_capacity node)
-        nodes.new.items to.node) }
-    ensures nodes { IfOk result (λ to. (value : T)
-        → with_item_in (vec_items nodes.new.items) to value
-        ≡ with_inserted (length (node_at (vec_items nodes.old.items) spot.node))
-        (vec_items nodes.old.items) spot value) }
     ensures position { IfOk result (λ to. position_of (vec_items nodes.new.items) to
         ≡ position_of (vec_items nodes.old.items) spot) }
     ensures end { IsShortEnd (spot.offset + 1) (vec_items nodes.old.items) spot
         → IfOk result (λ to. IsShortEnd spot.offset (vec_items nodes.new.items) to) }
-    ensures halved { OnOk result (vec_items nodes.new.items
-        ≡ with_halved (vec_items nodes.old.items) spot.node) }
+
+    // Failure.
     ensures refusal { IfErr result (λ e. e ≡ Refusal.Memory) }
     ensures unchanged { OnErr result (vec_items nodes.new.items ≡ vec_items nodes.old.items) }
+
+    // Memory.
+    ensures room { IfOk result (λ to. HoldsAt (λ node. vec_len node < vec_capacity node)
+        nodes.new.items to.node) }
+
+    // Nodes.
+    ensures nodes { IfOk result (λ to. (value : T)
+        → with_item_in (vec_items nodes.new.items) to value
+        ≡ with_inserted (length (node_at (vec_items nodes.old.items) spot.node))
+        (vec_items nodes.old.items) spot value) }
+    ensures halved { OnOk result (vec_items nodes.new.items
+        ≡ with_halved (vec_items nodes.old.items) spot.node) }
 {
     nodes.reserve(1)?;
     let node = &mut nodes[spot.node];

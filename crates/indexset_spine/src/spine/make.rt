@@ -69,11 +69,16 @@ impl<T: Drop> Spine<T> {
     pub fn clone(&self) -> Result<Self, Refusal>
     where
         T: Clone,
+        // Result.
         ensures cloned { IfOk result (λ s. AllZip (AllZip T.is_clone) self.now.nodes s.nodes) }
+        ensures ok { AreIdentical T.is_clone → IfOk result (λ s. s ≡ self.now) }
+
+        // Failure.
+        ensures refusal { IfErr result (λ e. e ≡ Refusal.Memory) }
+
+        // Nodes.
         ensures lengths { IfOk result (λ s. node_lengths s.nodes ≡ node_lengths self.now.nodes) }
         ensures size { IfOk result (λ s. s.size ≡ self.now.size) }
-        ensures ok { AreIdentical T.is_clone → IfOk result (λ s. s ≡ self.now) }
-        ensures refusal { IfErr result (λ e. e ≡ Refusal.Memory) }
     {
         let alloc = *self.nodes.allocator();
         let nodes = clone_nodes(alloc, self.nodes.as_slice())?;

@@ -57,15 +57,21 @@ impl<T: Ord + Drop> Spine<T> {
         requires within { count ≤ length (node_at other.old.nodes 0) }
         requires order { IsAscending T.cmp (items self.old) }
         requires other_order { IsAscending T.cmp (items other.old) }
-        ensures nodes { OnOk result (self.new.nodes
-            ≡ slice_set self.old.nodes node
-            (fold (put T.cmp) (node_at self.old.nodes node) (take count (items other.old)))) }
+
+        // Contents.
         ensures rest { OnOk result (items other.new ≡ drop count (items other.old)) }
-        ensures size { self.new.size ≡ self.old.size }
-        ensures other_size { other.new.size ≡ other.old.size }
+
+        // Failure.
         ensures refusal { IfErr result (λ e. e ≡ Refusal.Memory) }
         ensures unchanged { OnErr result (self.new ≡ self.old) }
         ensures other_unchanged { OnErr result (other.new ≡ other.old) }
+
+        // Nodes.
+        ensures nodes { OnOk result (self.new.nodes
+            ≡ slice_set self.old.nodes node
+            (fold (put T.cmp) (node_at self.old.nodes node) (take count (items other.old)))) }
+        ensures size { self.new.size ≡ self.old.size }
+        ensures other_size { other.new.size ≡ other.old.size }
     {
         if usize::MAX - self.len < count {
             return Err(Refusal::Memory);

@@ -23,16 +23,24 @@ impl<T: Drop> Spine<T> {
     /// Fails with `Memory` only. A failed call changes nothing.
     pub fn split_off(&mut self, spot: Spot) -> Result<Spine<T>, Refusal>
         requires { IsSpot self.old.nodes spot }
-        ensures nodes { OnOk result (self.new.nodes ≡ left_nodes self.old.nodes spot) }
-        ensures rest_nodes { IfOk result (λ s. s.nodes ≡ right_nodes self.old.nodes spot) }
-        ensures left { OnOk result (items self.new
-            ≡ take (position_of self.old.nodes spot) (items self.old)) }
+
+        // Result.
         ensures right { IfOk result (λ s. items s
             ≡ drop (position_of self.old.nodes spot) (items self.old)) }
-        ensures size { self.new.size ≡ self.old.size }
-        ensures right_size { IfOk result (λ s. s.size ≡ self.old.size) }
+
+        // Contents.
+        ensures left { OnOk result (items self.new
+            ≡ take (position_of self.old.nodes spot) (items self.old)) }
+
+        // Failure.
         ensures refusal { IfErr result (λ e. e ≡ Refusal.Memory) }
         ensures unchanged { OnErr result (self.new ≡ self.old) }
+
+        // Nodes.
+        ensures nodes { OnOk result (self.new.nodes ≡ left_nodes self.old.nodes spot) }
+        ensures rest_nodes { IfOk result (λ s. s.nodes ≡ right_nodes self.old.nodes spot) }
+        ensures size { self.new.size ≡ self.old.size }
+        ensures right_size { IfOk result (λ s. s.size ≡ self.old.size) }
     {
         let left = self.position(&spot);
         let alloc = *self.nodes.allocator();
