@@ -57,17 +57,24 @@ impl<T: Ord + Drop> BTreeSet<T> {
     ///
     /// Fails with `Memory` only. A failed call changes nothing.
     pub fn split_off<Q: LookupKey<T> + Drop>(&mut self, value: Q) -> Result<Self, Refusal>
-        ensures below { OnOk result (items self.new ≡ below Q.order (items self.old) value) }
+        // Result.
         ensures rest { IfOk result (λ s. items s ≡ not_below Q.order (items self.old) value) }
-        ensures all_below { OnOk result (All (λ x. is_lt (Q.order x value) ≡ true)
-            (items self.new)) }
         ensures all_from { IfOk result (λ s. All (λ x. is_lt (Q.order x value) ≡ false)
             (items s)) }
+
+        // Contents.
+        ensures below { OnOk result (items self.new ≡ below Q.order (items self.old) value) }
+        ensures all_below { OnOk result (All (λ x. is_lt (Q.order x value) ≡ true)
+            (items self.new)) }
         ensures whole { IfOk result (λ s. items self.old ≡ items self.new ++ items s) }
-        ensures size { self.new.size ≡ self.old.size }
-        ensures rest_size { IfOk result (λ s. s.size ≡ self.old.size) }
+
+        // Failure.
         ensures refusal { IfErr result (λ e. e ≡ Refusal.Memory) }
         ensures unchanged { OnErr result (self.new ≡ self.old) }
+
+        // Nodes.
+        ensures size { self.new.size ≡ self.old.size }
+        ensures rest_size { IfOk result (λ s. s.size ≡ self.old.size) }
     {
         let spot = locate(&self.spine, value);
         let spine = self.spine.split_off(spot)?;
@@ -91,12 +98,20 @@ impl<T: Ord + Drop> BTreeSet<T> {
     /// Fails with `Memory` only. A failed call changes nothing.
     pub fn split_off_index(&mut self, i: usize) -> Result<Self, Refusal>
         requires { i ≤ length (items self.old) }
-        ensures first { OnOk result (items self.new ≡ take i (items self.old)) }
+
+        // Result.
         ensures rest { IfOk result (λ s. items s ≡ drop i (items self.old)) }
-        ensures size { self.new.size ≡ self.old.size }
-        ensures rest_size { IfOk result (λ s. s.size ≡ self.old.size) }
+
+        // Contents.
+        ensures first { OnOk result (items self.new ≡ take i (items self.old)) }
+
+        // Failure.
         ensures refusal { IfErr result (λ e. e ≡ Refusal.Memory) }
         ensures unchanged { OnErr result (self.new ≡ self.old) }
+
+        // Nodes.
+        ensures size { self.new.size ≡ self.old.size }
+        ensures rest_size { IfOk result (λ s. s.size ≡ self.old.size) }
     {
         let spot = self.spine.spot_after(i);
         let spine = self.spine.split_off(spot)?;
@@ -123,19 +138,24 @@ impl<T: Ord + Drop> BTreeSet<T> {
     ///
     /// Elements above all elements of this set move by blocks, without a comparison.
     pub fn append(&mut self, other: &mut Self) -> Result<(), Refusal>
+        // Contents.
         ensures ok { OnOk result (items self.new
             ≡ put_all T.cmp (items self.old) (items other.old)) }
-        ensures nodes { OnOk result (self.new.nodes
-            ≡ nodes_put_all T.cmp self.old (items other.old)) }
         ensures emptied { OnOk result (items other.new ≡ []) }
-        ensures size { self.new.size ≡ self.old.size }
-        ensures other_size { other.new.size ≡ other.old.size }
+
+        // Failure.
         ensures refusal { IfErr result (λ e. e ≡ Refusal.Memory) }
         ensures err { OnErr result (MovesPrefix T.cmp (items self.old) (items other.old)
             (items self.new) (items other.new)) }
+        ensures some_left { OnErr result (0 < length (items other.new)) }
+
+        // Nodes.
+        ensures nodes { OnOk result (self.new.nodes
+            ≡ nodes_put_all T.cmp self.old (items other.old)) }
+        ensures size { self.new.size ≡ self.old.size }
+        ensures other_size { other.new.size ≡ other.old.size }
         ensures err_nodes { OnErr result (PutsPrefix T.cmp self.old (items other.old) self.new.nodes
             (items other.new)) }
-        ensures some_left { OnErr result (0 < length (items other.new)) }
     {
         let mut near = 0;
         while !self.is_below(other) {
@@ -159,15 +179,21 @@ impl<T: Ord + Drop> BTreeSet<T> {
     // prefix.
     fn append_above(&mut self, other: &mut Self) -> Result<(), Refusal>
         requires order { IsAscending T.cmp (items self.old ++ items other.old) }
+
+        // Contents.
         ensures moved { FoldsPrefix (put T.cmp) (items self.old) (items other.old) (items self.new)
             (items other.new) }
-        ensures nodes { FoldsPrefix (λ ns x. nodes_put T.cmp (node_list ns self.old.size) x) self.old.nodes
-            (items other.old) self.new.nodes (items other.new) }
         ensures emptied { OnOk result (items other.new ≡ []) }
-        ensures size { self.new.size ≡ self.old.size }
-        ensures other_size { other.new.size ≡ other.old.size }
+
+        // Failure.
         ensures refusal { IfErr result (λ e. e ≡ Refusal.Memory) }
         ensures some_left { OnErr result (0 < length (items other.new)) }
+
+        // Nodes.
+        ensures nodes { FoldsPrefix (λ ns x. nodes_put T.cmp (node_list ns self.old.size) x) self.old.nodes
+            (items other.old) self.new.nodes (items other.new) }
+        ensures size { self.new.size ≡ self.old.size }
+        ensures other_size { other.new.size ≡ other.old.size }
     {
         let _count = self.spine.node_count();
         self.spine.append(&mut other.spine)
@@ -178,16 +204,22 @@ impl<T: Ord + Drop> BTreeSet<T> {
     // call changes neither.
     fn put_some_of(&mut self, other: &mut Self, near: usize) -> Result<usize, Refusal>
         requires some { 0 < length (items other.old) }
+
+        // Contents.
         ensures moved { OnOk result (FoldsPrefix (put T.cmp) (items self.old) (items other.old)
             (items self.new) (items other.new)) }
-        ensures nodes { OnOk result (FoldsPrefix (λ ns x. nodes_put T.cmp (node_list ns self.old.size) x)
-            self.old.nodes (items other.old) self.new.nodes (items other.new)) }
         ensures fewer { OnOk result (length (items other.new) < length (items other.old)) }
-        ensures size { self.new.size ≡ self.old.size }
-        ensures other_size { other.new.size ≡ other.old.size }
+
+        // Failure.
         ensures refusal { IfErr result (λ e. e ≡ Refusal.Memory) }
         ensures unchanged { OnErr result (self.new ≡ self.old) }
         ensures other_unchanged { OnErr result (other.new ≡ other.old) }
+
+        // Nodes.
+        ensures nodes { OnOk result (FoldsPrefix (λ ns x. nodes_put T.cmp (node_list ns self.old.size) x)
+            self.old.nodes (items other.old) self.new.nodes (items other.new)) }
+        ensures size { self.new.size ≡ self.old.size }
+        ensures other_size { other.new.size ≡ other.old.size }
     {
         let Some(first) = other.spine.first_spot() else {
             unreachable!()

@@ -33,15 +33,24 @@ impl<T: Ord + Drop> BTreeSet<T> {
     /// One comparison if `value` is above all elements, else one more than two binary searches.
     /// Items of one node move.
     pub fn insert(&mut self, value: T) -> Result<bool, Refused<T>>
+        // Result.
         ensures added { IfOk result (λ b. b ≡ not (has_equal T.cmp (items self.old) value)) }
+
+        // Contents.
         ensures ok { OnOk result (items self.new ≡ keep T.cmp (items self.old) value) }
         ensures contains { OnOk result (has_equal T.cmp (items self.new) value ≡ true) }
-        ensures nodes { OnOk result (self.new.nodes ≡ nodes_kept T.cmp self.old value) }
         ensures if_present { has_equal T.cmp (items self.old) value ≡ true → self.new ≡ self.old }
-        ensures size { self.new.size ≡ self.old.size }
-        ensures no_memory { has_equal T.cmp (items self.old) value ≡ true → IsOk result }
+
+        // Failure.
         ensures given_back { IfErr result (λ e. (e.value ≡ value) × (e.cause ≡ Refusal.Memory)) }
         ensures unchanged { OnErr result (self.new ≡ self.old) }
+
+        // Memory.
+        ensures no_memory { has_equal T.cmp (items self.old) value ≡ true → IsOk result }
+
+        // Nodes.
+        ensures nodes { OnOk result (self.new.nodes ≡ nodes_kept T.cmp self.old value) }
+        ensures size { self.new.size ≡ self.old.size }
     {
         let spot = locate_from_end(&self.spine, &value);
         if spot.found {
@@ -71,14 +80,23 @@ impl<T: Ord + Drop> BTreeSet<T> {
     ///
     /// Two binary searches. Items of one node move.
     pub fn replace(&mut self, value: T) -> Result<Option<T>, Refused<T>>
+        // Result.
         ensures old { IfOk result (λ o. o ≡ equal_element T.cmp (items self.old) value) }
+
+        // Contents.
         ensures ok { OnOk result (items self.new ≡ put T.cmp (items self.old) value) }
         ensures contains { OnOk result (has_equal T.cmp (items self.new) value ≡ true) }
-        ensures nodes { OnOk result (self.new.nodes ≡ nodes_put T.cmp self.old value) }
-        ensures size { self.new.size ≡ self.old.size }
-        ensures no_memory { has_equal T.cmp (items self.old) value ≡ true → IsOk result }
+
+        // Failure.
         ensures given_back { IfErr result (λ e. (e.value ≡ value) × (e.cause ≡ Refusal.Memory)) }
         ensures unchanged { OnErr result (self.new ≡ self.old) }
+
+        // Memory.
+        ensures no_memory { has_equal T.cmp (items self.old) value ≡ true → IsOk result }
+
+        // Nodes.
+        ensures nodes { OnOk result (self.new.nodes ≡ nodes_put T.cmp self.old value) }
+        ensures size { self.new.size ≡ self.old.size }
     {
         let spot = locate(&self.spine, &value);
         if spot.found {
@@ -103,9 +121,14 @@ impl<T: Ord + Drop> BTreeSet<T> {
     ///
     /// Two binary searches.
     pub fn take<Q: UniqueKey<T> + Drop>(&mut self, value: Q) -> Option<T>
+        // Result.
         ensures value { result ≡ equal_element Q.order (items self.old) value }
+
+        // Contents.
         ensures rest { items self.new ≡ without Q.order (items self.old) value }
         ensures gone { has_equal Q.order (items self.new) value ≡ false }
+
+        // Nodes.
         ensures nodes { self.new.nodes ≡ nodes_without Q.order self.old value }
         ensures size { self.new.size ≡ self.old.size }
     {
@@ -126,9 +149,14 @@ impl<T: Ord + Drop> BTreeSet<T> {
     /// assert!(rt; set.remove(&7) && !set.remove(&7));
     /// ```
     pub fn remove<Q: UniqueKey<T> + Drop>(&mut self, value: Q) -> bool
+        // Result.
         ensures removed { result ≡ has_equal Q.order (items self.old) value }
+
+        // Contents.
         ensures rest { items self.new ≡ without Q.order (items self.old) value }
         ensures gone { has_equal Q.order (items self.new) value ≡ false }
+
+        // Nodes.
         ensures nodes { self.new.nodes ≡ nodes_without Q.order self.old value }
         ensures size { self.new.size ≡ self.old.size }
     {

@@ -96,15 +96,21 @@ impl<T: Ord + Drop> BTreeSet<T> {
     fn extract<F: FnMut(&T) -> bool>(&mut self, at: &mut ExtractRange, pred: &mut F) -> Option<T>
         requires callable { F.IsAlwaysCallable pred.old }
         requires at { IsExtractRange (node_lengths self.old.nodes) (length (items self.old)) at.old }
+
+        // Result.
         ensures extracted { Extracts (CalledOn F.FnMut) pred.old
             (extract_state (items self.old) at.old.front at.old.back) result pred.new
             (extract_state (items self.new) at.new.front at.new.back) }
+
+        // Contents.
+        ensures at { IsExtractRange (node_lengths self.new.nodes) (length (items self.new)) at.new }
+        ensures callable { F.IsAlwaysCallable pred.new }
+
+        // Nodes.
         ensures lengths { MatchOption result
             (node_lengths self.new.nodes ≡ node_lengths self.old.nodes)
             (λ _. node_lengths self.new.nodes
             ≡ lengths_without (node_lengths self.old.nodes) at.new.front) }
-        ensures at { IsExtractRange (node_lengths self.new.nodes) (length (items self.new)) at.new }
-        ensures callable { F.IsAlwaysCallable pred.new }
         ensures size { self.new.size ≡ self.old.size }
     {
         let mut ask = |x: &mut T| -> bool

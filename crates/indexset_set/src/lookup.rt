@@ -24,6 +24,8 @@ use std::ops::Bound;
 #[inline(always)]
 pub(super) fn locate<T: Ord, Q: LookupKey<T> + Drop>(spine: &Spine<T>, value: Q) -> Spot
     requires { IsAscending T.cmp (items spine.now) }
+
+    // Result.
     ensures spot { IsSpot spine.now.nodes result }
     ensures item { IsTrue result.found → IsItemSpot spine.now.nodes result }
     ensures position { position_of spine.now.nodes result ≡ rank Q.order (items spine.now) value }
@@ -39,6 +41,8 @@ pub(super) fn locate<T: Ord, Q: LookupKey<T> + Drop>(spine: &Spine<T>, value: Q)
 // Returns the same with the last element compared first, for values that come in order.
 pub(super) fn locate_from_end<T: Ord>(spine: &Spine<T>, value: &T) -> Spot
     requires { IsAscending T.cmp (items spine.now) }
+
+    // Result.
     ensures spot { IsSpot spine.now.nodes result }
     ensures item { IsTrue result.found → IsItemSpot spine.now.nodes result }
     ensures position { position_of spine.now.nodes result ≡ rank T.cmp (items spine.now) value.now }
@@ -54,6 +58,8 @@ pub(super) fn locate_from_end<T: Ord>(spine: &Spine<T>, value: &T) -> Spot
 // Returns the same with a node tried first, for values whose places are near each other.
 pub(super) fn locate_near<T: Ord>(spine: &Spine<T>, near: usize, value: &T) -> Spot
     requires { IsAscending T.cmp (items spine.now) }
+
+    // Result.
     ensures spot { IsSpot spine.now.nodes result }
     ensures item { IsTrue result.found → IsItemSpot spine.now.nodes result }
     ensures position { position_of spine.now.nodes result ≡ rank T.cmp (items spine.now) value.now }
@@ -258,11 +264,15 @@ impl<T: Ord> BTreeSet<T> {
     /// One comparison for each step of two binary searches.
     pub fn locate_by<P: Probe<T>>(&self, probe: &mut P) -> Result<usize, usize>
         requires { FindsInOrder (P.answer probe.old) (items self.now) }
+
+        // Result.
         ensures found { IfOk result (λ i. position (λ x. is_eq (P.answer probe.old x))
             (items self.now) ≡ Some i) }
         ensures absent { IfErr result (λ _. position (λ x. is_eq (P.answer probe.old x))
             (items self.now) ≡ None) }
         ensures gap { IfErr result (λ i. i ≡ less_count (P.answer probe.old) (items self.now)) }
+
+        // Contents.
         ensures ascending { IsAscending T.cmp (items self.now) }
         ensures fixed { P.answer probe.new ≡ P.answer probe.old }
         ensures comparisons { P.asked probe.new ≤ P.asked probe.old

@@ -213,15 +213,22 @@ impl<T: Ord + Drop> BTreeSet<T> {
     ///
     /// Each value is compared with the next; there is no search.
     pub fn from_sorted(alloc: Global, values: Vec<T>) -> Result<Self, Refused<Vec<T>>>
+        // Result.
         ensures elements { IfOk result (λ s. items s ≡ values.items) }
-        ensures nodes { IfOk result (λ s. s.nodes
-            ≡ nodes_kept_all T.cmp (node_list ([] ∷ []) DEFAULT_INNER_SIZE) values.items) }
-        ensures size { IfOk result (λ s. s.size ≡ DEFAULT_INNER_SIZE) }
+
+        // Failure.
         ensures ascending { OnOk result (IsAscending T.cmp values.items) }
         ensures unsorted { IfErr result (λ e. (IsAscending T.cmp values.items → ⊥)
             → (e.value ≡ values) × (e.cause ≡ Refusal.Unsorted)) }
+
+        // Memory.
         ensures memory { IfErr result (λ e. IsAscending T.cmp values.items
             → (e.value.items ≡ []) × (e.cause ≡ Refusal.Memory)) }
+
+        // Nodes.
+        ensures nodes { IfOk result (λ s. s.nodes
+            ≡ nodes_kept_all T.cmp (node_list ([] ∷ []) DEFAULT_INNER_SIZE) values.items) }
+        ensures size { IfOk result (λ s. s.size ≡ DEFAULT_INNER_SIZE) }
     {
         if !is_sorted(values.as_slice()) {
             return Err(Refused {
@@ -291,12 +298,17 @@ impl<T: Ord + Drop> BTreeSet<T> {
     pub fn clone(&self) -> Result<Self, Refusal>
     where
         T: Clone,
+        // Result.
         ensures copy { IfOk result (λ s. IsSetCopy T.cmp T.is_clone self.now s) }
         ensures cloned { ((x y : T) → T.is_clone x y → T.cmp x y ≡ Equal)
             → IfOk result (λ s. AllZip (AllZip T.is_clone) self.now.nodes s.nodes) }
         ensures ok { AreIdentical T.is_clone → IfOk result (λ s. s ≡ self.now) }
-        ensures size { IfOk result (λ s. s.size ≡ self.now.size) }
+
+        // Failure.
         ensures refusal { IfErr result (λ e. e ≡ Refusal.Memory) }
+
+        // Nodes.
+        ensures size { IfOk result (λ s. s.size ≡ self.now.size) }
     {
         let spine = self.spine.clone()?;
         if is_ascending(&spine) {

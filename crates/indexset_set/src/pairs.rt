@@ -165,15 +165,21 @@ impl<K: Ord + Drop, V: Drop> BTreeSet<Pair<K, V>> {
     ) -> Option<Pair<K, V>>
         requires callable { F.IsAlwaysCallable f.old }
         requires at { IsExtractRange (node_lengths self.old.nodes) (length (items self.old)) at.old }
+
+        // Result.
         ensures extracted { Extracts (CalledOnPair F.FnMut) f.old
             (extract_state (items self.old) at.old.front at.old.back) result f.new
             (extract_state (items self.new) at.new.front at.new.back) }
+
+        // Contents.
+        ensures at { IsExtractRange (node_lengths self.new.nodes) (length (items self.new)) at.new }
+        ensures callable { F.IsAlwaysCallable f.new }
+
+        // Nodes.
         ensures lengths { MatchOption result
             (node_lengths self.new.nodes ≡ node_lengths self.old.nodes)
             (λ _. node_lengths self.new.nodes
             ≡ lengths_without (node_lengths self.old.nodes) at.new.front) }
-        ensures at { IsExtractRange (node_lengths self.new.nodes) (length (items self.new)) at.new }
-        ensures callable { F.IsAlwaysCallable f.new }
         ensures size { self.new.size ≡ self.old.size }
     {
         let mut ask = |pair: &mut Pair<K, V>| -> bool

@@ -36,6 +36,7 @@ impl<T: Ord> BTreeSet<T> {
     /// assert!(rt; set.first() == Some(&10) && set.last() == Some(&30));
     /// ```
     pub fn first(&self) -> Option<&T>
+        // Result.
         ensures element { option_copied result ≡ slice_get (items self.now) 0 }
         ensures variant { IsSome result ↔ (0 < length (items self.now)) }
         ensures least { IfSome result (λ least. below T.cmp (items self.now) least.now ≡ []) }
@@ -54,6 +55,7 @@ impl<T: Ord> BTreeSet<T> {
     /// assert_eq!(rt; set.last(), Some(&30));
     /// ```
     pub fn last(&self) -> Option<&T>
+        // Result.
         ensures element { option_copied result
             ≡ slice_get (items self.now) (length (items self.now) - 1) }
         ensures variant { IsSome result ↔ (0 < length (items self.now)) }
@@ -79,9 +81,14 @@ impl<T: Ord + Drop> BTreeSet<T> {
     /// assert!(rt; queue.pop_first() == Some(10) && queue.pop_first() == Some(20));
     /// ```
     pub fn pop_first(&mut self) -> Option<T>
+        // Result.
         ensures value { result ≡ slice_get (items self.old) 0 }
+
+        // Contents.
         ensures rest { items self.new ≡ drop 1 (items self.old) }
         ensures whole { items self.old ≡ option_to_list result ++ items self.new }
+
+        // Nodes.
         ensures nodes { MatchOption result (self.new ≡ self.old)
             (λ _. IsWithoutAt self.old.nodes 0 self.new.nodes) }
         ensures size { self.new.size ≡ self.old.size }
@@ -99,9 +106,14 @@ impl<T: Ord + Drop> BTreeSet<T> {
     /// assert_eq!(rt; board.pop_last(), Some(30));
     /// ```
     pub fn pop_last(&mut self) -> Option<T>
+        // Result.
         ensures value { result ≡ slice_get (items self.old) (length (items self.old) - 1) }
+
+        // Contents.
         ensures rest { items self.new ≡ take (length (items self.old) - 1) (items self.old) }
         ensures whole { items self.old ≡ items self.new ++ option_to_list result }
+
+        // Nodes.
         ensures nodes { MatchOption result (self.new ≡ self.old)
             (λ _. IsWithoutAt self.old.nodes (length (items self.old) - 1) self.new.nodes) }
         ensures size { self.new.size ≡ self.old.size }

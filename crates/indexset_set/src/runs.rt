@@ -14,14 +14,20 @@ impl<T: Ord + Drop> BTreeSet<T> {
     // A failed call drops the value.
     pub(super) fn keep_behind(&mut self, run: &mut Vec<T>, value: T) -> Result<(), Refusal>
         requires order { IsAscending T.cmp (items self.old ++ run.old.items) }
+
+        // Contents.
         ensures order { OnOk result (IsAscending T.cmp (items self.new ++ run.new.items)) }
         ensures kept { OnOk result (items self.new ++ run.new.items
             ≡ keep T.cmp (items self.old ++ run.old.items) value) }
+
+        // Failure.
+        ensures refusal { IfErr result (λ e. e ≡ Refusal.Memory) }
+
+        // Nodes.
         ensures nodes { OnOk result (with_all_last self.old.size self.new.nodes run.new.items
             ≡ nodes_kept T.cmp (node_list (with_all_last self.old.size self.old.nodes run.old.items)
             self.old.size) value) }
         ensures size { self.new.size ≡ self.old.size }
-        ensures refusal { IfErr result (λ e. e ≡ Refusal.Memory) }
     {
         let _count = self.node_count();
         match join_run(self, run, value) {

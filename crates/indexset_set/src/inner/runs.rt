@@ -25,19 +25,27 @@ pub fn join_run<T: Ord + Drop>(
     value: T,
 ) -> Result<Option<T>, Refused<T>>
     requires order { IsAscending T.cmp (items set.old ++ run.old.items) }
+
+    // Result.
+    ensures back { IfOk result (λ back. IfSome back (λ v. v ≡ value)) }
+
+    // Contents.
     ensures order { OnOk result (IsAscending T.cmp (items set.new ++ run.new.items)) }
     ensures items { IfOk result (λ back. back ≡ None
         → items set.new ++ run.new.items ≡ items set.old ++ (run.old.items ++ value ∷ [])) }
+    ensures emptied { IfOk result (λ back. IfSome back (λ _. run.new.items ≡ [])) }
+
+    // Failure.
+    ensures given_back { IfErr result (λ e. (e.value ≡ value) × (e.cause ≡ Refusal.Memory)) }
+    ensures err { OnErr result (items set.new ++ run.new.items ≡ items set.old ++ run.old.items) }
+
+    // Nodes.
     ensures nodes { IfOk result (λ back. back ≡ None
         → with_all_last set.old.size set.new.nodes run.new.items
         ≡ with_all_last set.old.size set.old.nodes (run.old.items ++ value ∷ [])) }
-    ensures back { IfOk result (λ back. IfSome back (λ v. v ≡ value)) }
-    ensures emptied { IfOk result (λ back. IfSome back (λ _. run.new.items ≡ [])) }
     ensures moved { IfOk result (λ back. IfSome back
         (λ _. set.new.nodes ≡ with_all_last set.old.size set.old.nodes run.old.items)) }
     ensures size { set.new.size ≡ set.old.size }
-    ensures given_back { IfErr result (λ e. (e.value ≡ value) × (e.cause ≡ Refusal.Memory)) }
-    ensures err { OnErr result (items set.new ++ run.new.items ≡ items set.old ++ run.old.items) }
     ensures err_nodes { OnErr result (with_all_last set.old.size set.new.nodes run.new.items
         ≡ with_all_last set.old.size set.old.nodes run.old.items) }
 {
@@ -64,13 +72,21 @@ fn ready_run<T: Ord + Drop>(
     joins: bool,
 ) -> Result<(), Refusal>
     requires order { IsAscending T.cmp (items set.old ++ run.old.items) }
+
+    // Contents.
     ensures items { items set.new ++ run.new.items ≡ items set.old ++ run.old.items }
+    ensures emptied { OnOk result (joins ≡ false → run.new.items ≡ []) }
+
+    // Failure.
+    ensures refusal { IfErr result (λ e. e ≡ Refusal.Memory) }
+
+    // Memory.
+    ensures room { OnOk result (joins ≡ true → vec_len run.new < vec_capacity run.new) }
+
+    // Nodes.
     ensures nodes { with_all_last set.old.size set.new.nodes run.new.items
         ≡ with_all_last set.old.size set.old.nodes run.old.items }
-    ensures room { OnOk result (joins ≡ true → vec_len run.new < vec_capacity run.new) }
-    ensures emptied { OnOk result (joins ≡ false → run.new.items ≡ []) }
     ensures size { set.new.size ≡ set.old.size }
-    ensures refusal { IfErr result (λ e. e ≡ Refusal.Memory) }
 {
     if !joins {
         return take_run(set, run);
@@ -87,12 +103,18 @@ fn ready_run<T: Ord + Drop>(
 /// Fails with `Memory` only. A failed call has moved a prefix.
 pub fn take_run<T: Ord + Drop>(set: &mut BTreeSet<T>, run: &mut Vec<T>) -> Result<(), Refusal>
     requires order { IsAscending T.cmp (items set.old ++ run.old.items) }
+
+    // Contents.
     ensures items { items set.new ++ run.new.items ≡ items set.old ++ run.old.items }
+    ensures emptied { OnOk result (run.new.items ≡ []) }
+
+    // Failure.
+    ensures refusal { IfErr result (λ e. e ≡ Refusal.Memory) }
+
+    // Nodes.
     ensures nodes { with_all_last set.old.size set.new.nodes run.new.items
         ≡ with_all_last set.old.size set.old.nodes run.old.items }
-    ensures emptied { OnOk result (run.new.items ≡ []) }
     ensures size { set.new.size ≡ set.old.size }
-    ensures refusal { IfErr result (λ e. e ≡ Refusal.Memory) }
 {
     let _count = set.spine.node_count();
     set.spine.append_items(run)

@@ -23,12 +23,18 @@ use std::ops::Bound;
 /// One comparison for each step of two binary searches.
 pub fn spot_by<T: Ord, P: Probe<T>>(set: &BTreeSet<T>, probe: &mut P) -> Spot
     requires { FindsInOrder (P.answer probe.old) (items set.now) }
+
+    // Result.
     ensures sought { IsSearchResult (P.answer probe.old) set.now.nodes result }
-    ensures cut { AreNodeLengths (node_lengths set.now.nodes) set.now.size }
+
+    // Contents.
     ensures ascending { IsAscending T.cmp (items set.now) }
     ensures fixed { P.answer probe.new ≡ P.answer probe.old }
     ensures comparisons { P.asked probe.new ≤ P.asked probe.old
         + (digits (length set.now.nodes) + digits set.now.size + 1) }
+
+    // Nodes.
+    ensures cut { AreNodeLengths (node_lengths set.now.nodes) set.now.size }
 {
     // The spine ensures here that its nodes are within the size.
     let _count = set.spine.node_count();
@@ -44,12 +50,18 @@ pub fn spot_by<T: Ord, P: Probe<T>>(set: &BTreeSet<T>, probe: &mut P) -> Spot
 /// One comparison if the last element compares Less.
 pub fn spot_from_end_by<T: Ord, P: Probe<T>>(set: &BTreeSet<T>, probe: &mut P) -> Spot
     requires { FindsInOrder (P.answer probe.old) (items set.now) }
+
+    // Result.
     ensures sought { IsSearchResult (P.answer probe.old) set.now.nodes result }
-    ensures cut { AreNodeLengths (node_lengths set.now.nodes) set.now.size }
+
+    // Contents.
     ensures ascending { IsAscending T.cmp (items set.now) }
     ensures fixed { P.answer probe.new ≡ P.answer probe.old }
     ensures comparisons { P.asked probe.new ≤ P.asked probe.old
         + (digits (length set.now.nodes) + digits set.now.size + 2) }
+
+    // Nodes.
+    ensures cut { AreNodeLengths (node_lengths set.now.nodes) set.now.size }
 {
     // As in `spot_by`.
     let _count = set.spine.node_count();
@@ -136,15 +148,23 @@ pub fn insert_at<T: Ord + Drop>(
 ) -> Result<Spot, Refused<T>>
     requires spot { IsSpot set.old.nodes spot }
     requires gap { IsGapFor T.cmp (items set.old) value (position_of set.old.nodes spot) }
-    ensures nodes { OnOk result (set.new.nodes
-        ≡ with_inserted set.old.size set.old.nodes spot value) }
-    ensures items { OnOk result (items set.new
-        ≡ insert (items set.old) (position_of set.old.nodes spot) value) }
+
+    // Result.
     ensures stands { IfOk result (λ to. IsItemSpot set.new.nodes to
         × (position_of set.new.nodes to ≡ position_of set.old.nodes spot) × IsTrue to.found) }
-    ensures size { set.new.size ≡ set.old.size }
+
+    // Contents.
+    ensures items { OnOk result (items set.new
+        ≡ insert (items set.old) (position_of set.old.nodes spot) value) }
+
+    // Failure.
     ensures given_back { IfErr result (λ e. (e.value ≡ value) × (e.cause ≡ Refusal.Memory)) }
     ensures unchanged { OnErr result (set.new ≡ set.old) }
+
+    // Nodes.
+    ensures nodes { OnOk result (set.new.nodes
+        ≡ with_inserted set.old.size set.old.nodes spot value) }
+    ensures size { set.new.size ≡ set.old.size }
 {
     let to = set.spine.insert(spot, value)?;
     Ok(to)
