@@ -27,16 +27,23 @@ impl<K: Ord + Drop, V: Drop> BTreeMap<K, V> {
     ///
     /// Fails with `Memory`. A failed call changes nothing.
     pub fn split_off<Q: LookupKey<K> + Drop>(&mut self, key: Q) -> Result<Self, Refusal>
-        ensures below { OnOk result (self.new.pairs ≡ pairs_below Q.order self.old.pairs key) }
+        // Result.
         ensures rest { IfOk result (λ m. m.pairs ≡ pairs_from Q.order self.old.pairs key) }
-        ensures all_below { OnOk result (All (λ k. is_lt (Q.order k key) ≡ true)
-            (pair_keys self.new.pairs)) }
         ensures all_from { IfOk result (λ m. All (λ k. is_lt (Q.order k key) ≡ false)
             (pair_keys m.pairs)) }
-        ensures size { self.new.size ≡ self.old.size }
-        ensures rest_size { IfOk result (λ m. m.size ≡ self.old.size) }
+
+        // Contents.
+        ensures below { OnOk result (self.new.pairs ≡ pairs_below Q.order self.old.pairs key) }
+        ensures all_below { OnOk result (All (λ k. is_lt (Q.order k key) ≡ true)
+            (pair_keys self.new.pairs)) }
+
+        // Failure.
         ensures refusal { IfErr result (λ e. e ≡ Refusal.Memory) }
         ensures unchanged { OnErr result (self.new ≡ self.old) }
+
+        // Nodes.
+        ensures size { self.new.size ≡ self.old.size }
+        ensures rest_size { IfOk result (λ m. m.size ≡ self.old.size) }
     {
         // The contract of `len` states that the keys ascend, so the rank of the key splits them.
         let _len = self.len();
@@ -60,18 +67,23 @@ impl<K: Ord + Drop, V: Drop> BTreeMap<K, V> {
     ///
     /// Fails with `Memory`. A failed call has moved a prefix of the pairs; `other` keeps the rest.
     pub fn append(&mut self, other: &mut Self) -> Result<(), Refusal>
+        // Contents.
         ensures ok { OnOk result (self.new.pairs
             ≡ put_all (by_key K.cmp) self.old.pairs other.old.pairs) }
-        ensures nodes { OnOk result (self.new ≡ with_pairs_put K.cmp self.old other.old.pairs) }
         ensures emptied { OnOk result (other.new.pairs ≡ []) }
-        ensures size { self.new.size ≡ self.old.size }
-        ensures other_size { other.new.size ≡ other.old.size }
+
+        // Failure.
         ensures refusal { IfErr result (λ e. e ≡ Refusal.Memory) }
         ensures err { OnErr result (MovesPrefix (by_key K.cmp) self.old.pairs other.old.pairs
             self.new.pairs other.new.pairs) }
+        ensures some_left { OnErr result (0 < length other.new.pairs) }
+
+        // Nodes.
+        ensures nodes { OnOk result (self.new ≡ with_pairs_put K.cmp self.old other.old.pairs) }
+        ensures size { self.new.size ≡ self.old.size }
+        ensures other_size { other.new.size ≡ other.old.size }
         ensures err_nodes { OnErr result (PutsPairPrefix K.cmp self.old other.old.pairs self.new
             other.new.pairs) }
-        ensures some_left { OnErr result (0 < length other.new.pairs) }
     {
         self.set.append(&mut other.set)
     }

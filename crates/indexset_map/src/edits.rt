@@ -36,15 +36,22 @@ impl<K: Ord + Drop, V: Drop> BTreeMap<K, V> {
     ///
     /// Makes one comparison if the key is above all keys, and two binary searches at most.
     pub fn insert(&mut self, key: K, value: V) -> Result<Option<V>, Refused<(K, V)>>
+        // Result.
         ensures old { IfOk result (λ o. o ≡ value_of K.cmp self.old.pairs key) }
+
+        // Contents.
         ensures ok { OnOk result (self.new ≡ with_entry K.cmp self.old key value) }
         ensures contains { OnOk result (value_of K.cmp self.new.pairs key ≡ Some value) }
         ensures others { OnOk result ((other : K) → is_eq (K.cmp other key) ≡ false
             → value_of K.cmp self.new.pairs other ≡ value_of K.cmp self.old.pairs other) }
-        ensures no_memory { has_key K.cmp self.old.pairs key ≡ true → IsOk result }
+
+        // Failure.
         ensures given_back { IfErr result
             (λ e. (e.value ≡ (key, value)) × (e.cause ≡ Refusal.Memory)) }
         ensures unchanged { OnErr result (self.new ≡ self.old) }
+
+        // Memory.
+        ensures no_memory { has_key K.cmp self.old.pairs key ≡ true → IsOk result }
     {
         let spot = self.spot_from_end(&key);
         if spot.found {
@@ -67,7 +74,10 @@ impl<K: Ord + Drop, V: Drop> BTreeMap<K, V> {
     ///
     /// Makes two binary searches and allocates nothing.
     pub fn remove_entry<Q: UniqueKey<K> + Drop>(&mut self, key: Q) -> Option<(K, V)>
+        // Result.
         ensures value { result ≡ option_map entry_of (pair_of Q.order self.old.pairs key) }
+
+        // Contents.
         ensures rest { self.new ≡ without_entry Q.order self.old key }
         ensures gone { has_key Q.order self.new.pairs key ≡ false }
         ensures no_value { value_of Q.order self.new.pairs key ≡ None }
@@ -95,7 +105,10 @@ impl<K: Ord + Drop, V: Drop> BTreeMap<K, V> {
     ///
     /// Makes two binary searches and allocates nothing.
     pub fn remove<Q: UniqueKey<K> + Drop>(&mut self, key: Q) -> Option<V>
+        // Result.
         ensures value { result ≡ value_of Q.order self.old.pairs key }
+
+        // Contents.
         ensures rest { self.new ≡ without_entry Q.order self.old key }
         ensures gone { has_key Q.order self.new.pairs key ≡ false }
         ensures no_value { value_of Q.order self.new.pairs key ≡ None }

@@ -104,14 +104,20 @@ impl<K: Ord + Drop, V: Drop> BTreeMap<K, V> {
     ) -> Option<(K, V)>
         requires callable { F.IsAlwaysCallable pred.old }
         requires at { IsExtractRange self.old.lengths (length self.old.pairs) at.old }
+
+        // Result.
         ensures extracted { Extracts (CalledOnPair F.FnMut) pred.old
             (extract_state self.old.pairs at.old.front at.old.back)
             (option_map (λ entry. pair entry.0 entry.1) result) pred.new
             (extract_state self.new.pairs at.new.front at.new.back) }
-        ensures lengths { MatchOption result (self.new.lengths ≡ self.old.lengths)
-            (λ _. self.new.lengths ≡ lengths_without self.old.lengths at.new.front) }
+
+        // Contents.
         ensures at { IsExtractRange self.new.lengths (length self.new.pairs) at.new }
         ensures callable { F.IsAlwaysCallable pred.new }
+
+        // Nodes.
+        ensures lengths { MatchOption result (self.new.lengths ≡ self.old.lengths)
+            (λ _. self.new.lengths ≡ lengths_without self.old.lengths at.new.front) }
         ensures size { self.new.size ≡ self.old.size }
     {
         let Pair { key, value } = self.set.extract_pair(at, pred)?;

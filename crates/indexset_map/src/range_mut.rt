@@ -87,13 +87,16 @@ impl<K: Ord, V> BTreeMap<K, V> {
     /// assert!(rt; map.values().copied().eq([1, 1, 2]));
     /// ```
     pub fn range_mut_idx<R: PositionRange + Drop>(&mut self, range: R) -> RangeMut<'_, K, V>
+        // Result.
         ensures same_map { (walk_map result).ghost_name ≡ self.entry.ghost_name }
-        ensures unchanged { (walk_map result).now ≡ self.old }
         ensures rest { walk_rest result
             ≡ in_positions self.old.pairs (R.start range) (R.end range) }
         ensures front { walk_front result ≡ min (start_index (R.start range)) (walk_back result) }
         ensures back { walk_back result ≡ min (end_index (R.end range) (length self.old.pairs))
             (length self.old.pairs) }
+
+        // Contents.
+        ensures unchanged { (walk_map result).now ≡ self.old }
     {
         let len = self.len();
         let back = end_position(range.end_bound(), len);
