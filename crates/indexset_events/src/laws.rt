@@ -67,6 +67,7 @@ pub fn steps_lead_to_nodes<T: Ord>()
 /// Examples of the event table, with numbers as items.
 #[tactic(auto, unfolding(crate::specs::Nodes::are_nodes, crate::specs::Replay::step_plain, crate::specs::Table::put_events, crate::specs::Table::target_events, crate::specs::Table::node_events, crate::specs::Table::replace_events, crate::specs::Table::removal_by))]
 pub fn events_at_numbers()
+    // Result.
     ensures first { put_events nat_cmp 4 [] 7 ≡ CreateNode 7 ∷ [] }
     ensures halved_then_inserted { put_events nat_cmp 2 ((5 ∷ 6 ∷ []) ∷ []) 7
         ≡ SplitNode 6 1 ∷ InsertAt 6 7 1 ∷ [] }
@@ -80,6 +81,8 @@ pub fn events_at_numbers()
         ≡ RemoveAt 3 3 1 ∷ [] }
     ensures removed_only { removal_events nat_cmp 4 ((7 ∷ []) ∷ []) 7 ≡ RemoveNode 7 ∷ [] }
     ensures absent { removal_events nat_cmp 4 ((7 ∷ []) ∷ []) 9 ≡ [] }
+
+    // Nodes.
     ensures split { step_plain nat_cmp ((5 ∷ 6 ∷ []) ∷ []) (SplitNode 6 1)
         ≡ Some ((5 ∷ []) ∷ (6 ∷ []) ∷ []) }
     ensures replaced { step_plain nat_cmp ((0 ∷ 1 ∷ []) ∷ (2 ∷ 3 ∷ []) ∷ []) (RemoveAt 1 1 1)
@@ -91,22 +94,25 @@ pub fn events_at_numbers()
 /// Examples of removals with a merge, and of merges, with numbers as items.
 #[tactic(auto, unfolding(crate::specs::Nodes::are_nodes, crate::specs::Replay::step_plain, crate::specs::Table::removal_by))]
 pub fn merges_at_numbers()
+    // Result.
     ensures both_too_large { removal_events nat_cmp 4 ((0 ∷ 1 ∷ []) ∷ (2 ∷ 3 ∷ []) ∷
         (4 ∷ 5 ∷ []) ∷ []) 3 ≡ RemoveAt 3 3 1 ∷ [] }
     ensures with_the_next { removal_events nat_cmp 4 ((0 ∷ 1 ∷ []) ∷ (2 ∷ []) ∷ (4 ∷ 5 ∷ []) ∷ []) 1
         ≡ RemoveAt 1 1 1 ∷ MergeNodes 0 2 ∷ [] }
-    ensures next_made_one { with_removed {T = ℕ} 4 ((0 ∷ 1 ∷ []) ∷ (2 ∷ []) ∷ (4 ∷ 5 ∷ []) ∷ []) 0 1
-        ≡ (0 ∷ 2 ∷ []) ∷ (4 ∷ 5 ∷ []) ∷ [] }
     ensures with_the_one_before { removal_events nat_cmp 4
         ((2 ∷ 3 ∷ []) ∷ (4 ∷ []) ∷ (6 ∷ 7 ∷ []) ∷ []) 7 ≡ RemoveAt 7 7 1 ∷ MergeNodes 4 6 ∷ [] }
-    ensures one_before_made_one { with_removed {T = ℕ} 4 ((2 ∷ 3 ∷ []) ∷ (4 ∷ []) ∷
-        (6 ∷ 7 ∷ []) ∷ []) 2 1 ≡ (2 ∷ 3 ∷ []) ∷ (4 ∷ 6 ∷ []) ∷ [] }
     ensures next_first { removal_events nat_cmp 4 ((1 ∷ []) ∷ (2 ∷ 3 ∷ []) ∷ (4 ∷ []) ∷ []) 2
         ≡ RemoveAt 3 2 0 ∷ MergeNodes 3 4 ∷ [] }
     ensures emptied_joins_nothing { removal_events nat_cmp 4 ((0 ∷ []) ∷ (2 ∷ []) ∷ (4 ∷ []) ∷ []) 2
         ≡ RemoveNode 2 ∷ [] }
     ensures never_of_size_three { removal_events nat_cmp 3 ((0 ∷ 1 ∷ []) ∷ (2 ∷ []) ∷ []) 1
         ≡ RemoveAt 1 1 1 ∷ [] }
+
+    // Nodes.
+    ensures next_made_one { with_removed {T = ℕ} 4 ((0 ∷ 1 ∷ []) ∷ (2 ∷ []) ∷ (4 ∷ 5 ∷ []) ∷ []) 0 1
+        ≡ (0 ∷ 2 ∷ []) ∷ (4 ∷ 5 ∷ []) ∷ [] }
+    ensures one_before_made_one { with_removed {T = ℕ} 4 ((2 ∷ 3 ∷ []) ∷ (4 ∷ []) ∷
+        (6 ∷ 7 ∷ []) ∷ []) 2 1 ≡ (2 ∷ 3 ∷ []) ∷ (4 ∷ 6 ∷ []) ∷ [] }
     ensures merged { step_plain nat_cmp ((0 ∷ 1 ∷ []) ∷ (2 ∷ []) ∷ (5 ∷ []) ∷ []) (MergeNodes 1 2)
         ≡ Some ((0 ∷ 1 ∷ 2 ∷ []) ∷ (5 ∷ []) ∷ []) }
     ensures no_second_node { step_plain nat_cmp ((0 ∷ 1 ∷ []) ∷ (2 ∷ []) ∷ (5 ∷ []) ∷ [])
@@ -141,6 +147,7 @@ pub fn small_sizes_merge_nothing<T>()
 
 /// A put or a removal emits at most three events.
 pub fn three_events<T: Ord>()
+    // Result.
     ensures put { (size : ℕ) (ns : List (List T)) (v : T)
         → length (put_events T.cmp size ns v) ≤ 3 }
     ensures checked_put { (size : ℕ) (ns : List (List T)) (v : T) →

@@ -25,12 +25,15 @@ pub fn test_nodes<'a, T: Ord + Drop + 'a, Node: NodeLike<T>>(
     nodes: &'a [Node],
     size: usize,
 ) -> Result<(), Refusal>
+    // Failure.
     ensures good { OnOk result (nodes_refusal T.cmp size (map Node.list nodes.now) ≡ None) }
     ensures refusal { IfErr result (λ e. nodes_refusal T.cmp size (map Node.list nodes.now)
         ≡ Some e) }
-    ensures lawful { OnOk result (IsLawful T.cmp size (map Node.list nodes.now)) }
     ensures taken { IsLawful T.cmp size (map Node.list nodes.now) → IsOk result }
     ensures large { IfErr result (λ e. e ≡ Refusal.TooLarge → size < usize.MAX) }
+
+    // Nodes.
+    ensures lawful { OnOk result (IsLawful T.cmp size (map Node.list nodes.now)) }
 {
     let mut before: &'a [T] = &[];
     for node in nodes {
