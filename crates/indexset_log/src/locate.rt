@@ -43,12 +43,16 @@ pub(crate) fn last_started<T: Ord + Drop, Node: NodeLike<T>, P: Probe<T>>(
     requires parted { IsParted (P.answer probe.old) (concat (map Node.list nodes.now)) }
     requires started { length (concat (take node (map Node.list nodes.now)))
         < not_greater_count (P.answer probe.old) (concat (map Node.list nodes.now)) }
+
+    // Result.
     ensures node { result < length nodes.now }
     ensures order { node ≤ result }
     ensures started { length (concat (take result (map Node.list nodes.now)))
         < not_greater_count (P.answer probe.old) (concat (map Node.list nodes.now)) }
     ensures ended { not_greater_count (P.answer probe.old) (concat (map Node.list nodes.now))
         ≤ length (concat (take (result + 1) (map Node.list nodes.now))) }
+
+    // Contents.
     ensures fixed { P.answer probe.new ≡ P.answer probe.old }
     ensures comparisons { P.asked probe.new ≤ P.asked probe.old + (2 * digits (result - node) + 1) }
 {

@@ -292,19 +292,24 @@ impl<K: Ord + Clone + Drop, V: Clone + Drop, Node: NodeLike<Pair<K, V>>> BTreeMa
     /// Fails as the set's `attach_node`: with `Empty`, `TooLarge`, `Unsorted` or `Overlaps`, else
     /// with `Memory`. A failed call returns the node in the error and changes nothing.
     pub fn attach_node(&mut self, node: Node) -> Result<(), Refused<Node>>
-        ensures nodes { OnOk result (self.new.nodes ≡ attached (by_key K.cmp) self.old.nodes
-            (Node.list node)) }
+        // Contents.
         ensures ascending { OnOk result (IsAscending (by_key K.cmp) (concat self.new.nodes)) }
         ensures count { OnOk result (length (concat self.new.nodes)
             ≡ length (concat self.old.nodes) + length (Node.list node)) }
+        ensures next { self.new.next ≡ self.old.next }
+
+        // Failure.
         ensures good { IsOk result → attach_refusal (by_key K.cmp) self.old.size self.old.nodes
             (Node.list node) ≡ None }
         ensures refusal { IfErr result (λ e. e.cause ≡ unwrap_or
             (attach_refusal (by_key K.cmp) self.old.size self.old.nodes (Node.list node)) Memory) }
         ensures given_back { IfErr result (λ e. e.value ≡ node) }
-        ensures size { self.new.size ≡ self.old.size }
-        ensures next { self.new.next ≡ self.old.next }
         ensures unchanged { OnErr result (self.new ≡ self.old) }
+
+        // Nodes.
+        ensures nodes { OnOk result (self.new.nodes ≡ attached (by_key K.cmp) self.old.nodes
+            (Node.list node)) }
+        ensures size { self.new.size ≡ self.old.size }
     {
         self.set.attach_node(node)
     }

@@ -40,16 +40,22 @@ pub(crate) fn halve_at<T: Ord + Drop, Node: NodeLike<T>>(
     requires two { 2 ≤ length (node_at (map Node.list nodes.old.items) place) }
     requires index { index.old.sums ≡ block_sums (node_lengths (map Node.list nodes.old.items)) }
     requires fits { length (concat (map Node.list nodes.old.items)) ≤ usize.MAX }
-    ensures nodes { OnOk result (map Node.list nodes.new.items
-        ≡ with_halved (map Node.list nodes.old.items) place) }
+
+    // Failure.
+    ensures refusal { IfErr result (λ e. e ≡ Refusal.Memory) }
+    ensures unchanged { OnErr result (map Node.list nodes.new.items
+        ≡ map Node.list nodes.old.items) }
+
+    // Memory.
     ensures left_room { OnOk result (HoldsAt (λ n. length (Node.list n)
         < Node.room n) nodes.new.items place) }
     ensures right_room { OnOk result (HoldsAt (λ n. length (Node.list n)
         < Node.room n) nodes.new.items (place + 1)) }
+
+    // Nodes.
+    ensures nodes { OnOk result (map Node.list nodes.new.items
+        ≡ with_halved (map Node.list nodes.old.items) place) }
     ensures index { index.new.sums ≡ block_sums (node_lengths (map Node.list nodes.new.items)) }
-    ensures refusal { IfErr result (λ e. e ≡ Refusal.Memory) }
-    ensures unchanged { OnErr result (map Node.list nodes.new.items
-        ≡ map Node.list nodes.old.items) }
 {
     nodes.reserve(1)?;
     index.reserve_one()?;
@@ -81,16 +87,24 @@ pub(crate) fn make_room<T: Ord + Drop, Node: NodeLike<T>>(
     requires right { (aim.now.full ≡ false) → aim.now.right ≡ false }
     requires index { index.old.sums ≡ block_sums (node_lengths (map Node.list nodes.old.items)) }
     requires fits { length (concat (map Node.list nodes.old.items)) ≤ usize.MAX }
-    ensures nodes { OnOk result (map Node.list nodes.new.items
-        ≡ (if aim.now.full then with_halved
-        (map Node.list nodes.old.items) aim.now.node else map Node.list nodes.old.items)) }
+
+    // Result.
     ensures place { IfOk result (λ place. place ≡ aim.now.node + cond aim.now.right 1 0) }
-    ensures room { IfOk result (λ place. is_err aim.now.at ≡ true
-        → HoldsAt (λ n. length (Node.list n) < Node.room n) nodes.new.items place) }
-    ensures index { index.new.sums ≡ block_sums (node_lengths (map Node.list nodes.new.items)) }
+
+    // Failure.
     ensures refusal { IfErr result (λ e. e ≡ Refusal.Memory) }
     ensures unchanged { OnErr result (map Node.list nodes.new.items
         ≡ map Node.list nodes.old.items) }
+
+    // Memory.
+    ensures room { IfOk result (λ place. is_err aim.now.at ≡ true
+        → HoldsAt (λ n. length (Node.list n) < Node.room n) nodes.new.items place) }
+
+    // Nodes.
+    ensures nodes { OnOk result (map Node.list nodes.new.items
+        ≡ (if aim.now.full then with_halved
+        (map Node.list nodes.old.items) aim.now.node else map Node.list nodes.old.items)) }
+    ensures index { index.new.sums ≡ block_sums (node_lengths (map Node.list nodes.new.items)) }
 {
     if aim.full {
         halve_at(nodes, index, aim.node)?;
@@ -146,13 +160,21 @@ pub(crate) fn first_node<T: Ord + Drop, Node: NodeLike<T>>(
     index: &mut Blocks,
 ) -> Result<Node, Refusal>
     requires { 1 ≤ Node.most }
+
+    // Result.
     ensures empty { IfOk result (λ node. Node.list node ≡ []) }
-    ensures room { IfOk result (λ node. 1 ≤ Node.room node) }
-    ensures nodes { nodes.new.items ≡ nodes.old.items }
-    ensures capacity { OnOk result (vec_len nodes.new < vec_capacity nodes.new) }
-    ensures index { index.new.sums ≡ index.old.sums }
-    ensures index_room { OnOk result (length index.new.sums < index.new.room) }
+
+    // Failure.
     ensures refusal { IfErr result (λ e. e ≡ Refusal.Memory) }
+
+    // Memory.
+    ensures room { IfOk result (λ node. 1 ≤ Node.room node) }
+    ensures capacity { OnOk result (vec_len nodes.new < vec_capacity nodes.new) }
+    ensures index_room { OnOk result (length index.new.sums < index.new.room) }
+
+    // Nodes.
+    ensures nodes { nodes.new.items ≡ nodes.old.items }
+    ensures index { index.new.sums ≡ index.old.sums }
 {
     nodes.reserve(1)?;
     index.reserve_one()?;
@@ -177,12 +199,16 @@ pub(crate) fn insert_node<T: Ord + Drop, Node: NodeLike<T>>(
     requires index { index.old.sums ≡ block_sums (node_lengths (map Node.list nodes.old.items)) }
     requires fits { length (concat (map Node.list nodes.old.items)) + length (Node.list node)
         ≤ usize.MAX }
-    ensures nodes { OnOk result (map Node.list nodes.new.items
-        ≡ insert (map Node.list nodes.old.items) place (Node.list node)) }
-    ensures index { index.new.sums ≡ block_sums (node_lengths (map Node.list nodes.new.items)) }
+
+    // Failure.
     ensures refusal { IfErr result (λ e. e.cause ≡ Refusal.Memory) }
     ensures given_back { IfErr result (λ e. e.value ≡ node) }
     ensures unchanged { OnErr result (nodes.new.items ≡ nodes.old.items) }
+
+    // Nodes.
+    ensures nodes { OnOk result (map Node.list nodes.new.items
+        ≡ insert (map Node.list nodes.old.items) place (Node.list node)) }
+    ensures index { index.new.sums ≡ block_sums (node_lengths (map Node.list nodes.new.items)) }
 {
     if index.reserve_one().is_err() {
         return Err(Refused {
@@ -245,16 +271,24 @@ pub(crate) fn remove_and_merge<T: Ord + Drop, Node: NodeLike<T>>(
         ++ node_at (set (map Node.list nodes.old.items) node
         (remove (node_at (map Node.list nodes.old.items) node) offset)) (left + 1)) }
     requires index { index.old.sums ≡ block_sums (node_lengths (map Node.list nodes.old.items)) }
+
+    // Result.
     ensures item { IfOk result (λ item. slice_get (node_at
         (map Node.list nodes.old.items) node) offset ≡ Some item) }
+
+    // Failure.
+    ensures refusal { IfErr result (λ e. e ≡ Refusal.Memory) }
+    ensures unchanged { OnErr result (map Node.list nodes.new.items
+        ≡ map Node.list nodes.old.items) }
+
+    // Memory.
+    ensures never { Node.allocates ≡ false → IsOk result }
+
+    // Nodes.
     ensures nodes { OnOk result (map Node.list nodes.new.items
         ≡ with_merged (set (map Node.list nodes.old.items) node
         (remove (node_at (map Node.list nodes.old.items) node) offset)) left) }
     ensures index { index.new.sums ≡ block_sums (node_lengths (map Node.list nodes.new.items)) }
-    ensures refusal { IfErr result (λ e. e ≡ Refusal.Memory) }
-    ensures never { Node.allocates ≡ false → IsOk result }
-    ensures unchanged { OnErr result (map Node.list nodes.new.items
-        ≡ map Node.list nodes.old.items) }
 {
     let more = nodes[left + 1].len();
     let first = &mut nodes[left];

@@ -267,13 +267,19 @@ impl<T: Ord + Clone + Drop, Node: NodeLike<T>> BTreeSet<T, Node> {
         probe: &mut P,
     ) -> Result<(usize, usize), (usize, usize)>
         requires { IsParted (P.answer probe.old) (concat self.now.nodes) }
+
+        // Result.
         ensures place { result ≡ located (P.answer probe.old) self.now.nodes }
-        ensures lawful { IsLawful T.cmp self.now.size self.now.nodes }
-        ensures two { 2 ≤ self.now.size }
+
+        // Contents.
         ensures fixed { P.answer probe.new ≡ P.answer probe.old }
         ensures comparisons { P.asked probe.new ≤ P.asked probe.old +
             (digits (length self.now.nodes) + digits self.now.size + 1) }
         ensures unasked { self.now.nodes ≡ [] → P.asked probe.new ≡ P.asked probe.old }
+
+        // Nodes.
+        ensures lawful { IsLawful T.cmp self.now.size self.now.nodes }
+        ensures two { 2 ≤ self.now.size }
     {
         locate_by::<T, Node, OfNode, P>(self.nodes.as_slice(), probe)
     }

@@ -85,16 +85,23 @@ impl<K: Ord + Clone + Drop, V: Clone + Drop, Node: NodeLike<Pair<K, V>>> BTreeMa
     pub fn pop_first_cdc(
         &mut self,
     ) -> Result<(Option<(K, V)>, Vec<ChangeEvent<Pair<K, V>>>), Refusal>
+        // Result.
         ensures answer { IfOk result (λ r.
             r.0 ≡ option_map entry_of (slice_get (concat self.old.nodes) 0)) }
-        ensures refusal { IfErr result (λ e. e ≡ refusal_of self.old
-            (first_removal (by_key K.cmp) self.old)) }
-        ensures no_event { (first_removal (by_key K.cmp) self.old).events ≡ [] → IsOk result }
-        ensures unchanged { OnErr result (self.new ≡ self.old) }
-        ensures changed { OnOk result (Changed (by_key K.cmp) self.old self.new
-            (first_removal (by_key K.cmp) self.old)) }
         ensures events { IfOk result (λ r. PairEvents K.cmp K.is_clone V.is_clone self.old self.new
             (first_removal (by_key K.cmp) self.old) r.1.items) }
+
+        // Contents.
+        ensures changed { OnOk result (Changed (by_key K.cmp) self.old self.new
+            (first_removal (by_key K.cmp) self.old)) }
+
+        // Failure.
+        ensures refusal { IfErr result (λ e. e ≡ refusal_of self.old
+            (first_removal (by_key K.cmp) self.old)) }
+        ensures unchanged { OnErr result (self.new ≡ self.old) }
+
+        // Memory.
+        ensures no_event { (first_removal (by_key K.cmp) self.old).events ≡ [] → IsOk result }
     {
         let (pair, events) = self.set.pop_first_cdc()?;
         Ok((entry_of(pair), events))
@@ -120,18 +127,25 @@ impl<K: Ord + Clone + Drop, V: Clone + Drop, Node: NodeLike<Pair<K, V>>> BTreeMa
     /// Fails with `Numbers` if the event numbers do not fit the counter, else with `Memory`, only
     /// if it allocates. A failed call changes nothing.
     pub fn pop_first(&mut self) -> Result<Option<(K, V)>, Refusal>
+        // Result.
         ensures answer { IfOk result (λ entry.
             entry ≡ option_map entry_of (slice_get (concat self.old.nodes) 0)) }
+
+        // Contents.
+        ensures changed { OnOk result (Changed (by_key K.cmp) self.old self.new
+            (first_removal (by_key K.cmp) self.old)) }
+
+        // Failure.
         ensures refusal { IfErr result (λ e. e ≡ refusal_of self.old
             (first_removal (by_key K.cmp) self.old)) }
+        ensures unchanged { OnErr result (self.new ≡ self.old) }
+
+        // Memory.
         ensures no_event { (first_removal (by_key K.cmp) self.old).events ≡ [] → IsOk result }
         ensures no_memory { length (first_removal (by_key K.cmp) self.old).events ≤ 1
             → Fits self.old (first_removal (by_key K.cmp) self.old) → IsOk result }
         ensures never { Node.allocates ≡ false
             → Fits self.old (first_removal (by_key K.cmp) self.old) → IsOk result }
-        ensures unchanged { OnErr result (self.new ≡ self.old) }
-        ensures changed { OnOk result (Changed (by_key K.cmp) self.old self.new
-            (first_removal (by_key K.cmp) self.old)) }
     {
         let pair = self.set.pop_first()?;
         Ok(entry_of(pair))
@@ -158,17 +172,24 @@ impl<K: Ord + Clone + Drop, V: Clone + Drop, Node: NodeLike<Pair<K, V>>> BTreeMa
     pub fn pop_last_cdc(
         &mut self,
     ) -> Result<(Option<(K, V)>, Vec<ChangeEvent<Pair<K, V>>>), Refusal>
+        // Result.
         ensures answer { IfOk result (λ r.
             r.0 ≡ option_map entry_of (slice_get (concat self.old.nodes)
             (length (concat self.old.nodes) - 1))) }
-        ensures refusal { IfErr result (λ e. e ≡ refusal_of self.old
-            (last_removal (by_key K.cmp) self.old)) }
-        ensures no_event { (last_removal (by_key K.cmp) self.old).events ≡ [] → IsOk result }
-        ensures unchanged { OnErr result (self.new ≡ self.old) }
-        ensures changed { OnOk result (Changed (by_key K.cmp) self.old self.new
-            (last_removal (by_key K.cmp) self.old)) }
         ensures events { IfOk result (λ r. PairEvents K.cmp K.is_clone V.is_clone self.old self.new
             (last_removal (by_key K.cmp) self.old) r.1.items) }
+
+        // Contents.
+        ensures changed { OnOk result (Changed (by_key K.cmp) self.old self.new
+            (last_removal (by_key K.cmp) self.old)) }
+
+        // Failure.
+        ensures refusal { IfErr result (λ e. e ≡ refusal_of self.old
+            (last_removal (by_key K.cmp) self.old)) }
+        ensures unchanged { OnErr result (self.new ≡ self.old) }
+
+        // Memory.
+        ensures no_event { (last_removal (by_key K.cmp) self.old).events ≡ [] → IsOk result }
     {
         let (pair, events) = self.set.pop_last_cdc()?;
         Ok((entry_of(pair), events))
@@ -194,19 +215,26 @@ impl<K: Ord + Clone + Drop, V: Clone + Drop, Node: NodeLike<Pair<K, V>>> BTreeMa
     /// Fails with `Numbers` if the event numbers do not fit the counter, else with `Memory`, only
     /// if it allocates. A failed call changes nothing.
     pub fn pop_last(&mut self) -> Result<Option<(K, V)>, Refusal>
+        // Result.
         ensures answer { IfOk result (λ entry.
             entry ≡ option_map entry_of (slice_get (concat self.old.nodes)
             (length (concat self.old.nodes) - 1))) }
+
+        // Contents.
+        ensures changed { OnOk result (Changed (by_key K.cmp) self.old self.new
+            (last_removal (by_key K.cmp) self.old)) }
+
+        // Failure.
         ensures refusal { IfErr result (λ e. e ≡ refusal_of self.old
             (last_removal (by_key K.cmp) self.old)) }
+        ensures unchanged { OnErr result (self.new ≡ self.old) }
+
+        // Memory.
         ensures no_event { (last_removal (by_key K.cmp) self.old).events ≡ [] → IsOk result }
         ensures no_memory { length (last_removal (by_key K.cmp) self.old).events ≤ 1
             → Fits self.old (last_removal (by_key K.cmp) self.old) → IsOk result }
         ensures never { Node.allocates ≡ false
             → Fits self.old (last_removal (by_key K.cmp) self.old) → IsOk result }
-        ensures unchanged { OnErr result (self.new ≡ self.old) }
-        ensures changed { OnOk result (Changed (by_key K.cmp) self.old self.new
-            (last_removal (by_key K.cmp) self.old)) }
     {
         let pair = self.set.pop_last()?;
         Ok(entry_of(pair))

@@ -37,18 +37,23 @@ impl<K: Ord + Clone + Drop, V: Clone + Drop, Node: NodeLike<Pair<K, V>>> BTreeMa
         key: K,
         value: V,
     ) -> Result<(Option<V>, Vec<ChangeEvent<Pair<K, V>>>), Refused<(K, V)>>
+        // Result.
         ensures answer { IfOk result (λ r. r.0 ≡ value_of K.cmp (concat self.old.nodes) key) }
-        ensures refusal { IfErr result (λ e.
-            e.cause ≡ refusal_of self.old (put_change (by_key K.cmp) self.old (pair key value))) }
-        ensures given_back { IfErr result (λ e. e.value ≡ (key, value)) }
-        ensures unchanged { OnErr result (self.new ≡ self.old) }
+        ensures events { IfOk result (λ r. PairEvents K.cmp K.is_clone V.is_clone self.old self.new
+            (put_change (by_key K.cmp) self.old (pair key value)) r.1.items) }
+
+        // Contents.
         ensures contains { OnOk result (has_key K.cmp (concat self.new.nodes) key ≡ true) }
         ensures written { OnOk result (value_of K.cmp (concat self.new.nodes) key ≡ Some value) }
         ensures others { OnOk result (KeepsOthers K.cmp K.cmp self.old.nodes self.new.nodes key) }
         ensures changed { OnOk result (Changed (by_key K.cmp) self.old self.new
             (put_change (by_key K.cmp) self.old (pair key value))) }
-        ensures events { IfOk result (λ r. PairEvents K.cmp K.is_clone V.is_clone self.old self.new
-            (put_change (by_key K.cmp) self.old (pair key value)) r.1.items) }
+
+        // Failure.
+        ensures refusal { IfErr result (λ e.
+            e.cause ≡ refusal_of self.old (put_change (by_key K.cmp) self.old (pair key value))) }
+        ensures given_back { IfErr result (λ e. e.value ≡ (key, value)) }
+        ensures unchanged { OnErr result (self.new ≡ self.old) }
     {
         let (old, events) = self.set.put_cdc(Pair { key, value })?;
         Ok((value_in(old), events))
@@ -76,21 +81,28 @@ impl<K: Ord + Clone + Drop, V: Clone + Drop, Node: NodeLike<Pair<K, V>>> BTreeMa
         key: K,
         value: V,
     ) -> Result<Option<Vec<ChangeEvent<Pair<K, V>>>>, Refused<(K, V)>>
+        // Result.
         ensures answer { IfOk result (λ r. is_none r ≡ has_key K.cmp (concat self.old.nodes) key) }
-        ensures refusal { IfErr result (λ e.
-            e.cause ≡ refusal_of self.old (checked_put_change (by_key K.cmp) self.old
-            (pair key value))) }
-        ensures no_event { has_key K.cmp (concat self.old.nodes) key ≡ true → IsOk result }
-        ensures given_back { IfErr result (λ e. e.value ≡ (key, value)) }
-        ensures unchanged { OnErr result (self.new ≡ self.old) }
+        ensures events { IfOk result (λ r. IfSome r (λ events.
+            PairEvents K.cmp K.is_clone V.is_clone self.old self.new
+            (checked_put_change (by_key K.cmp) self.old (pair key value)) events.items)) }
+
+        // Contents.
         ensures contains { OnOk result (has_key K.cmp (concat self.new.nodes) key ≡ true) }
         ensures written { IfOk result (λ r. IfSome r (λ _.
             value_of K.cmp (concat self.new.nodes) key ≡ Some value)) }
         ensures changed { OnOk result (Changed (by_key K.cmp) self.old self.new
             (checked_put_change (by_key K.cmp) self.old (pair key value))) }
-        ensures events { IfOk result (λ r. IfSome r (λ events.
-            PairEvents K.cmp K.is_clone V.is_clone self.old self.new
-            (checked_put_change (by_key K.cmp) self.old (pair key value)) events.items)) }
+
+        // Failure.
+        ensures refusal { IfErr result (λ e.
+            e.cause ≡ refusal_of self.old (checked_put_change (by_key K.cmp) self.old
+            (pair key value))) }
+        ensures given_back { IfErr result (λ e. e.value ≡ (key, value)) }
+        ensures unchanged { OnErr result (self.new ≡ self.old) }
+
+        // Memory.
+        ensures no_event { has_key K.cmp (concat self.old.nodes) key ≡ true → IsOk result }
     {
         Ok(self.set.put_cdc_checked(Pair { key, value })?)
     }
@@ -111,16 +123,21 @@ impl<K: Ord + Clone + Drop, V: Clone + Drop, Node: NodeLike<Pair<K, V>>> BTreeMa
     /// Fails with `Numbers` if the event numbers do not fit the counter, else with `Memory`. A
     /// failed call returns the key and the value in the error and changes nothing.
     pub fn insert(&mut self, key: K, value: V) -> Result<Option<V>, Refused<(K, V)>>
+        // Result.
         ensures answer { IfOk result (λ old. old ≡ value_of K.cmp (concat self.old.nodes) key) }
-        ensures refusal { IfErr result (λ e.
-            e.cause ≡ refusal_of self.old (put_change (by_key K.cmp) self.old (pair key value))) }
-        ensures given_back { IfErr result (λ e. e.value ≡ (key, value)) }
-        ensures unchanged { OnErr result (self.new ≡ self.old) }
+
+        // Contents.
         ensures contains { OnOk result (has_key K.cmp (concat self.new.nodes) key ≡ true) }
         ensures written { OnOk result (value_of K.cmp (concat self.new.nodes) key ≡ Some value) }
         ensures others { OnOk result (KeepsOthers K.cmp K.cmp self.old.nodes self.new.nodes key) }
         ensures changed { OnOk result (Changed (by_key K.cmp) self.old self.new
             (put_change (by_key K.cmp) self.old (pair key value))) }
+
+        // Failure.
+        ensures refusal { IfErr result (λ e.
+            e.cause ≡ refusal_of self.old (put_change (by_key K.cmp) self.old (pair key value))) }
+        ensures given_back { IfErr result (λ e. e.value ≡ (key, value)) }
+        ensures unchanged { OnErr result (self.new ≡ self.old) }
     {
         let old = self.set.put(Pair { key, value })?;
         Ok(old.map(|pair| pair.value))
@@ -144,18 +161,25 @@ impl<K: Ord + Clone + Drop, V: Clone + Drop, Node: NodeLike<Pair<K, V>>> BTreeMa
     /// Fails with `Numbers` if the event numbers do not fit the counter, else with `Memory`. A
     /// failed call returns the key and the value in the error and changes nothing.
     pub fn checked_insert(&mut self, key: K, value: V) -> Result<Option<()>, Refused<(K, V)>>
+        // Result.
         ensures answer { IfOk result (λ r. is_none r ≡ has_key K.cmp (concat self.old.nodes) key) }
-        ensures refusal { IfErr result (λ e.
-            e.cause ≡ refusal_of self.old (checked_put_change (by_key K.cmp) self.old
-            (pair key value))) }
-        ensures no_event { has_key K.cmp (concat self.old.nodes) key ≡ true → IsOk result }
-        ensures given_back { IfErr result (λ e. e.value ≡ (key, value)) }
-        ensures unchanged { OnErr result (self.new ≡ self.old) }
+
+        // Contents.
         ensures contains { OnOk result (has_key K.cmp (concat self.new.nodes) key ≡ true) }
         ensures written { IfOk result (λ r. IfSome r (λ _.
             value_of K.cmp (concat self.new.nodes) key ≡ Some value)) }
         ensures changed { OnOk result (Changed (by_key K.cmp) self.old self.new
             (checked_put_change (by_key K.cmp) self.old (pair key value))) }
+
+        // Failure.
+        ensures refusal { IfErr result (λ e.
+            e.cause ≡ refusal_of self.old (checked_put_change (by_key K.cmp) self.old
+            (pair key value))) }
+        ensures given_back { IfErr result (λ e. e.value ≡ (key, value)) }
+        ensures unchanged { OnErr result (self.new ≡ self.old) }
+
+        // Memory.
+        ensures no_event { has_key K.cmp (concat self.old.nodes) key ≡ true → IsOk result }
     {
         let added = self.set.insert(Pair { key, value })?;
         Ok(added.then_some(()))

@@ -35,18 +35,25 @@ impl<K: Ord + Clone + Drop, V: Clone + Drop, Node: NodeLike<Pair<K, V>>> BTreeMa
         &mut self,
         key: Q,
     ) -> Result<(Option<(K, V)>, Vec<ChangeEvent<Pair<K, V>>>), Refusal>
+        // Result.
         ensures answer { IfOk result (λ r.
             r.0 ≡ option_map entry_of (pair_of Q.order (concat self.old.nodes) key)) }
-        ensures refusal { IfErr result (λ e. e ≡ refusal_of self.old
-            (key_removal Q.order self.old key)) }
-        ensures no_event { (key_removal Q.order self.old key).events ≡ [] → IsOk result }
-        ensures unchanged { OnErr result (self.new ≡ self.old) }
+        ensures events { IfOk result (λ r. PairEvents K.cmp K.is_clone V.is_clone self.old self.new
+            (key_removal Q.order self.old key) r.1.items) }
+
+        // Contents.
         ensures gone { OnOk result (has_key Q.order (concat self.new.nodes) key ≡ false) }
         ensures others { OnOk result (KeepsOthers K.cmp Q.order self.old.nodes self.new.nodes key) }
         ensures changed { OnOk result (Changed (by_key K.cmp) self.old self.new
             (key_removal Q.order self.old key)) }
-        ensures events { IfOk result (λ r. PairEvents K.cmp K.is_clone V.is_clone self.old self.new
-            (key_removal Q.order self.old key) r.1.items) }
+
+        // Failure.
+        ensures refusal { IfErr result (λ e. e ≡ refusal_of self.old
+            (key_removal Q.order self.old key)) }
+        ensures unchanged { OnErr result (self.new ≡ self.old) }
+
+        // Memory.
+        ensures no_event { (key_removal Q.order self.old key).events ≡ [] → IsOk result }
     {
         match self.locate(key) {
             Ok((node, offset)) => {
@@ -77,20 +84,27 @@ impl<K: Ord + Clone + Drop, V: Clone + Drop, Node: NodeLike<Pair<K, V>>> BTreeMa
     /// Fails with `Numbers` if the event numbers do not fit the counter, else with `Memory`, only
     /// if it allocates. A failed call changes nothing.
     pub fn remove<Q: UniqueKey<K> + Drop>(&mut self, key: Q) -> Result<Option<(K, V)>, Refusal>
+        // Result.
         ensures answer { IfOk result (λ entry.
             entry ≡ option_map entry_of (pair_of Q.order (concat self.old.nodes) key)) }
+
+        // Contents.
+        ensures gone { OnOk result (has_key Q.order (concat self.new.nodes) key ≡ false) }
+        ensures others { OnOk result (KeepsOthers K.cmp Q.order self.old.nodes self.new.nodes key) }
+        ensures changed { OnOk result (Changed (by_key K.cmp) self.old self.new
+            (key_removal Q.order self.old key)) }
+
+        // Failure.
         ensures refusal { IfErr result (λ e. e ≡ refusal_of self.old
             (key_removal Q.order self.old key)) }
+        ensures unchanged { OnErr result (self.new ≡ self.old) }
+
+        // Memory.
         ensures no_event { (key_removal Q.order self.old key).events ≡ [] → IsOk result }
         ensures no_memory { length (key_removal Q.order self.old key).events ≤ 1
             → Fits self.old (key_removal Q.order self.old key) → IsOk result }
         ensures never { Node.allocates ≡ false
             → Fits self.old (key_removal Q.order self.old key) → IsOk result }
-        ensures unchanged { OnErr result (self.new ≡ self.old) }
-        ensures gone { OnOk result (has_key Q.order (concat self.new.nodes) key ≡ false) }
-        ensures others { OnOk result (KeepsOthers K.cmp Q.order self.old.nodes self.new.nodes key) }
-        ensures changed { OnOk result (Changed (by_key K.cmp) self.old self.new
-            (key_removal Q.order self.old key)) }
     {
         match self.locate(key) {
             Ok((node, offset)) => {

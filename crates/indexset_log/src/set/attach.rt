@@ -38,19 +38,24 @@ impl<T: Ord + Clone + Drop, Node: NodeLike<T>> BTreeSet<T, Node> {
     /// `Overlaps` if it does not lie entirely below or above each other node; `Memory`. A failed
     /// call returns the node in the error and changes nothing.
     pub fn attach_node(&mut self, node: Node) -> Result<(), Refused<Node>>
-        ensures nodes { OnOk result (self.new.nodes ≡ attached T.cmp self.old.nodes
-            (Node.list node)) }
+        // Contents.
         ensures ascending { OnOk result (IsAscending T.cmp (concat self.new.nodes)) }
         ensures count { OnOk result (length (concat self.new.nodes)
             ≡ length (concat self.old.nodes) + length (Node.list node)) }
+        ensures next { self.new.next ≡ self.old.next }
+
+        // Failure.
         ensures good { IsOk result → attach_refusal T.cmp self.old.size self.old.nodes
             (Node.list node) ≡ None }
         ensures refusal { IfErr result (λ e. e.cause ≡ unwrap_or
             (attach_refusal T.cmp self.old.size self.old.nodes (Node.list node)) Refusal.Memory) }
         ensures given_back { IfErr result (λ e. e.value ≡ node) }
-        ensures size { self.new.size ≡ self.old.size }
-        ensures next { self.new.next ≡ self.old.next }
         ensures unchanged { OnErr result (self.new ≡ self.old) }
+
+        // Nodes.
+        ensures nodes { OnOk result (self.new.nodes ≡ attached T.cmp self.old.nodes
+            (Node.list node)) }
+        ensures size { self.new.size ≡ self.old.size }
     {
         let place = match self.attach_place(&node) {
             Ok(place) => place,

@@ -72,15 +72,22 @@ impl<T: Ord + Clone + Drop, Node: NodeLike<T>> BTreeSet<T, Node> {
     /// Fails with `Numbers` if the events do not fit the counter, else with `Memory`. A failed call
     /// changes nothing.
     pub fn pop_first_cdc(&mut self) -> Result<(Option<T>, Vec<ChangeEvent<T>>), Refusal>
+        // Result.
         ensures answer { IfOk result (λ r. r.0 ≡ slice_get (concat self.old.nodes) 0) }
-        ensures refusal { IfErr result (λ e. e ≡ refusal_of self.old
-            (first_removal T.cmp self.old)) }
-        ensures no_event { (first_removal T.cmp self.old).events ≡ [] → IsOk result }
-        ensures unchanged { OnErr result (self.new ≡ self.old) }
-        ensures changed { OnOk result (Changed T.cmp self.old self.new
-            (first_removal T.cmp self.old)) }
         ensures events { IfOk result (λ r. ItemEvents T.cmp T.is_clone self.old self.new
             (first_removal T.cmp self.old) r.1.items) }
+
+        // Contents.
+        ensures changed { OnOk result (Changed T.cmp self.old self.new
+            (first_removal T.cmp self.old)) }
+
+        // Failure.
+        ensures refusal { IfErr result (λ e. e ≡ refusal_of self.old
+            (first_removal T.cmp self.old)) }
+        ensures unchanged { OnErr result (self.new ≡ self.old) }
+
+        // Memory.
+        ensures no_event { (first_removal T.cmp self.old).events ≡ [] → IsOk result }
     {
         let place = self.first_item_place();
         self.remove_from_cdc(place)
@@ -104,17 +111,24 @@ impl<T: Ord + Clone + Drop, Node: NodeLike<T>> BTreeSet<T, Node> {
     /// Fails with `Numbers` if the event numbers do not fit the counter, else with `Memory`, only
     /// if it allocates. A failed call changes nothing.
     pub fn pop_first(&mut self) -> Result<Option<T>, Refusal>
+        // Result.
         ensures answer { IfOk result (λ item. item ≡ slice_get (concat self.old.nodes) 0) }
+
+        // Contents.
+        ensures changed { OnOk result (Changed T.cmp self.old self.new
+            (first_removal T.cmp self.old)) }
+
+        // Failure.
         ensures refusal { IfErr result (λ e. e ≡ refusal_of self.old
             (first_removal T.cmp self.old)) }
+        ensures unchanged { OnErr result (self.new ≡ self.old) }
+
+        // Memory.
         ensures no_event { (first_removal T.cmp self.old).events ≡ [] → IsOk result }
         ensures no_memory { length (first_removal T.cmp self.old).events ≤ 1
             → Fits self.old (first_removal T.cmp self.old) → IsOk result }
         ensures never { Node.allocates ≡ false → Fits self.old (first_removal T.cmp self.old)
             → IsOk result }
-        ensures unchanged { OnErr result (self.new ≡ self.old) }
-        ensures changed { OnOk result (Changed T.cmp self.old self.new
-            (first_removal T.cmp self.old)) }
     {
         let place = self.first_item_place();
         self.remove_from(place)
@@ -137,16 +151,23 @@ impl<T: Ord + Clone + Drop, Node: NodeLike<T>> BTreeSet<T, Node> {
     /// Fails with `Numbers` if the events do not fit the counter, else with `Memory`. A failed call
     /// changes nothing.
     pub fn pop_last_cdc(&mut self) -> Result<(Option<T>, Vec<ChangeEvent<T>>), Refusal>
+        // Result.
         ensures answer { IfOk result (λ r.
             r.0 ≡ slice_get (concat self.old.nodes) (length (concat self.old.nodes) - 1)) }
-        ensures refusal { IfErr result (λ e. e ≡ refusal_of self.old
-            (last_removal T.cmp self.old)) }
-        ensures no_event { (last_removal T.cmp self.old).events ≡ [] → IsOk result }
-        ensures unchanged { OnErr result (self.new ≡ self.old) }
-        ensures changed { OnOk result (Changed T.cmp self.old self.new
-            (last_removal T.cmp self.old)) }
         ensures events { IfOk result (λ r. ItemEvents T.cmp T.is_clone self.old self.new
             (last_removal T.cmp self.old) r.1.items) }
+
+        // Contents.
+        ensures changed { OnOk result (Changed T.cmp self.old self.new
+            (last_removal T.cmp self.old)) }
+
+        // Failure.
+        ensures refusal { IfErr result (λ e. e ≡ refusal_of self.old
+            (last_removal T.cmp self.old)) }
+        ensures unchanged { OnErr result (self.new ≡ self.old) }
+
+        // Memory.
+        ensures no_event { (last_removal T.cmp self.old).events ≡ [] → IsOk result }
     {
         let place = self.last_item_place();
         self.remove_from_cdc(place)
@@ -170,18 +191,25 @@ impl<T: Ord + Clone + Drop, Node: NodeLike<T>> BTreeSet<T, Node> {
     /// Fails with `Numbers` if the event numbers do not fit the counter, else with `Memory`, only
     /// if it allocates. A failed call changes nothing.
     pub fn pop_last(&mut self) -> Result<Option<T>, Refusal>
+        // Result.
         ensures answer { IfOk result (λ item.
             item ≡ slice_get (concat self.old.nodes) (length (concat self.old.nodes) - 1)) }
+
+        // Contents.
+        ensures changed { OnOk result (Changed T.cmp self.old self.new
+            (last_removal T.cmp self.old)) }
+
+        // Failure.
         ensures refusal { IfErr result (λ e. e ≡ refusal_of self.old
             (last_removal T.cmp self.old)) }
+        ensures unchanged { OnErr result (self.new ≡ self.old) }
+
+        // Memory.
         ensures no_event { (last_removal T.cmp self.old).events ≡ [] → IsOk result }
         ensures no_memory { length (last_removal T.cmp self.old).events ≤ 1
             → Fits self.old (last_removal T.cmp self.old) → IsOk result }
         ensures never { Node.allocates ≡ false → Fits self.old (last_removal T.cmp self.old)
             → IsOk result }
-        ensures unchanged { OnErr result (self.new ≡ self.old) }
-        ensures changed { OnOk result (Changed T.cmp self.old self.new
-            (last_removal T.cmp self.old)) }
     {
         let place = self.last_item_place();
         self.remove_from(place)

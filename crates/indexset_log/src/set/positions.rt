@@ -93,12 +93,16 @@ impl<T: Ord + Clone + Drop, Node: NodeLike<T>> BTreeSet<T, Node> {
     /// Makes two binary searches, as `locate_by`.
     pub fn position_by<P: Probe<T>>(&self, probe: &mut P) -> Result<usize, usize>
         requires { IsParted (P.answer probe.old) (concat self.now.nodes) }
+
+        // Result.
         ensures found { IfOk result (λ i. position (λ x. is_eq (P.answer probe.old x))
             (concat self.now.nodes) ≡ Some i) }
         ensures absent { IfErr result (λ _. position (λ x. is_eq (P.answer probe.old x))
             (concat self.now.nodes) ≡ None) }
         ensures gap { IfErr result (λ i. i ≡ less_count (P.answer probe.old)
             (concat self.now.nodes)) }
+
+        // Contents.
         ensures fixed { P.answer probe.new ≡ P.answer probe.old }
         ensures comparisons { P.asked probe.new ≤ P.asked probe.old +
             (digits (length self.now.nodes) + digits self.now.size + 1) }

@@ -38,17 +38,22 @@ impl<T: Ord + Clone + Drop, Node: NodeLike<T>> BTreeSet<T, Node> {
     /// Fails with `Numbers` if the events do not fit the counter, else with `Memory`. A failed call
     /// returns the item in the error and changes nothing.
     pub fn put_cdc(&mut self, value: T) -> Result<(Option<T>, Vec<ChangeEvent<T>>), Refused<T>>
+        // Result.
         ensures answer { IfOk result (λ r. r.0 ≡ equal_element T.cmp
             (concat self.old.nodes) value) }
+        ensures events { IfOk result (λ r. ItemEvents T.cmp T.is_clone self.old self.new
+            (put_change T.cmp self.old value) r.1.items) }
+
+        // Contents.
+        ensures contains { OnOk result (has_equal T.cmp (concat self.new.nodes) value ≡ true) }
+        ensures changed { OnOk result (Changed T.cmp self.old self.new
+            (put_change T.cmp self.old value)) }
+
+        // Failure.
         ensures refusal { IfErr result (λ e. e.cause ≡ refusal_of self.old
             (put_change T.cmp self.old value)) }
         ensures given_back { IfErr result (λ e. e.value ≡ value) }
         ensures unchanged { OnErr result (self.new ≡ self.old) }
-        ensures contains { OnOk result (has_equal T.cmp (concat self.new.nodes) value ≡ true) }
-        ensures changed { OnOk result (Changed T.cmp self.old self.new
-            (put_change T.cmp self.old value)) }
-        ensures events { IfOk result (λ r. ItemEvents T.cmp T.is_clone self.old self.new
-            (put_change T.cmp self.old value) r.1.items) }
     {
         let aim = self.aim(&value);
         self.put_cdc_at(aim, value)
@@ -73,19 +78,26 @@ impl<T: Ord + Clone + Drop, Node: NodeLike<T>> BTreeSet<T, Node> {
     /// returns the item in the error and changes nothing.
     #[tactic(auto, unfolding(indexset_core::specs::Order::keep, indexset_events::specs::Edits::with_checked_put, indexset_events::specs::Table::checked_put_events))]
     pub fn put_cdc_checked(&mut self, value: T) -> Result<Option<Vec<ChangeEvent<T>>>, Refused<T>>
+        // Result.
         ensures answer { IfOk result (λ r. is_none r ≡ has_equal T.cmp
             (concat self.old.nodes) value) }
-        ensures refusal { IfErr result (λ e.
-            e.cause ≡ refusal_of self.old (checked_put_change T.cmp self.old value)) }
-        ensures no_event { has_equal T.cmp (concat self.old.nodes) value ≡ true → IsOk result }
-        ensures given_back { IfErr result (λ e. e.value ≡ value) }
-        ensures unchanged { OnErr result (self.new ≡ self.old) }
-        ensures contains { OnOk result (has_equal T.cmp (concat self.new.nodes) value ≡ true) }
-        ensures changed { OnOk result (Changed T.cmp self.old self.new
-            (checked_put_change T.cmp self.old value)) }
         ensures events { IfOk result (λ r. IfSome r (λ events.
             ItemEvents T.cmp T.is_clone self.old self.new
             (checked_put_change T.cmp self.old value) events.items)) }
+
+        // Contents.
+        ensures contains { OnOk result (has_equal T.cmp (concat self.new.nodes) value ≡ true) }
+        ensures changed { OnOk result (Changed T.cmp self.old self.new
+            (checked_put_change T.cmp self.old value)) }
+
+        // Failure.
+        ensures refusal { IfErr result (λ e.
+            e.cause ≡ refusal_of self.old (checked_put_change T.cmp self.old value)) }
+        ensures given_back { IfErr result (λ e. e.value ≡ value) }
+        ensures unchanged { OnErr result (self.new ≡ self.old) }
+
+        // Memory.
+        ensures no_event { has_equal T.cmp (concat self.old.nodes) value ≡ true → IsOk result }
     {
         let aim = self.aim(&value);
         if finds_equal(&aim) {
@@ -113,15 +125,20 @@ impl<T: Ord + Clone + Drop, Node: NodeLike<T>> BTreeSet<T, Node> {
     /// Fails with `Numbers` if the event numbers do not fit the counter, else with `Memory`. A
     /// failed call returns the item in the error and changes nothing.
     pub fn put(&mut self, value: T) -> Result<Option<T>, Refused<T>>
+        // Result.
         ensures answer { IfOk result (λ old. old ≡ equal_element T.cmp
             (concat self.old.nodes) value) }
+
+        // Contents.
+        ensures contains { OnOk result (has_equal T.cmp (concat self.new.nodes) value ≡ true) }
+        ensures changed { OnOk result (Changed T.cmp self.old self.new
+            (put_change T.cmp self.old value)) }
+
+        // Failure.
         ensures refusal { IfErr result (λ e. e.cause ≡ refusal_of self.old
             (put_change T.cmp self.old value)) }
         ensures given_back { IfErr result (λ e. e.value ≡ value) }
         ensures unchanged { OnErr result (self.new ≡ self.old) }
-        ensures contains { OnOk result (has_equal T.cmp (concat self.new.nodes) value ≡ true) }
-        ensures changed { OnOk result (Changed T.cmp self.old self.new
-            (put_change T.cmp self.old value)) }
     {
         let aim = self.aim(&value);
         self.put_at(aim, value)
@@ -146,16 +163,23 @@ impl<T: Ord + Clone + Drop, Node: NodeLike<T>> BTreeSet<T, Node> {
     /// failed call returns the item in the error and changes nothing.
     #[tactic(auto, unfolding(indexset_core::specs::Order::keep, indexset_events::specs::Edits::with_checked_put, indexset_events::specs::Table::checked_put_events))]
     pub fn insert(&mut self, value: T) -> Result<bool, Refused<T>>
+        // Result.
         ensures answer { IfOk result (λ r. r ≡ not (has_equal T.cmp
             (concat self.old.nodes) value)) }
-        ensures refusal { IfErr result (λ e.
-            e.cause ≡ refusal_of self.old (checked_put_change T.cmp self.old value)) }
-        ensures no_event { has_equal T.cmp (concat self.old.nodes) value ≡ true → IsOk result }
-        ensures given_back { IfErr result (λ e. e.value ≡ value) }
-        ensures unchanged { OnErr result (self.new ≡ self.old) }
+
+        // Contents.
         ensures contains { OnOk result (has_equal T.cmp (concat self.new.nodes) value ≡ true) }
         ensures changed { OnOk result (Changed T.cmp self.old self.new
             (checked_put_change T.cmp self.old value)) }
+
+        // Failure.
+        ensures refusal { IfErr result (λ e.
+            e.cause ≡ refusal_of self.old (checked_put_change T.cmp self.old value)) }
+        ensures given_back { IfErr result (λ e. e.value ≡ value) }
+        ensures unchanged { OnErr result (self.new ≡ self.old) }
+
+        // Memory.
+        ensures no_event { has_equal T.cmp (concat self.old.nodes) value ≡ true → IsOk result }
     {
         let aim = self.aim(&value);
         if finds_equal(&aim) {
@@ -169,11 +193,16 @@ impl<T: Ord + Clone + Drop, Node: NodeLike<T>> BTreeSet<T, Node> {
 
     // Returns where to insert an item; `None` in an empty tree.
     fn aim(&self, value: &T) -> Option<InsertPlan>
+        // Result.
         ensures aim { IsPlanned T.cmp self.now.size self.now.nodes value.now result }
         ensures present { is_present result ≡ has_equal T.cmp (concat self.now.nodes) value.now }
+
+        // Contents.
+        ensures number { self.now.next ≤ u64.MAX }
+
+        // Nodes.
         ensures lawful { IsLawful T.cmp self.now.size self.now.nodes }
         ensures two { 2 ≤ self.now.size }
-        ensures number { self.now.next ≤ u64.MAX }
     {
         // The counter fits a u64, so a call without events does not overflow it.
         let _next = self.next;
@@ -190,17 +219,23 @@ impl<T: Ord + Clone + Drop, Node: NodeLike<T>> BTreeSet<T, Node> {
         value: T,
     ) -> Result<(Option<T>, Vec<ChangeEvent<T>>), Refused<T>>
         requires { IsPlanned T.cmp self.old.size self.old.nodes value aim }
-        ensures tree { OnOk result (self.new ≡ after_put T.cmp self.old value) }
+
+        // Result.
         ensures answer { IfOk result (λ r. r.0 ≡ equal_element T.cmp
             (concat self.old.nodes) value) }
         ensures events { IfOk result (λ r. AreTableEvents T.is_clone self.old.next
             (put_events T.cmp self.old.size self.old.nodes value) r.1.items) }
+
+        // Failure.
         ensures fits { OnOk result (self.old.next + length
             (put_events T.cmp self.old.size self.old.nodes value) ≤ u64.MAX) }
         ensures refusal { IfErr result (λ e. e.cause ≡ refusal_for self.old.next
             (length (put_events T.cmp self.old.size self.old.nodes value))) }
         ensures given_back { IfErr result (λ e. e.value ≡ value) }
         ensures unchanged { OnErr result (self.new ≡ self.old) }
+
+        // Nodes.
+        ensures tree { OnOk result (self.new ≡ after_put T.cmp self.old value) }
     {
         let next = match self.next_after(&aim) {
             Ok(next) => next,
@@ -218,15 +253,21 @@ impl<T: Ord + Clone + Drop, Node: NodeLike<T>> BTreeSet<T, Node> {
     // Inserts an item at its aim.
     fn put_at(&mut self, aim: Option<InsertPlan>, value: T) -> Result<Option<T>, Refused<T>>
         requires { IsPlanned T.cmp self.old.size self.old.nodes value aim }
-        ensures tree { OnOk result (self.new ≡ after_put T.cmp self.old value) }
+
+        // Result.
         ensures answer { IfOk result (λ old. old ≡ equal_element T.cmp
             (concat self.old.nodes) value) }
+
+        // Failure.
         ensures fits { OnOk result (self.old.next + length
             (put_events T.cmp self.old.size self.old.nodes value) ≤ u64.MAX) }
         ensures refusal { IfErr result (λ e. e.cause ≡ refusal_for self.old.next
             (length (put_events T.cmp self.old.size self.old.nodes value))) }
         ensures given_back { IfErr result (λ e. e.value ≡ value) }
         ensures unchanged { OnErr result (self.new ≡ self.old) }
+
+        // Nodes.
+        ensures tree { OnOk result (self.new ≡ after_put T.cmp self.old value) }
     {
         match self.next_after(&aim) {
             Ok(next) => self.carry_out(aim, next, value),
@@ -236,11 +277,18 @@ impl<T: Ord + Clone + Drop, Node: NodeLike<T>> BTreeSet<T, Node> {
 
     // Returns the number of the next event after a put, if the event numbers fit.
     fn next_after(&self, aim: &Option<InsertPlan>) -> Result<u64, Refusal>
+        // Result.
         ensures next { IfOk result (λ next. next ≡ self.now.next + count_for aim.now) }
+
+        // Failure.
         ensures fits { OnOk result (self.now.next + count_for aim.now ≤ u64.MAX) }
+        ensures refusal { IfErr result (λ e. e ≡ refusal_for self.now.next (count_for aim.now)) }
+
+        // Memory.
         ensures memory { OnOk result (refusal_for self.now.next (count_for aim.now)
             ≡ Refusal.Memory) }
-        ensures refusal { IfErr result (λ e. e ≡ refusal_for self.now.next (count_for aim.now)) }
+
+        // Nodes.
         ensures lawful { IsLawful T.cmp self.now.size self.now.nodes }
         ensures two { 2 ≤ self.now.size }
     {
@@ -275,12 +323,18 @@ impl<T: Ord + Clone + Drop, Node: NodeLike<T>> BTreeSet<T, Node> {
     ) -> Result<Option<T>, Refused<T>>
         requires aim { IsPlanned T.cmp self.old.size self.old.nodes value aim }
         requires next { next ≡ self.old.next + count_for aim }
-        ensures tree { OnOk result (self.new ≡ after_put T.cmp self.old value) }
+
+        // Result.
         ensures answer { IfOk result (λ old. old ≡ equal_element T.cmp
             (concat self.old.nodes) value) }
+
+        // Failure.
         ensures refusal { IfErr result (λ e. e.cause ≡ Refusal.Memory) }
         ensures given_back { IfErr result (λ e. e.value ≡ value) }
         ensures unchanged { OnErr result (self.new ≡ self.old) }
+
+        // Nodes.
+        ensures tree { OnOk result (self.new ≡ after_put T.cmp self.old value) }
     {
         match aim {
             Some(aim) => self.put_in_target(aim, next, value),
@@ -338,12 +392,18 @@ impl<T: Ord + Clone + Drop, Node: NodeLike<T>> BTreeSet<T, Node> {
     ) -> Result<Option<T>, Refused<T>>
         requires aim { IsInsertPlan T.cmp self.old.size self.old.nodes value aim }
         requires next { next ≡ self.old.next + count_for (Some aim) }
-        ensures tree { OnOk result (self.new ≡ after_put T.cmp self.old value) }
+
+        // Result.
         ensures answer { IfOk result (λ old. old ≡ equal_element T.cmp
             (concat self.old.nodes) value) }
+
+        // Failure.
         ensures refusal { IfErr result (λ e. e.cause ≡ Refusal.Memory) }
         ensures given_back { IfErr result (λ e. e.value ≡ value) }
         ensures unchanged { OnErr result (self.new ≡ self.old) }
+
+        // Nodes.
+        ensures tree { OnOk result (self.new ≡ after_put T.cmp self.old value) }
     {
         if aim.growth() > usize::MAX - self.len {
             return Err(Refused {
@@ -366,12 +426,18 @@ impl<T: Ord + Clone + Drop, Node: NodeLike<T>> BTreeSet<T, Node> {
     fn put_first(&mut self, next: u64, value: T) -> Result<Option<T>, Refused<T>>
         requires none { self.old.nodes ≡ [] }
         requires next { next ≡ self.old.next + 1 }
-        ensures tree { OnOk result (self.new ≡ after_put T.cmp self.old value) }
+
+        // Result.
         ensures answer { IfOk result (λ old. old ≡ equal_element T.cmp
             (concat self.old.nodes) value) }
+
+        // Failure.
         ensures refusal { IfErr result (λ e. e.cause ≡ Refusal.Memory) }
         ensures given_back { IfErr result (λ e. e.value ≡ value) }
         ensures unchanged { OnErr result (self.new ≡ self.old) }
+
+        // Nodes.
+        ensures tree { OnOk result (self.new ≡ after_put T.cmp self.old value) }
     {
         match first_node(&mut self.nodes, &mut self.index) {
             Ok(mut node) => {

@@ -237,12 +237,16 @@ impl<T: Ord + Clone + Drop, Node: NodeLike<T>> BTreeSet<T, Node> {
     /// Makes two binary searches for the first such item, then an exponential search for the last.
     pub fn places_by<P: Probe<T>>(&self, probe: &mut P) -> ((usize, usize), (usize, usize))
         requires { IsParted (P.answer probe.old) (concat self.now.nodes) }
+
+        // Result.
         ensures from { IsPlace self.now.nodes result.0 }
         ensures to { IsPlace self.now.nodes result.1 }
         ensures before { items_before self.now.nodes result.0
             ≡ less_count (P.answer probe.old) (concat self.now.nodes) }
         ensures past { items_before self.now.nodes result.1
             ≡ not_greater_count (P.answer probe.old) (concat self.now.nodes) }
+
+        // Contents.
         ensures fixed { P.answer probe.new ≡ P.answer probe.old }
         ensures comparisons { P.asked probe.new ≤ P.asked probe.old +
             (digits (length self.now.nodes) + digits self.now.size + 1 + 8 * digits

@@ -39,17 +39,24 @@ impl<T: Ord + Clone + Drop, Node: NodeLike<T>> BTreeSet<T, Node> {
         &mut self,
         value: Q,
     ) -> Result<(Option<T>, Vec<ChangeEvent<T>>), Refusal>
+        // Result.
         ensures answer { IfOk result (λ r. r.0 ≡ equal_element Q.order (concat self.old.nodes)
             value) }
-        ensures refusal { IfErr result (λ e. e ≡ refusal_of self.old
-            (removal_change Q.order self.old value)) }
-        ensures no_event { (removal_change Q.order self.old value).events ≡ [] → IsOk result }
-        ensures unchanged { OnErr result (self.new ≡ self.old) }
+        ensures events { IfOk result (λ r. ItemEvents T.cmp T.is_clone self.old self.new
+            (removal_change Q.order self.old value) r.1.items) }
+
+        // Contents.
         ensures gone { OnOk result (has_equal Q.order (concat self.new.nodes) value ≡ false) }
         ensures changed { OnOk result (Changed T.cmp self.old self.new
             (removal_change Q.order self.old value)) }
-        ensures events { IfOk result (λ r. ItemEvents T.cmp T.is_clone self.old self.new
-            (removal_change Q.order self.old value) r.1.items) }
+
+        // Failure.
+        ensures refusal { IfErr result (λ e. e ≡ refusal_of self.old
+            (removal_change Q.order self.old value)) }
+        ensures unchanged { OnErr result (self.new ≡ self.old) }
+
+        // Memory.
+        ensures no_event { (removal_change Q.order self.old value).events ≡ [] → IsOk result }
     {
         let place = self.place_of(value);
         self.remove_from_cdc(place)
@@ -78,15 +85,21 @@ impl<T: Ord + Clone + Drop, Node: NodeLike<T>> BTreeSet<T, Node> {
     ) -> Result<(T, Vec<ChangeEvent<T>>), Refusal>
         requires node { node < length self.old.nodes }
         requires offset { offset < length (node_at self.old.nodes node) }
+
+        // Result.
         ensures item { IfOk result (λ r. slice_get (node_at self.old.nodes node) offset
             ≡ Some r.0) }
+        ensures events { IfOk result (λ r. ItemEvents T.cmp T.is_clone self.old self.new
+            (place_removal self.old node offset r.0) r.1.items) }
+
+        // Contents.
+        ensures changed { IfOk result (λ r. Changed T.cmp self.old self.new
+            (place_removal self.old node offset r.0)) }
+
+        // Failure.
         ensures refusal { IfErr result (λ e. e ≡ refusal_for self.old.next
             (place_removal_count self.old.size self.old.nodes node offset)) }
         ensures unchanged { OnErr result (self.new ≡ self.old) }
-        ensures changed { IfOk result (λ r. Changed T.cmp self.old self.new
-            (place_removal self.old node offset r.0)) }
-        ensures events { IfOk result (λ r. ItemEvents T.cmp T.is_clone self.old self.new
-            (place_removal self.old node offset r.0) r.1.items) }
     {
         let join = self.merge_after(node);
         self.check_removal(join)?;
@@ -112,19 +125,26 @@ impl<T: Ord + Clone + Drop, Node: NodeLike<T>> BTreeSet<T, Node> {
     /// Fails with `Numbers` if the event numbers do not fit the counter, else with `Memory`, only
     /// if it allocates. A failed call changes nothing.
     pub fn remove<Q: UniqueKey<T> + Drop>(&mut self, value: Q) -> Result<Option<T>, Refusal>
+        // Result.
         ensures answer { IfOk result (λ item.
             item ≡ equal_element Q.order (concat self.old.nodes) value) }
+
+        // Contents.
+        ensures gone { OnOk result (has_equal Q.order (concat self.new.nodes) value ≡ false) }
+        ensures changed { OnOk result (Changed T.cmp self.old self.new
+            (removal_change Q.order self.old value)) }
+
+        // Failure.
         ensures refusal { IfErr result (λ e. e ≡ refusal_of self.old
             (removal_change Q.order self.old value)) }
+        ensures unchanged { OnErr result (self.new ≡ self.old) }
+
+        // Memory.
         ensures no_event { (removal_change Q.order self.old value).events ≡ [] → IsOk result }
         ensures no_memory { length (removal_change Q.order self.old value).events ≤ 1
             → Fits self.old (removal_change Q.order self.old value) → IsOk result }
         ensures never { Node.allocates ≡ false
             → Fits self.old (removal_change Q.order self.old value) → IsOk result }
-        ensures unchanged { OnErr result (self.new ≡ self.old) }
-        ensures gone { OnOk result (has_equal Q.order (concat self.new.nodes) value ≡ false) }
-        ensures changed { OnOk result (Changed T.cmp self.old self.new
-            (removal_change Q.order self.old value)) }
     {
         let place = self.place_of(value);
         self.remove_from(place)
@@ -149,18 +169,26 @@ impl<T: Ord + Clone + Drop, Node: NodeLike<T>> BTreeSet<T, Node> {
     pub fn remove_at(&mut self, node: usize, offset: usize) -> Result<T, Refusal>
         requires node { node < length self.old.nodes }
         requires offset { offset < length (node_at self.old.nodes node) }
+
+        // Result.
         ensures item { IfOk result (λ item. slice_get (node_at self.old.nodes node) offset
             ≡ Some item) }
+
+        // Contents.
+        ensures changed { IfOk result (λ item. Changed T.cmp self.old self.new
+            (place_removal self.old node offset item)) }
+
+        // Failure.
         ensures refusal { IfErr result (λ e. e ≡ refusal_for self.old.next
             (place_removal_count self.old.size self.old.nodes node offset)) }
+        ensures unchanged { OnErr result (self.new ≡ self.old) }
+
+        // Memory.
         ensures no_memory { place_removal_count self.old.size self.old.nodes node offset ≡ 1
             → self.old.next + 1 ≤ u64.MAX → IsOk result }
         ensures never { Node.allocates ≡ false
             → self.old.next + place_removal_count self.old.size self.old.nodes node offset ≤ u64.MAX
             → IsOk result }
-        ensures unchanged { OnErr result (self.new ≡ self.old) }
-        ensures changed { IfOk result (λ item. Changed T.cmp self.old self.new
-            (place_removal self.old node offset item)) }
     {
         let join = self.merge_after(node);
         self.check_removal(join)?;
@@ -199,15 +227,23 @@ impl<T: Ord + Clone + Drop, Node: NodeLike<T>> BTreeSet<T, Node> {
     ) -> Result<(Option<T>, Vec<ChangeEvent<T>>), Refusal>
         requires { IfSome place (λ p. (p.0 < length self.old.nodes)
             × (p.1 < length (node_at self.old.nodes p.0))) }
-        ensures tree { OnOk result (self.new ≡ after_optional_removal self.old place) }
+
+        // Result.
         ensures answer { IfOk result (λ r. r.0 ≡ item_from self.old.nodes place) }
         ensures events { IfOk result (λ r. AreTableEvents T.is_clone self.old.next
             (events_from self.old place) r.1.items) }
+
+        // Failure.
         ensures fits { OnOk result (self.old.next + length (events_from self.old place) ≤ u64.MAX) }
         ensures refusal { IfErr result (λ e. e ≡ refusal_for self.old.next
             (length (events_from self.old place))) }
-        ensures no_event { events_from self.old place ≡ [] → IsOk result }
         ensures unchanged { OnErr result (self.new ≡ self.old) }
+
+        // Memory.
+        ensures no_event { events_from self.old place ≡ [] → IsOk result }
+
+        // Nodes.
+        ensures tree { OnOk result (self.new ≡ after_optional_removal self.old place) }
     {
         // The counter fits a u64, so a call without events does not overflow it.
         let _next = self.next;
@@ -227,17 +263,25 @@ impl<T: Ord + Clone + Drop, Node: NodeLike<T>> BTreeSet<T, Node> {
     ) -> Result<Option<T>, Refusal>
         requires { IfSome place (λ p. (p.0 < length self.old.nodes)
             × (p.1 < length (node_at self.old.nodes p.0))) }
-        ensures tree { OnOk result (self.new ≡ after_optional_removal self.old place) }
+
+        // Result.
         ensures answer { IfOk result (λ item. item ≡ item_from self.old.nodes place) }
+
+        // Failure.
         ensures fits { OnOk result (self.old.next + length (events_from self.old place) ≤ u64.MAX) }
         ensures refusal { IfErr result (λ e. e ≡ refusal_for self.old.next
             (length (events_from self.old place))) }
+        ensures unchanged { OnErr result (self.new ≡ self.old) }
+
+        // Memory.
         ensures no_event { events_from self.old place ≡ [] → IsOk result }
         ensures no_memory { length (events_from self.old place) ≤ 1
             → self.old.next + length (events_from self.old place) ≤ u64.MAX → IsOk result }
         ensures never { Node.allocates ≡ false → self.old.next + length (events_from self.old place)
             ≤ u64.MAX → IsOk result }
-        ensures unchanged { OnErr result (self.new ≡ self.old) }
+
+        // Nodes.
+        ensures tree { OnOk result (self.new ≡ after_optional_removal self.old place) }
     {
         // The counter fits a u64, so a call without events does not overflow it.
         let _next = self.next;
@@ -318,13 +362,21 @@ impl<T: Ord + Clone + Drop, Node: NodeLike<T>> BTreeSet<T, Node> {
         requires offset { offset < length (node_at self.old.nodes node) }
         requires join { join ≡ merge_after self.old.size self.old.nodes node offset }
         requires numbers { self.old.next + count_with join ≤ u64.MAX }
-        ensures tree { OnOk result (self.new ≡ after_place_removal self.old node offset) }
+
+        // Result.
         ensures item { IfOk result (λ item. slice_get (node_at self.old.nodes node) offset
             ≡ Some item) }
+
+        // Failure.
         ensures refusal { IfErr result (λ e. e ≡ Refusal.Memory) }
+        ensures unchanged { OnErr result (self.new ≡ self.old) }
+
+        // Memory.
         ensures no_memory { join ≡ None → IsOk result }
         ensures never { Node.allocates ≡ false → IsOk result }
-        ensures unchanged { OnErr result (self.new ≡ self.old) }
+
+        // Nodes.
+        ensures tree { OnOk result (self.new ≡ after_place_removal self.old node offset) }
     {
         match join {
             Some(left) => self.take_joining(node, offset, left),
@@ -339,12 +391,20 @@ impl<T: Ord + Clone + Drop, Node: NodeLike<T>> BTreeSet<T, Node> {
         requires offset { offset < length (node_at self.old.nodes node) }
         requires join { merge_after self.old.size self.old.nodes node offset ≡ Some left }
         requires numbers { self.old.next + 2 ≤ u64.MAX }
-        ensures tree { OnOk result (self.new ≡ after_place_removal self.old node offset) }
+
+        // Result.
         ensures item { IfOk result (λ item. slice_get (node_at self.old.nodes node) offset
             ≡ Some item) }
+
+        // Failure.
         ensures refusal { IfErr result (λ e. e ≡ Refusal.Memory) }
-        ensures never { Node.allocates ≡ false → IsOk result }
         ensures unchanged { OnErr result (self.new ≡ self.old) }
+
+        // Memory.
+        ensures never { Node.allocates ≡ false → IsOk result }
+
+        // Nodes.
+        ensures tree { OnOk result (self.new ≡ after_place_removal self.old node offset) }
     {
         let item = remove_and_merge(&mut self.nodes, &mut self.index, node, offset, left)?;
         self.next += 2;
