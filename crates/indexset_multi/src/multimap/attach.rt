@@ -35,7 +35,10 @@ impl<K: Ord + Clone + Drop, V: Eq + Clone + Drop, Node: NodeLike<MultiPair<K, V>
     /// `attach_node`, with `Empty`, `TooLarge`, `Unsorted` or `Overlaps`; else with `Memory`. A
     /// failed call returns the node in the error and changes nothing.
     pub fn attach_multi_node(&mut self, node: Node) -> Result<(), Refused<Node>>
+        // Contents.
         ensures attached { OnOk result (IsAttached K.cmp self.old self.new (Node.list node)) }
+
+        // Failure.
         ensures good { IsOk result → pairs_refusal K.cmp self.old (Node.list node) ≡ None }
         ensures refusal { IfErr result (λ e. e.cause ≡ unwrap_or
             (pairs_refusal K.cmp self.old (Node.list node)) Refusal.Memory) }

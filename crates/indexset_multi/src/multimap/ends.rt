@@ -98,16 +98,23 @@ impl<K: Ord + Clone + Drop, V: Eq + Clone + Drop, Node: NodeLike<MultiPair<K, V>
     pub fn pop_first_cdc(
         &mut self,
     ) -> Result<(Option<(K, V)>, Vec<ChangeEvent<MultiPair<K, V>>>), Refusal>
+        // Result.
         ensures answer { IfOk result (λ r.
             r.0 ≡ option_map key_and_value (slice_get (concat self.old.nodes) 0)) }
-        ensures refusal { IfErr result (λ e. e ≡ multi_refusal_of self.old
-            (first_pair_removal K.cmp self.old)) }
-        ensures no_event { (first_pair_removal K.cmp self.old).events ≡ [] → IsOk result }
-        ensures unchanged { OnErr result (self.new ≡ self.old) }
-        ensures changed { OnOk result (MultiChanged K.cmp self.old self.new
-            (first_pair_removal K.cmp self.old)) }
         ensures events { IfOk result (λ r. MultiPairEvents K.cmp K.is_clone V.is_clone self.old self.new
             (first_pair_removal K.cmp self.old) r.1.items) }
+
+        // Contents.
+        ensures changed { OnOk result (MultiChanged K.cmp self.old self.new
+            (first_pair_removal K.cmp self.old)) }
+
+        // Failure.
+        ensures refusal { IfErr result (λ e. e ≡ multi_refusal_of self.old
+            (first_pair_removal K.cmp self.old)) }
+        ensures unchanged { OnErr result (self.new ≡ self.old) }
+
+        // Memory.
+        ensures no_event { (first_pair_removal K.cmp self.old).events ≡ [] → IsOk result }
     {
         let (pair, events) = self.set.pop_first_cdc()?;
         Ok((entry_of(pair), events))
@@ -137,18 +144,25 @@ impl<K: Ord + Clone + Drop, V: Eq + Clone + Drop, Node: NodeLike<MultiPair<K, V>
     ///
     /// Makes no comparison.
     pub fn pop_first(&mut self) -> Result<Option<(K, V)>, Refusal>
+        // Result.
         ensures answer { IfOk result (λ entry.
             entry ≡ option_map key_and_value (slice_get (concat self.old.nodes) 0)) }
+
+        // Contents.
+        ensures changed { OnOk result (MultiChanged K.cmp self.old self.new
+            (first_pair_removal K.cmp self.old)) }
+
+        // Failure.
         ensures refusal { IfErr result (λ e. e ≡ multi_refusal_of self.old
             (first_pair_removal K.cmp self.old)) }
+        ensures unchanged { OnErr result (self.new ≡ self.old) }
+
+        // Memory.
         ensures no_event { (first_pair_removal K.cmp self.old).events ≡ [] → IsOk result }
         ensures no_memory { length (first_pair_removal K.cmp self.old).events ≤ 1
             → MultiFits self.old (first_pair_removal K.cmp self.old) → IsOk result }
         ensures never { Node.allocates ≡ false
             → MultiFits self.old (first_pair_removal K.cmp self.old) → IsOk result }
-        ensures unchanged { OnErr result (self.new ≡ self.old) }
-        ensures changed { OnOk result (MultiChanged K.cmp self.old self.new
-            (first_pair_removal K.cmp self.old)) }
     {
         let pair = self.set.pop_first()?;
         Ok(entry_of(pair))
@@ -180,16 +194,23 @@ impl<K: Ord + Clone + Drop, V: Eq + Clone + Drop, Node: NodeLike<MultiPair<K, V>
     pub fn pop_last_cdc(
         &mut self,
     ) -> Result<(Option<(K, V)>, Vec<ChangeEvent<MultiPair<K, V>>>), Refusal>
+        // Result.
         ensures answer { IfOk result (λ r. r.0 ≡ option_map key_and_value
             (slice_get (concat self.old.nodes) (length (concat self.old.nodes) - 1))) }
-        ensures refusal { IfErr result (λ e. e ≡ multi_refusal_of self.old
-            (last_pair_removal K.cmp self.old)) }
-        ensures no_event { (last_pair_removal K.cmp self.old).events ≡ [] → IsOk result }
-        ensures unchanged { OnErr result (self.new ≡ self.old) }
-        ensures changed { OnOk result (MultiChanged K.cmp self.old self.new
-            (last_pair_removal K.cmp self.old)) }
         ensures events { IfOk result (λ r. MultiPairEvents K.cmp K.is_clone V.is_clone self.old self.new
             (last_pair_removal K.cmp self.old) r.1.items) }
+
+        // Contents.
+        ensures changed { OnOk result (MultiChanged K.cmp self.old self.new
+            (last_pair_removal K.cmp self.old)) }
+
+        // Failure.
+        ensures refusal { IfErr result (λ e. e ≡ multi_refusal_of self.old
+            (last_pair_removal K.cmp self.old)) }
+        ensures unchanged { OnErr result (self.new ≡ self.old) }
+
+        // Memory.
+        ensures no_event { (last_pair_removal K.cmp self.old).events ≡ [] → IsOk result }
     {
         let (pair, events) = self.set.pop_last_cdc()?;
         Ok((entry_of(pair), events))
@@ -219,18 +240,25 @@ impl<K: Ord + Clone + Drop, V: Eq + Clone + Drop, Node: NodeLike<MultiPair<K, V>
     ///
     /// Makes no comparison.
     pub fn pop_last(&mut self) -> Result<Option<(K, V)>, Refusal>
+        // Result.
         ensures answer { IfOk result (λ entry. entry ≡ option_map key_and_value
             (slice_get (concat self.old.nodes) (length (concat self.old.nodes) - 1))) }
+
+        // Contents.
+        ensures changed { OnOk result (MultiChanged K.cmp self.old self.new
+            (last_pair_removal K.cmp self.old)) }
+
+        // Failure.
         ensures refusal { IfErr result (λ e. e ≡ multi_refusal_of self.old
             (last_pair_removal K.cmp self.old)) }
+        ensures unchanged { OnErr result (self.new ≡ self.old) }
+
+        // Memory.
         ensures no_event { (last_pair_removal K.cmp self.old).events ≡ [] → IsOk result }
         ensures no_memory { length (last_pair_removal K.cmp self.old).events ≤ 1
             → MultiFits self.old (last_pair_removal K.cmp self.old) → IsOk result }
         ensures never { Node.allocates ≡ false
             → MultiFits self.old (last_pair_removal K.cmp self.old) → IsOk result }
-        ensures unchanged { OnErr result (self.new ≡ self.old) }
-        ensures changed { OnOk result (MultiChanged K.cmp self.old self.new
-            (last_pair_removal K.cmp self.old)) }
     {
         let pair = self.set.pop_last()?;
         Ok(entry_of(pair))

@@ -178,16 +178,23 @@ impl<K: Ord + Clone + Drop, V: Eq + Clone + Drop, Node: NodeLike<MultiPair<K, V>
         &mut self,
         i: usize,
     ) -> Result<(Option<(K, V)>, Vec<ChangeEvent<MultiPair<K, V>>>), Refusal>
+        // Result.
         ensures answer { IfOk result (λ r.
             r.0 ≡ option_map key_and_value (slice_get (concat self.old.nodes) i)) }
-        ensures refusal { IfErr result (λ e. e ≡ multi_refusal_of self.old
-            (named_removal K.cmp self.old (slice_get (concat self.old.nodes) i))) }
-        ensures no_event { length (concat self.old.nodes) ≤ i → IsOk result }
-        ensures unchanged { OnErr result (self.new ≡ self.old) }
-        ensures changed { OnOk result (MultiChanged K.cmp self.old self.new
-            (named_removal K.cmp self.old (slice_get (concat self.old.nodes) i))) }
         ensures events { IfOk result (λ r. MultiPairEvents K.cmp K.is_clone V.is_clone self.old self.new
             (named_removal K.cmp self.old (slice_get (concat self.old.nodes) i)) r.1.items) }
+
+        // Contents.
+        ensures changed { OnOk result (MultiChanged K.cmp self.old self.new
+            (named_removal K.cmp self.old (slice_get (concat self.old.nodes) i))) }
+
+        // Failure.
+        ensures refusal { IfErr result (λ e. e ≡ refusal_of self.old
+            (named_removal K.cmp self.old (slice_get (concat self.old.nodes) i))) }
+        ensures unchanged { OnErr result (self.new ≡ self.old) }
+
+        // Memory.
+        ensures no_event { length (concat self.old.nodes) ≤ i → IsOk result }
     {
         let place = self.set.place_at(i);
         self.take_cdc(place)
@@ -217,19 +224,26 @@ impl<K: Ord + Clone + Drop, V: Eq + Clone + Drop, Node: NodeLike<MultiPair<K, V>
     ///
     /// Makes no comparison.
     pub fn pop_index(&mut self, i: usize) -> Result<Option<(K, V)>, Refusal>
+        // Result.
         ensures answer { IfOk result (λ entry.
             entry ≡ option_map key_and_value (slice_get (concat self.old.nodes) i)) }
+
+        // Contents.
+        ensures changed { OnOk result (MultiChanged K.cmp self.old self.new
+            (named_removal K.cmp self.old (slice_get (concat self.old.nodes) i))) }
+
+        // Failure.
         ensures refusal { IfErr result (λ e. e ≡ multi_refusal_of self.old
             (named_removal K.cmp self.old (slice_get (concat self.old.nodes) i))) }
+        ensures unchanged { OnErr result (self.new ≡ self.old) }
+
+        // Memory.
         ensures no_event { length (concat self.old.nodes) ≤ i → IsOk result }
         ensures no_memory { length (named_removal K.cmp self.old
             (slice_get (concat self.old.nodes) i)).events ≤ 1 → MultiFits self.old
             (named_removal K.cmp self.old (slice_get (concat self.old.nodes) i)) → IsOk result }
         ensures never { Node.allocates ≡ false → MultiFits self.old
             (named_removal K.cmp self.old (slice_get (concat self.old.nodes) i)) → IsOk result }
-        ensures unchanged { OnErr result (self.new ≡ self.old) }
-        ensures changed { OnOk result (MultiChanged K.cmp self.old self.new
-            (named_removal K.cmp self.old (slice_get (concat self.old.nodes) i))) }
     {
         let place = self.set.place_at(i);
         self.take(place)

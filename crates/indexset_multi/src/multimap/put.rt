@@ -47,19 +47,24 @@ impl<K: Ord + Clone + Drop, V: Eq + Clone + Drop, Node: NodeLike<MultiPair<K, V>
         key: K,
         value: V,
     ) -> Result<(Option<V>, Vec<ChangeEvent<MultiPair<K, V>>>), Refused<(K, V)>>
+        // Result.
         ensures answer { IfOk result (λ r.
             r.0 ≡ option_map (λ p. p.value) (equal_pair K.cmp V.eq
             (concat self.old.nodes) key value)) }
+        ensures events { IfOk result (λ r. MultiPairEvents K.cmp K.is_clone V.is_clone self.old self.new
+            (insertion K.cmp V.eq self.old key value) r.1.items) }
+
+        // Contents.
+        ensures inserted { OnOk result (IsInserted K.cmp V.eq self.old self.new key value) }
+        ensures changed { OnOk result (MultiChanged K.cmp self.old self.new
+            (insertion K.cmp V.eq self.old key value)) }
+
+        // Failure.
         ensures refusal { IfErr result (λ e.
             e.cause ≡ insertion_refusal K.cmp V.eq self.old key value) }
         ensures given_back { IfErr result (λ e. e.value ≡ (key, value)) }
         ensures unchanged { OnErr result (self.new ≡ self.old) }
         ensures number_left { OnOk result (lacks_number K.cmp V.eq self.old key value ≡ false) }
-        ensures inserted { OnOk result (IsInserted K.cmp V.eq self.old self.new key value) }
-        ensures changed { OnOk result (MultiChanged K.cmp self.old self.new
-            (insertion K.cmp V.eq self.old key value)) }
-        ensures events { IfOk result (λ r. MultiPairEvents K.cmp K.is_clone V.is_clone self.old self.new
-            (insertion K.cmp V.eq self.old key value) r.1.items) }
     {
         // The contract of `node_count` states that the pairs ascend, with numbers below the next.
         let _nodes = self.node_count();
@@ -89,17 +94,22 @@ impl<K: Ord + Clone + Drop, V: Eq + Clone + Drop, Node: NodeLike<MultiPair<K, V>
     /// number and none remains, else with `Memory`. A failed call returns the key and the value in
     /// the error and changes nothing.
     pub fn insert(&mut self, key: K, value: V) -> Result<Option<V>, Refused<(K, V)>>
+        // Result.
         ensures answer { IfOk result (λ old.
             old ≡ option_map (λ p. p.value) (equal_pair K.cmp V.eq
             (concat self.old.nodes) key value)) }
+
+        // Contents.
+        ensures inserted { OnOk result (IsInserted K.cmp V.eq self.old self.new key value) }
+        ensures changed { OnOk result (MultiChanged K.cmp self.old self.new
+            (insertion K.cmp V.eq self.old key value)) }
+
+        // Failure.
         ensures refusal { IfErr result (λ e.
             e.cause ≡ insertion_refusal K.cmp V.eq self.old key value) }
         ensures given_back { IfErr result (λ e. e.value ≡ (key, value)) }
         ensures unchanged { OnErr result (self.new ≡ self.old) }
         ensures number_left { OnOk result (lacks_number K.cmp V.eq self.old key value ≡ false) }
-        ensures inserted { OnOk result (IsInserted K.cmp V.eq self.old self.new key value) }
-        ensures changed { OnOk result (MultiChanged K.cmp self.old self.new
-            (insertion K.cmp V.eq self.old key value)) }
     {
         // The contract of `node_count` states that the pairs ascend, with numbers below the next.
         let _nodes = self.node_count();
@@ -135,14 +145,19 @@ impl<K: Ord + Clone + Drop, V: Eq + Clone + Drop, Node: NodeLike<MultiPair<K, V>
         key: K,
         value: V,
     ) -> Result<Vec<ChangeEvent<MultiPair<K, V>>>, Refused<(K, V)>>
-        ensures refusal { IfErr result (λ e. e.cause ≡ addition_refusal K.cmp self.old key value) }
-        ensures given_back { IfErr result (λ e. e.value ≡ (key, value)) }
-        ensures unchanged { OnErr result (self.new ≡ self.old) }
+        // Result.
+        ensures events { IfOk result (λ events. MultiPairEvents K.cmp K.is_clone V.is_clone self.old
+            self.new (addition K.cmp self.old key value) events.items) }
+
+        // Contents.
         ensures added { OnOk result (IsAdded K.cmp self.old self.new key value) }
         ensures changed { OnOk result (MultiChanged K.cmp self.old self.new
             (addition K.cmp self.old key value)) }
-        ensures events { IfOk result (λ events. MultiPairEvents K.cmp K.is_clone V.is_clone self.old
-            self.new (addition K.cmp self.old key value) events.items) }
+
+        // Failure.
+        ensures refusal { IfErr result (λ e. e.cause ≡ addition_refusal K.cmp self.old key value) }
+        ensures given_back { IfErr result (λ e. e.value ≡ (key, value)) }
+        ensures unchanged { OnErr result (self.new ≡ self.old) }
     {
         // The contract of `node_count` states that the pairs ascend, with numbers below the next.
         let _nodes = self.node_count();
@@ -172,12 +187,15 @@ impl<K: Ord + Clone + Drop, V: Eq + Clone + Drop, Node: NodeLike<MultiPair<K, V>
     /// the pair, else with `Memory`. A failed call returns the key and the value in the error and
     /// changes nothing.
     pub fn push(&mut self, key: K, value: V) -> Result<(), Refused<(K, V)>>
-        ensures refusal { IfErr result (λ e. e.cause ≡ addition_refusal K.cmp self.old key value) }
-        ensures given_back { IfErr result (λ e. e.value ≡ (key, value)) }
-        ensures unchanged { OnErr result (self.new ≡ self.old) }
+        // Contents.
         ensures added { OnOk result (IsAdded K.cmp self.old self.new key value) }
         ensures changed { OnOk result (MultiChanged K.cmp self.old self.new
             (addition K.cmp self.old key value)) }
+
+        // Failure.
+        ensures refusal { IfErr result (λ e. e.cause ≡ addition_refusal K.cmp self.old key value) }
+        ensures given_back { IfErr result (λ e. e.value ≡ (key, value)) }
+        ensures unchanged { OnErr result (self.new ≡ self.old) }
     {
         // The contract of `node_count` states that the pairs ascend, with numbers below the next.
         let _nodes = self.node_count();

@@ -267,6 +267,7 @@ impl<K: Ord + Clone + Drop, V: Eq + Clone + Drop, Node: NodeLike<MultiPair<K, V>
 
     // Returns the places before and after the pairs of a key.
     pub(super) fn places_of<Q: LookupKey<K>>(&self, key: &Q) -> ((usize, usize), (usize, usize))
+        // Result.
         ensures from { IsPlace self.now.nodes result.0 }
         ensures to { IsPlace self.now.nodes result.1 }
         ensures order { items_before self.now.nodes result.0

@@ -50,19 +50,26 @@ impl<K: Ord + Clone + Drop, V: Eq + Clone + Drop, Node: NodeLike<MultiPair<K, V>
         &mut self,
         key: Q,
     ) -> Result<(Option<(K, V)>, Vec<ChangeEvent<MultiPair<K, V>>>), Refusal>
+        // Result.
         ensures answer { IfOk result (λ r.
             r.0 ≡ option_map key_and_value (first_pair Q.order (concat self.old.nodes) key)) }
-        ensures refusal { IfErr result (λ e. e ≡ multi_refusal_of self.old
-            (some_removal K.cmp Q.order self.old key)) }
-        ensures no_event { (some_removal K.cmp Q.order self.old key).events ≡ [] → IsOk result }
-        ensures unchanged { OnErr result (self.new ≡ self.old) }
+        ensures events { IfOk result (λ r. MultiPairEvents K.cmp K.is_clone V.is_clone self.old self.new
+            (some_removal K.cmp Q.order self.old key) r.1.items) }
+
+        // Contents.
         ensures gone { OnOk result (pairs_of Q.order (concat self.new.nodes) key
             ≡ drop 1 (pairs_of Q.order (concat self.old.nodes) key)) }
         ensures others { OnOk result (KeepsOtherPairs K.cmp Q.order self.old self.new key) }
         ensures changed { OnOk result (MultiChanged K.cmp self.old self.new
             (some_removal K.cmp Q.order self.old key)) }
-        ensures events { IfOk result (λ r. MultiPairEvents K.cmp K.is_clone V.is_clone self.old self.new
-            (some_removal K.cmp Q.order self.old key) r.1.items) }
+
+        // Failure.
+        ensures refusal { IfErr result (λ e. e ≡ refusal_of self.old
+            (some_removal K.cmp Q.order self.old key)) }
+        ensures unchanged { OnErr result (self.new ≡ self.old) }
+
+        // Memory.
+        ensures no_event { (some_removal K.cmp Q.order self.old key).events ≡ [] → IsOk result }
     {
         let first = self.first_place(&key);
         self.take_cdc(first)
@@ -88,21 +95,28 @@ impl<K: Ord + Clone + Drop, V: Eq + Clone + Drop, Node: NodeLike<MultiPair<K, V>
     /// Fails with `Numbers` if the event numbers do not fit the counter, else with `Memory`, only
     /// if it allocates. A failed call changes nothing.
     pub fn remove_some<Q: LookupKey<K> + Drop>(&mut self, key: Q) -> Result<Option<(K, V)>, Refusal>
+        // Result.
         ensures answer { IfOk result (λ entry.
             entry ≡ option_map key_and_value (first_pair Q.order (concat self.old.nodes) key)) }
-        ensures refusal { IfErr result (λ e. e ≡ multi_refusal_of self.old
-            (some_removal K.cmp Q.order self.old key)) }
-        ensures no_event { (some_removal K.cmp Q.order self.old key).events ≡ [] → IsOk result }
-        ensures no_memory { length (some_removal K.cmp Q.order self.old key).events ≤ 1
-            → MultiFits self.old (some_removal K.cmp Q.order self.old key) → IsOk result }
-        ensures never { Node.allocates ≡ false
-            → MultiFits self.old (some_removal K.cmp Q.order self.old key) → IsOk result }
-        ensures unchanged { OnErr result (self.new ≡ self.old) }
+
+        // Contents.
         ensures gone { OnOk result (pairs_of Q.order (concat self.new.nodes) key
             ≡ drop 1 (pairs_of Q.order (concat self.old.nodes) key)) }
         ensures others { OnOk result (KeepsOtherPairs K.cmp Q.order self.old self.new key) }
         ensures changed { OnOk result (MultiChanged K.cmp self.old self.new
             (some_removal K.cmp Q.order self.old key)) }
+
+        // Failure.
+        ensures refusal { IfErr result (λ e. e ≡ refusal_of self.old
+            (some_removal K.cmp Q.order self.old key)) }
+        ensures unchanged { OnErr result (self.new ≡ self.old) }
+
+        // Memory.
+        ensures no_event { (some_removal K.cmp Q.order self.old key).events ≡ [] → IsOk result }
+        ensures no_memory { length (some_removal K.cmp Q.order self.old key).events ≤ 1
+            → Fits self.old (some_removal K.cmp Q.order self.old key) → IsOk result }
+        ensures never { Node.allocates ≡ false
+            → Fits self.old (some_removal K.cmp Q.order self.old key) → IsOk result }
     {
         let first = self.first_place(&key);
         self.take(first)
@@ -137,21 +151,28 @@ impl<K: Ord + Clone + Drop, V: Eq + Clone + Drop, Node: NodeLike<MultiPair<K, V>
         key: Q,
         value: &V,
     ) -> Result<(Option<(K, V)>, Vec<ChangeEvent<MultiPair<K, V>>>), Refusal>
+        // Result.
         ensures answer { IfOk result (λ r. r.0 ≡ option_map key_and_value
             (equal_pair Q.order V.eq (concat self.old.nodes) key value.now)) }
-        ensures refusal { IfErr result (λ e. e ≡ multi_refusal_of self.old
-            (equal_removal K.cmp Q.order V.eq self.old key value.now)) }
-        ensures no_event { (equal_removal K.cmp Q.order V.eq self.old key value.now).events ≡ []
-            → IsOk result }
-        ensures unchanged { OnErr result (self.new ≡ self.old) }
+        ensures events { IfOk result (λ r. MultiPairEvents K.cmp K.is_clone V.is_clone self.old self.new
+            (equal_removal K.cmp Q.order V.eq self.old key value.now) r.1.items) }
+
+        // Contents.
         ensures gone { OnOk result (pairs_of Q.order (concat self.new.nodes) key
             ≡ without_first (λ p. V.eq p.value value.now)
             (pairs_of Q.order (concat self.old.nodes) key)) }
         ensures others { OnOk result (KeepsOtherPairs K.cmp Q.order self.old self.new key) }
         ensures changed { OnOk result (MultiChanged K.cmp self.old self.new
             (equal_removal K.cmp Q.order V.eq self.old key value.now)) }
-        ensures events { IfOk result (λ r. MultiPairEvents K.cmp K.is_clone V.is_clone self.old self.new
-            (equal_removal K.cmp Q.order V.eq self.old key value.now) r.1.items) }
+
+        // Failure.
+        ensures refusal { IfErr result (λ e. e ≡ refusal_of self.old
+            (equal_removal K.cmp Q.order V.eq self.old key value.now)) }
+        ensures unchanged { OnErr result (self.new ≡ self.old) }
+
+        // Memory.
+        ensures no_event { (equal_removal K.cmp Q.order V.eq self.old key value.now).events ≡ []
+            → IsOk result }
     {
         let place = self.equal_place(&key, value);
         self.take_cdc(place)
@@ -184,23 +205,30 @@ impl<K: Ord + Clone + Drop, V: Eq + Clone + Drop, Node: NodeLike<MultiPair<K, V>
         key: Q,
         value: &V,
     ) -> Result<Option<(K, V)>, Refusal>
+        // Result.
         ensures answer { IfOk result (λ entry. entry ≡ option_map key_and_value
             (equal_pair Q.order V.eq (concat self.old.nodes) key value.now)) }
-        ensures refusal { IfErr result (λ e. e ≡ multi_refusal_of self.old
-            (equal_removal K.cmp Q.order V.eq self.old key value.now)) }
-        ensures no_event { (equal_removal K.cmp Q.order V.eq self.old key value.now).events ≡ []
-            → IsOk result }
-        ensures no_memory { length (equal_removal K.cmp Q.order V.eq self.old key value.now).events ≤ 1
-            → MultiFits self.old (equal_removal K.cmp Q.order V.eq self.old key value.now) → IsOk result }
-        ensures never { Node.allocates ≡ false
-            → MultiFits self.old (equal_removal K.cmp Q.order V.eq self.old key value.now) → IsOk result }
-        ensures unchanged { OnErr result (self.new ≡ self.old) }
+
+        // Contents.
         ensures gone { OnOk result (pairs_of Q.order (concat self.new.nodes) key
             ≡ without_first (λ p. V.eq p.value value.now)
             (pairs_of Q.order (concat self.old.nodes) key)) }
         ensures others { OnOk result (KeepsOtherPairs K.cmp Q.order self.old self.new key) }
         ensures changed { OnOk result (MultiChanged K.cmp self.old self.new
             (equal_removal K.cmp Q.order V.eq self.old key value.now)) }
+
+        // Failure.
+        ensures refusal { IfErr result (λ e. e ≡ refusal_of self.old
+            (equal_removal K.cmp Q.order V.eq self.old key value.now)) }
+        ensures unchanged { OnErr result (self.new ≡ self.old) }
+
+        // Memory.
+        ensures no_event { (equal_removal K.cmp Q.order V.eq self.old key value.now).events ≡ []
+            → IsOk result }
+        ensures no_memory { length (equal_removal K.cmp Q.order V.eq self.old key value.now).events ≤ 1
+            → Fits self.old (equal_removal K.cmp Q.order V.eq self.old key value.now) → IsOk result }
+        ensures never { Node.allocates ≡ false
+            → Fits self.old (equal_removal K.cmp Q.order V.eq self.old key value.now) → IsOk result }
     {
         let place = self.equal_place(&key, value);
         self.take(place)
@@ -232,22 +260,30 @@ impl<K: Ord + Clone + Drop, V: Eq + Clone + Drop, Node: NodeLike<MultiPair<K, V>
         place: Option<(usize, usize)>,
     ) -> Result<(Option<(K, V)>, Vec<ChangeEvent<MultiPair<K, V>>>), Refusal>
         requires { IsItemPlaceInNodes self.old.nodes place }
-        ensures tree { OnOk result (self.new ≡ after_pair_removal K.cmp self.old
-            (placed_item self.old.nodes place)) }
+
+        // Result.
         ensures answer { IfOk result (λ r. r.0 ≡ option_map key_and_value
             (placed_item self.old.nodes place)) }
         ensures events { IfOk result (λ r. AreTableEvents (IsMultiPairClone K.is_clone V.is_clone) self.old.next
             (pair_removal_events K.cmp self.old.size self.old.nodes
             (placed_item self.old.nodes place)) r.1.items) }
+
+        // Failure.
         ensures fits { OnOk result (self.old.next + length
             (pair_removal_events K.cmp self.old.size self.old.nodes
             (placed_item self.old.nodes place)) ≤ u64.MAX) }
         ensures refusal { IfErr result (λ e. e ≡ refusal_for self.old.next
             (length (pair_removal_events K.cmp self.old.size self.old.nodes
             (placed_item self.old.nodes place)))) }
+        ensures unchanged { OnErr result (self.new ≡ self.old) }
+
+        // Memory.
         ensures no_event { pair_removal_events K.cmp self.old.size self.old.nodes
             (placed_item self.old.nodes place) ≡ [] → IsOk result }
-        ensures unchanged { OnErr result (self.new ≡ self.old) }
+
+        // Nodes.
+        ensures tree { OnOk result (self.new ≡ after_removal K.cmp self.old
+            (placed_item self.old.nodes place)) }
         ensures rule { IsTree (by_number K.cmp) Node.most self.old.nodes self.old.size
             (length (concat self.old.nodes)) }
     {
@@ -264,16 +300,21 @@ impl<K: Ord + Clone + Drop, V: Eq + Clone + Drop, Node: NodeLike<MultiPair<K, V>
     // Removes the pair at a place, if given, and returns it.
     pub(super) fn take(&mut self, place: Option<(usize, usize)>) -> Result<Option<(K, V)>, Refusal>
         requires { IsItemPlaceInNodes self.old.nodes place }
-        ensures tree { OnOk result (self.new ≡ after_pair_removal K.cmp self.old
-            (placed_item self.old.nodes place)) }
+
+        // Result.
         ensures answer { IfOk result (λ entry. entry ≡ option_map key_and_value
             (placed_item self.old.nodes place)) }
+
+        // Failure.
         ensures fits { OnOk result (self.old.next + length
             (pair_removal_events K.cmp self.old.size self.old.nodes
             (placed_item self.old.nodes place)) ≤ u64.MAX) }
         ensures refusal { IfErr result (λ e. e ≡ refusal_for self.old.next
             (length (pair_removal_events K.cmp self.old.size self.old.nodes
             (placed_item self.old.nodes place)))) }
+        ensures unchanged { OnErr result (self.new ≡ self.old) }
+
+        // Memory.
         ensures no_event { pair_removal_events K.cmp self.old.size self.old.nodes
             (placed_item self.old.nodes place) ≡ [] → IsOk result }
         ensures no_memory { length (pair_removal_events K.cmp self.old.size self.old.nodes
@@ -283,7 +324,10 @@ impl<K: Ord + Clone + Drop, V: Eq + Clone + Drop, Node: NodeLike<MultiPair<K, V>
         ensures never { Node.allocates ≡ false → self.old.next + length
             (pair_removal_events K.cmp self.old.size self.old.nodes
             (placed_item self.old.nodes place)) ≤ u64.MAX → IsOk result }
-        ensures unchanged { OnErr result (self.new ≡ self.old) }
+
+        // Nodes.
+        ensures tree { OnOk result (self.new ≡ after_removal K.cmp self.old
+            (placed_item self.old.nodes place)) }
         ensures rule { IsTree (by_number K.cmp) Node.most self.old.nodes self.old.size
             (length (concat self.old.nodes)) }
     {

@@ -38,15 +38,22 @@ impl<K: Ord + Clone + Drop, V: Eq + Clone + Drop, Node: NodeLike<MultiPair<K, V>
     /// Fails with `Numbers` or `Memory` if one of the removals does: the pairs before are removed,
     /// and the other pairs of the key stay. It does not fail if the key has no pairs.
     pub fn remove_all<Q: LookupKey<K> + Drop>(&mut self, key: Q) -> Result<usize, Refusal>
+        // Result.
         ensures count { IfOk result (λ n. n ≡ length (pairs_of Q.order
             (concat self.old.nodes) key)) }
+
+        // Contents.
         ensures contents { OnOk result (concat self.new.nodes
             ≡ without_pairs_of Q.order (concat self.old.nodes) key) }
         ensures gone { OnOk result (pairs_of Q.order (concat self.new.nodes) key ≡ []) }
+        ensures removed { AreRemoved K.cmp Q.order self.old self.new key }
+
+        // Failure.
         ensures refusal { IfErr result (λ e. e ≡ multi_refusal_of self.new
             (some_removal K.cmp Q.order self.new key)) }
+
+        // Memory.
         ensures no_event { pairs_of Q.order (concat self.old.nodes) key ≡ [] → IsOk result }
-        ensures removed { AreRemoved K.cmp Q.order self.old self.new key }
     {
         // The invariant of the nodes at first, and that the number of pairs fits a usize.
         self.rule();
@@ -85,19 +92,26 @@ impl<K: Ord + Clone + Drop, V: Eq + Clone + Drop, Node: NodeLike<MultiPair<K, V>
         (usize, Vec<ChangeEvent<MultiPair<K, V>>>),
         Refused<Vec<ChangeEvent<MultiPair<K, V>>>>,
     >
+        // Result.
         ensures count { IfOk result (λ r.
             r.0 ≡ length (pairs_of Q.order (concat self.old.nodes) key)) }
+        ensures events { IfOk result (λ r. RemovalEvents K.cmp Q.order K.is_clone V.is_clone self.old self.new
+            key r.1.items) }
+
+        // Contents.
         ensures contents { OnOk result (concat self.new.nodes
             ≡ without_pairs_of Q.order (concat self.old.nodes) key) }
         ensures gone { OnOk result (pairs_of Q.order (concat self.new.nodes) key ≡ []) }
+        ensures removed { AreRemoved K.cmp Q.order self.old self.new key }
+
+        // Failure.
         ensures refusal { IfErr result (λ e. e.cause ≡ multi_refusal_of self.new
             (some_removal K.cmp Q.order self.new key)) }
-        ensures no_event { pairs_of Q.order (concat self.old.nodes) key ≡ [] → IsOk result }
-        ensures removed { AreRemoved K.cmp Q.order self.old self.new key }
-        ensures events { IfOk result (λ r. RemovalEvents K.cmp Q.order K.is_clone V.is_clone self.old self.new
-            key r.1.items) }
         ensures told_before { IfErr result (λ e. RemovalEvents K.cmp Q.order K.is_clone V.is_clone self.old
             self.new key e.value.items) }
+
+        // Memory.
+        ensures no_event { pairs_of Q.order (concat self.old.nodes) key ≡ [] → IsOk result }
     {
         // The invariant of the nodes at first, and that the number of pairs fits a usize.
         self.rule();
@@ -120,14 +134,21 @@ impl<K: Ord + Clone + Drop, V: Eq + Clone + Drop, Node: NodeLike<MultiPair<K, V>
 
     // Removes the first pair of a key, if any, and returns it. A failed call changes nothing.
     fn remove_first<Q: LookupKey<K>>(&mut self, key: &Q) -> Result<Option<(K, V)>, Refusal>
-        ensures tree { OnOk result (self.new ≡ after_pair_removal K.cmp self.old
-            (first_pair Q.order (concat self.old.nodes) key.now)) }
+        // Result.
         ensures answer { IfOk result (λ entry. entry ≡ option_map key_and_value
             (first_pair Q.order (concat self.old.nodes) key.now)) }
+
+        // Failure.
         ensures refusal { IfErr result (λ e. e ≡ refusal_for self.old.next
             (length (first_events K.cmp Q.order self.old key.now))) }
-        ensures no_event { first_events K.cmp Q.order self.old key.now ≡ [] → IsOk result }
         ensures unchanged { OnErr result (self.new ≡ self.old) }
+
+        // Memory.
+        ensures no_event { first_events K.cmp Q.order self.old key.now ≡ [] → IsOk result }
+
+        // Nodes.
+        ensures tree { OnOk result (self.new ≡ after_removal K.cmp self.old
+            (first_pair Q.order (concat self.old.nodes) key.now)) }
     {
         let place = self.first_place(key);
         self.take(place)
@@ -140,8 +161,7 @@ impl<K: Ord + Clone + Drop, V: Eq + Clone + Drop, Node: NodeLike<MultiPair<K, V>
         key: &Q,
         events: &mut Vec<ChangeEvent<MultiPair<K, V>>>,
     ) -> Result<bool, Refusal>
-        ensures tree { OnOk result (self.new ≡ after_pair_removal K.cmp self.old
-            (first_pair Q.order (concat self.old.nodes) key.now)) }
+        // Result.
         ensures found { IfOk result (λ found. found ≡ is_some
             (first_pair Q.order (concat self.old.nodes) key.now)) }
         ensures events { IfOk result (λ found. found ≡ true
@@ -149,12 +169,18 @@ impl<K: Ord + Clone + Drop, V: Eq + Clone + Drop, Node: NodeLike<MultiPair<K, V>
             (first_events K.cmp Q.order self.old key.now) events.old.items events.new.items) }
         ensures untold { IfOk result (λ found.
             found ≡ false → events.new.items ≡ events.old.items) }
+
+        // Failure.
         ensures refusal { IfErr result (λ e. e ≡ refusal_for self.old.next
             (length (first_events K.cmp Q.order self.old key.now))) }
         ensures contains { OnErr result
             (is_some (first_pair Q.order (concat self.old.nodes) key.now) ≡ true) }
         ensures kept { OnErr result (events.new.items ≡ events.old.items) }
         ensures unchanged { OnErr result (self.new ≡ self.old) }
+
+        // Nodes.
+        ensures tree { OnOk result (self.new ≡ after_removal K.cmp self.old
+            (first_pair Q.order (concat self.old.nodes) key.now)) }
     {
         // The invariant of the nodes.
         self.rule();
