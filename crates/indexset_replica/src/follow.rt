@@ -43,14 +43,12 @@ impl<T: Ord + Clone + Drop> Replica<T> {
     /// Compares one number for a skipped event, and costs as `apply` for another.
     pub fn follow(&mut self, events: &[ChangeEvent<T>], order: &[usize]) -> Result<(), Refusal>
         requires inside { All (λ p. p < length events.now) order.now }
+
+        // Contents.
         ensures cloned { OnOk result (IsFollowed T.cmp T.is_clone events.now self.old order.now
             self.new) }
         ensures followed { AreIdentical T.is_clone
             → OnOk result (followed T.cmp events.now self.old order.now ≡ Some self.new) }
-        ensures cloned_stopped { IfErr result
-            (λ e. HasStopped T.cmp T.is_clone events.now self.old order.now e self.new) }
-        ensures stopped { AreIdentical T.is_clone
-            → IfErr result (λ e. IsStopped T.cmp events.now self.old order.now e self.new) }
         ensures delivery { AreIdentical T.is_clone → (s j : ℕ) (ns : List (List T))
             → IsEventLog T.cmp s ns events.now → IsAt T.cmp s ns events.now j self.old
             → OnOk result (IsDelivered T.cmp s ns events.now j order.now self.new) }
@@ -58,19 +56,6 @@ impl<T: Ord + Clone + Drop> Replica<T> {
             → IsAt T.cmp s ns events.now j self.old
             → OnOk result ((r : ReplicaState T) × IsDelivered T.cmp s ns events.now j order.now r
             × IsAlike T.cmp T.is_clone r self.new) }
-        ensures memory_alone { (s j : ℕ) (ns : List (List T)) → IsEventLog T.cmp s ns events.now
-            → IsAt T.cmp s ns events.now j self.old
-            → IfErr result (λ e. e ≡ Refusal.Memory) }
-        ensures partly { AreIdentical T.is_clone → (s j : ℕ) (ns : List (List T))
-            → IsEventLog T.cmp s ns events.now → IsAt T.cmp s ns events.now j self.old
-            → OnErr result ((k : ℕ) × (k ≤ length order.now)
-            × IsDelivered T.cmp s ns events.now j (take k order.now) self.new) }
-        ensures partly_alike { (s j : ℕ) (ns : List (List T)) → IsEventLog T.cmp s ns events.now
-            → IsAt T.cmp s ns events.now j self.old
-            → OnErr result ((k : ℕ) × (r : ReplicaState T) × (k ≤ length order.now)
-            × IsDelivered T.cmp s ns events.now j (take k order.now) r
-            × IsAlike T.cmp T.is_clone r self.new) }
-
         // From a prefix of a feed to a longer one.
         ensures onwards { self.old.next ≤ self.new.next }
         ensures beginning { AreIdentical T.is_clone → (s : ℕ) (ns : List (List T))
@@ -86,7 +71,6 @@ impl<T: Ord + Clone + Drop> Replica<T> {
             → IsEventLog T.cmp s ns events.now → IsPrefix T.cmp s ns events.now self.old
             → self.new.next ≡ s + length events.now
             → replay T.cmp ns events.now ≡ Some self.new.nodes }
-
         // The same for copies, at every type.
         ensures copied_beginning { (s : ℕ) (ns : List (List T)) → IsEventLog T.cmp s ns events.now
             → CopiesPrefix T.cmp T.is_clone s ns events.now self.old
@@ -100,6 +84,26 @@ impl<T: Ord + Clone + Drop> Replica<T> {
             → CopiesPrefix T.cmp T.is_clone s ns events.now self.old
             → self.new.next ≡ s + length events.now
             → CopiesAll T.cmp T.is_clone s ns events.now self.new }
+
+        // Failure.
+        ensures cloned_stopped { IfErr result
+            (λ e. HasStopped T.cmp T.is_clone events.now self.old order.now e self.new) }
+        ensures stopped { AreIdentical T.is_clone
+            → IfErr result (λ e. IsStopped T.cmp events.now self.old order.now e self.new) }
+        ensures partly { AreIdentical T.is_clone → (s j : ℕ) (ns : List (List T))
+            → IsEventLog T.cmp s ns events.now → IsAt T.cmp s ns events.now j self.old
+            → OnErr result ((k : ℕ) × (k ≤ length order.now)
+            × IsDelivered T.cmp s ns events.now j (take k order.now) self.new) }
+        ensures partly_alike { (s j : ℕ) (ns : List (List T)) → IsEventLog T.cmp s ns events.now
+            → IsAt T.cmp s ns events.now j self.old
+            → OnErr result ((k : ℕ) × (r : ReplicaState T) × (k ≤ length order.now)
+            × IsDelivered T.cmp s ns events.now j (take k order.now) r
+            × IsAlike T.cmp T.is_clone r self.new) }
+
+        // Memory.
+        ensures memory_alone { (s j : ℕ) (ns : List (List T)) → IsEventLog T.cmp s ns events.now
+            → IsAt T.cmp s ns events.now j self.old
+            → IfErr result (λ e. e ≡ Refusal.Memory) }
     {
         for place in order {
             self.deliver(&events[*place])?;

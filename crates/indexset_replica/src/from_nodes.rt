@@ -34,14 +34,19 @@ impl<T: Ord + Clone + Drop> Replica<T> {
     ///
     /// Compares neighbouring items once, and allocates the index of the lengths.
     pub fn from_nodes(nodes: Vec<Vec<T>>, next: u64) -> Result<Self, Refused<Vec<Vec<T>>>>
+        // Result.
         ensures replica { IfOk result (λ r. r
             ≡ record { nodes = vec_items nodes.items; next = next }) }
+
+        // Failure.
         ensures good { OnOk result (nodes_refusal T.cmp usize.MAX (vec_items nodes.items) ≡ None) }
         ensures refusal { IfErr result (λ e. e.cause
             ≡ unwrap_or (nodes_refusal T.cmp usize.MAX (vec_items nodes.items)) Refusal.Memory) }
+        ensures given_back { IfErr result (λ e. e.value ≡ nodes) }
+
+        // Memory.
         ensures lawful { IsNodeList T.cmp (vec_items nodes.items)
             → IfErr result (λ e. e.cause ≡ Refusal.Memory) }
-        ensures given_back { IfErr result (λ e. e.value ≡ nodes) }
     {
         // No node has more than `usize::MAX` items.
         if let Err(cause) = test_nodes(nodes.as_slice(), usize::MAX) {

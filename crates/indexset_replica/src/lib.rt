@@ -154,15 +154,20 @@ impl<T: Ord + Clone + Drop> Replica<T> {
     ///
     /// Compares the items of the node once each, and makes one binary search among the nodes.
     pub fn attach(&mut self, node: Vec<T>) -> Result<(), Refused<Vec<T>>>
-        ensures nodes { OnOk result (self.new.nodes ≡ attached T.cmp self.old.nodes node.items) }
+        // Contents.
+        ensures next { self.new.next ≡ self.old.next }
+
+        // Failure.
         ensures good { OnOk result (attach_refusal T.cmp (length node.items) self.old.nodes
             node.items ≡ None) }
         ensures refusal { IfErr result (λ e. e.cause
             ≡ unwrap_or (attach_refusal T.cmp (length node.items) self.old.nodes node.items)
             Refusal.Memory) }
         ensures given_back { IfErr result (λ e. e.value ≡ node) }
-        ensures next { self.new.next ≡ self.old.next }
         ensures unchanged { OnErr result (self.new ≡ self.old) }
+
+        // Nodes.
+        ensures nodes { OnOk result (self.new.nodes ≡ attached T.cmp self.old.nodes node.items) }
     {
         match places::place_of_node(self.nodes.as_slice(), node.as_slice()) {
             Ok(place) => self.insert_node(place, node),
@@ -174,11 +179,17 @@ impl<T: Ord + Clone + Drop> Replica<T> {
     fn insert_node(&mut self, place: usize, node: Vec<T>) -> Result<(), Refused<Vec<T>>>
         requires within { place ≤ length self.old.nodes }
         requires nodes { IsNodeList T.cmp (insert self.old.nodes place node.items) }
-        ensures nodes { OnOk result (self.new.nodes ≡ insert self.old.nodes place node.items) }
+
+        // Contents.
+        ensures next { self.new.next ≡ self.old.next }
+
+        // Failure.
         ensures refusal { IfErr result (λ e. e.cause ≡ Refusal.Memory) }
         ensures given_back { IfErr result (λ e. e.value ≡ node) }
-        ensures next { self.new.next ≡ self.old.next }
         ensures unchanged { OnErr result (self.new ≡ self.old) }
+
+        // Nodes.
+        ensures nodes { OnOk result (self.new.nodes ≡ insert self.old.nodes place node.items) }
     {
         if let Err(cause) = self.lengths.reserve_node(node.len()) {
             return Err(Refused { value: node, cause });
@@ -221,17 +232,22 @@ impl<T: Ord + Clone + Drop> Replica<T> {
     /// Makes a binary search among the nodes for each node that the event names, and moves no items
     /// of other nodes.
     pub fn apply(&mut self, event: &ChangeEvent<T>) -> Result<(), Refusal>
-        ensures cloned { OnOk result (IsClonedStep T.cmp T.is_clone self.old.nodes
-            (unassigned event.now) self.new.nodes) }
-        ensures step { AreIdentical T.is_clone
-            → OnOk result (step T.cmp self.old.nodes event.now ≡ Some self.new.nodes) }
+        // Contents.
         ensures next { OnOk result (self.new.next ≡ self.old.next + 1) }
+
+        // Failure.
         ensures fits { OnOk result (apply_refusal T.cmp self.old.nodes self.old.next event.now
             ≡ None) }
         ensures refusal { IfErr result (λ e. e
             ≡ unwrap_or (apply_refusal T.cmp self.old.nodes self.old.next event.now)
             Refusal.Memory) }
         ensures unchanged { OnErr result (self.new ≡ self.old) }
+
+        // Nodes.
+        ensures cloned { OnOk result (IsClonedStep T.cmp T.is_clone self.old.nodes
+            (unassigned event.now) self.new.nodes) }
+        ensures step { AreIdentical T.is_clone
+            → OnOk result (step T.cmp self.old.nodes event.now ≡ Some self.new.nodes) }
     {
         if event.id().inner() != self.next {
             return Err(Refusal::Gap);

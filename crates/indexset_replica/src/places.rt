@@ -73,15 +73,21 @@ fn is_named<T: Ord>(node: &[T], name: &T) -> bool
 /// Returns the place of a node among the nodes, if it can be inserted.
 pub(super) fn place_of_node<T: Ord>(nodes: &[Vec<T>], node: &[T]) -> Result<usize, Refusal>
     requires { IsNodeList T.cmp (vec_items nodes.now) }
+
+    // Result.
     ensures place { IfOk result (λ place. place
         ≡ attach_index T.cmp (vec_items nodes.now) node.now) }
     ensures within { IfOk result (λ place. place ≤ length nodes.now) }
-    ensures nodes { IfOk result (λ place. IsNodeList T.cmp
-        (insert (vec_items nodes.now) place node.now)) }
+
+    // Failure.
     ensures good { OnOk result (attach_refusal T.cmp (length node.now) (vec_items nodes.now)
         node.now ≡ None) }
     ensures refusal { IfErr result (λ e. attach_refusal T.cmp (length node.now)
         (vec_items nodes.now) node.now ≡ Some e) }
+
+    // Nodes.
+    ensures nodes { IfOk result (λ place. IsNodeList T.cmp
+        (insert (vec_items nodes.now) place node.now)) }
 {
     let Some(first) = node.first() else {
         return Err(Refusal::Empty);
