@@ -65,25 +65,32 @@ pub trait Logged {
         &mut self,
         command: Self::Command,
     ) -> Result<(Self::Reply, Vec<ChangeEvent<Self::Item>>), Refusal>
+        // Result.
         ensures reply { IfOk result (λ r. r.0 ≡ reply (state self.old) command) }
-        ensures state { OnOk result (state self.new ≡ after (state self.old) command) }
         ensures clones { IfOk result (λ r. AllZip (IsEventClone cloned)
             (numbered_from (next self.old) (events self.old command)) r.1.items) }
         ensures events { clones → IfOk result
             (λ r. r.1.items ≡ numbered_from (next self.old) (events self.old command)) }
+        ensures at_most_three_events { IfOk result (λ r. length r.1.items ≤ 3) }
+
+        // Contents.
+        ensures state { OnOk result (state self.new ≡ after (state self.old) command) }
+        ensures next { OnOk result (next self.new
+            ≡ next self.old + length (events self.old command)) }
+
+        // Failure.
+        ensures fits { OnOk result (lacks_numbers self.old command ≡ false) }
+        ensures refusal { IfErr result (λ e. e
+            ≡ (if lacks_numbers self.old command then Refusal.Numbers else Refusal.Memory)) }
+        ensures unchanged { OnErr result (self.new ≡ self.old) }
+
+        // Nodes.
         ensures replay { clones → IfOk result
             (λ r. replay Self.Item.Ord.cmp (nodes self.old) r.1.items ≡ Some (nodes self.new)) }
         ensures table { OnOk result (replay Self.Item.Ord.cmp (nodes self.old)
             (numbered_from (next self.old) (events self.old command)) ≡ Some (nodes self.new)) }
-        ensures at_most_three_events { IfOk result (λ r. length r.1.items ≤ 3) }
         ensures tree { OnOk result (self.new ≡ left self.old command) }
-        ensures next { OnOk result (next self.new
-            ≡ next self.old + length (events self.old command)) }
         ensures size { size self.new ≡ size self.old }
         ensures dense { IsDense (size self.old / 2) (nodes self.old)
-            → IsDense (size self.new / 2) (nodes self.new) }
-        ensures fits { OnOk result (lacks_numbers self.old command ≡ false) }
-        ensures refusal { IfErr result (λ e. e
-            ≡ (if lacks_numbers self.old command then Refusal.Numbers else Refusal.Memory)) }
-        ensures unchanged { OnErr result (self.new ≡ self.old) };
+            → IsDense (size self.new / 2) (nodes self.new) };
 }

@@ -29,14 +29,38 @@ pub struct LogRun<L: Logged> {
 /// Returns the replies and the events of the commands before that one; the tree is in the state
 /// that they left. Space for a reply and for three events is reserved before each command.
 pub fn run_logged<L: Logged>(alloc: Global, tree: &mut L, commands: Vec<L::Command>) -> LogRun<L>
+    // Result.
     // The events are those of the definition, with clones of its items, numbered without a gap.
     ensures clones { AllZip (IsEventClone L.cloned)
         (numbered_from (L.next tree.old) (events_in_turn L.left L.events tree.old
         (take (length result.replies.items) commands.items))) result.events.items }
+    ensures numbered { IsNumberedFrom (L.next tree.old) result.events.items }
+    ensures events { L.clones → result.events.items
+        ≡ numbered_from (L.next tree.old) (events_in_turn L.left L.events tree.old
+        (take (length result.replies.items) commands.items)) }
+    ensures at_most_three_events { length result.events.items ≤ 3 * length result.replies.items }
+    // The replies are those to the first commands, one each.
+    ensures replies { result.replies.items ≡ scan L.after L.reply (L.state tree.old)
+        (take (length result.replies.items) commands.items) }
+    ensures all { IfNone result.refused
+        (length result.replies.items ≡ length commands.items) }
+
+    // Contents.
+    ensures next { L.next tree.new ≡ L.next tree.old + length result.events.items }
+    ensures state { L.state tree.new ≡ fold L.after (L.state tree.old)
+        (take (length result.replies.items) commands.items) }
+
+    // Failure.
+    ensures fewer { OnSome result.refused
+        (length result.replies.items < length commands.items) }
+    ensures refused { IfSome result.refused (λ e. e ≢ Refusal.Memory → (e ≡ Refusal.Numbers)
+        × IsSomeAnd (slice_get commands.items (length result.replies.items))
+        (λ command. L.lacks_numbers tree.new command ≡ true)) }
+
+    // Nodes.
     ensures table { replay L.Item.Ord.cmp (L.nodes tree.old)
         (numbered_from (L.next tree.old) (events_in_turn L.left L.events tree.old
         (take (length result.replies.items) commands.items))) ≡ Some (L.nodes tree.new) }
-
     // If clones are identical to their sources, replaying the events on the nodes before the run
     // gives the nodes after it.
     ensures replay { L.clones → replay L.Item.Ord.cmp (L.nodes tree.old) result.events.items
@@ -45,29 +69,9 @@ pub fn run_logged<L: Logged>(alloc: Global, tree: &mut L, commands: Vec<L::Comma
     ensures replay_of_clones { AreClonesEqual L.Item.Ord.cmp L.cloned
         → LeadsToCopies L.Item.Ord.cmp L.cloned (L.nodes tree.old) result.events.items
         (L.nodes tree.new) }
-    ensures numbered { IsNumberedFrom (L.next tree.old) result.events.items }
-    ensures events { L.clones → result.events.items
-        ≡ numbered_from (L.next tree.old) (events_in_turn L.left L.events tree.old
-        (take (length result.replies.items) commands.items)) }
-    ensures next { L.next tree.new ≡ L.next tree.old + length result.events.items }
-    ensures at_most_three_events { length result.events.items ≤ 3 * length result.replies.items }
-
-    // The replies are those to the first commands, one each.
-    ensures replies { result.replies.items ≡ scan L.after L.reply (L.state tree.old)
-        (take (length result.replies.items) commands.items) }
-    ensures state { L.state tree.new ≡ fold L.after (L.state tree.old)
-        (take (length result.replies.items) commands.items) }
     ensures tree { tree.new ≡ fold L.left tree.old
         (take (length result.replies.items) commands.items) }
-    ensures all { IfNone result.refused
-        (length result.replies.items ≡ length commands.items) }
-    ensures fewer { OnSome result.refused
-        (length result.replies.items < length commands.items) }
-    ensures refused { IfSome result.refused (λ e. e ≢ Refusal.Memory → (e ≡ Refusal.Numbers)
-        × IsSomeAnd (slice_get commands.items (length result.replies.items))
-        (λ command. L.lacks_numbers tree.new command ≡ true)) }
     ensures size { L.size tree.new ≡ L.size tree.old }
-
     // The number of nodes stays O(n / node size): if each two neighbours held more than half the
     // node size together, they still do, also after a failure.
     ensures dense { IsDense (L.size tree.old / 2) (L.nodes tree.old)
@@ -104,28 +108,35 @@ fn answer<L: Logged>(
     events: &mut Vec<ChangeEvent<L::Item>>,
     command: L::Command,
 ) -> Result<(), Refusal>
+    // Result.
     ensures told { OnOk result (replies.new.items
         ≡ replies.old.items ++ L.reply (L.state tree.old) command ∷ []) }
-    ensures state { OnOk result (L.state tree.new ≡ L.after (L.state tree.old) command) }
-    ensures tree { OnOk result (tree.new ≡ L.left tree.old command) }
     ensures clones { OnOk result (AppendsClones (IsEventClone L.cloned) events.old.items
         events.new.items (numbered_from (L.next tree.old) (L.events tree.old command))) }
     ensures events { L.clones → OnOk result
         (events.new.items ≡ events.old.items
         ++ numbered_from (L.next tree.old) (L.events tree.old command)) }
-    ensures table { OnOk result (replay L.Item.Ord.cmp (L.nodes tree.old)
-        (numbered_from (L.next tree.old) (L.events tree.old command)) ≡ Some (L.nodes tree.new)) }
     ensures at_most_three_events { OnOk result (length events.new.items ≤ length events.old.items + 3) }
+
+    // Contents.
+    ensures state { OnOk result (L.state tree.new ≡ L.after (L.state tree.old) command) }
     ensures next { OnOk result (L.next tree.new
         ≡ L.next tree.old + length (L.events tree.old command)) }
-    ensures size { L.size tree.new ≡ L.size tree.old }
-    ensures dense { IsDense (L.size tree.old / 2) (L.nodes tree.old)
-        → IsDense (L.size tree.new / 2) (L.nodes tree.new) }
+
+    // Failure.
     ensures refusal { IfErr result (λ e. e ≢ Refusal.Memory
         → (e ≡ Refusal.Numbers) × (L.lacks_numbers tree.old command ≡ true)) }
     ensures untold { OnErr result (replies.new.items ≡ replies.old.items) }
     ensures no_event { OnErr result (events.new.items ≡ events.old.items) }
     ensures unchanged { OnErr result (tree.new ≡ tree.old) }
+
+    // Nodes.
+    ensures tree { OnOk result (tree.new ≡ L.left tree.old command) }
+    ensures table { OnOk result (replay L.Item.Ord.cmp (L.nodes tree.old)
+        (numbered_from (L.next tree.old) (L.events tree.old command)) ≡ Some (L.nodes tree.new)) }
+    ensures size { L.size tree.new ≡ L.size tree.old }
+    ensures dense { IsDense (L.size tree.old / 2) (L.nodes tree.old)
+        → IsDense (L.size tree.new / 2) (L.nodes tree.new) }
 {
     replies.reserve(1)?;
     events.reserve(3)?;

@@ -62,6 +62,7 @@ pub fn run_map<K: Ord + Clone + Drop, V: Clone + Drop>(
     map: &mut BTreeMap<K, V>,
     commands: Vec<MapCommand<K, V>>,
 ) -> Run<MapReply<K, V>>
+    // Result.
     // The replies are those to the first commands, one each.
     ensures cloned { AreReplies (map_after K.cmp) (IsMapReply K.cmp K.is_clone V.is_clone)
         map.old.pairs
@@ -69,13 +70,19 @@ pub fn run_map<K: Ord + Clone + Drop, V: Clone + Drop>(
     ensures replies { AreIdentical K.is_clone → AreIdentical V.is_clone
         → result.replies.items ≡ map_replies K.cmp map.old.pairs
         (take (length result.replies.items) commands.items) }
-    ensures contents { map.new.pairs ≡ map_after_all K.cmp map.old.pairs
-        (take (length result.replies.items) commands.items) }
     ensures all { IfNone result.refused
         (length result.replies.items ≡ length commands.items) }
+
+    // Contents.
+    ensures contents { map.new.pairs ≡ map_after_all K.cmp map.old.pairs
+        (take (length result.replies.items) commands.items) }
+
+    // Failure.
     ensures fewer { OnSome result.refused
         (length result.replies.items < length commands.items) }
     ensures refused { IfSome result.refused (λ e. e ≡ Refusal.Memory) }
+
+    // Nodes.
     ensures size { map.new.size ≡ map.old.size }
 {
     let mut replies = Vec::new(alloc);
@@ -99,17 +106,24 @@ fn answer<K: Ord + Clone + Drop, V: Clone + Drop>(
     replies: &mut Vec<MapReply<K, V>>,
     command: MapCommand<K, V>,
 ) -> Result<(), Refusal>
+    // Result.
     ensures cloned { OnOk result (AppendsReply
         (IsMapReply K.cmp K.is_clone V.is_clone map.old.pairs command) replies.old.items
         replies.new.items) }
     ensures told { AreIdentical K.is_clone → AreIdentical V.is_clone
         → OnOk result (replies.new.items
         ≡ replies.old.items ++ map_reply K.cmp map.old.pairs command ∷ []) }
+
+    // Contents.
     ensures ok { OnOk result (map.new.pairs ≡ map_after K.cmp map.old.pairs command) }
-    ensures size { map.new.size ≡ map.old.size }
+
+    // Failure.
     ensures refusal { IfErr result (λ e. e ≡ Refusal.Memory) }
     ensures untold { OnErr result (replies.new.items ≡ replies.old.items) }
     ensures unchanged { OnErr result (map.new.pairs ≡ map.old.pairs) }
+
+    // Nodes.
+    ensures size { map.new.size ≡ map.old.size }
 {
     replies.reserve(1)?;
     let reply = act(map, command)?;
@@ -122,14 +136,21 @@ fn act<K: Ord + Clone + Drop, V: Clone + Drop>(
     map: &mut BTreeMap<K, V>,
     command: MapCommand<K, V>,
 ) -> Result<MapReply<K, V>, Refusal>
+    // Result.
     ensures cloned { IfOk result (λ reply. IsMapReply K.cmp K.is_clone V.is_clone map.old.pairs
         command reply) }
     ensures reply { AreIdentical K.is_clone → AreIdentical V.is_clone
         → IfOk result (λ reply. reply ≡ map_reply K.cmp map.old.pairs command) }
+
+    // Contents.
     ensures ok { OnOk result (map.new.pairs ≡ map_after K.cmp map.old.pairs command) }
-    ensures size { map.new.size ≡ map.old.size }
+
+    // Failure.
     ensures refusal { IfErr result (λ e. e ≡ Refusal.Memory) }
     ensures unchanged { OnErr result (map.new.pairs ≡ map.old.pairs) }
+
+    // Nodes.
+    ensures size { map.new.size ≡ map.old.size }
 {
     let reply = match command {
         MapCommand::Insert(key, value) => match map.insert(key, value) {

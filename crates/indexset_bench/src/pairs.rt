@@ -29,17 +29,24 @@ pub fn answer_pairs<T: Key, W: Write>(
     pairs: &mut Pairs<T>,
     command: PairCommand<T>,
 ) -> Result<(), RunFault>
-    ensures pairs { OnOk result (pairs.new ≡ pairs_after T.cmp pairs.old command) }
+    // Result.
     ensures told { OnOk result (Appends (W.contents writer.old) (W.contents writer.new)
         (echo_text echo ++ pair_reply T.cmp T.texts pairs.old command)) }
+
+    // Contents.
+    ensures pairs { OnOk result (pairs.new ≡ pairs_after T.cmp pairs.old command) }
+
+    // Failure.
     ensures memory_refused { result ≡ Err RunFault.Memory
         → Keeps (W.contents writer.old) (W.contents writer.new) }
     ensures numbers_refused { result ≡ Err RunFault.Numbers
         → Keeps (W.contents writer.old) (W.contents writer.new) }
-    ensures only_changes { result ≡ Err RunFault.Memory → pair_events T.cmp pairs.old command ≢ [] }
     ensures no_numbers { result ≡ Err RunFault.Numbers
         → MAX < pairs.old.next + length (pair_events T.cmp pairs.old command) }
     ensures no_read { result ≢ Err RunFault.Read }
+
+    // Memory.
+    ensures only_changes { result ≡ Err RunFault.Memory → pair_events T.cmp pairs.old command ≢ [] }
 {
     match command {
         PairCommand::Put(key, value) => {

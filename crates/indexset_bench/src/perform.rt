@@ -14,11 +14,18 @@ use indexset_set::BTreeSet;
 ///
 /// `Memory`. A failed call changes nothing.
 pub fn perform(set: &mut BTreeSet<u64>, command: Command) -> Result<Reply<u64>, Refusal>
+    // Result.
     ensures reply { IfOk result (λ reply. reply ≡ reply_to (items set.old) (Some command)) }
+
+    // Contents.
     ensures ok { OnOk result (items set.new ≡ contents_after (items set.old) (Some command)) }
+
+    // Failure.
     ensures refusal { IfErr result (λ e. e ≡ Refusal.Memory) }
-    ensures only_new { OnErr result (AddsNew (items set.old) (Some command)) }
     ensures unchanged { OnErr result (items set.new ≡ items set.old) }
+
+    // Memory.
+    ensures only_new { OnErr result (AddsNew (items set.old) (Some command)) }
 {
     let reply = match command {
         Command::Add(n) => match set.insert(n) {

@@ -38,28 +38,27 @@ pub fn run<R: BufRead, W: Write>(
     reader: &mut R,
     writer: &mut W,
 ) -> Result<(), RunFault>
+    // Result.
     // If the bytes of the reader are known, all were read, and their replies were written.
     ensures all_read { OnOk result (OnSome (R.remaining reader.old)
         (R.remaining reader.new ≡ Some [])) }
     ensures all_answered { OnOk result (IfSome (R.remaining reader.old) (λ input.
         Appends (W.contents writer.old) (W.contents writer.new) (text_of input))) }
-
     // For any reader, the bytes that it returned have their replies.
     ensures given_answered { OnOk result (AnswersAll
         (R.remaining reader.old) (R.remaining reader.new)
         (W.contents writer.old) (W.contents writer.new)) }
 
+    // Failure.
     // The whole lines that the reader returned before it failed have their replies.
     ensures read_failed { result ≡ Err RunFault.Read → AnswersWholeLines HasNoEnd
         (R.remaining reader.old) (R.remaining reader.new)
         (W.contents writer.old) (W.contents writer.new) }
-
     // The lines before the failed line have their replies; a part of that line or all of it was
     // read.
     ensures memory_refused { result ≡ Err RunFault.Memory → AnswersWholeLines IsLinePart
         (R.remaining reader.old) (R.remaining reader.new)
         (W.contents writer.old) (W.contents writer.new) }
-
     // The same, and the events of the failed line need more numbers than remain.
     ensures numbers_refused { result ≡ Err RunFault.Numbers → LacksNumbers
         (R.remaining reader.old) (R.remaining reader.new)
@@ -142,19 +141,26 @@ fn answer_line<W: Write>(
     pairs: &mut Pairs<u64>,
     line: &[u8],
 ) -> Result<(), RunFault>
-    ensures held { OnOk result (stores (items set.new) pairs.new
-        ≡ stores_after (stores (items set.old) pairs.old) line.now) }
+    // Result.
     ensures told { OnOk result (Appends (W.contents writer.old) (W.contents writer.new)
         (reply_line (stores (items set.old) pairs.old) line.now)) }
+
+    // Contents.
+    ensures held { OnOk result (stores (items set.new) pairs.new
+        ≡ stores_after (stores (items set.old) pairs.old) line.now) }
+
+    // Failure.
     ensures memory_refused { result ≡ Err RunFault.Memory
         → Keeps (W.contents writer.old) (W.contents writer.new) }
     ensures numbers_refused { result ≡ Err RunFault.Numbers
         → Keeps (W.contents writer.old) (W.contents writer.new) }
-    ensures only_changes { result ≡ Err RunFault.Memory
-        → Changes (stores (items set.old) pairs.old) line.now }
     ensures no_numbers { result ≡ Err RunFault.Numbers
         → MAX < (stores_after (stores (items set.old) pairs.old) line.now).pairs.next }
     ensures no_read { result ≢ Err RunFault.Read }
+
+    // Memory.
+    ensures only_changes { result ≡ Err RunFault.Memory
+        → Changes (stores (items set.old) pairs.old) line.now }
 {
     if let Some(command) = parse(line) {
         return answer_numbers(writer, set, command);
@@ -171,13 +177,20 @@ fn answer_numbers<W: Write>(
     set: &mut BTreeSet<u64>,
     command: Command,
 ) -> Result<(), RunFault>
-    ensures set { OnOk result (items set.new ≡ contents_after (items set.old) (Some command)) }
+    // Result.
     ensures told { OnOk result (Appends (W.contents writer.old) (W.contents writer.new)
         (reply_ended number_texts (reply_to (items set.old) (Some command)))) }
+
+    // Contents.
+    ensures set { OnOk result (items set.new ≡ contents_after (items set.old) (Some command)) }
+
+    // Failure.
     ensures untold { result ≡ Err RunFault.Memory
         → Keeps (W.contents writer.old) (W.contents writer.new) }
-    ensures only_new { result ≡ Err RunFault.Memory → AddsNew (items set.old) (Some command) }
     ensures fault { IfErr result (λ fault. (fault ≡ RunFault.Memory) ⊎ (fault ≡ RunFault.Write)) }
+
+    // Memory.
+    ensures only_new { result ≡ Err RunFault.Memory → AddsNew (items set.old) (Some command) }
 {
     let reply = perform(set, command)?;
     write_line(writer, reply)

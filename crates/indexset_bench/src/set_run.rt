@@ -69,19 +69,26 @@ pub fn run_set<T: Ord + Clone + Drop>(
     set: &mut BTreeSet<T>,
     commands: Vec<SetCommand<T>>,
 ) -> Run<SetReply<T>>
+    // Result.
     // The replies are those to the first commands, one each.
     ensures cloned { AreReplies (set_after T.cmp) (IsSetReply T.cmp T.is_clone) (items set.old)
         (take (length result.replies.items) commands.items) result.replies.items }
     ensures replies { AreIdentical T.is_clone
         → result.replies.items ≡ set_replies T.cmp (items set.old)
         (take (length result.replies.items) commands.items) }
-    ensures contents { items set.new ≡ set_after_all T.cmp (items set.old)
-        (take (length result.replies.items) commands.items) }
     ensures all { IfNone result.refused
         (length result.replies.items ≡ length commands.items) }
+
+    // Contents.
+    ensures contents { items set.new ≡ set_after_all T.cmp (items set.old)
+        (take (length result.replies.items) commands.items) }
+
+    // Failure.
     ensures fewer { OnSome result.refused
         (length result.replies.items < length commands.items) }
     ensures refused { IfSome result.refused (λ e. e ≡ Refusal.Memory) }
+
+    // Nodes.
     ensures size { set.new.size ≡ set.old.size }
 {
     let mut replies = Vec::new(alloc);
@@ -105,15 +112,22 @@ fn answer<T: Ord + Clone + Drop>(
     replies: &mut Vec<SetReply<T>>,
     command: SetCommand<T>,
 ) -> Result<(), Refusal>
+    // Result.
     ensures cloned { OnOk result (AppendsReply (IsSetReply T.cmp T.is_clone (items set.old) command)
         replies.old.items replies.new.items) }
     ensures told { AreIdentical T.is_clone → OnOk result (replies.new.items
         ≡ replies.old.items ++ set_reply T.cmp (items set.old) command ∷ []) }
+
+    // Contents.
     ensures ok { OnOk result (items set.new ≡ set_after T.cmp (items set.old) command) }
-    ensures size { set.new.size ≡ set.old.size }
+
+    // Failure.
     ensures refusal { IfErr result (λ e. e ≡ Refusal.Memory) }
     ensures untold { OnErr result (replies.new.items ≡ replies.old.items) }
     ensures unchanged { OnErr result (items set.new ≡ items set.old) }
+
+    // Nodes.
+    ensures size { set.new.size ≡ set.old.size }
 {
     replies.reserve(1)?;
     let reply = act(set, command)?;
@@ -126,14 +140,21 @@ fn act<T: Ord + Clone + Drop>(
     set: &mut BTreeSet<T>,
     command: SetCommand<T>,
 ) -> Result<SetReply<T>, Refusal>
+    // Result.
     ensures cloned { IfOk result (λ reply. IsSetReply T.cmp T.is_clone (items set.old) command
         reply) }
     ensures reply { AreIdentical T.is_clone
         → IfOk result (λ reply. reply ≡ set_reply T.cmp (items set.old) command) }
+
+    // Contents.
     ensures ok { OnOk result (items set.new ≡ set_after T.cmp (items set.old) command) }
-    ensures size { set.new.size ≡ set.old.size }
+
+    // Failure.
     ensures refusal { IfErr result (λ e. e ≡ Refusal.Memory) }
     ensures unchanged { OnErr result (items set.new ≡ items set.old) }
+
+    // Nodes.
+    ensures size { set.new.size ≡ set.old.size }
 {
     let reply = match command {
         SetCommand::Insert(v) => match set.insert(v) {
