@@ -53,12 +53,17 @@ pub fn next_line<R: BufRead, W: Write>(
 /// Appends the buffered bytes of the line. Returns `None` if more of the line may follow.
 fn take_piece<R: BufRead>(reader: &mut R, line: &mut Vec<u8>) -> Result<Option<Part>, RunFault>
     requires { HasNoEnd line.old.items }
+
+    // Result.
     ensures ok { IfOk result (TakesPiece (R.remaining reader.old) (R.remaining reader.new)
         line.old.items line.new.items) }
+
+    // Failure.
     ensures unread { OnErr result (Keeps (R.remaining reader.old) (R.remaining reader.new)) }
     ensures unchanged { OnErr result (line.new.items ≡ line.old.items) }
     ensures fault { IfErr result (λ fault. (fault ≡ RunFault.Memory) ⊎ (fault ≡ RunFault.Read)) }
 
+    // Memory.
     // `Memory` implies that the line had no space for all that remained in the reader.
     ensures no_room { result ≡ Err RunFault.Memory → IfSome (R.remaining reader.old)
         (λ left. vec_capacity line.old < vec_len line.old + length left) }

@@ -35,11 +35,16 @@ pub trait Answers {
     ///
     /// `Memory` or `Numbers`: nothing is written. `Write`.
     fn answer<W: Write>(&mut self, writer: &mut W, line: &[u8]) -> Result<(), RunFault>
+        // Result.
+        ensures told { OnOk result (Appends (W.contents writer.old) (W.contents writer.new)
+            (reply self.old (state self.old) line.now)) }
+
+        // Contents.
         ensures held { OnOk result (state self.new ≡ after (state self.old) line.now) }
         ensures alike { OnOk result (reply self.new ≡ reply self.old) }
         ensures cut_alike { OnOk result (cut_reply self.new ≡ cut_reply self.old) }
-        ensures told { OnOk result (Appends (W.contents writer.old) (W.contents writer.new)
-            (reply self.old (state self.old) line.now)) }
+
+        // Failure.
         ensures memory_refused { result ≡ Err RunFault.Memory
             → Keeps (W.contents writer.old) (W.contents writer.new) }
         ensures numbers_refused { result ≡ Err RunFault.Numbers
@@ -54,8 +59,11 @@ pub trait Answers {
     ///
     /// `Memory` or `Numbers`: nothing is written. `Write`.
     fn answer_cut<W: Write>(&mut self, writer: &mut W, line: &[u8]) -> Result<(), RunFault>
+        // Result.
         ensures told { OnOk result (Appends (W.contents writer.old) (W.contents writer.new)
             (cut_reply self.old (state self.old) line.now)) }
+
+        // Failure.
         ensures memory_refused { result ≡ Err RunFault.Memory
             → Keeps (W.contents writer.old) (W.contents writer.new) }
         ensures numbers_refused { result ≡ Err RunFault.Numbers
