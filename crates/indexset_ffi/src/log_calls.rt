@@ -28,28 +28,36 @@ pub fn insert_told(
     events: &mut [Event],
 ) -> Result<(Option<u64>, usize), Refusal>
     requires { 3 ≤ length events.old }
+
+    // Result.
     ensures before { IfOk result (λ r. r.0 ≡ value_of nat_cmp (concat log.old.nodes) key) }
     ensures event_count { IfOk result (λ r. r.1 ≡ length
         (put_events (by_key nat_cmp) log.old.size log.old.nodes (pair key value))) }
     ensures at_most_three_events { IfOk result (λ r. r.1 ≤ 3) }
+    ensures events { OnOk result (events.new
+        ≡ written (length (put_events (by_key nat_cmp) log.old.size log.old.nodes (pair key value)))
+        (map record_of (numbered_from log.old.next
+        (put_events (by_key nat_cmp) log.old.size log.old.nodes (pair key value)))) events.old) }
+
+    // Contents.
     ensures ok { OnOk result (log.new ≡ record {
       nodes = with_put (by_key nat_cmp) log.old.size log.old.nodes (pair key value);
       size = log.old.size;
       next = log.old.next
           + length (put_events (by_key nat_cmp) log.old.size log.old.nodes (pair key value));
     }) }
-    ensures events { OnOk result (events.new
-        ≡ written (length (put_events (by_key nat_cmp) log.old.size log.old.nodes (pair key value)))
-        (map record_of (numbered_from log.old.next
-        (put_events (by_key nat_cmp) log.old.size log.old.nodes (pair key value)))) events.old) }
+
+    // Failure.
     ensures refusal { IfErr result (λ e. e
         ≡ refusal_for log.old.next (length
         (put_events (by_key nat_cmp) log.old.size log.old.nodes (pair key value)))) }
+    ensures unchanged { OnErr result (log.new ≡ log.old) }
+    ensures unwritten { OnErr result (events.new ≡ events.old) }
+
+    // Nodes.
     ensures led { OnOk result (replay (by_key nat_cmp) log.old.nodes (numbered_from log.old.next
         (put_events (by_key nat_cmp) log.old.size log.old.nodes (pair key value)))
         ≡ Some log.new.nodes) }
-    ensures unchanged { OnErr result (log.new ≡ log.old) }
-    ensures unwritten { OnErr result (events.new ≡ events.old) }
 {
     match log.insert_cdc(key, value) {
         Ok((before, changes)) => {
@@ -67,22 +75,30 @@ pub fn remove_told(
     events: &mut [Event],
 ) -> Result<(Option<u64>, usize), Refusal>
     requires { 3 ≤ length events.old }
+
+    // Result.
     ensures found { IfOk result (λ r. r.0 ≡ value_of nat_cmp (concat log.old.nodes) key) }
     ensures event_count { IfOk result (λ r. r.1 ≡ length
         (key_removal_events nat_cmp log.old.size log.old.nodes key)) }
     ensures at_most_three_events { IfOk result (λ r. r.1 ≤ 3) }
-    ensures changed { OnOk result (Changed (by_key nat_cmp) log.old log.new
-        (key_removal nat_cmp log.old key)) }
     ensures events { OnOk result (events.new
         ≡ written (length (key_removal_events nat_cmp log.old.size log.old.nodes key))
         (map record_of (numbered_from log.old.next
         (key_removal_events nat_cmp log.old.size log.old.nodes key))) events.old) }
+
+    // Contents.
+    ensures changed { OnOk result (Changed (by_key nat_cmp) log.old log.new
+        (key_removal nat_cmp log.old key)) }
+    ensures absent { IfOk result (λ r. r.0 ≡ None → (r.1 ≡ 0) × (log.new ≡ log.old)) }
+
+    // Failure.
     ensures refusal { IfErr result (λ e. e
         ≡ refusal_for log.old.next (length
         (key_removal_events nat_cmp log.old.size log.old.nodes key))) }
-    ensures absent { IfOk result (λ r. r.0 ≡ None → (r.1 ≡ 0) × (log.new ≡ log.old)) }
-    ensures no_event { value_of nat_cmp (concat log.old.nodes) key ≡ None → IsOk result }
     ensures unchanged { OnErr result ((log.new ≡ log.old) × (events.new ≡ events.old)) }
+
+    // Memory.
+    ensures no_event { value_of nat_cmp (concat log.old.nodes) key ≡ None → IsOk result }
 {
     let (found, changes) = log.remove_cdc(&key)?;
     write_events(changes.as_slice(), events);

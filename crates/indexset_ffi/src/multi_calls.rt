@@ -39,7 +39,8 @@ pub fn has_pair(multi: &MultiMap, key: u64, value: u64) -> bool
 /// Adds a value that the key does not have.
 pub fn insert_new(multi: &mut MultiMap, key: u64, value: u64) -> Result<(), Refusal>
     requires { equal_pair nat_cmp nat_eq (concat multi.old.nodes) key value ≡ None }
-    ensures tree { OnOk result (multi.new ≡ after_insertion nat_cmp nat_eq multi.old key value) }
+
+    // Contents.
     ensures ok { OnOk result (concat multi.new.nodes
         ≡ put (by_number nat_cmp) (concat multi.old.nodes)
         (numbered_pair key value multi.old.pair_next)) }
@@ -48,8 +49,13 @@ pub fn insert_new(multi: &mut MultiMap, key: u64, value: u64) -> Result<(), Refu
     ensures others { OnOk result ((other : ℕ) → is_eq (nat_cmp other key) ≡ false
         → pairs_of nat_cmp (concat multi.new.nodes) other
         ≡ pairs_of nat_cmp (concat multi.old.nodes) other) }
+
+    // Failure.
     ensures refusal { IfErr result (λ e. e ≡ insertion_refusal nat_cmp nat_eq multi.old key value) }
     ensures unchanged { OnErr result (multi.new ≡ multi.old) }
+
+    // Nodes.
+    ensures tree { OnOk result (multi.new ≡ after_insertion nat_cmp nat_eq multi.old key value) }
 {
     match multi.insert(key, value) {
         Ok(_) => Ok(()),

@@ -109,6 +109,7 @@ pub fn next_texts(
     lengths: &mut [usize],
     values: &mut [u64],
 ) -> usize
+    // Result.
     ensures count { result ≡ min (length (items_from (node_lengths (vec_items nodes.now)) cursor.old
         (concat (vec_items nodes.now)))) (min (length lengths.old) (length values.old)) }
     ensures bytes { bytes.new ≡ written_over (concat (take result (pair_keys (items_from
@@ -120,6 +121,8 @@ pub fn next_texts(
     ensures values { values.new ≡ written result (pair_values (items_from
         (node_lengths (vec_items nodes.now)) cursor.old (concat (vec_items nodes.now))))
         values.old }
+
+    // Contents.
     ensures moved { cursor_position (node_lengths (vec_items nodes.now)) cursor.new
         ≡ cursor_position (node_lengths (vec_items nodes.now)) cursor.old + result }
 {

@@ -19,7 +19,10 @@ use std::alloc::{AllocError, Global};
 
 /// Applies the event of a record, and returns the status.
 pub fn apply_record(replica: &mut MapReplica, event: &Event) -> u32
+    // Contents.
     ensures ok { result ≤ YES → applied replica.old event.now ≡ Some replica.new }
+
+    // Failure.
     ensures fits { result ≡ YES → refused replica.old event.now ≡ None }
     ensures refusal { result ≢ YES → result ≡ unwrap_or (refused replica.old event.now) MEMORY }
     ensures unchanged { result ≢ YES → replica.new ≡ replica.old }
@@ -41,8 +44,13 @@ pub fn apply_record(replica: &mut MapReplica, event: &Event) -> u32
 ///
 /// Returns the status and how many records were taken.
 pub fn apply_each(replica: &mut MapReplica, events: &[Event]) -> (u32, usize)
-    ensures applied { applied_all replica.old (take result.1 events.now) ≡ Some replica.new }
+    // Result.
     ensures all { result.0 ≡ YES → result.1 ≡ length events.now }
+
+    // Contents.
+    ensures applied { applied_all replica.old (take result.1 events.now) ≡ Some replica.new }
+
+    // Failure.
     ensures some { result.0 ≢ YES → result.1 < length events.now }
     ensures refusal { result.0 ≢ YES → IfSome (slice_get events.now result.1)
         (λ e. result.0 ≡ unwrap_or (refused replica.new e) MEMORY) }

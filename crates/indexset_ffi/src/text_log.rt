@@ -158,13 +158,18 @@ impl TextLog {
     /// `Memory`, or `Numbers` if too few event numbers remain. A failed call changes nothing, and
     /// the map keeps the events that it had.
     pub fn insert(&mut self, alloc: Global, key: &[u8], value: u64) -> Result<Option<u64>, Refusal>
+        // Result.
         ensures before { IfOk result (λ r. r
             ≡ value_of (slice_cmp nat_cmp) (concat self.old.tree.nodes) key.now) }
+
+        // Contents.
         ensures ok { OnOk result (self.new ≡ after self.old.tree
             (put_change (by_key (slice_cmp nat_cmp)) self.old.tree (pair key.now value))) }
         ensures changed { OnOk result (Changed (by_key (slice_cmp nat_cmp)) self.old.tree
             self.new.tree
             (put_change (by_key (slice_cmp nat_cmp)) self.old.tree (pair key.now value))) }
+
+        // Failure.
         ensures refusal { IfErr result (λ e. e ≢ Refusal.Memory → e ≡ refusal_of self.old.tree
             (put_change (by_key (slice_cmp nat_cmp)) self.old.tree (pair key.now value))) }
         ensures unchanged { OnErr result (self.new ≡ self.old) }
@@ -190,19 +195,26 @@ impl TextLog {
     /// `Memory`, or `Numbers` if too few event numbers remain. A failed call changes nothing, and
     /// the map keeps the events that it had.
     pub fn remove(&mut self, key: &[u8]) -> Result<Option<u64>, Refusal>
+        // Result.
         ensures found { IfOk result (λ r. r
             ≡ value_of (slice_cmp nat_cmp) (concat self.old.tree.nodes) key.now) }
+
+        // Contents.
         ensures absent { IfOk result (λ r. r ≡ None → self.new ≡ self.old) }
         ensures ok { IfOk result (λ r. r ≢ None → self.new ≡ after self.old.tree
             (key_removal (slice_cmp nat_cmp) self.old.tree key.now)) }
         ensures changed { IfOk result (λ r. r ≢ None → Changed (by_key (slice_cmp nat_cmp))
             self.old.tree self.new.tree
             (key_removal (slice_cmp nat_cmp) self.old.tree key.now)) }
+
+        // Failure.
         ensures refusal { IfErr result (λ e. e ≡ refusal_of self.old.tree
             (key_removal (slice_cmp nat_cmp) self.old.tree key.now)) }
+        ensures unchanged { OnErr result (self.new ≡ self.old) }
+
+        // Memory.
         ensures no_event { value_of (slice_cmp nat_cmp) (concat self.old.tree.nodes) key.now ≡ None
             → IsOk result }
-        ensures unchanged { OnErr result (self.new ≡ self.old) }
     {
         let (found, told) = self.tree.remove_cdc(key)?;
         let Some((_, value)) = found else {
