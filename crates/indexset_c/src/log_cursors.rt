@@ -63,12 +63,15 @@ pub extern "C" fn indexset_log_cursor_next(
     keys: &mut [u64],
     values: &mut [u64],
 ) -> usize
+    // Result.
     ensures count { result ≡ min (length (log_from log.old.slot.value cursor.old))
         (min (length keys.old) (length values.old)) }
     ensures keys { keys.new ≡ written result
         (pair_keys (log_from log.old.slot.value cursor.old)) keys.old }
     ensures values { values.new ≡ written result
         (pair_values (log_from log.old.slot.value cursor.old)) values.old }
+
+    // Contents.
     ensures moved { cursor_position (node_lengths (logged_nodes log.old.slot.value)) cursor.new
         ≡ cursor_position (node_lengths (logged_nodes log.old.slot.value)) cursor.old + result }
     ensures unchanged { log.new.slot.value ≡ log.old.slot.value }

@@ -37,24 +37,26 @@ pub extern "C" fn indexset_log_insert(
     events: &mut [Event],
     told: &mut usize,
 ) -> u32
+    // Result.
     ensures before { (result ≡ YES
         → value_of nat_cmp (logged_pairs log.old.slot.value) key ≡ None)
         × (result ≡ NO
         → value_of nat_cmp (logged_pairs log.old.slot.value) key ≡ Some before.new) }
+    ensures events { result ≤ YES → IfSome log.old.slot.value (λ m. IsWritten m
+        (put_events (by_key nat_cmp) m.size m.nodes (pair key value)) told.new events.old
+        events.new) }
+    ensures at_most_three_events { told.new ≤ 3 }
+    ensures unwritten { result ≢ NO → before.new ≡ before.old }
+
+    // Contents.
     ensures ok { result ≤ YES → IfSome log.old.slot.value
         (λ m. log.new.slot.value ≡ Some (record {
           nodes = with_put (by_key nat_cmp) m.size m.nodes (pair key value);
           size = m.size;
           next = m.next + told.new;
         })) }
-    ensures events { result ≤ YES → IfSome log.old.slot.value (λ m. IsWritten m
-        (put_events (by_key nat_cmp) m.size m.nodes (pair key value)) told.new events.old
-        events.new) }
-    ensures led { result ≤ YES → IfSome log.old.slot.value (λ m. IfSome log.new.slot.value (λ n.
-        replay (by_key nat_cmp) m.nodes (numbered_from m.next
-        (put_events (by_key nat_cmp) m.size m.nodes (pair key value))) ≡ Some n.nodes)) }
-    ensures at_most_three_events { told.new ≤ 3 }
-    ensures unwritten { result ≢ NO → before.new ≡ before.old }
+
+    // Failure.
     ensures unchanged { MEMORY ≤ result → (told.new ≡ 0) × (events.new ≡ events.old)
         × (log.new.slot.value ≡ log.old.slot.value) }
     ensures cause { IfSome log.old.slot.value (λ m. IsToldAs result (refusal_for m.next
@@ -62,6 +64,11 @@ pub extern "C" fn indexset_log_insert(
     ensures status { (result ≡ NONE ↔ (log.old.slot.value ≡ None))
         × (result ≡ UNFIT ↔ ((log.old.slot.value ≢ None) × (length events.old < 3)))
         × (result ≤ UNFIT) × (result ≢ HELD) }
+
+    // Nodes.
+    ensures led { result ≤ YES → IfSome log.old.slot.value (λ m. IfSome log.new.slot.value (λ n.
+        replay (by_key nat_cmp) m.nodes (numbered_from m.next
+        (put_events (by_key nat_cmp) m.size m.nodes (pair key value))) ≡ Some n.nodes)) }
 {
     *told = 0;
     let Some(mut held) = log.take(alloc) else {
@@ -100,19 +107,24 @@ pub extern "C" fn indexset_log_remove(
     events: &mut [Event],
     told: &mut usize,
 ) -> u32
+    // Result.
     ensures found { (result ≡ YES
         → value_of nat_cmp (logged_pairs log.old.slot.value) key ≡ Some out.new)
         × (result ≡ NO → value_of nat_cmp (logged_pairs log.old.slot.value) key ≡ None)
         × (value_of nat_cmp (logged_pairs log.old.slot.value) key ≡ None
         → 3 ≤ length events.old → result ≡ NO) }
+    ensures events { result ≤ YES → IfSome log.old.slot.value (λ m. IsWritten m
+        (key_removal_events nat_cmp m.size m.nodes key) told.new events.old events.new) }
+    ensures at_most_three_events { told.new ≤ 3 }
+
+    // Contents.
     ensures rest { result ≤ YES → logged_pairs log.new.slot.value
         ≡ without_key nat_cmp (logged_pairs log.old.slot.value) key }
     ensures changed { result ≡ YES → IfSome log.old.slot.value (λ m. IfSome log.new.slot.value
         (λ n. Changed (by_key nat_cmp) m n (key_removal nat_cmp m key))) }
     ensures contains { (log.new.slot.value ≡ None) ↔ (log.old.slot.value ≡ None) }
-    ensures events { result ≤ YES → IfSome log.old.slot.value (λ m. IsWritten m
-        (key_removal_events nat_cmp m.size m.nodes key) told.new events.old events.new) }
-    ensures at_most_three_events { told.new ≤ 3 }
+
+    // Failure.
     ensures unchanged { result ≢ YES → (out.new ≡ out.old) × (told.new ≡ 0) × (events.new ≡ events.old)
         × (log.new.slot.value ≡ log.old.slot.value) }
     ensures cause { IfSome log.old.slot.value (λ m. IsToldAs result (refusal_for m.next

@@ -33,11 +33,14 @@ pub extern "C" fn indexset_log_at(
     key: &mut u64,
     value: &mut u64,
 ) -> bool
+    // Result.
     ensures found { result ≡ true → entry_at (logged_pairs log.old.slot.value) position
         ≡ Some (key.new, value.new) }
     ensures absent { result ≡ false → entry_at (logged_pairs log.old.slot.value) position ≡ None }
     ensures no_key { result ≡ false → key.new ≡ key.old }
     ensures no_value { result ≡ false → value.new ≡ value.old }
+
+    // Contents.
     ensures unchanged { log.new.slot.value ≡ log.old.slot.value }
 {
     let Some(held) = log.take(alloc) else {

@@ -100,6 +100,7 @@ pub extern "C" fn indexset_log_range(
     keys: &mut [u64],
     values: &mut [u64],
 ) -> usize
+    // Result.
     ensures count { low ≤ high → result ≡ min
         (length (pairs_within nat_cmp (logged_pairs log.old.slot.value) (Included low)
         (Included high))) (min (length keys.old) (length values.old)) }
@@ -112,6 +113,8 @@ pub extern "C" fn indexset_log_range(
     ensures none { high < low → result ≡ 0 }
     ensures no_keys { high < low → keys.new ≡ keys.old }
     ensures no_values { high < low → values.new ≡ values.old }
+
+    // Contents.
     ensures unchanged { log.new.slot.value ≡ log.old.slot.value }
 {
     if high < low {

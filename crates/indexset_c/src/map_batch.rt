@@ -24,12 +24,17 @@ pub extern "C" fn indexset_map_insert_all(
     values: &[u64],
     taken: &mut usize,
 ) -> u32
+    // Result.
+    ensures all { result ≡ YES → taken.new ≡ min (length keys.now) (length values.now) }
+
+    // Contents.
     ensures put { pairs map.new.slot.value
         ≡ put_all (pairs map.old.slot.value) (take taken.new keys.now) (take taken.new values.now) }
-    ensures all { result ≡ YES → taken.new ≡ min (length keys.now) (length values.now) }
+    ensures contains { is_some map.new.slot.value ≡ is_some map.old.slot.value }
+
+    // Failure.
     ensures some { result ≡ MEMORY → taken.new < min (length keys.now) (length values.now) }
     ensures none { result ≡ NONE ↔ (map.old.slot.value ≡ None) }
-    ensures contains { is_some map.new.slot.value ≡ is_some map.old.slot.value }
     ensures unchanged { result ≡ NONE → map.new.slot.value ≡ map.old.slot.value }
     ensures status { (result ≢ NO) × (result ≤ NONE) }
 {

@@ -62,12 +62,15 @@ pub extern "C" fn indexset_map_cursor_next(
     keys: &mut [u64],
     values: &mut [u64],
 ) -> usize
+    // Result.
     ensures count { result ≡ min (length (map_from map.old.slot.value cursor.old))
         (min (length keys.old) (length values.old)) }
     ensures keys { keys.new ≡ written result
         (pair_keys (map_from map.old.slot.value cursor.old)) keys.old }
     ensures values { values.new ≡ written result
         (pair_values (map_from map.old.slot.value cursor.old)) values.old }
+
+    // Contents.
     ensures moved { cursor_position (map_lengths map.old.slot.value) cursor.new
         ≡ cursor_position (map_lengths map.old.slot.value) cursor.old + result }
     ensures unchanged { map.new.slot.value ≡ map.old.slot.value }

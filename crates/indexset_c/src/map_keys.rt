@@ -27,16 +27,23 @@ pub extern "C" fn indexset_map_insert(
     value: u64,
     before: &mut u64,
 ) -> u32
+    // Result.
     ensures added { result ≡ YES → value_of nat_cmp (pairs map.old.slot.value) key ≡ None }
     ensures replaced { result ≡ NO → value_of nat_cmp (pairs map.old.slot.value) key
         ≡ Some before.new }
+    ensures unwritten { result ≢ NO → before.new ≡ before.old }
+
+    // Contents.
     ensures ok { result ≤ YES → pairs map.new.slot.value
         ≡ put_value nat_cmp (pairs map.old.slot.value) key value }
-    ensures unwritten { result ≢ NO → before.new ≡ before.old }
+
+    // Failure.
     ensures unchanged { MEMORY ≤ result → map.new.slot.value ≡ map.old.slot.value }
     ensures none { result ≡ NONE ↔ (map.old.slot.value ≡ None) }
-    ensures no_memory { has_key nat_cmp (pairs map.old.slot.value) key ≡ true → result ≡ NO }
     ensures status { result ≤ NONE }
+
+    // Memory.
+    ensures no_memory { has_key nat_cmp (pairs map.old.slot.value) key ≡ true → result ≡ NO }
 {
     let Some(mut held) = map.take(alloc) else {
         return NONE;
@@ -71,18 +78,25 @@ pub extern "C" fn indexset_map_insert_ranked(
     before: &mut u64,
     rank: &mut usize,
 ) -> u32
+    // Result.
     ensures added { result ≡ YES → value_of nat_cmp (pairs map.old.slot.value) key ≡ None }
     ensures replaced { result ≡ NO → value_of nat_cmp (pairs map.old.slot.value) key
         ≡ Some before.new }
     ensures rank { result ≤ YES → rank.new ≡ key_rank nat_cmp (pairs map.old.slot.value) key }
+    ensures unwritten { result ≢ NO → before.new ≡ before.old }
+
+    // Contents.
     ensures ok { result ≤ YES → pairs map.new.slot.value
         ≡ put_value nat_cmp (pairs map.old.slot.value) key value }
-    ensures unwritten { result ≢ NO → before.new ≡ before.old }
+
+    // Failure.
     ensures unchanged { MEMORY ≤ result
         → (rank.new ≡ rank.old) × (map.new.slot.value ≡ map.old.slot.value) }
     ensures none { result ≡ NONE ↔ (map.old.slot.value ≡ None) }
-    ensures no_memory { has_key nat_cmp (pairs map.old.slot.value) key ≡ true → result ≡ NO }
     ensures status { result ≤ NONE }
+
+    // Memory.
+    ensures no_memory { has_key nat_cmp (pairs map.old.slot.value) key ≡ true → result ≡ NO }
 {
     let below = indexset_map_rank(alloc, map, key);
     let status = indexset_map_insert(alloc, map, key, value, before);
@@ -122,11 +136,14 @@ pub extern "C" fn indexset_map_remove(
     key: u64,
     out: &mut u64,
 ) -> bool
+    // Result.
     ensures found { result ≡ true → value_of nat_cmp (pairs map.old.slot.value) key ≡ Some out.new }
     ensures absent { result ≡ false → value_of nat_cmp (pairs map.old.slot.value) key ≡ None }
+    ensures unwritten { result ≡ false → out.new ≡ out.old }
+
+    // Contents.
     ensures rest { pairs map.new.slot.value ≡ without_key nat_cmp (pairs map.old.slot.value) key }
     ensures contains { is_some map.new.slot.value ≡ is_some map.old.slot.value }
-    ensures unwritten { result ≡ false → out.new ≡ out.old }
     ensures unchanged { result ≡ false → map.new.slot.value ≡ map.old.slot.value }
 {
     let Some(mut held) = map.take(alloc) else {

@@ -18,8 +18,11 @@ use std::mem::swap;
 /// `HELD` if the handle is not empty, or `MEMORY`. A failed call changes nothing.
 #[unsafe(no_mangle)]
 pub extern "C" fn indexset_map_new(alloc: Global, map: &mut MapHandle) -> u32
+    // Contents.
     ensures empty { result ≡ YES → pairs map.new.slot.value ≡ [] }
     ensures made { result ≡ YES → map.new.slot.value ≡ Some (no_pairs DEFAULT_INNER_SIZE) }
+
+    // Failure.
     ensures refused { result ≢ YES → map.new.slot.value ≡ map.old.slot.value }
     ensures held { result ≡ HELD ↔ (is_some map.old.slot.value ≡ true) }
     ensures status { result ≢ YES → result ≢ HELD → result ≡ MEMORY }
@@ -48,12 +51,15 @@ pub extern "C" fn indexset_map_new(alloc: Global, map: &mut MapHandle) -> u32
 /// changes nothing.
 #[unsafe(no_mangle)]
 pub extern "C" fn indexset_map_clone(alloc: Global, map: &mut MapHandle, to: &mut MapHandle) -> u32
+    // Contents.
     ensures ok { result ≡ YES → to.new.slot.value ≡ map.old.slot.value }
+    ensures unchanged { map.new.slot.value ≡ map.old.slot.value }
+
+    // Failure.
     ensures refused { result ≢ YES → to.new.slot.value ≡ to.old.slot.value }
     ensures none { result ≡ NONE ↔ (map.old.slot.value ≡ None) }
     ensures held { map.old.slot.value ≢ None
         → (result ≡ HELD ↔ (is_some to.old.slot.value ≡ true)) }
-    ensures unchanged { map.new.slot.value ≡ map.old.slot.value }
     ensures status { result ≢ YES → result ≢ NONE → result ≢ HELD → result ≡ MEMORY }
 {
     let Some(held) = map.take(alloc) else {

@@ -19,11 +19,14 @@ pub extern "C" fn indexset_map_at(
     key: &mut u64,
     value: &mut u64,
 ) -> bool
+    // Result.
     ensures found { result ≡ true → entry_at (pairs map.old.slot.value) position
         ≡ Some (key.new, value.new) }
     ensures absent { result ≡ false → entry_at (pairs map.old.slot.value) position ≡ None }
     ensures no_key { result ≡ false → key.new ≡ key.old }
     ensures no_value { result ≡ false → value.new ≡ value.old }
+
+    // Contents.
     ensures unchanged { map.new.slot.value ≡ map.old.slot.value }
 {
     let Some(held) = map.take(alloc) else {
@@ -46,6 +49,7 @@ pub extern "C" fn indexset_map_lower_bound(
     key: &mut u64,
     value: &mut u64,
 ) -> bool
+    // Result.
     ensures found { result ≡ true → entry_at
         (pairs_within nat_cmp (pairs map.old.slot.value) (Included from) Unbounded) 0
         ≡ Some (key.new, value.new) }
@@ -53,6 +57,8 @@ pub extern "C" fn indexset_map_lower_bound(
         (pairs_within nat_cmp (pairs map.old.slot.value) (Included from) Unbounded) 0 ≡ None }
     ensures no_key { result ≡ false → key.new ≡ key.old }
     ensures no_value { result ≡ false → value.new ≡ value.old }
+
+    // Contents.
     ensures unchanged { map.new.slot.value ≡ map.old.slot.value }
 {
     let Some(held) = map.take(alloc) else {
@@ -72,6 +78,7 @@ pub extern "C" fn indexset_map_upper_bound(
     key: &mut u64,
     value: &mut u64,
 ) -> bool
+    // Result.
     ensures found { result ≡ true → entry_at
         (pairs_within nat_cmp (pairs map.old.slot.value) (Excluded from) Unbounded) 0
         ≡ Some (key.new, value.new) }
@@ -79,6 +86,8 @@ pub extern "C" fn indexset_map_upper_bound(
         (pairs_within nat_cmp (pairs map.old.slot.value) (Excluded from) Unbounded) 0 ≡ None }
     ensures no_key { result ≡ false → key.new ≡ key.old }
     ensures no_value { result ≡ false → value.new ≡ value.old }
+
+    // Contents.
     ensures unchanged { map.new.slot.value ≡ map.old.slot.value }
 {
     let Some(held) = map.take(alloc) else {
@@ -100,13 +109,16 @@ pub extern "C" fn indexset_map_remove_at(
     key: &mut u64,
     value: &mut u64,
 ) -> bool
+    // Result.
     ensures found { result ≡ true → entry_at (pairs map.old.slot.value) position
         ≡ Some (key.new, value.new) }
     ensures absent { result ≡ false → entry_at (pairs map.old.slot.value) position ≡ None }
-    ensures rest { pairs map.new.slot.value ≡ remove (pairs map.old.slot.value) position }
-    ensures contains { is_some map.new.slot.value ≡ is_some map.old.slot.value }
     ensures no_key { result ≡ false → key.new ≡ key.old }
     ensures no_value { result ≡ false → value.new ≡ value.old }
+
+    // Contents.
+    ensures rest { pairs map.new.slot.value ≡ remove (pairs map.old.slot.value) position }
+    ensures contains { is_some map.new.slot.value ≡ is_some map.old.slot.value }
     ensures unchanged { result ≡ false → map.new.slot.value ≡ map.old.slot.value }
 {
     let Some(mut held) = map.take(alloc) else {
@@ -125,11 +137,14 @@ pub extern "C" fn indexset_map_first(
     key: &mut u64,
     value: &mut u64,
 ) -> bool
+    // Result.
     ensures found { result ≡ true → entry_at (pairs map.old.slot.value) 0
         ≡ Some (key.new, value.new) }
     ensures absent { result ≡ false → entry_at (pairs map.old.slot.value) 0 ≡ None }
     ensures no_key { result ≡ false → key.new ≡ key.old }
     ensures no_value { result ≡ false → value.new ≡ value.old }
+
+    // Contents.
     ensures unchanged { map.new.slot.value ≡ map.old.slot.value }
 {
     indexset_map_at(alloc, map, 0, key, value)
@@ -143,12 +158,15 @@ pub extern "C" fn indexset_map_last(
     key: &mut u64,
     value: &mut u64,
 ) -> bool
+    // Result.
     ensures found { result ≡ true → entry_at (pairs map.old.slot.value)
         (length (pairs map.old.slot.value) - 1) ≡ Some (key.new, value.new) }
     ensures absent { result ≡ false → entry_at (pairs map.old.slot.value)
         (length (pairs map.old.slot.value) - 1) ≡ None }
     ensures no_key { result ≡ false → key.new ≡ key.old }
     ensures no_value { result ≡ false → value.new ≡ value.old }
+
+    // Contents.
     ensures unchanged { map.new.slot.value ≡ map.old.slot.value }
 {
     let Some(held) = map.take(alloc) else {
@@ -170,13 +188,16 @@ pub extern "C" fn indexset_map_pop_first(
     key: &mut u64,
     value: &mut u64,
 ) -> bool
+    // Result.
     ensures found { result ≡ true → entry_at (pairs map.old.slot.value) 0
         ≡ Some (key.new, value.new) }
     ensures absent { result ≡ false → entry_at (pairs map.old.slot.value) 0 ≡ None }
-    ensures rest { pairs map.new.slot.value ≡ drop 1 (pairs map.old.slot.value) }
-    ensures contains { is_some map.new.slot.value ≡ is_some map.old.slot.value }
     ensures no_key { result ≡ false → key.new ≡ key.old }
     ensures no_value { result ≡ false → value.new ≡ value.old }
+
+    // Contents.
+    ensures rest { pairs map.new.slot.value ≡ drop 1 (pairs map.old.slot.value) }
+    ensures contains { is_some map.new.slot.value ≡ is_some map.old.slot.value }
     ensures unchanged { result ≡ false → map.new.slot.value ≡ map.old.slot.value }
 {
     let Some(mut held) = map.take(alloc) else {
@@ -195,15 +216,18 @@ pub extern "C" fn indexset_map_pop_last(
     key: &mut u64,
     value: &mut u64,
 ) -> bool
+    // Result.
     ensures found { result ≡ true → entry_at (pairs map.old.slot.value)
         (length (pairs map.old.slot.value) - 1) ≡ Some (key.new, value.new) }
     ensures absent { result ≡ false → entry_at (pairs map.old.slot.value)
         (length (pairs map.old.slot.value) - 1) ≡ None }
+    ensures no_key { result ≡ false → key.new ≡ key.old }
+    ensures no_value { result ≡ false → value.new ≡ value.old }
+
+    // Contents.
     ensures rest { pairs map.new.slot.value
         ≡ take (length (pairs map.old.slot.value) - 1) (pairs map.old.slot.value) }
     ensures contains { is_some map.new.slot.value ≡ is_some map.old.slot.value }
-    ensures no_key { result ≡ false → key.new ≡ key.old }
-    ensures no_value { result ≡ false → value.new ≡ value.old }
     ensures unchanged { result ≡ false → map.new.slot.value ≡ map.old.slot.value }
 {
     let Some(mut held) = map.take(alloc) else {

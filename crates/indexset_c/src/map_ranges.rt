@@ -22,6 +22,7 @@ pub extern "C" fn indexset_map_range_by_key(
     keys: &mut [u64],
     values: &mut [u64],
 ) -> usize
+    // Result.
     ensures count { low ≤ high → result ≡ min
         (length (pairs_within nat_cmp (pairs map.old.slot.value) (Included low) (Included high)))
         (min (length keys.old) (length values.old)) }
@@ -34,6 +35,8 @@ pub extern "C" fn indexset_map_range_by_key(
     ensures none { high < low → result ≡ 0 }
     ensures no_keys { high < low → keys.new ≡ keys.old }
     ensures no_values { high < low → values.new ≡ values.old }
+
+    // Contents.
     ensures unchanged { map.new.slot.value ≡ map.old.slot.value }
 {
     if high < low {

@@ -62,12 +62,15 @@ pub extern "C" fn indexset_multi_cursor_next(
     keys: &mut [u64],
     values: &mut [u64],
 ) -> usize
+    // Result.
     ensures count { result ≡ min (length (multi_from multi.old.slot.value cursor.old))
         (min (length keys.old) (length values.old)) }
     ensures keys { keys.new ≡ written result
         (map (λ p. p.key) (multi_from multi.old.slot.value cursor.old)) keys.old }
     ensures values { values.new ≡ written result
         (map (λ p. p.value) (multi_from multi.old.slot.value cursor.old)) values.old }
+
+    // Contents.
     ensures moved { cursor_position (multi_lengths multi.old.slot.value) cursor.new
         ≡ cursor_position (multi_lengths multi.old.slot.value) cursor.old + result }
     ensures unchanged { multi.new.slot.value ≡ multi.old.slot.value }

@@ -31,8 +31,11 @@ pub extern "C" fn indexset_multi_insert(
     key: u64,
     value: u64,
 ) -> u32
+    // Result.
     ensures contains { result ≡ NO ↔ (is_some
         (equal_pair nat_cmp nat_eq (numbered_pairs multi.old.slot.value) key value) ≡ true) }
+
+    // Contents.
     ensures ok { result ≡ YES → IfSome multi.old.slot.value
         (λ m. numbered_pairs multi.new.slot.value
         ≡ put (by_number nat_cmp) (concat m.nodes) (numbered_pair key value m.pair_next)) }
@@ -41,13 +44,17 @@ pub extern "C" fn indexset_multi_insert(
     ensures others { result ≡ YES → (other : ℕ) → is_eq (nat_cmp other key) ≡ false
         → pairs_of nat_cmp (numbered_pairs multi.new.slot.value) other
         ≡ pairs_of nat_cmp (numbered_pairs multi.old.slot.value) other }
+
+    // Failure.
     ensures unchanged { result ≢ YES → multi.new.slot.value ≡ multi.old.slot.value }
     ensures none { result ≡ NONE ↔ (multi.old.slot.value ≡ None) }
     ensures cause { IfSome multi.old.slot.value
         (λ m. IsToldAs result (insertion_refusal nat_cmp nat_eq m key value)) }
+    ensures status { (result ≤ NUMBERS) × (result ≢ HELD) }
+
+    // Nodes.
     ensures tree { result ≡ YES → IfSome multi.old.slot.value (λ m. multi.new.slot.value
         ≡ Some (after_insertion nat_cmp nat_eq m key value)) }
-    ensures status { (result ≤ NUMBERS) × (result ≢ HELD) }
 {
     let Some(mut held) = multi.take(alloc) else {
         return NONE;
@@ -76,18 +83,23 @@ pub extern "C" fn indexset_multi_push(
     key: u64,
     value: u64,
 ) -> u32
+    // Contents.
     ensures last { result ≡ YES → values_of (numbered_pairs multi.new.slot.value) key
         ≡ values_of (numbered_pairs multi.old.slot.value) key ++ value ∷ [] }
     ensures others { result ≡ YES → (other : ℕ) → is_eq (nat_cmp other key) ≡ false
         → pairs_of nat_cmp (numbered_pairs multi.new.slot.value) other
         ≡ pairs_of nat_cmp (numbered_pairs multi.old.slot.value) other }
+
+    // Failure.
     ensures unchanged { result ≢ YES → multi.new.slot.value ≡ multi.old.slot.value }
     ensures none { result ≡ NONE ↔ (multi.old.slot.value ≡ None) }
     ensures cause { IfSome multi.old.slot.value
         (λ m. IsToldAs result (addition_refusal nat_cmp m key value)) }
+    ensures status { (result ≤ NUMBERS) × (result ≢ NO) × (result ≢ HELD) }
+
+    // Nodes.
     ensures tree { result ≡ YES → IfSome multi.old.slot.value (λ m. multi.new.slot.value
         ≡ Some (addition nat_cmp m key value).tree) }
-    ensures status { (result ≤ NUMBERS) × (result ≢ NO) × (result ≢ HELD) }
 {
     let Some(mut held) = multi.take(alloc) else {
         return NONE;
@@ -114,8 +126,11 @@ pub extern "C" fn indexset_multi_remove(
     key: u64,
     value: u64,
 ) -> u32
+    // Result.
     ensures absent { result ≡ NO ↔ (equal_pair nat_cmp nat_eq (numbered_pairs multi.old.slot.value)
         key value ≡ None) }
+
+    // Contents.
     ensures ok { result ≡ YES → numbered_pairs multi.new.slot.value
         ≡ without_named nat_cmp (numbered_pairs multi.old.slot.value)
         (equal_pair nat_cmp nat_eq (numbered_pairs multi.old.slot.value) key value) }
@@ -125,13 +140,17 @@ pub extern "C" fn indexset_multi_remove(
     ensures others { result ≡ YES → (other : ℕ) → is_eq (nat_cmp other key) ≡ false
         → pairs_of nat_cmp (numbered_pairs multi.new.slot.value) other
         ≡ pairs_of nat_cmp (numbered_pairs multi.old.slot.value) other }
+
+    // Failure.
     ensures unchanged { result ≢ YES → multi.new.slot.value ≡ multi.old.slot.value }
     ensures cause { IfSome multi.old.slot.value (λ m. IsToldAs result (refusal_for m.next
         (length (pair_removal_events nat_cmp m.size m.nodes
         (equal_pair nat_cmp nat_eq (concat m.nodes) key value))))) }
-    ensures tree { result ≡ YES → IfSome multi.old.slot.value (λ m. multi.new.slot.value
-        ≡ Some (after_pair_removal nat_cmp m (equal_pair nat_cmp nat_eq (concat m.nodes) key value))) }
     ensures status { (result ≤ NUMBERS) × (result ≢ NONE) × (result ≢ HELD) }
+
+    // Nodes.
+    ensures tree { result ≡ YES → IfSome multi.old.slot.value (λ m. multi.new.slot.value
+        ≡ Some (after_removal nat_cmp m (equal_pair nat_cmp nat_eq (concat m.nodes) key value))) }
 {
     let Some(mut held) = multi.take(alloc) else {
         return NO;
@@ -159,10 +178,13 @@ pub extern "C" fn indexset_multi_remove_first(
     key: u64,
     out: &mut u64,
 ) -> u32
+    // Result.
     ensures found { result ≡ YES → option_map (λ p. p.value)
         (first_pair nat_cmp (numbered_pairs multi.old.slot.value) key) ≡ Some out.new }
     ensures absent { result ≡ NO ↔ (first_pair nat_cmp (numbered_pairs multi.old.slot.value) key
         ≡ None) }
+
+    // Contents.
     ensures ok { result ≡ YES → numbered_pairs multi.new.slot.value
         ≡ without_named nat_cmp (numbered_pairs multi.old.slot.value)
         (first_pair nat_cmp (numbered_pairs multi.old.slot.value) key) }
@@ -171,14 +193,18 @@ pub extern "C" fn indexset_multi_remove_first(
     ensures others { result ≡ YES → (other : ℕ) → is_eq (nat_cmp other key) ≡ false
         → pairs_of nat_cmp (numbered_pairs multi.new.slot.value) other
         ≡ pairs_of nat_cmp (numbered_pairs multi.old.slot.value) other }
+
+    // Failure.
     ensures unchanged { result ≢ YES
         → (out.new ≡ out.old) × (multi.new.slot.value ≡ multi.old.slot.value) }
     ensures cause { IfSome multi.old.slot.value (λ m. IsToldAs result (refusal_for m.next
         (length (pair_removal_events nat_cmp m.size m.nodes
         (first_pair nat_cmp (concat m.nodes) key))))) }
-    ensures tree { result ≡ YES → IfSome multi.old.slot.value (λ m. multi.new.slot.value
-        ≡ Some (after_pair_removal nat_cmp m (first_pair nat_cmp (concat m.nodes) key))) }
     ensures status { (result ≤ NUMBERS) × (result ≢ NONE) × (result ≢ HELD) }
+
+    // Nodes.
+    ensures tree { result ≡ YES → IfSome multi.old.slot.value (λ m. multi.new.slot.value
+        ≡ Some (after_removal nat_cmp m (first_pair nat_cmp (concat m.nodes) key))) }
 {
     let Some(mut held) = multi.take(alloc) else {
         return NO;

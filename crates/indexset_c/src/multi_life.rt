@@ -16,8 +16,11 @@ use std::mem::swap;
 /// `HELD` if the handle is not empty, or `MEMORY`. A failed call changes nothing.
 #[unsafe(no_mangle)]
 pub extern "C" fn indexset_multi_new(alloc: Global, multi: &mut MultiHandle) -> u32
+    // Contents.
     ensures empty { result ≡ YES → numbered_pairs multi.new.slot.value ≡ [] }
     ensures made { result ≡ YES → multi.new.slot.value ≡ Some fresh_multi }
+
+    // Failure.
     ensures refused { result ≢ YES → multi.new.slot.value ≡ multi.old.slot.value }
     ensures held { result ≡ HELD ↔ (is_some multi.old.slot.value ≡ true) }
     ensures status { result ≢ YES → result ≢ HELD → result ≡ MEMORY }

@@ -20,12 +20,15 @@ pub extern "C" fn indexset_multi_first(
     key: &mut u64,
     value: &mut u64,
 ) -> bool
+    // Result.
     ensures found { result ≡ true → entry_at (entries (numbered_pairs multi.old.slot.value)) 0
         ≡ Some (key.new, value.new) }
     ensures absent { result ≡ false → entry_at (entries (numbered_pairs multi.old.slot.value)) 0
         ≡ None }
     ensures no_key { result ≡ false → key.new ≡ key.old }
     ensures no_value { result ≡ false → value.new ≡ value.old }
+
+    // Contents.
     ensures unchanged { multi.new.slot.value ≡ multi.old.slot.value }
 {
     let Some(held) = multi.take(alloc) else {
@@ -47,11 +50,14 @@ pub extern "C" fn indexset_multi_last(
     key: &mut u64,
     value: &mut u64,
 ) -> bool
+    // Result.
     ensures found { result ≡ true → entry_at (entries (numbered_pairs multi.old.slot.value))
         (length (numbered_pairs multi.old.slot.value) - 1) ≡ Some (key.new, value.new) }
     ensures absent { result ≡ false → numbered_pairs multi.old.slot.value ≡ [] }
     ensures no_key { result ≡ false → key.new ≡ key.old }
     ensures no_value { result ≡ false → value.new ≡ value.old }
+
+    // Contents.
     ensures unchanged { multi.new.slot.value ≡ multi.old.slot.value }
 {
     let Some(held) = multi.take(alloc) else {
@@ -77,6 +83,7 @@ pub extern "C" fn indexset_multi_range(
     keys: &mut [u64],
     values: &mut [u64],
 ) -> usize
+    // Result.
     ensures count { low ≤ high → result ≡ min
         (length (pairs_between nat_cmp (numbered_pairs multi.old.slot.value) (Included low)
         (Included high))) (min (length keys.old) (length values.old)) }
@@ -90,6 +97,8 @@ pub extern "C" fn indexset_multi_range(
     ensures none { high < low → result ≡ 0 }
     ensures no_keys { high < low → keys.new ≡ keys.old }
     ensures no_values { high < low → values.new ≡ values.old }
+
+    // Contents.
     ensures unchanged { multi.new.slot.value ≡ multi.old.slot.value }
 {
     if high < low {

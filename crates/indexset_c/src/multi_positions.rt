@@ -42,12 +42,15 @@ pub extern "C" fn indexset_multi_at(
     key: &mut u64,
     value: &mut u64,
 ) -> bool
+    // Result.
     ensures found { result ≡ true → option_map key_and_value
         (slice_get (numbered_pairs multi.old.slot.value) position) ≡ Some (key.new, value.new) }
     ensures absent { result ≡ false → option_map key_and_value
         (slice_get (numbered_pairs multi.old.slot.value) position) ≡ None }
     ensures no_key { result ≡ false → key.new ≡ key.old }
     ensures no_value { result ≡ false → value.new ≡ value.old }
+
+    // Contents.
     ensures unchanged { multi.new.slot.value ≡ multi.old.slot.value }
 {
     let Some(held) = multi.take(alloc) else {
@@ -102,21 +105,28 @@ pub extern "C" fn indexset_multi_remove_at(
     key: &mut u64,
     value: &mut u64,
 ) -> u32
+    // Result.
     ensures found { result ≡ YES → option_map key_and_value
         (slice_get (numbered_pairs multi.old.slot.value) position) ≡ Some (key.new, value.new) }
     ensures absent { result ≡ NO ↔ (slice_get (numbered_pairs multi.old.slot.value) position
         ≡ None) }
+
+    // Contents.
     ensures ok { result ≡ YES → numbered_pairs multi.new.slot.value
         ≡ without_named nat_cmp (numbered_pairs multi.old.slot.value)
         (slice_get (numbered_pairs multi.old.slot.value) position) }
+
+    // Failure.
     ensures unchanged { result ≢ YES → (key.new ≡ key.old) × (value.new ≡ value.old)
         × (multi.new.slot.value ≡ multi.old.slot.value) }
     ensures cause { IfSome multi.old.slot.value (λ m. IsToldAs result (refusal_for m.next
         (length (pair_removal_events nat_cmp m.size m.nodes
         (slice_get (concat m.nodes) position))))) }
-    ensures tree { result ≡ YES → IfSome multi.old.slot.value (λ m. multi.new.slot.value
-        ≡ Some (after_pair_removal nat_cmp m (slice_get (concat m.nodes) position))) }
     ensures status { (result ≤ NUMBERS) × (result ≢ NONE) × (result ≢ HELD) }
+
+    // Nodes.
+    ensures tree { result ≡ YES → IfSome multi.old.slot.value (λ m. multi.new.slot.value
+        ≡ Some (after_removal nat_cmp m (slice_get (concat m.nodes) position))) }
 {
     let Some(mut held) = multi.take(alloc) else {
         return NO;

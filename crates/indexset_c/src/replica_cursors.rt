@@ -64,12 +64,15 @@ pub extern "C" fn indexset_replica_cursor_next(
     keys: &mut [u64],
     values: &mut [u64],
 ) -> usize
+    // Result.
     ensures count { result ≡ min (length (replica_from replica.old.slot.value cursor.old))
         (min (length keys.old) (length values.old)) }
     ensures keys { keys.new ≡ written result
         (pair_keys (replica_from replica.old.slot.value cursor.old)) keys.old }
     ensures values { values.new ≡ written result
         (pair_values (replica_from replica.old.slot.value cursor.old)) values.old }
+
+    // Contents.
     ensures moved { cursor_position (node_lengths (copied_nodes replica.old.slot.value)) cursor.new
         ≡ cursor_position (node_lengths (copied_nodes replica.old.slot.value)) cursor.old + result }
     ensures unchanged { replica.new.slot.value ≡ replica.old.slot.value }

@@ -22,13 +22,16 @@ pub extern "C" fn indexset_replica_apply(
     replica: &mut ReplicaHandle,
     event: &Event,
 ) -> u32
+    // Contents.
     ensures ok { result ≤ YES → IfSome replica.old.slot.value
         (λ r. replica.new.slot.value ≡ applied r event.now) }
+    ensures contains { (replica.new.slot.value ≡ None) ↔ (replica.old.slot.value ≡ None) }
+
+    // Failure.
     ensures fits { result ≡ YES → IfSome replica.old.slot.value (λ r. refused r event.now ≡ None) }
     ensures refusal { result ≢ YES → IfSome replica.old.slot.value
         (λ r. result ≡ unwrap_or (refused r event.now) MEMORY) }
     ensures none { result ≡ NONE ↔ (replica.old.slot.value ≡ None) }
-    ensures contains { (replica.new.slot.value ≡ None) ↔ (replica.old.slot.value ≡ None) }
     ensures unchanged { result ≢ YES → replica.new.slot.value ≡ replica.old.slot.value }
 {
     let Some(mut held) = replica.take(alloc) else {
@@ -54,15 +57,20 @@ pub extern "C" fn indexset_replica_apply_all(
     events: &[Event],
     taken: &mut usize,
 ) -> u32
+    // Result.
+    ensures all { result ≡ YES → taken.new ≡ length events.now }
+
+    // Contents.
     ensures applied { IfSome replica.old.slot.value
         (λ r. replica.new.slot.value ≡ applied_all r (take taken.new events.now)) }
-    ensures all { result ≡ YES → taken.new ≡ length events.now }
+    ensures contains { (replica.new.slot.value ≡ None) ↔ (replica.old.slot.value ≡ None) }
+
+    // Failure.
     ensures some { result ≢ YES → result ≢ NONE → taken.new < length events.now }
     ensures refusal { result ≢ YES → IfSome replica.new.slot.value
         (λ r. IfSome (slice_get events.now taken.new)
         (λ e. result ≡ unwrap_or (refused r e) MEMORY)) }
     ensures none { result ≡ NONE ↔ (replica.old.slot.value ≡ None) }
-    ensures contains { (replica.new.slot.value ≡ None) ↔ (replica.old.slot.value ≡ None) }
     ensures unchanged { result ≡ NONE → (taken.new ≡ 0) × (replica.new.slot.value ≡ None) }
     ensures status { result ≢ NO }
 {

@@ -52,13 +52,16 @@ pub extern "C" fn indexset_replica_from_log(
     replica: &mut ReplicaHandle,
     log: &mut LogHandle,
 ) -> u32
+    // Contents.
     ensures made { result ≡ YES → replica.new.slot.value
         ≡ option_map replica_of log.old.slot.value }
+    ensures unchanged { log.new.slot.value ≡ log.old.slot.value }
+
+    // Failure.
     ensures refused { result ≢ YES → replica.new.slot.value ≡ replica.old.slot.value }
     ensures none { result ≡ NONE ↔ (log.old.slot.value ≡ None) }
     ensures held { log.old.slot.value ≢ None
         → (result ≡ HELD ↔ (is_some replica.old.slot.value ≡ true)) }
-    ensures unchanged { log.new.slot.value ≡ log.old.slot.value }
     ensures status { result ≢ YES → result ≢ NONE → result ≢ HELD → result ≡ MEMORY }
 {
     let Some(held) = log.take(alloc) else {

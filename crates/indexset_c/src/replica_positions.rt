@@ -38,12 +38,15 @@ pub extern "C" fn indexset_replica_at(
     key: &mut u64,
     value: &mut u64,
 ) -> bool
+    // Result.
     ensures found { result ≡ true → entry_at (copied_pairs replica.old.slot.value) position
         ≡ Some (key.new, value.new) }
     ensures absent { result ≡ false → entry_at (copied_pairs replica.old.slot.value) position
         ≡ None }
     ensures no_key { result ≡ false → key.new ≡ key.old }
     ensures no_value { result ≡ false → value.new ≡ value.old }
+
+    // Contents.
     ensures unchanged { replica.new.slot.value ≡ replica.old.slot.value }
 {
     let Some(held) = replica.take(alloc) else {

@@ -65,11 +65,14 @@ pub extern "C" fn indexset_replica_first(
     key: &mut u64,
     value: &mut u64,
 ) -> bool
+    // Result.
     ensures found { result ≡ true → entry_at (copied_pairs replica.old.slot.value) 0
         ≡ Some (key.new, value.new) }
     ensures absent { result ≡ false → entry_at (copied_pairs replica.old.slot.value) 0 ≡ None }
     ensures no_key { result ≡ false → key.new ≡ key.old }
     ensures no_value { result ≡ false → value.new ≡ value.old }
+
+    // Contents.
     ensures unchanged { replica.new.slot.value ≡ replica.old.slot.value }
 {
     let Some(held) = replica.take(alloc) else {
@@ -91,12 +94,15 @@ pub extern "C" fn indexset_replica_last(
     key: &mut u64,
     value: &mut u64,
 ) -> bool
+    // Result.
     ensures found { result ≡ true → entry_at (copied_pairs replica.old.slot.value)
         (length (copied_pairs replica.old.slot.value) - 1) ≡ Some (key.new, value.new) }
     ensures absent { result ≡ false → entry_at (copied_pairs replica.old.slot.value)
         (length (copied_pairs replica.old.slot.value) - 1) ≡ None }
     ensures no_key { result ≡ false → key.new ≡ key.old }
     ensures no_value { result ≡ false → value.new ≡ value.old }
+
+    // Contents.
     ensures unchanged { replica.new.slot.value ≡ replica.old.slot.value }
 {
     let Some(held) = replica.take(alloc) else {
@@ -144,6 +150,7 @@ pub extern "C" fn indexset_replica_range(
     keys: &mut [u64],
     values: &mut [u64],
 ) -> usize
+    // Result.
     ensures count { low ≤ high → result ≡ min
         (length (pairs_within nat_cmp (copied_pairs replica.old.slot.value) (Included low)
         (Included high))) (min (length keys.old) (length values.old)) }
@@ -156,6 +163,8 @@ pub extern "C" fn indexset_replica_range(
     ensures none { high < low → result ≡ 0 }
     ensures no_keys { high < low → keys.new ≡ keys.old }
     ensures no_values { high < low → values.new ≡ values.old }
+
+    // Contents.
     ensures unchanged { replica.new.slot.value ≡ replica.old.slot.value }
 {
     if high < low {

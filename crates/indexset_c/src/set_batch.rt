@@ -23,16 +23,23 @@ pub extern "C" fn indexset_set_insert_all(
     keys: &[u64],
     taken: &mut usize,
 ) -> u32
+    // Result.
+    ensures all { result ≡ YES → taken.new ≡ length keys.now }
+
+    // Contents.
     ensures kept { elements set.new.slot.value
         ≡ fold (keep nat_cmp) (elements set.old.slot.value) (take taken.new keys.now) }
-    ensures all { result ≡ YES → taken.new ≡ length keys.now }
-    ensures some { result ≡ MEMORY → taken.new < length keys.now }
-    ensures stop { result ≡ MEMORY → has_equal nat_cmp (elements set.new.slot.value)
-        (slice_index_or keys.now taken.new 0) ≡ false }
-    ensures none { result ≡ NONE ↔ (set.old.slot.value ≡ None) }
     ensures contains { is_some set.new.slot.value ≡ is_some set.old.slot.value }
+
+    // Failure.
+    ensures some { result ≡ MEMORY → taken.new < length keys.now }
+    ensures none { result ≡ NONE ↔ (set.old.slot.value ≡ None) }
     ensures unchanged { result ≡ NONE → set.new.slot.value ≡ set.old.slot.value }
     ensures status { (result ≢ NO) × (result ≤ NONE) }
+
+    // Memory.
+    ensures stop { result ≡ MEMORY → has_equal nat_cmp (elements set.new.slot.value)
+        (slice_index_or keys.now taken.new 0) ≡ false }
 {
     let Some(mut held) = set.take(alloc) else {
         *taken = 0;
@@ -75,6 +82,7 @@ pub extern "C" fn indexset_set_at_all(
     positions: &[usize],
     out: &mut [u64],
 ) -> usize
+    // Result.
     ensures room { result ≤ min (length positions.now) (length out.old) }
     ensures contains { AllWithin (λ i. i < length (elements set.old.slot.value)) positions.now 0
         result }
@@ -82,6 +90,8 @@ pub extern "C" fn indexset_set_at_all(
         → length (elements set.old.slot.value) ≤ slice_index_or positions.now result 0 }
     ensures written { out.new ≡ written result
         (map (element_at (elements set.old.slot.value)) positions.now) out.old }
+
+    // Contents.
     ensures unchanged { set.new.slot.value ≡ set.old.slot.value }
 {
     let Some(held) = set.take(alloc) else {

@@ -20,14 +20,21 @@ use std::alloc::Global;
 /// no memory.
 #[unsafe(no_mangle)]
 pub extern "C" fn indexset_set_insert(alloc: Global, set: &mut SetHandle, key: u64) -> u32
+    // Result.
     ensures added { result ≡ YES → has_equal nat_cmp (elements set.old.slot.value) key ≡ false }
     ensures contains { result ≡ NO → has_equal nat_cmp (elements set.old.slot.value) key ≡ true }
+
+    // Contents.
     ensures ok { result ≡ YES → elements set.new.slot.value
         ≡ keep nat_cmp (elements set.old.slot.value) key }
+
+    // Failure.
     ensures unchanged { result ≢ YES → set.new.slot.value ≡ set.old.slot.value }
     ensures none { result ≡ NONE ↔ (set.old.slot.value ≡ None) }
-    ensures no_memory { has_equal nat_cmp (elements set.old.slot.value) key ≡ true → result ≡ NO }
     ensures status { result ≤ NONE }
+
+    // Memory.
+    ensures no_memory { has_equal nat_cmp (elements set.old.slot.value) key ≡ true → result ≡ NO }
 {
     let Some(mut held) = set.take(alloc) else {
         return NONE;
@@ -54,16 +61,23 @@ pub extern "C" fn indexset_set_insert_ranked(
     key: u64,
     rank: &mut usize,
 ) -> u32
+    // Result.
     ensures added { result ≡ YES → has_equal nat_cmp (elements set.old.slot.value) key ≡ false }
     ensures contains { result ≡ NO → has_equal nat_cmp (elements set.old.slot.value) key ≡ true }
     ensures rank { result ≤ YES → rank.new ≡ order.rank nat_cmp (elements set.old.slot.value) key }
+
+    // Contents.
     ensures ok { result ≡ YES → elements set.new.slot.value
         ≡ keep nat_cmp (elements set.old.slot.value) key }
+
+    // Failure.
     ensures unchanged { result ≢ YES → set.new.slot.value ≡ set.old.slot.value }
     ensures unranked { MEMORY ≤ result → rank.new ≡ rank.old }
     ensures none { result ≡ NONE ↔ (set.old.slot.value ≡ None) }
-    ensures no_memory { has_equal nat_cmp (elements set.old.slot.value) key ≡ true → result ≡ NO }
     ensures status { result ≤ NONE }
+
+    // Memory.
+    ensures no_memory { has_equal nat_cmp (elements set.old.slot.value) key ≡ true → result ≡ NO }
 {
     let below = indexset_set_rank(alloc, set, key);
     let status = indexset_set_insert(alloc, set, key);

@@ -18,8 +18,11 @@ use std::mem::swap;
 /// `HELD` if the handle is not empty, or `MEMORY`. A failed call changes nothing.
 #[unsafe(no_mangle)]
 pub extern "C" fn indexset_set_new(alloc: Global, set: &mut SetHandle) -> u32
+    // Contents.
     ensures empty { result ≡ YES → elements set.new.slot.value ≡ [] }
     ensures made { result ≡ YES → set.new.slot.value ≡ Some (node_list ([] ∷ []) DEFAULT_INNER_SIZE) }
+
+    // Failure.
     ensures refused { result ≢ YES → set.new.slot.value ≡ set.old.slot.value }
     ensures held { result ≡ HELD ↔ (is_some set.old.slot.value ≡ true) }
     ensures status { result ≢ YES → result ≢ HELD → result ≡ MEMORY }
@@ -48,12 +51,15 @@ pub extern "C" fn indexset_set_new(alloc: Global, set: &mut SetHandle) -> u32
 /// changes nothing.
 #[unsafe(no_mangle)]
 pub extern "C" fn indexset_set_clone(alloc: Global, set: &mut SetHandle, to: &mut SetHandle) -> u32
+    // Contents.
     ensures ok { result ≡ YES → to.new.slot.value ≡ set.old.slot.value }
+    ensures unchanged { set.new.slot.value ≡ set.old.slot.value }
+
+    // Failure.
     ensures refused { result ≢ YES → to.new.slot.value ≡ to.old.slot.value }
     ensures none { result ≡ NONE ↔ (set.old.slot.value ≡ None) }
     ensures held { set.old.slot.value ≢ None
         → (result ≡ HELD ↔ (is_some to.old.slot.value ≡ true)) }
-    ensures unchanged { set.new.slot.value ≡ set.old.slot.value }
     ensures status { result ≢ YES → result ≢ NONE → result ≢ HELD → result ≡ MEMORY }
 {
     let Some(held) = set.take(alloc) else {

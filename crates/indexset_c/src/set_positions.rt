@@ -40,12 +40,15 @@ pub extern "C" fn indexset_set_remove_at(
     position: usize,
     out: &mut u64,
 ) -> bool
+    // Result.
     ensures found { result ≡ true → slice_get (elements set.old.slot.value) position
         ≡ Some out.new }
     ensures absent { result ≡ false → slice_get (elements set.old.slot.value) position ≡ None }
+    ensures unwritten { result ≡ false → out.new ≡ out.old }
+
+    // Contents.
     ensures rest { elements set.new.slot.value ≡ remove (elements set.old.slot.value) position }
     ensures contains { is_some set.new.slot.value ≡ is_some set.old.slot.value }
-    ensures unwritten { result ≡ false → out.new ≡ out.old }
     ensures unchanged { result ≡ false → set.new.slot.value ≡ set.old.slot.value }
 {
     let Some(mut held) = set.take(alloc) else {
@@ -92,11 +95,14 @@ pub extern "C" fn indexset_set_last(alloc: Global, set: &mut SetHandle, out: &mu
 /// Removes the least element, and writes it. Returns `false` if there is none.
 #[unsafe(no_mangle)]
 pub extern "C" fn indexset_set_pop_first(alloc: Global, set: &mut SetHandle, out: &mut u64) -> bool
+    // Result.
     ensures found { result ≡ true → slice_get (elements set.old.slot.value) 0 ≡ Some out.new }
-    ensures rest { elements set.new.slot.value ≡ drop 1 (elements set.old.slot.value) }
-    ensures contains { is_some set.new.slot.value ≡ is_some set.old.slot.value }
     ensures absent { result ≡ false → length (elements set.old.slot.value) ≡ 0 }
     ensures unwritten { result ≡ false → out.new ≡ out.old }
+
+    // Contents.
+    ensures rest { elements set.new.slot.value ≡ drop 1 (elements set.old.slot.value) }
+    ensures contains { is_some set.new.slot.value ≡ is_some set.old.slot.value }
     ensures unchanged { result ≡ false → set.new.slot.value ≡ set.old.slot.value }
 {
     let Some(mut held) = set.take(alloc) else {
@@ -110,13 +116,16 @@ pub extern "C" fn indexset_set_pop_first(alloc: Global, set: &mut SetHandle, out
 /// Removes the greatest element, and writes it. Returns `false` if there is none.
 #[unsafe(no_mangle)]
 pub extern "C" fn indexset_set_pop_last(alloc: Global, set: &mut SetHandle, out: &mut u64) -> bool
+    // Result.
     ensures found { result ≡ true → slice_get (elements set.old.slot.value)
         (length (elements set.old.slot.value) - 1) ≡ Some out.new }
+    ensures absent { result ≡ false → length (elements set.old.slot.value) ≡ 0 }
+    ensures unwritten { result ≡ false → out.new ≡ out.old }
+
+    // Contents.
     ensures rest { elements set.new.slot.value
         ≡ take (length (elements set.old.slot.value) - 1) (elements set.old.slot.value) }
     ensures contains { is_some set.new.slot.value ≡ is_some set.old.slot.value }
-    ensures absent { result ≡ false → length (elements set.old.slot.value) ≡ 0 }
-    ensures unwritten { result ≡ false → out.new ≡ out.old }
     ensures unchanged { result ≡ false → set.new.slot.value ≡ set.old.slot.value }
 {
     let Some(mut held) = set.take(alloc) else {

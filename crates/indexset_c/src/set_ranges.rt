@@ -21,6 +21,7 @@ pub extern "C" fn indexset_set_range_by_key(
     high: u64,
     out: &mut [u64],
 ) -> usize
+    // Result.
     ensures count { low ≤ high → result ≡ min
         (length (in_range nat_cmp (elements set.old.slot.value) (Included low) (Included high)))
         (length out.old) }
@@ -29,6 +30,8 @@ pub extern "C" fn indexset_set_range_by_key(
         (Included high)) out.old }
     ensures none { high < low → result ≡ 0 }
     ensures unwritten { high < low → out.new ≡ out.old }
+
+    // Contents.
     ensures unchanged { set.new.slot.value ≡ set.old.slot.value }
 {
     if high < low {

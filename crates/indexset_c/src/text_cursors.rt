@@ -67,6 +67,7 @@ pub extern "C" fn indexset_text_map_cursor_next(
     lengths: &mut [usize],
     values: &mut [u64],
 ) -> usize
+    // Result.
     ensures count { result ≡ min (length (text_from map.old.slot.value cursor.old))
         (min (length lengths.old) (length values.old)) }
     ensures bytes { bytes.new ≡ written_over
@@ -75,6 +76,8 @@ pub extern "C" fn indexset_text_map_cursor_next(
         (key_lengths (text_from map.old.slot.value cursor.old)) lengths.old }
     ensures values { values.new ≡ written result
         (pair_values (text_from map.old.slot.value cursor.old)) values.old }
+
+    // Contents.
     ensures moved { cursor_position (text_lengths map.old.slot.value) cursor.new
         ≡ cursor_position (text_lengths map.old.slot.value) cursor.old + result }
     ensures unchanged { map.new.slot.value ≡ map.old.slot.value }

@@ -30,18 +30,25 @@ pub extern "C" fn indexset_text_map_insert(
     value: u64,
     before: &mut u64,
 ) -> u32
+    // Result.
     ensures added { result ≡ YES → value_of (slice_cmp nat_cmp) (text_pairs map.old.slot.value)
         key.now ≡ None }
     ensures replaced { result ≡ NO → value_of (slice_cmp nat_cmp) (text_pairs map.old.slot.value)
         key.now ≡ Some before.new }
+    ensures unwritten { result ≢ NO → before.new ≡ before.old }
+
+    // Contents.
     ensures ok { result ≤ YES → text_pairs map.new.slot.value
         ≡ put_value (slice_cmp nat_cmp) (text_pairs map.old.slot.value) key.now value }
-    ensures unwritten { result ≢ NO → before.new ≡ before.old }
+
+    // Failure.
     ensures unchanged { MEMORY ≤ result → map.new.slot.value ≡ map.old.slot.value }
     ensures none { result ≡ NONE ↔ (map.old.slot.value ≡ None) }
+    ensures status { result ≤ NONE }
+
+    // Memory.
     ensures no_memory { has_key (slice_cmp nat_cmp) (text_pairs map.old.slot.value) key.now ≡ true
         → result ≡ NO }
-    ensures status { result ≤ NONE }
 {
     let Some(mut held) = map.take(alloc) else {
         return NONE;
@@ -75,21 +82,28 @@ pub extern "C" fn indexset_text_map_insert_ranked(
     before: &mut u64,
     rank: &mut usize,
 ) -> u32
+    // Result.
     ensures added { result ≡ YES → value_of (slice_cmp nat_cmp) (text_pairs map.old.slot.value)
         key.now ≡ None }
     ensures replaced { result ≡ NO → value_of (slice_cmp nat_cmp) (text_pairs map.old.slot.value)
         key.now ≡ Some before.new }
     ensures rank { result ≤ YES → rank.new
         ≡ key_rank (slice_cmp nat_cmp) (text_pairs map.old.slot.value) key.now }
+    ensures unwritten { result ≢ NO → before.new ≡ before.old }
+
+    // Contents.
     ensures ok { result ≤ YES → text_pairs map.new.slot.value
         ≡ put_value (slice_cmp nat_cmp) (text_pairs map.old.slot.value) key.now value }
-    ensures unwritten { result ≢ NO → before.new ≡ before.old }
+
+    // Failure.
     ensures unchanged { MEMORY ≤ result
         → (rank.new ≡ rank.old) × (map.new.slot.value ≡ map.old.slot.value) }
     ensures none { result ≡ NONE ↔ (map.old.slot.value ≡ None) }
+    ensures status { result ≤ NONE }
+
+    // Memory.
     ensures no_memory { has_key (slice_cmp nat_cmp) (text_pairs map.old.slot.value) key.now ≡ true
         → result ≡ NO }
-    ensures status { result ≤ NONE }
 {
     let below = indexset_text_map_rank(alloc, map, key);
     let status = indexset_text_map_insert(alloc, map, key, value, before);
@@ -131,14 +145,17 @@ pub extern "C" fn indexset_text_map_remove(
     key: &[u8],
     out: &mut u64,
 ) -> bool
+    // Result.
     ensures found { result ≡ true → value_of (slice_cmp nat_cmp) (text_pairs map.old.slot.value)
         key.now ≡ Some out.new }
     ensures absent { result ≡ false → value_of (slice_cmp nat_cmp) (text_pairs map.old.slot.value)
         key.now ≡ None }
+    ensures unwritten { result ≡ false → out.new ≡ out.old }
+
+    // Contents.
     ensures rest { text_pairs map.new.slot.value
         ≡ without_key (slice_cmp nat_cmp) (text_pairs map.old.slot.value) key.now }
     ensures contains { is_some map.new.slot.value ≡ is_some map.old.slot.value }
-    ensures unwritten { result ≡ false → out.new ≡ out.old }
     ensures unchanged { result ≡ false → map.new.slot.value ≡ map.old.slot.value }
 {
     let Some(mut held) = map.take(alloc) else {

@@ -18,8 +18,11 @@ use std::mem::swap;
 /// `HELD` if the handle is not empty, or `MEMORY`. A failed call changes nothing.
 #[unsafe(no_mangle)]
 pub extern "C" fn indexset_text_map_new(alloc: Global, map: &mut TextHandle) -> u32
+    // Contents.
     ensures empty { result ≡ YES → text_pairs map.new.slot.value ≡ [] }
     ensures made { result ≡ YES → map.new.slot.value ≡ Some (no_pairs TEXT_NODE_SIZE) }
+
+    // Failure.
     ensures refused { result ≢ YES → map.new.slot.value ≡ map.old.slot.value }
     ensures held { result ≡ HELD ↔ (is_some map.old.slot.value ≡ true) }
     ensures status { result ≢ YES → result ≢ HELD → result ≡ MEMORY }
@@ -52,12 +55,15 @@ pub extern "C" fn indexset_text_map_clone(
     map: &mut TextHandle,
     to: &mut TextHandle,
 ) -> u32
+    // Contents.
     ensures ok { result ≡ YES → to.new.slot.value ≡ map.old.slot.value }
+    ensures unchanged { map.new.slot.value ≡ map.old.slot.value }
+
+    // Failure.
     ensures refused { result ≢ YES → to.new.slot.value ≡ to.old.slot.value }
     ensures none { result ≡ NONE ↔ (map.old.slot.value ≡ None) }
     ensures held { map.old.slot.value ≢ None
         → (result ≡ HELD ↔ (is_some to.old.slot.value ≡ true)) }
-    ensures unchanged { map.new.slot.value ≡ map.old.slot.value }
     ensures status { result ≢ YES → result ≢ NONE → result ≢ HELD → result ≡ MEMORY }
 {
     let Some(held) = map.take(alloc) else {

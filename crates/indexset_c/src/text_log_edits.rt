@@ -33,19 +33,24 @@ pub extern "C" fn indexset_text_log_insert(
     before: &mut u64,
     told: &mut usize,
 ) -> u32
+    // Result.
     ensures before { (result ≡ YES
         → value_of (slice_cmp nat_cmp) (logged_texts log.old.slot.value) key.now ≡ None)
         × (result ≡ NO → value_of (slice_cmp nat_cmp) (logged_texts log.old.slot.value) key.now
         ≡ Some before.new) }
+    ensures events { result ≤ YES → told.new ≡ length (told_changes log.new.slot.value) }
+    ensures at_most_three_events { told.new ≤ 3 }
+    ensures unwritten { result ≢ NO → before.new ≡ before.old }
+
+    // Contents.
     ensures ok { result ≤ YES → IfSome log.old.slot.value (λ t. log.new.slot.value
         ≡ Some (after t.tree
         (put_change (by_key (slice_cmp nat_cmp)) t.tree (pair key.now value)))) }
     ensures changed { result ≤ YES → IfSome log.old.slot.value (λ t. IfSome log.new.slot.value
         (λ u. Changed (by_key (slice_cmp nat_cmp)) t.tree u.tree
         (put_change (by_key (slice_cmp nat_cmp)) t.tree (pair key.now value)))) }
-    ensures events { result ≤ YES → told.new ≡ length (told_changes log.new.slot.value) }
-    ensures at_most_three_events { told.new ≤ 3 }
-    ensures unwritten { result ≢ NO → before.new ≡ before.old }
+
+    // Failure.
     ensures unchanged { MEMORY ≤ result
         → (told.new ≡ 0) × (log.new.slot.value ≡ log.old.slot.value) }
     ensures cause { result ≡ NUMBERS → IfSome log.old.slot.value (λ t. refusal_of t.tree
@@ -84,17 +89,22 @@ pub extern "C" fn indexset_text_log_remove(
     out: &mut u64,
     told: &mut usize,
 ) -> u32
+    // Result.
     ensures found { (result ≡ YES
         → value_of (slice_cmp nat_cmp) (logged_texts log.old.slot.value) key.now ≡ Some out.new)
         × (result ≡ NO ↔ (value_of (slice_cmp nat_cmp) (logged_texts log.old.slot.value) key.now
         ≡ None)) }
+    ensures events { result ≡ YES → told.new ≡ length (told_changes log.new.slot.value) }
+    ensures at_most_three_events { told.new ≤ 3 }
+
+    // Contents.
     ensures ok { result ≡ YES → IfSome log.old.slot.value (λ t. log.new.slot.value
         ≡ Some (after t.tree (key_removal (slice_cmp nat_cmp) t.tree key.now))) }
     ensures changed { result ≡ YES → IfSome log.old.slot.value (λ t. IfSome log.new.slot.value
         (λ u. Changed (by_key (slice_cmp nat_cmp)) t.tree u.tree
         (key_removal (slice_cmp nat_cmp) t.tree key.now))) }
-    ensures events { result ≡ YES → told.new ≡ length (told_changes log.new.slot.value) }
-    ensures at_most_three_events { told.new ≤ 3 }
+
+    // Failure.
     ensures unchanged { result ≢ YES → (out.new ≡ out.old) × (told.new ≡ 0)
         × (log.new.slot.value ≡ log.old.slot.value) }
     ensures cause { result ≡ NUMBERS → IfSome log.old.slot.value (λ t. refusal_of t.tree
@@ -131,6 +141,7 @@ pub extern "C" fn indexset_text_log_change(
     node: &mut [u8],
     key: &mut [u8],
 ) -> bool
+    // Result.
     ensures found { result ≡ true
         → option_map record_of (slice_get (told_changes log.old.slot.value) i) ≡ Some event.new }
     ensures absent { result ≡ false → slice_get (told_changes log.old.slot.value) i ≡ None }
@@ -139,6 +150,8 @@ pub extern "C" fn indexset_text_log_change(
     ensures key { key.new ≡ written_over
         (option_map_or pair_key (slice_get (told_changes log.old.slot.value) i) []) key.old }
     ensures unwritten { result ≡ false → event.new ≡ event.old }
+
+    // Contents.
     ensures unchanged { log.new.slot.value ≡ log.old.slot.value }
 {
     let Some(held) = log.take(alloc) else {

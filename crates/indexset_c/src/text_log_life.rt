@@ -23,8 +23,11 @@ pub extern "C" fn indexset_text_log_new(
     size: usize,
     next: u64,
 ) -> u32
+    // Contents.
     ensures made { result ≡ YES → log.new.slot.value
         ≡ Some (untold size next) }
+
+    // Failure.
     ensures refused { result ≢ YES → log.new.slot.value ≡ log.old.slot.value }
     ensures held { result ≡ HELD ↔ (is_some log.old.slot.value ≡ true) }
     ensures unfit { is_some log.old.slot.value ≡ false → (result ≡ UNFIT ↔ (size < 2)) }

@@ -23,6 +23,7 @@ pub extern "C" fn indexset_text_log_at(
     len: &mut usize,
     value: &mut u64,
 ) -> bool
+    // Result.
     ensures found { result ≡ true → value_at (logged_texts log.old.slot.value) position
         ≡ Some value.new }
     ensures long { result ≡ true → len.new
@@ -32,6 +33,8 @@ pub extern "C" fn indexset_text_log_at(
     ensures absent { result ≡ false → value_at (logged_texts log.old.slot.value) position ≡ None }
     ensures no_len { result ≡ false → len.new ≡ len.old }
     ensures no_value { result ≡ false → value.new ≡ value.old }
+
+    // Contents.
     ensures unchanged { log.new.slot.value ≡ log.old.slot.value }
 {
     let Some(held) = log.take(alloc) else {

@@ -25,6 +25,7 @@ pub extern "C" fn indexset_text_map_at(
     len: &mut usize,
     value: &mut u64,
 ) -> bool
+    // Result.
     ensures found { result ≡ true → value_at (text_pairs map.old.slot.value) position
         ≡ Some value.new }
     ensures long { result ≡ true → len.new
@@ -34,6 +35,8 @@ pub extern "C" fn indexset_text_map_at(
     ensures absent { result ≡ false → value_at (text_pairs map.old.slot.value) position ≡ None }
     ensures no_len { result ≡ false → len.new ≡ len.old }
     ensures no_value { result ≡ false → value.new ≡ value.old }
+
+    // Contents.
     ensures unchanged { map.new.slot.value ≡ map.old.slot.value }
 {
     let Some(held) = map.take(alloc) else {
@@ -64,6 +67,7 @@ pub extern "C" fn indexset_text_map_remove_at(
     len: &mut usize,
     value: &mut u64,
 ) -> bool
+    // Result.
     ensures found { result ≡ true → value_at (text_pairs map.old.slot.value) position
         ≡ Some value.new }
     ensures long { result ≡ true → len.new
@@ -71,9 +75,11 @@ pub extern "C" fn indexset_text_map_remove_at(
     ensures bytes { key.new ≡ written_over (key_at (text_pairs map.old.slot.value) position)
         key.old }
     ensures absent { result ≡ false → value_at (text_pairs map.old.slot.value) position ≡ None }
+    ensures unwritten { result ≡ false → (len.new ≡ len.old) × (value.new ≡ value.old) }
+
+    // Contents.
     ensures rest { text_pairs map.new.slot.value ≡ remove (text_pairs map.old.slot.value) position }
     ensures contains { is_some map.new.slot.value ≡ is_some map.old.slot.value }
-    ensures unwritten { result ≡ false → (len.new ≡ len.old) × (value.new ≡ value.old) }
     ensures unchanged { result ≡ false → map.new.slot.value ≡ map.old.slot.value }
 {
     let Some(mut held) = map.take(alloc) else {
@@ -104,6 +110,7 @@ pub extern "C" fn indexset_text_map_lower_bound(
     len: &mut usize,
     value: &mut u64,
 ) -> bool
+    // Result.
     ensures found { result ≡ true → value_at (text_pairs map.old.slot.value)
         (key_rank (slice_cmp nat_cmp) (text_pairs map.old.slot.value) from.now) ≡ Some value.new }
     ensures long { result ≡ true → len.new
@@ -116,6 +123,8 @@ pub extern "C" fn indexset_text_map_lower_bound(
         (key_rank (slice_cmp nat_cmp) (text_pairs map.old.slot.value) from.now) ≡ None }
     ensures no_len { result ≡ false → len.new ≡ len.old }
     ensures no_value { result ≡ false → value.new ≡ value.old }
+
+    // Contents.
     ensures unchanged { map.new.slot.value ≡ map.old.slot.value }
 {
     let position = indexset_text_map_rank(alloc, map, from);
@@ -134,6 +143,7 @@ pub extern "C" fn indexset_text_map_upper_bound(
     len: &mut usize,
     value: &mut u64,
 ) -> bool
+    // Result.
     ensures found { result ≡ true → value_at (text_pairs map.old.slot.value)
         (key_count_up_to (slice_cmp nat_cmp) (text_pairs map.old.slot.value) from.now)
         ≡ Some value.new }
@@ -147,6 +157,8 @@ pub extern "C" fn indexset_text_map_upper_bound(
         (key_count_up_to (slice_cmp nat_cmp) (text_pairs map.old.slot.value) from.now) ≡ None }
     ensures no_len { result ≡ false → len.new ≡ len.old }
     ensures no_value { result ≡ false → value.new ≡ value.old }
+
+    // Contents.
     ensures unchanged { map.new.slot.value ≡ map.old.slot.value }
 {
     let position = indexset_text_map_count_up_to(alloc, map, from);
@@ -163,12 +175,15 @@ pub extern "C" fn indexset_text_map_first(
     len: &mut usize,
     value: &mut u64,
 ) -> bool
+    // Result.
     ensures found { result ≡ true → value_at (text_pairs map.old.slot.value) 0 ≡ Some value.new }
     ensures long { result ≡ true → len.new ≡ length (key_at (text_pairs map.old.slot.value) 0) }
     ensures bytes { key.new ≡ written_over (key_at (text_pairs map.old.slot.value) 0) key.old }
     ensures absent { result ≡ false → value_at (text_pairs map.old.slot.value) 0 ≡ None }
     ensures no_len { result ≡ false → len.new ≡ len.old }
     ensures no_value { result ≡ false → value.new ≡ value.old }
+
+    // Contents.
     ensures unchanged { map.new.slot.value ≡ map.old.slot.value }
 {
     indexset_text_map_at(alloc, map, 0, key, len, value)
@@ -185,6 +200,7 @@ pub extern "C" fn indexset_text_map_last(
     len: &mut usize,
     value: &mut u64,
 ) -> bool
+    // Result.
     ensures found { result ≡ true → value_at (text_pairs map.old.slot.value)
         (length (text_pairs map.old.slot.value) - 1) ≡ Some value.new }
     ensures long { result ≡ true → len.new
@@ -197,6 +213,8 @@ pub extern "C" fn indexset_text_map_last(
         (length (text_pairs map.old.slot.value) - 1) ≡ None }
     ensures no_len { result ≡ false → len.new ≡ len.old }
     ensures no_value { result ≡ false → value.new ≡ value.old }
+
+    // Contents.
     ensures unchanged { map.new.slot.value ≡ map.old.slot.value }
 {
     let count = indexset_text_map_len(alloc, map);
