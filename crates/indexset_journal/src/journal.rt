@@ -80,17 +80,22 @@ impl<S: Store> Journal<S> {
         alloc: Global,
         mut store: S,
     ) -> Result<(Journal<S>, Vec<Vec<u8>>), (JournalError, S)>
+        // Result.
         ensures lines { IfOk result (λ opened. IsClean (S.view opened.0)
             → texts opened.1.items ≡ lines_in (S.view opened.0).committed) }
+
+        // Contents.
         ensures holds { IfOk result (λ opened. IsClean (S.view opened.0)
             → IsTrue (S.view opened.0).is_open × HoldsLines (S.view opened.0)) }
         ensures same { IfOk result (λ opened. IsClean (S.view opened.0)
             → (S.view opened.0).committed ≡ (S.view store).committed) }
+        ensures any_moment { IfOk result (λ opened.
+            IsQuiet S.view S.faults S.recovers S.is_shielded store opened.0) }
+
+        // Failure.
         ensures same_err { IfErr result (λ failed. IsClean (S.view failed.1)
             → IsTrue (S.view failed.1).is_open
             → (S.view failed.1).committed ≡ (S.view store).committed) }
-        ensures any_moment { IfOk result (λ opened.
-            IsQuiet S.view S.faults S.recovers S.is_shielded store opened.0) }
         ensures any_moment_err { IfErr result (λ failed.
             IsQuiet S.view S.faults S.recovers S.is_shielded store failed.1) }
         ensures cause { IfErr result (λ failed. IsClean (S.view failed.1)
@@ -132,6 +137,7 @@ impl<S: Store> Journal<S> {
     /// See [`JournalError`]. While the store is open, the lines are as before the call. Only a failure
     /// of the disk shuts the store.
     pub fn append(&mut self, lines: &[Vec<u8>]) -> Result<(), JournalError>
+        // Contents.
         ensures kept { OnOk result (IsClean (S.view self.new) → IsTrue (S.view self.new).is_open
             × (lines_in (S.view self.new).committed
             ≡ lines_in (S.view self.old).committed ++ texts lines.now)) }
@@ -141,16 +147,18 @@ impl<S: Store> Journal<S> {
         ensures durable { OnOk result (IsClean (S.view self.new)
             → (db : Trees) → S.recovers self.new db
             → lines_in db ≡ lines_in (S.view self.old).committed ++ texts lines.now) }
-        ensures same { OnErr result (IsClean (S.view self.new) → IsTrue (S.view self.new).is_open
-            → (S.view self.new).committed ≡ (S.view self.old).committed) }
         ensures any_moment { IsClean (S.view self.new) → (db : Trees) → S.recovers self.new db
             → S.recovers self.old db
             ⊎ (lines_in db ≡ lines_in (S.view self.old).committed ++ texts lines.now) }
+        ensures steady { IsSteady S.view S.faults S.is_shielded self.old self.new }
+
+        // Failure.
+        ensures same { OnErr result (IsClean (S.view self.new) → IsTrue (S.view self.new).is_open
+            → (S.view self.new).committed ≡ (S.view self.old).committed) }
         ensures cause { IsClean (S.view self.new) → IfErr result (FailsToKeep (S.view self.old)
             (MoreFaults (S.faults self.old) (S.faults self.new))
             (next_number ((S.view self.old).committed 0)) lines.now) }
         ensures told { IfErr result (TellsFault (S.blamed self.new)) }
-        ensures steady { IsSteady S.view S.faults S.is_shielded self.old self.new }
     {
         let end = end_of(&self.store, self.next, lines.len())?;
         let staged = put_lines(&mut self.store, &mut self.row, self.next, lines);
@@ -184,20 +192,23 @@ impl<S: Store> Journal<S> {
     /// See [`JournalError`]. While the store is open, the lines are as before the call. Only a failure
     /// of the disk shuts the store.
     pub fn replace(&mut self, lines: &[Vec<u8>]) -> Result<(), JournalError>
+        // Contents.
         ensures kept { OnOk result (IsClean (S.view self.new) → IsTrue (S.view self.new).is_open
             × (lines_in (S.view self.new).committed ≡ texts lines.now)) }
         ensures numbered { OnOk result (IsClean (S.view self.new)
             → (S.view self.new).committed 0 ≡ rows_of 0 (texts lines.now)) }
         ensures durable { OnOk result (IsClean (S.view self.new)
             → (db : Trees) → S.recovers self.new db → lines_in db ≡ texts lines.now) }
-        ensures same { OnErr result (IsClean (S.view self.new) → IsTrue (S.view self.new).is_open
-            → (S.view self.new).committed ≡ (S.view self.old).committed) }
         ensures any_moment { IsClean (S.view self.new) → (db : Trees) → S.recovers self.new db
             → S.recovers self.old db ⊎ (lines_in db ≡ texts lines.now) }
+        ensures steady { IsSteady S.view S.faults S.is_shielded self.old self.new }
+
+        // Failure.
+        ensures same { OnErr result (IsClean (S.view self.new) → IsTrue (S.view self.new).is_open
+            → (S.view self.new).committed ≡ (S.view self.old).committed) }
         ensures cause { IsClean (S.view self.new) → IfErr result (FailsToKeep (S.view self.old)
             (MoreFaults (S.faults self.old) (S.faults self.new)) 0 lines.now) }
         ensures told { IfErr result (TellsFault (S.blamed self.new)) }
-        ensures steady { IsSteady S.view S.faults S.is_shielded self.old self.new }
     {
         let end = end_of(&self.store, 0, lines.len())?;
         let staged = put_instead(&mut self.store, &mut self.row, lines);

@@ -25,16 +25,21 @@ fn is_for_lines<S: Store>(store: &S) -> bool
 
 /// Returns the lines of the table, and the number of the next line.
 fn read_lines<S: Store>(alloc: Global, store: &mut S) -> Result<(Vec<Vec<u8>>, u64), JournalError>
+    // Result.
     ensures ok { IfOk result (λ read. IsClean (S.view store.new)
         → Reads (S.view store.old) (S.view store.new) (texts read.0.items) read.1) }
     ensures small { IfOk result (λ read. read.1 ≤ 2 ^ 63) }
+
+    // Contents.
+    ensures quiet { IsQuiet S.view S.faults S.recovers S.is_shielded store.old store.new }
+
+    // Failure.
     ensures err { OnErr result (IsClean (S.view store.new)
         → KeepsCommitted (S.view store.old) (S.view store.new)) }
     ensures cause { IsClean (S.view store.new) → IfErr result (Explains
         (MoreFaults (S.faults store.old) (S.faults store.new)) (IsTrue (S.view store.old).is_broken)
         ⊥ ⊥ (¬ AllByRecursion IsLine ((S.view store.old).trees 0))) }
     ensures told { IfErr result (TellsFault (S.blamed store.new)) }
-    ensures quiet { IsQuiet S.view S.faults S.recovers S.is_shielded store.old store.new }
 {
     let mut row = Row::new(alloc);
     store.seek(0, TABLE, &row, Direction::Forward)?;
@@ -59,8 +64,14 @@ pub(crate) fn find_lines<S: Store>(
     alloc: Global,
     store: &mut S,
 ) -> Result<(Vec<Vec<u8>>, u64), JournalError>
+    // Result.
     ensures ok { IfOk result (λ read. IsClean (S.view store.new)
         → Reads (S.view store.old) (S.view store.new) (texts read.0.items) read.1) }
+
+    // Contents.
+    ensures quiet { IsQuiet S.view S.faults S.recovers S.is_shielded store.old store.new }
+
+    // Failure.
     ensures form { OnOk result (IsForLines (S.view store.old).shape (S.view store.old).reals) }
     ensures err { OnErr result (IsClean (S.view store.new)
         → KeepsCommitted (S.view store.old) (S.view store.new)) }
@@ -70,7 +81,6 @@ pub(crate) fn find_lines<S: Store>(
         × ¬ (IsForLines (S.view store.old).shape (S.view store.old).reals
         × AllByRecursion IsLine ((S.view store.old).trees 0) × IsAlone (S.view store.old).shape))) }
     ensures told { IfErr result (TellsFault (S.blamed store.new)) }
-    ensures quiet { IsQuiet S.view S.faults S.recovers S.is_shielded store.old store.new }
 {
     if store.is_broken() {
         return Err(JournalError::Shut);

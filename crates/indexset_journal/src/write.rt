@@ -22,15 +22,19 @@ pub(crate) fn put_lines<S: Store>(
     requires room { next + length lines.now ≤ 2 ^ 63 }
     requires ready { IsClean (S.view store.old) → IsReady (S.view store.old) }
     requires below { IsClean (S.view store.old) → AreBelow next ((S.view store.old).trees 0) }
+
+    // Contents.
     ensures ok { OnOk result (IsClean (S.view store.new)
         → Stages (S.view store.old) (S.view store.new)
         ((S.view store.old).trees 0 ++ rows_of next (texts lines.now))) }
+    ensures quiet { IsQuiet S.view S.faults S.recovers S.is_shielded store.old store.new }
+
+    // Failure.
     ensures err { OnErr result (IsClean (S.view store.new)
         → KeepsCommitted (S.view store.old) (S.view store.new)) }
     ensures cause { IsClean (S.view store.new) → IfErr result (HasCause (S.view store.old)
         (MoreFaults (S.faults store.old) (S.faults store.new)) (Any IsTooLong lines.now)) }
     ensures told { IfErr result (Tells (S.blamed store.new)) }
-    ensures quiet { IsQuiet S.view S.faults S.recovers S.is_shielded store.old store.new }
 {
     for (at, line) in lines.iter().enumerate() {
         set_line(row, next + at as u64, line.as_slice())?;
@@ -42,14 +46,18 @@ pub(crate) fn put_lines<S: Store>(
 /// Deletes all rows.
 pub(crate) fn take_all<S: Store>(store: &mut S, row: &mut Row) -> Result<(), StoreError>
     requires ready { IsClean (S.view store.old) → IsReady (S.view store.old) }
+
+    // Contents.
     ensures ok { OnOk result (IsClean (S.view store.new)
         → Stages (S.view store.old) (S.view store.new) []) }
+    ensures quiet { IsQuiet S.view S.faults S.recovers S.is_shielded store.old store.new }
+
+    // Failure.
     ensures err { OnErr result (IsClean (S.view store.new)
         → KeepsCommitted (S.view store.old) (S.view store.new)) }
     ensures cause { IsClean (S.view store.new) → IfErr result (HasCause (S.view store.old)
         (MoreFaults (S.faults store.old) (S.faults store.new)) ⊥) }
     ensures told { IfErr result (Tells (S.blamed store.new)) }
-    ensures quiet { IsQuiet S.view S.faults S.recovers S.is_shielded store.old store.new }
 {
     'rows: for _ in 0..u64::MAX {
         row.clear();
@@ -75,14 +83,18 @@ pub(crate) fn put_instead<S: Store>(
 ) -> Result<(), StoreError>
     requires room { length lines.now ≤ 2 ^ 63 }
     requires ready { IsClean (S.view store.old) → IsReady (S.view store.old) }
+
+    // Contents.
     ensures ok { OnOk result (IsClean (S.view store.new)
         → Stages (S.view store.old) (S.view store.new) (rows_of 0 (texts lines.now))) }
+    ensures quiet { IsQuiet S.view S.faults S.recovers S.is_shielded store.old store.new }
+
+    // Failure.
     ensures err { OnErr result (IsClean (S.view store.new)
         → KeepsCommitted (S.view store.old) (S.view store.new)) }
     ensures cause { IsClean (S.view store.new) → IfErr result (HasCause (S.view store.old)
         (MoreFaults (S.faults store.old) (S.faults store.new)) (Any IsTooLong lines.now)) }
     ensures told { IfErr result (Tells (S.blamed store.new)) }
-    ensures quiet { IsQuiet S.view S.faults S.recovers S.is_shielded store.old store.new }
 {
     take_all(store, row)?;
     put_lines(store, row, 0, lines)
@@ -94,17 +106,21 @@ pub(crate) fn commit_or_undo<S: Store>(
     staged: Result<(), StoreError>,
 ) -> Result<(), StoreError>
     requires told { IfErr staged (Tells (S.blamed store.old)) }
-    ensures staged { OnOk result (staged ≡ Ok tt) }
+
+    // Contents.
     ensures ok { OnOk result (IsClean (S.view store.new)
         → Commits (S.view store.old) (S.view store.new)) }
+    ensures crash { (db : Trees) → S.recovers store.new db
+        → ((staged ≡ Ok tt) × (db ≡ (S.view store.old).trees)) ⊎ S.recovers store.old db }
+    ensures steady { IsSteady S.view S.faults S.is_shielded store.old store.new }
+
+    // Failure.
+    ensures staged { OnOk result (staged ≡ Ok tt) }
     ensures err { OnErr result (IsRolledBack (S.view store.old) (S.view store.new)) }
     ensures cause { IsClean (S.view store.new) → IfErr result (λ error. (staged ≡ Err error)
         ⊎ ((staged ≡ Ok tt) × HasCause (S.view store.old)
         (MoreFaults (S.faults store.old) (S.faults store.new)) ⊥ error)) }
     ensures told { IfErr result (Tells (S.blamed store.new)) }
-    ensures crash { (db : Trees) → S.recovers store.new db
-        → ((staged ≡ Ok tt) × (db ≡ (S.view store.old).trees)) ⊎ S.recovers store.old db }
-    ensures steady { IsSteady S.view S.faults S.is_shielded store.old store.new }
 {
     match staged {
         Ok(()) => store.commit(),
