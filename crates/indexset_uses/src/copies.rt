@@ -19,16 +19,21 @@ pub fn apply_all<T: Ord + Clone + Drop>(
     copy: &mut Replica<T>,
     events: &[ChangeEvent<T>],
 ) -> Result<(), Refusal>
-    ensures unchanged { AreIdentical T.is_clone
-        → OnOk result (replay T.cmp copy.old.nodes events.now ≡ Some copy.new.nodes) }
-    ensures applied { AreIdentical T.is_clone → replay T.cmp copy.old.nodes
-        (take (copy.new.next - copy.old.next) events.now) ≡ Some copy.new.nodes }
+    // Contents.
     ensures next { OnOk result (copy.new.next ≡ copy.old.next + length events.now) }
     ensures onwards { copy.old.next ≤ copy.new.next }
+
+    // Failure.
     ensures stopped { OnErr result (copy.new.next < copy.old.next + length events.now) }
     ensures refusal { IfErr result (λ e. IfSome
         (slice_get events.now (copy.new.next - copy.old.next)) (λ event. e ≡ unwrap_or
         (apply_refusal T.cmp copy.new.nodes copy.new.next event) Refusal.Memory)) }
+
+    // Nodes.
+    ensures unchanged { AreIdentical T.is_clone
+        → OnOk result (replay T.cmp copy.old.nodes events.now ≡ Some copy.new.nodes) }
+    ensures applied { AreIdentical T.is_clone → replay T.cmp copy.old.nodes
+        (take (copy.new.next - copy.old.next) events.now) ≡ Some copy.new.nodes }
     ensures copies { AreClonesEqual T.cmp T.is_clone → (ns after : List (List T)) (es : List _)
         → AreCopies T.cmp T.is_clone ns copy.old.nodes
         → AllZip (IsEventClone T.is_clone) es events.now → replay T.cmp ns es ≡ Some after

@@ -24,15 +24,23 @@ pub fn insert(
     requires replay { replay nat_cmp [] journal.old.items ≡ Some tree.old.nodes }
     requires numbered { IsNumberedFrom 0 journal.old.items }
     requires next { tree.old.next ≡ length journal.old.items }
-    ensures replay { replay nat_cmp [] journal.new.items ≡ Some tree.new.nodes }
+
+    // Contents.
     ensures numbered { IsNumberedFrom 0 journal.new.items }
     ensures next { tree.new.next ≡ length journal.new.items }
     ensures contents { OnOk result (concat tree.new.nodes
         ≡ put nat_cmp (concat tree.old.nodes) value) }
     ensures kept { take (length journal.old.items) journal.new.items ≡ journal.old.items }
+
+    // Failure.
     ensures given_back { IfErr result (λ refused. refused.value ≡ value) }
     ensures unchanged { OnErr result (tree.new ≡ tree.old) }
+
+    // Memory.
     ensures memory { IfErr result (λ refused. refused.cause ≡ Refusal.Memory) }
+
+    // Nodes.
+    ensures replay { replay nat_cmp [] journal.new.items ≡ Some tree.new.nodes }
 {
     // A call returns at most three events. With space for three, none is lost, and there are
     // numbers for them.

@@ -7,15 +7,18 @@ use indexset::BTreeSet;
 
 /// Removes the highest bid and the lowest ask and returns them, if the bid is at least the ask.
 pub fn take_match(bids: &mut BTreeSet<u64>, asks: &mut BTreeSet<u64>) -> Option<(u64, u64)>
+    // Result.
     ensures bid { IfSome result (λ pair. slice_get (items bids.old) (length (items bids.old) - 1)
         ≡ Some pair.0) }
     ensures ask { IfSome result (λ pair. slice_get (items asks.old) 0 ≡ Some pair.1) }
     ensures crossed { IfSome result (λ pair. pair.1 ≤ pair.0) }
+    ensures uncrossed { IfNone result
+        (All (λ bid. All (λ ask. bid < ask) (items asks.old)) (items bids.old)) }
+
+    // Contents.
     ensures bids { OnSome result (items bids.new
         ≡ take (length (items bids.old) - 1) (items bids.old)) }
     ensures asks { OnSome result (items asks.new ≡ drop 1 (items asks.old)) }
-    ensures uncrossed { IfNone result
-        (All (λ bid. All (λ ask. bid < ask) (items asks.old)) (items bids.old)) }
     ensures unchanged { IfNone result ((items bids.new ≡ items bids.old)
         × (items asks.new ≡ items asks.old)) }
 {

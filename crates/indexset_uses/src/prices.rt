@@ -38,11 +38,16 @@ pub fn price_or(
     item: u64,
     usual: u64,
 ) -> Result<u64, Refused<(u64, u64)>>
+    // Result.
     ensures price { IfOk result (λ price. price
         ≡ unwrap_or (value_of nat_cmp prices.old.pairs item) usual) }
+
+    // Contents.
     ensures now { IfOk result (λ price. value_of nat_cmp prices.new.pairs item ≡ Some price) }
     ensures contents { IfOk result (λ price. prices.new
         ≡ with_entry nat_cmp prices.old item price) }
+
+    // Failure.
     ensures unchanged { OnErr result (prices.new ≡ prices.old) }
     ensures given_back { IfErr result (λ refused.
         (refused.value ≡ (item, usual)) × (refused.cause ≡ Memory)) }

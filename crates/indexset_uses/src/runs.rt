@@ -25,20 +25,27 @@ pub fn run_stock(
     stock: &mut Stock,
     commands: Vec<LoggedMapCommand<Text, u64>>,
 ) -> LogRun<Stock>
-    ensures replay { replay (by_key (slice_cmp nat_cmp)) stock.old.nodes result.events.items
-        ≡ Some stock.new.nodes }
+    // Result.
     ensures numbered { IsNumberedFrom stock.old.next result.events.items }
-    ensures next { stock.new.next ≡ stock.old.next + length result.events.items }
     ensures replies { result.replies.items ≡ scan (logged_map_after (slice_cmp nat_cmp))
         (logged_map_reply (slice_cmp nat_cmp)) (concat stock.old.nodes)
         (take (length result.replies.items) commands.items) }
     ensures all { IfNone result.refused (length result.replies.items ≡ length commands.items) }
-    ensures fewer { OnSome result.refused
-        (length result.replies.items < length commands.items) }
-    ensures refused { IfSome result.refused (λ cause. cause ≢ Memory → cause ≡ Numbers) }
+
+    // Contents.
+    ensures next { stock.new.next ≡ stock.old.next + length result.events.items }
     ensures contents { concat stock.new.nodes
         ≡ fold (logged_map_after (slice_cmp nat_cmp)) (concat stock.old.nodes)
         (take (length result.replies.items) commands.items) }
+
+    // Failure.
+    ensures fewer { OnSome result.refused
+        (length result.replies.items < length commands.items) }
+    ensures refused { IfSome result.refused (λ cause. cause ≢ Memory → cause ≡ Numbers) }
+
+    // Nodes.
+    ensures replay { replay (by_key (slice_cmp nat_cmp)) stock.old.nodes result.events.items
+        ≡ Some stock.new.nodes }
 {
     run_logged(alloc, stock, commands)
 }
@@ -53,22 +60,29 @@ pub fn run_counts(
     counts: &mut Counts,
     commands: Vec<LoggedMapCommand<String, u64>>,
 ) -> LogRun<Counts>
+    // Result.
     ensures all { IfNone result.refused (length result.replies.items ≡ length commands.items) }
-    ensures fewer { OnSome result.refused
-        (length result.replies.items < length commands.items) }
-    ensures refused { IfSome result.refused (λ cause. cause ≢ Memory → cause ≡ Numbers) }
     ensures replies { result.replies.items ≡ scan (logged_map_after string_cmp)
         (logged_map_reply string_cmp) (concat counts.old.nodes)
         (take (length result.replies.items) commands.items) }
+    ensures numbered { IsNumberedFrom counts.old.next result.events.items }
+    ensures at_most_three_events { length result.events.items ≤ 3 * length result.replies.items }
+
+    // Contents.
     ensures contents { concat counts.new.nodes
         ≡ fold (logged_map_after string_cmp) (concat counts.old.nodes)
         (take (length result.replies.items) commands.items) }
-    ensures numbered { IsNumberedFrom counts.old.next result.events.items }
+    ensures next { counts.new.next ≡ counts.old.next + length result.events.items }
+
+    // Failure.
+    ensures fewer { OnSome result.refused
+        (length result.replies.items < length commands.items) }
+    ensures refused { IfSome result.refused (λ cause. cause ≢ Memory → cause ≡ Numbers) }
+
+    // Nodes.
     ensures copies { LeadsToCopies (by_key string_cmp)
         (λ p q. (string_bytes q.key ≡ string_bytes p.key) × (q.value ≡ p.value)) counts.old.nodes
         result.events.items counts.new.nodes }
-    ensures next { counts.new.next ≡ counts.old.next + length result.events.items }
-    ensures at_most_three_events { length result.events.items ≤ 3 * length result.replies.items }
 {
     clones::texts();
     run_logged(alloc, counts, commands)

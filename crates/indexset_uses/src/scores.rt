@@ -36,10 +36,17 @@ pub fn scores_from(board: &BTreeSet<u64>, score: u64) -> usize
 
 /// Removes the scores that are at least this one, and returns them.
 pub fn take_from(board: &mut BTreeSet<u64>, score: u64) -> Result<BTreeSet<u64>, Refusal>
-    ensures left { OnOk result (All (λ x. x < score) (items board.new)) }
+    // Result.
     ensures taken { IfOk result (λ taken. All (λ x. score ≤ x) (items taken)) }
+
+    // Contents.
+    ensures left { OnOk result (All (λ x. x < score) (items board.new)) }
     ensures all { IfOk result (λ taken. items board.old ≡ items board.new ++ items taken) }
+
+    // Failure.
     ensures unchanged { OnErr result (board.new ≡ board.old) }
+
+    // Memory.
     ensures memory { IfErr result (λ refusal. refusal ≡ Refusal.Memory) }
 {
     board.split_off(&score)

@@ -30,16 +30,21 @@ pub fn set_count(
     name: String,
     count: u64,
 ) -> Result<Vec<ChangeEvent<Count>>, Refused<(String, u64)>>
-    ensures contents { OnOk result (concat counts.new.nodes
-        ≡ put (by_key string_cmp) (concat counts.old.nodes) (pair name count)) }
-    ensures held { OnOk result (value_of string_cmp (concat counts.new.nodes) name ≡ Some count) }
+    // Result.
     ensures numbered { IfOk result (λ events. IsNumberedFrom counts.old.next events.items) }
-    ensures next { IfOk result (λ events. counts.new.next ≡ counts.old.next + length events.items) }
     ensures at_most_three_events { IfOk result (λ events. length events.items ≤ 3) }
     ensures events { IfOk result (λ events. AllZip
         (IsEventClone (λ p q. (string_bytes q.key ≡ string_bytes p.key) × (q.value ≡ p.value)))
         (numbered_from counts.old.next (put_events (by_key string_cmp) counts.old.size
         counts.old.nodes (pair name count))) events.items) }
+
+    // Contents.
+    ensures contents { OnOk result (concat counts.new.nodes
+        ≡ put (by_key string_cmp) (concat counts.old.nodes) (pair name count)) }
+    ensures held { OnOk result (value_of string_cmp (concat counts.new.nodes) name ≡ Some count) }
+    ensures next { IfOk result (λ events. counts.new.next ≡ counts.old.next + length events.items) }
+
+    // Failure.
     ensures unchanged { OnErr result (counts.new ≡ counts.old) }
     ensures given_back { IfErr result (λ refused. refused.value ≡ (name, count)) }
     ensures cause { IfErr result (λ refused. refused.cause ≡ refusal_for counts.old.next (length
@@ -91,16 +96,21 @@ pub fn set_in_both(
 ///
 /// They are those of the removal, with clones of its names, numbered without a gap.
 pub fn forget(counts: &mut Counts, name: &String) -> Result<Vec<ChangeEvent<Count>>, Refusal>
-    ensures contents { OnOk result (concat counts.new.nodes
-        ≡ without_key string_cmp (concat counts.old.nodes) name.now) }
-    ensures gone { OnOk result (has_key string_cmp (concat counts.new.nodes) name.now ≡ false) }
+    // Result.
     ensures numbered { IfOk result (λ events. IsNumberedFrom counts.old.next events.items) }
-    ensures next { IfOk result (λ events. counts.new.next ≡ counts.old.next + length events.items) }
     ensures at_most_three_events { IfOk result (λ events. length events.items ≤ 3) }
     ensures events { IfOk result (λ events. AllZip
         (IsEventClone (λ p q. (string_bytes q.key ≡ string_bytes p.key) × (q.value ≡ p.value)))
         (numbered_from counts.old.next (key_removal_events string_cmp counts.old.size
         counts.old.nodes name.now)) events.items) }
+
+    // Contents.
+    ensures contents { OnOk result (concat counts.new.nodes
+        ≡ without_key string_cmp (concat counts.old.nodes) name.now) }
+    ensures gone { OnOk result (has_key string_cmp (concat counts.new.nodes) name.now ≡ false) }
+    ensures next { IfOk result (λ events. counts.new.next ≡ counts.old.next + length events.items) }
+
+    // Failure.
     ensures unchanged { OnErr result (counts.new ≡ counts.old) }
     ensures cause { IfErr result (λ refusal. refusal ≡ refusal_for counts.old.next
         (length (key_removal_events string_cmp counts.old.size counts.old.nodes name.now))) }
@@ -115,15 +125,20 @@ pub fn forget(counts: &mut Counts, name: &String) -> Result<Vec<ChangeEvent<Coun
 /// The nodes are then those after the event, with a clone of an item that it inserts, and the
 /// replica expects the next event.
 pub fn follow(copy: &mut Replica<Count>, event: &ChangeEvent<Count>) -> Result<(), Refusal>
-    ensures nodes { OnOk result (IsClonedStep (by_key string_cmp)
-        (λ p q. (string_bytes q.key ≡ string_bytes p.key) × (q.value ≡ p.value)) copy.old.nodes
-        (unassigned event.now) copy.new.nodes) }
+    // Contents.
     ensures next { OnOk result (copy.new.next ≡ copy.old.next + 1) }
+
+    // Failure.
     ensures fits { OnOk result (apply_refusal (by_key string_cmp) copy.old.nodes copy.old.next
         event.now ≡ None) }
     ensures unchanged { OnErr result (copy.new ≡ copy.old) }
     ensures cause { IfErr result (λ refusal. refusal ≡ unwrap_or (apply_refusal (by_key string_cmp)
         copy.old.nodes copy.old.next event.now) Refusal.Memory) }
+
+    // Nodes.
+    ensures nodes { OnOk result (IsClonedStep (by_key string_cmp)
+        (λ p q. (string_bytes q.key ≡ string_bytes p.key) × (q.value ≡ p.value)) copy.old.nodes
+        (unassigned event.now) copy.new.nodes) }
 {
     copy.apply(event)
 }

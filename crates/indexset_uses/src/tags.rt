@@ -25,6 +25,10 @@ pub fn add(
     tag: Text,
     document: Text,
 ) -> Result<Vec<ChangeEvent<Tagged>>, Refused<(Text, Text)>>
+    // Result.
+    ensures numbered { IfOk result (λ events. IsNumberedFrom tags.old.next events.items) }
+
+    // Contents.
     ensures contains { OnOk result (is_some (equal_pair (slice_cmp nat_cmp) (pointwise nat_eq)
         (concat tags.new.nodes) tag document) ≡ true) }
     ensures contents { OnOk result (concat tags.new.nodes
@@ -33,14 +37,17 @@ pub fn add(
     ensures others { OnOk result ((other : List ℕ) → is_eq (slice_cmp nat_cmp other tag) ≡ false
         → pairs_of (slice_cmp nat_cmp) (concat tags.new.nodes) other
         ≡ pairs_of (slice_cmp nat_cmp) (concat tags.old.nodes) other) }
-    ensures replay { IfOk result (λ events. replay (by_number (slice_cmp nat_cmp)) tags.old.nodes
-        events.items ≡ Some tags.new.nodes) }
-    ensures numbered { IfOk result (λ events. IsNumberedFrom tags.old.next events.items) }
     ensures next { IfOk result (λ events. tags.new.next ≡ tags.old.next + length events.items) }
+
+    // Failure.
     ensures unchanged { OnErr result (tags.new ≡ tags.old) }
     ensures given_back { IfErr result (λ refused. refused.value ≡ (tag, document)) }
     ensures cause { IfErr result (λ refused. refused.cause
         ≡ insertion_refusal (slice_cmp nat_cmp) (pointwise nat_eq) tags.old tag document) }
+
+    // Nodes.
+    ensures replay { IfOk result (λ events. replay (by_number (slice_cmp nat_cmp)) tags.old.nodes
+        events.items ≡ Some tags.new.nodes) }
 {
     laws::numbered_by_place::<Tagged>();
     let (_, events) = tags.insert_cdc(tag, document)?;
@@ -55,21 +62,28 @@ pub fn remove(
     tag: &str,
     document: &Text,
 ) -> Result<Vec<ChangeEvent<Tagged>>, Refusal>
+    // Result.
+    ensures numbered { IfOk result (λ events. IsNumberedFrom tags.old.next events.items) }
+
+    // Contents.
     ensures gone { OnOk result (pairs_of (slice_cmp nat_cmp) (concat tags.new.nodes) tag.now
         ≡ without_first (λ pair. pointwise nat_eq pair.value document.now)
         (pairs_of (slice_cmp nat_cmp) (concat tags.old.nodes) tag.now)) }
     ensures others { OnOk result ((other : List ℕ) → is_eq (slice_cmp nat_cmp other tag.now) ≡ false
         → pairs_of (slice_cmp nat_cmp) (concat tags.new.nodes) other
         ≡ pairs_of (slice_cmp nat_cmp) (concat tags.old.nodes) other) }
-    ensures replay { IfOk result (λ events. replay (by_number (slice_cmp nat_cmp)) tags.old.nodes
-        events.items ≡ Some tags.new.nodes) }
-    ensures numbered { IfOk result (λ events. IsNumberedFrom tags.old.next events.items) }
     ensures next { IfOk result (λ events. tags.new.next ≡ tags.old.next + length events.items) }
+
+    // Failure.
     ensures unchanged { OnErr result (tags.new ≡ tags.old) }
     ensures cause { IfErr result (λ refusal. refusal ≡ refusal_for tags.old.next (length
         (pair_removal_events (slice_cmp nat_cmp) tags.old.size tags.old.nodes
         (equal_pair (slice_cmp nat_cmp) (pointwise nat_eq) (concat tags.old.nodes) tag.now
         document.now)))) }
+
+    // Nodes.
+    ensures replay { IfOk result (λ events. replay (by_number (slice_cmp nat_cmp)) tags.old.nodes
+        events.items ≡ Some tags.new.nodes) }
 {
     laws::numbered_by_place::<Tagged>();
     let (_, events) = tags.remove_cdc(tag, document)?;
