@@ -150,7 +150,7 @@ pub extern "C" fn indexset_multi_remove(
 
     // Nodes.
     ensures tree { result ≡ YES → IfSome multi.old.slot.value (λ m. multi.new.slot.value
-        ≡ Some (after_removal nat_cmp m (equal_pair nat_cmp nat_eq (concat m.nodes) key value))) }
+        ≡ Some (after_pair_removal nat_cmp m (equal_pair nat_cmp nat_eq (concat m.nodes) key value))) }
 {
     let Some(mut held) = multi.take(alloc) else {
         return NO;
@@ -204,7 +204,7 @@ pub extern "C" fn indexset_multi_remove_first(
 
     // Nodes.
     ensures tree { result ≡ YES → IfSome multi.old.slot.value (λ m. multi.new.slot.value
-        ≡ Some (after_removal nat_cmp m (first_pair nat_cmp (concat m.nodes) key))) }
+        ≡ Some (after_pair_removal nat_cmp m (first_pair nat_cmp (concat m.nodes) key))) }
 {
     let Some(mut held) = multi.take(alloc) else {
         return NO;

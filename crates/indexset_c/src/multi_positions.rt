@@ -126,7 +126,7 @@ pub extern "C" fn indexset_multi_remove_at(
 
     // Nodes.
     ensures tree { result ≡ YES → IfSome multi.old.slot.value (λ m. multi.new.slot.value
-        ≡ Some (after_removal nat_cmp m (slice_get (concat m.nodes) position))) }
+        ≡ Some (after_pair_removal nat_cmp m (slice_get (concat m.nodes) position))) }
 {
     let Some(mut held) = multi.take(alloc) else {
         return NO;

@@ -189,7 +189,7 @@ impl<K: Ord + Clone + Drop, V: Eq + Clone + Drop, Node: NodeLike<MultiPair<K, V>
             (named_removal K.cmp self.old (slice_get (concat self.old.nodes) i))) }
 
         // Failure.
-        ensures refusal { IfErr result (λ e. e ≡ refusal_of self.old
+        ensures refusal { IfErr result (λ e. e ≡ multi_refusal_of self.old
             (named_removal K.cmp self.old (slice_get (concat self.old.nodes) i))) }
         ensures unchanged { OnErr result (self.new ≡ self.old) }
 

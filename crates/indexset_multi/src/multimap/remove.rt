@@ -64,7 +64,7 @@ impl<K: Ord + Clone + Drop, V: Eq + Clone + Drop, Node: NodeLike<MultiPair<K, V>
             (some_removal K.cmp Q.order self.old key)) }
 
         // Failure.
-        ensures refusal { IfErr result (λ e. e ≡ refusal_of self.old
+        ensures refusal { IfErr result (λ e. e ≡ multi_refusal_of self.old
             (some_removal K.cmp Q.order self.old key)) }
         ensures unchanged { OnErr result (self.new ≡ self.old) }
 
@@ -107,16 +107,16 @@ impl<K: Ord + Clone + Drop, V: Eq + Clone + Drop, Node: NodeLike<MultiPair<K, V>
             (some_removal K.cmp Q.order self.old key)) }
 
         // Failure.
-        ensures refusal { IfErr result (λ e. e ≡ refusal_of self.old
+        ensures refusal { IfErr result (λ e. e ≡ multi_refusal_of self.old
             (some_removal K.cmp Q.order self.old key)) }
         ensures unchanged { OnErr result (self.new ≡ self.old) }
 
         // Memory.
         ensures no_event { (some_removal K.cmp Q.order self.old key).events ≡ [] → IsOk result }
         ensures no_memory { length (some_removal K.cmp Q.order self.old key).events ≤ 1
-            → Fits self.old (some_removal K.cmp Q.order self.old key) → IsOk result }
+            → MultiFits self.old (some_removal K.cmp Q.order self.old key) → IsOk result }
         ensures never { Node.allocates ≡ false
-            → Fits self.old (some_removal K.cmp Q.order self.old key) → IsOk result }
+            → MultiFits self.old (some_removal K.cmp Q.order self.old key) → IsOk result }
     {
         let first = self.first_place(&key);
         self.take(first)
@@ -166,7 +166,7 @@ impl<K: Ord + Clone + Drop, V: Eq + Clone + Drop, Node: NodeLike<MultiPair<K, V>
             (equal_removal K.cmp Q.order V.eq self.old key value.now)) }
 
         // Failure.
-        ensures refusal { IfErr result (λ e. e ≡ refusal_of self.old
+        ensures refusal { IfErr result (λ e. e ≡ multi_refusal_of self.old
             (equal_removal K.cmp Q.order V.eq self.old key value.now)) }
         ensures unchanged { OnErr result (self.new ≡ self.old) }
 
@@ -218,7 +218,7 @@ impl<K: Ord + Clone + Drop, V: Eq + Clone + Drop, Node: NodeLike<MultiPair<K, V>
             (equal_removal K.cmp Q.order V.eq self.old key value.now)) }
 
         // Failure.
-        ensures refusal { IfErr result (λ e. e ≡ refusal_of self.old
+        ensures refusal { IfErr result (λ e. e ≡ multi_refusal_of self.old
             (equal_removal K.cmp Q.order V.eq self.old key value.now)) }
         ensures unchanged { OnErr result (self.new ≡ self.old) }
 
@@ -226,9 +226,9 @@ impl<K: Ord + Clone + Drop, V: Eq + Clone + Drop, Node: NodeLike<MultiPair<K, V>
         ensures no_event { (equal_removal K.cmp Q.order V.eq self.old key value.now).events ≡ []
             → IsOk result }
         ensures no_memory { length (equal_removal K.cmp Q.order V.eq self.old key value.now).events ≤ 1
-            → Fits self.old (equal_removal K.cmp Q.order V.eq self.old key value.now) → IsOk result }
+            → MultiFits self.old (equal_removal K.cmp Q.order V.eq self.old key value.now) → IsOk result }
         ensures never { Node.allocates ≡ false
-            → Fits self.old (equal_removal K.cmp Q.order V.eq self.old key value.now) → IsOk result }
+            → MultiFits self.old (equal_removal K.cmp Q.order V.eq self.old key value.now) → IsOk result }
     {
         let place = self.equal_place(&key, value);
         self.take(place)
@@ -282,7 +282,7 @@ impl<K: Ord + Clone + Drop, V: Eq + Clone + Drop, Node: NodeLike<MultiPair<K, V>
             (placed_item self.old.nodes place) ≡ [] → IsOk result }
 
         // Nodes.
-        ensures tree { OnOk result (self.new ≡ after_removal K.cmp self.old
+        ensures tree { OnOk result (self.new ≡ after_pair_removal K.cmp self.old
             (placed_item self.old.nodes place)) }
         ensures rule { IsTree (by_number K.cmp) Node.most self.old.nodes self.old.size
             (length (concat self.old.nodes)) }
@@ -326,7 +326,7 @@ impl<K: Ord + Clone + Drop, V: Eq + Clone + Drop, Node: NodeLike<MultiPair<K, V>
             (placed_item self.old.nodes place)) ≤ u64.MAX → IsOk result }
 
         // Nodes.
-        ensures tree { OnOk result (self.new ≡ after_removal K.cmp self.old
+        ensures tree { OnOk result (self.new ≡ after_pair_removal K.cmp self.old
             (placed_item self.old.nodes place)) }
         ensures rule { IsTree (by_number K.cmp) Node.most self.old.nodes self.old.size
             (length (concat self.old.nodes)) }

@@ -147,7 +147,7 @@ impl<K: Ord + Clone + Drop, V: Eq + Clone + Drop, Node: NodeLike<MultiPair<K, V>
         ensures no_event { first_events K.cmp Q.order self.old key.now ≡ [] → IsOk result }
 
         // Nodes.
-        ensures tree { OnOk result (self.new ≡ after_removal K.cmp self.old
+        ensures tree { OnOk result (self.new ≡ after_pair_removal K.cmp self.old
             (first_pair Q.order (concat self.old.nodes) key.now)) }
     {
         let place = self.first_place(key);
@@ -179,7 +179,7 @@ impl<K: Ord + Clone + Drop, V: Eq + Clone + Drop, Node: NodeLike<MultiPair<K, V>
         ensures unchanged { OnErr result (self.new ≡ self.old) }
 
         // Nodes.
-        ensures tree { OnOk result (self.new ≡ after_removal K.cmp self.old
+        ensures tree { OnOk result (self.new ≡ after_pair_removal K.cmp self.old
             (first_pair Q.order (concat self.old.nodes) key.now)) }
     {
         // The invariant of the nodes.
