@@ -1,6 +1,6 @@
 //! Calls of a map that take many keys.
 ghost use Rattle.std.specs.Prelude.{◌≡◌, ◌≢◌, ◌<◌, ◌≤◌, ◌↔◌, None, length, map, min, take, is_some};
-ghost use Rattle.indexset_ffi.specs.Elements.{pairs, put_all, value_or, written};
+ghost use Rattle.indexset_ffi.specs.Elements.{pairs, put_in_turn, value_or, written};
 
 use indexset_ffi::map_calls::{put_each, value_each};
 use indexset_ffi::map_handle::MapHandle;
@@ -16,7 +16,7 @@ use std::alloc::Global;
 ///
 /// `MEMORY`: the pairs before the one that failed were taken. `NONE` if the handle is empty.
 #[unsafe(no_mangle)]
-#[tactic(auto, unfolding(indexset_ffi::specs::Elements::put_all))]
+#[tactic(auto, unfolding(indexset_ffi::specs::Elements::put_in_turn))]
 pub extern "C" fn indexset_map_insert_all(
     alloc: Global,
     map: &mut MapHandle,
@@ -29,7 +29,7 @@ pub extern "C" fn indexset_map_insert_all(
 
     // Contents.
     ensures put { pairs map.new.slot.value
-        ≡ put_all (pairs map.old.slot.value) (take taken.new keys.now) (take taken.new values.now) }
+        ≡ put_in_turn (pairs map.old.slot.value) (take taken.new keys.now) (take taken.new values.now) }
     ensures contains { is_some map.new.slot.value ≡ is_some map.old.slot.value }
 
     // Failure.

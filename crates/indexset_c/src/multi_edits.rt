@@ -9,7 +9,7 @@ ghost use Rattle.indexset_multi.specs.Changed.{addition, addition_refusal};
 ghost use Rattle.indexset_multi.specs.Keys.{equal_pair, first_pair, pairs_of, without_first, without_named};
 ghost use Rattle.indexset_multi.specs.Tree.{after_insertion, after_pair_removal, insertion_refusal, pair_removal_events};
 ghost use Rattle.indexset_log.specs.Tree.{refusal_for};
-ghost use Rattle.indexset_ffi.specs.Elements.{numbered_pairs, values_of};
+ghost use Rattle.indexset_ffi.specs.Elements.{numbered_pairs, key_values};
 ghost use Rattle.indexset_ffi.specs.Statuses.{IsToldAs};
 
 use indexset_ffi::multi_calls::{has_pair, insert_new};
@@ -39,8 +39,8 @@ pub extern "C" fn indexset_multi_insert(
     ensures ok { result ≡ YES → IfSome multi.old.slot.value
         (λ m. numbered_pairs multi.new.slot.value
         ≡ put (by_number nat_cmp) (concat m.nodes) (numbered_pair key value m.pair_next)) }
-    ensures last { result ≡ YES → values_of (numbered_pairs multi.new.slot.value) key
-        ≡ values_of (numbered_pairs multi.old.slot.value) key ++ value ∷ [] }
+    ensures last { result ≡ YES → key_values (numbered_pairs multi.new.slot.value) key
+        ≡ key_values (numbered_pairs multi.old.slot.value) key ++ value ∷ [] }
     ensures others { result ≡ YES → (other : ℕ) → is_eq (nat_cmp other key) ≡ false
         → pairs_of nat_cmp (numbered_pairs multi.new.slot.value) other
         ≡ pairs_of nat_cmp (numbered_pairs multi.old.slot.value) other }
@@ -84,8 +84,8 @@ pub extern "C" fn indexset_multi_push(
     value: u64,
 ) -> u32
     // Contents.
-    ensures last { result ≡ YES → values_of (numbered_pairs multi.new.slot.value) key
-        ≡ values_of (numbered_pairs multi.old.slot.value) key ++ value ∷ [] }
+    ensures last { result ≡ YES → key_values (numbered_pairs multi.new.slot.value) key
+        ≡ key_values (numbered_pairs multi.old.slot.value) key ++ value ∷ [] }
     ensures others { result ≡ YES → (other : ℕ) → is_eq (nat_cmp other key) ≡ false
         → pairs_of nat_cmp (numbered_pairs multi.new.slot.value) other
         ≡ pairs_of nat_cmp (numbered_pairs multi.old.slot.value) other }

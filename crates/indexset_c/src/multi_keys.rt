@@ -2,7 +2,7 @@
 ghost use Rattle.std.specs.Prelude.{◌≡◌, is_some, length, min, nat_eq};
 ghost use Rattle.std.specs.Ordering.{nat_cmp};
 ghost use Rattle.indexset_multi.specs.Keys.{equal_pair, has_pair_of};
-ghost use Rattle.indexset_ffi.specs.Elements.{numbered_pairs, values_of, written};
+ghost use Rattle.indexset_ffi.specs.Elements.{numbered_pairs, key_values, written};
 
 use indexset_ffi::multi_calls::{has_pair, write_values};
 use indexset_ffi::multi_handle::MultiHandle;
@@ -49,7 +49,7 @@ pub extern "C" fn indexset_multi_contains_key(
 /// Returns the number of values of a key.
 #[unsafe(no_mangle)]
 pub extern "C" fn indexset_multi_count(alloc: Global, multi: &mut MultiHandle, key: u64) -> usize
-    ensures value { result ≡ length (values_of (numbered_pairs multi.old.slot.value) key) }
+    ensures value { result ≡ length (key_values (numbered_pairs multi.old.slot.value) key) }
     ensures unchanged { multi.new.slot.value ≡ multi.old.slot.value }
 {
     let Some(held) = multi.take(alloc) else {
@@ -68,9 +68,9 @@ pub extern "C" fn indexset_multi_get(
     key: u64,
     out: &mut [u64],
 ) -> usize
-    ensures count { result ≡ min (length (values_of (numbered_pairs multi.old.slot.value) key))
+    ensures count { result ≡ min (length (key_values (numbered_pairs multi.old.slot.value) key))
         (length out.old) }
-    ensures written { out.new ≡ written result (values_of (numbered_pairs multi.old.slot.value) key)
+    ensures written { out.new ≡ written result (key_values (numbered_pairs multi.old.slot.value) key)
         out.old }
     ensures unchanged { multi.new.slot.value ≡ multi.old.slot.value }
 {

@@ -7,7 +7,7 @@ ghost use Rattle.indexset_core.specs.Pairs.{by_key, pair, value_of};
 ghost use Rattle.indexset_core.specs.declared.refusal.Refusal.TheVariants.{Numbers};
 ghost use Rattle.indexset_log.specs.Changed.{Changed, key_removal, put_change, refusal_of};
 ghost use Rattle.indexset_ffi.specs.Text.{written_over};
-ghost use Rattle.indexset_ffi.specs.TextLogs.{after, logged_texts, node_key, pair_key, record_of, told_changes};
+ghost use Rattle.indexset_ffi.specs.TextLogs.{after, logged_texts, node_key, pair_key, text_record, told_changes};
 
 use indexset_ffi::status::{HELD, MEMORY, NO, NONE, NUMBERS, YES, of_refusal};
 use indexset_ffi::text_event::{TextEvent, write_change};
@@ -143,7 +143,7 @@ pub extern "C" fn indexset_text_log_change(
 ) -> bool
     // Result.
     ensures found { result ≡ true
-        → option_map record_of (slice_get (told_changes log.old.slot.value) i) ≡ Some event.new }
+        → option_map text_record (slice_get (told_changes log.old.slot.value) i) ≡ Some event.new }
     ensures absent { result ≡ false → slice_get (told_changes log.old.slot.value) i ≡ None }
     ensures node { node.new ≡ written_over
         (option_map_or node_key (slice_get (told_changes log.old.slot.value) i) []) node.old }

@@ -50,10 +50,10 @@ abbrev pub entry_at : List (Pair ℕ ℕ) → ℕ → Option (ℕ × ℕ)
 entry_at ps i = option_map entry_of (slice_get ps i)
 
 -- the pairs after each key and value is put, in order
-unfoldable pub put_all : List (Pair ℕ ℕ) → List ℕ → List ℕ → List (Pair ℕ ℕ)
-put_all ps [] ws = ps
-put_all ps (k ∷ ks) [] = ps
-put_all ps (k ∷ ks) (w ∷ ws) = put_all (put_value nat_cmp ps k w) ks ws
+unfoldable pub put_in_turn : List (Pair ℕ ℕ) → List ℕ → List ℕ → List (Pair ℕ ℕ)
+put_in_turn ps [] ws = ps
+put_in_turn ps (k ∷ ks) [] = ps
+put_in_turn ps (k ∷ ks) (w ∷ ws) = put_in_turn (put_value nat_cmp ps k w) ks ws
 
 -- the value of a key, or w if the key is absent
 abbrev pub value_or : List (Pair ℕ ℕ) → ℕ → ℕ → ℕ
@@ -72,8 +72,8 @@ abbrev pub fresh_multi : MultiTree ℕ ℕ
 fresh_multi = record { nodes = []; size = DEFAULT_INNER_SIZE; next = 0; pair_next = 0 }
 
 -- the values of a key, in insertion order
-abbrev pub values_of : List (MultiPair ℕ ℕ) → ℕ → List ℕ
-values_of l k = pair_values (entries (pairs_of nat_cmp l k))
+abbrev pub key_values : List (MultiPair ℕ ℕ) → ℕ → List ℕ
+key_values l k = pair_values (entries (pairs_of nat_cmp l k))
 
 -- the nodes of a logged map, and its pairs in order; an empty handle has none
 abbrev pub logged_nodes : Option (Tree (Pair ℕ ℕ)) → List (List (Pair ℕ ℕ))

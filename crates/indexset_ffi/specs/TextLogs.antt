@@ -49,48 +49,48 @@ kind_of (SplitNode id m k) = SPLIT
 kind_of (MergeNodes id m w) = MERGE
 
 -- the pair that identifies the node
-abbrev pub node_of : ChangeEvent TextPair → TextPair
-node_of (InsertAt id m v i) = m
-node_of (RemoveAt id m v i) = m
-node_of (CreateNode id m) = m
-node_of (RemoveNode id m) = m
-node_of (SplitNode id m k) = m
-node_of (MergeNodes id m w) = m
+abbrev pub event_node : ChangeEvent TextPair → TextPair
+event_node (InsertAt id m v i) = m
+event_node (RemoveAt id m v i) = m
+event_node (CreateNode id m) = m
+event_node (RemoveNode id m) = m
+event_node (SplitNode id m k) = m
+event_node (MergeNodes id m w) = m
 
 -- the key of that pair
 abbrev pub node_key : ChangeEvent TextPair → List ℕ
-node_key e = (node_of e).key
+node_key e = (event_node e).key
 
 -- the pair that is inserted or removed, or that identifies the second node
-abbrev pub pair_of : ChangeEvent TextPair → Option TextPair
-pair_of (InsertAt id m v i) = Some v
-pair_of (RemoveAt id m v i) = Some v
-pair_of (CreateNode id m) = None
-pair_of (RemoveNode id m) = None
-pair_of (SplitNode id m k) = None
-pair_of (MergeNodes id m w) = Some w
+abbrev pub event_pair : ChangeEvent TextPair → Option TextPair
+event_pair (InsertAt id m v i) = Some v
+event_pair (RemoveAt id m v i) = Some v
+event_pair (CreateNode id m) = None
+event_pair (RemoveNode id m) = None
+event_pair (SplitNode id m k) = None
+event_pair (MergeNodes id m w) = Some w
 
 -- the index in the node
-abbrev pub index_of : ChangeEvent TextPair → ℕ
-index_of (InsertAt id m v i) = i
-index_of (RemoveAt id m v i) = i
-index_of (CreateNode id m) = 0
-index_of (RemoveNode id m) = 0
-index_of (SplitNode id m k) = k
-index_of (MergeNodes id m w) = 0
+abbrev pub event_index : ChangeEvent TextPair → ℕ
+event_index (InsertAt id m v i) = i
+event_index (RemoveAt id m v i) = i
+event_index (CreateNode id m) = 0
+event_index (RemoveNode id m) = 0
+event_index (SplitNode id m k) = k
+event_index (MergeNodes id m w) = 0
 
 -- the key of that pair, or no bytes if there is none
 abbrev pub pair_key : ChangeEvent TextPair → List ℕ
-pair_key e = option_map_or (λ p. p.key) (pair_of e) []
+pair_key e = option_map_or (λ p. p.key) (event_pair e) []
 
 -- the record of an event
-abbrev pub record_of : ChangeEvent TextPair → TextEvent
-record_of e = record {
+abbrev pub text_record : ChangeEvent TextPair → TextEvent
+text_record e = record {
   number = event_number e;
   node_len = length (node_key e);
-  node_value = (node_of e).value;
+  node_value = (event_node e).value;
   key_len = length (pair_key e);
-  value = option_map_or (λ p. p.value) (pair_of e) 0;
-  index = index_of e;
+  value = option_map_or (λ p. p.value) (event_pair e) 0;
+  index = event_index e;
   kind = kind_of e;
 }

@@ -5,7 +5,7 @@ ghost use Rattle.std.specs.Ordering.{nat_cmp};
 ghost use Rattle.std.specs.declared.ops.Bound.TheVariants.{Included, Excluded, Unbounded};
 ghost use Rattle.indexset_core.specs.Pairs.{entry_of, key_rank, pair_keys, pair_values, pairs_within};
 ghost use Rattle.indexset_ffi.specs.Cursors.{cursor_position};
-ghost use Rattle.indexset_ffi.specs.Elements.{entry_at, key_count_up_to, put_all, value_or, written};
+ghost use Rattle.indexset_ffi.specs.Elements.{entry_at, key_count_up_to, put_in_turn, value_or, written};
 
 use crate::cursor::{self, Cursor};
 use indexset_core::probe::ByKey;
@@ -13,10 +13,10 @@ use indexset_map::{BTreeMap, RangeMap};
 use std::ops::Bound;
 
 /// Puts each key and value until an allocation fails, and returns how many were put.
-#[tactic(auto, unfolding(crate::specs::Elements::put_all))]
+#[tactic(auto, unfolding(crate::specs::Elements::put_in_turn))]
 pub fn put_each(map: &mut BTreeMap<u64, u64>, keys: &[u64], values: &[u64]) -> usize
     ensures count { result ≤ min (length keys.now) (length values.now) }
-    ensures put { map.new.pairs ≡ put_all map.old.pairs (take result keys.now)
+    ensures put { map.new.pairs ≡ put_in_turn map.old.pairs (take result keys.now)
         (take result values.now) }
 {
     let room = keys.len().min(values.len());

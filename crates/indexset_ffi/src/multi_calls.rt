@@ -6,7 +6,7 @@ ghost use Rattle.indexset_core.specs.Nodes.{concat, node_lengths, vec_items};
 ghost use Rattle.indexset_core.specs.Pairs.{pair_values, pair_keys};
 ghost use Rattle.indexset_multi.specs.Keys.{equal_pair, pairs_of};
 ghost use Rattle.indexset_ffi.specs.Cursors.{cursor_position};
-ghost use Rattle.indexset_ffi.specs.Elements.{values_of, written};
+ghost use Rattle.indexset_ffi.specs.Elements.{key_values, written};
 ghost use Rattle.indexset_core.specs.MultiPairs.{by_number, numbered_pair};
 ghost use Rattle.indexset_core.specs.Order.{put};
 ghost use Rattle.indexset_multi.specs.Tree.{after_insertion, insertion_refusal};
@@ -44,8 +44,8 @@ pub fn insert_new(multi: &mut MultiMap, key: u64, value: u64) -> Result<(), Refu
     ensures ok { OnOk result (concat multi.new.nodes
         ≡ put (by_number nat_cmp) (concat multi.old.nodes)
         (numbered_pair key value multi.old.pair_next)) }
-    ensures last { OnOk result (values_of (concat multi.new.nodes) key
-        ≡ values_of (concat multi.old.nodes) key ++ value ∷ []) }
+    ensures last { OnOk result (key_values (concat multi.new.nodes) key
+        ≡ key_values (concat multi.old.nodes) key ++ value ∷ []) }
     ensures others { OnOk result ((other : ℕ) → is_eq (nat_cmp other key) ≡ false
         → pairs_of nat_cmp (concat multi.new.nodes) other
         ≡ pairs_of nat_cmp (concat multi.old.nodes) other) }

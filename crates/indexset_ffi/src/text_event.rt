@@ -2,7 +2,7 @@
 ghost use Rattle.std.specs.Prelude.{◌≡◌};
 ghost use Rattle.std.specs.Option.{option_copied};
 ghost use Rattle.indexset_ffi.specs.Text.{written_over};
-ghost use Rattle.indexset_ffi.specs.TextLogs.{index_of, kind_of, node_key, node_of, pair_key, pair_of, record_of};
+ghost use Rattle.indexset_ffi.specs.TextLogs.{event_index, kind_of, node_key, event_node, pair_key, event_pair, text_record};
 
 use crate::event::{CREATE, DROP, INSERT, MERGE, REMOVE, SPLIT};
 use crate::text_log::TextChange;
@@ -49,8 +49,8 @@ fn kind_of(change: &TextChange) -> u32
 }
 
 // Returns the pair that identifies the node of an event.
-fn node_of(change: &TextChange) -> &Pair<Text, u64>
-    ensures { result.now ≡ node_of change.now }
+fn event_node(change: &TextChange) -> &Pair<Text, u64>
+    ensures { result.now ≡ event_node change.now }
 {
     match change {
         ChangeEvent::InsertAt { max_value, .. } => max_value,
@@ -63,8 +63,8 @@ fn node_of(change: &TextChange) -> &Pair<Text, u64>
 }
 
 // Returns the pair that an event inserts or removes, or that identifies its second node.
-fn pair_of(change: &TextChange) -> Option<&Pair<Text, u64>>
-    ensures { option_copied result ≡ pair_of change.now }
+fn event_pair(change: &TextChange) -> Option<&Pair<Text, u64>>
+    ensures { option_copied result ≡ event_pair change.now }
 {
     match change {
         ChangeEvent::InsertAt { value, .. } => Some(value),
@@ -75,8 +75,8 @@ fn pair_of(change: &TextChange) -> Option<&Pair<Text, u64>>
 }
 
 // Returns the index of an event.
-fn index_of(change: &TextChange) -> usize
-    ensures { result ≡ index_of change.now }
+fn event_index(change: &TextChange) -> usize
+    ensures { result ≡ event_index change.now }
 {
     match change {
         ChangeEvent::InsertAt { index, .. } => *index,
@@ -88,15 +88,15 @@ fn index_of(change: &TextChange) -> usize
 
 /// Writes the record of an event, and as many bytes of its two keys as fit.
 pub fn write_change(change: &TextChange, event: &mut TextEvent, node: &mut [u8], key: &mut [u8])
-    ensures record { event.new ≡ record_of change.now }
+    ensures record { event.new ≡ text_record change.now }
     ensures node { node.new ≡ written_over (node_key change.now) node.old }
     ensures key { key.new ≡ written_over (pair_key change.now) key.old }
 {
     let number = change.id().inner();
     let kind = kind_of(change);
-    let index = index_of(change);
-    let named = node_of(change);
-    let (key_len, value) = match pair_of(change) {
+    let index = event_index(change);
+    let named = event_node(change);
+    let (key_len, value) = match event_pair(change) {
         Some(pair) => {
             write_bytes(pair.key.as_bytes(), key);
             (pair.key.len(), pair.value)

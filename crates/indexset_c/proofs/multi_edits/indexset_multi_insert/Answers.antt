@@ -6,7 +6,7 @@ use Rattle.indexset_core.specs.Nodes.{concat}
 use Rattle.indexset_multi.specs.Keys.{equal_pair, pairs_of}
 use Rattle.indexset_multi.specs.Tree.{MultiTree, insertion_refusal}
 use Rattle.indexset_ffi.specs.declared.status.TheConstants.{NO, YES, MEMORY, NONE, HELD, NUMBERS}
-use Rattle.indexset_ffi.specs.Elements.{numbered_pairs, values_of}
+use Rattle.indexset_ffi.specs.Elements.{numbered_pairs, key_values}
 use Rattle.indexset_c.proofs.MultiLemmas.{for_insertion}
 use Rattle.indexset_c.proofs.StatusLemmas.{IsRefused, is_refused, not_at, refused_not_no, refused_not_none, refused_not_yes}
 use Rattle.indexset_c.proofs.multi_edits.indexset_multi_insert.Goals.{in-Ok, in-Err}
@@ -54,7 +54,7 @@ returns c =
           record {
             contains = (λ h. not_at s YES NO w.status-is refl h, λ h. absurd (false≢true (sym absent ∙ h)));
             ok = λ h. ap numbered_pairs new ∙ e.ok;
-            last = λ h. ap (λ (o : Option (MultiTree ℕ ℕ)). values_of (numbered_pairs o) k) new ∙ e.last;
+            last = λ h. ap (λ (o : Option (MultiTree ℕ ℕ)). key_values (numbered_pairs o) k) new ∙ e.last;
             others = λ h other apart. ap (λ (o : Option (MultiTree ℕ ℕ)). pairs_of nat_cmp (numbered_pairs o) other) new ∙ e.others other apart;
             unchanged = λ h. absurd (h w.status-is);
             none = (λ h. not_at s YES NONE w.status-is refl h, λ h. absurd (none-some _ (sym h)));

@@ -9,7 +9,7 @@ use Rattle.indexset_multi.specs.Changed.{addition_refusal}
 use Rattle.indexset_multi.specs.Keys.{entries, pairs_of}
 use Rattle.indexset_multi.specs.Tree.{MultiTree}
 use Rattle.indexset_ffi.specs.declared.status.TheConstants.{NO, YES, MEMORY, NONE, HELD, NUMBERS}
-use Rattle.indexset_ffi.specs.Elements.{numbered_pairs, values_of}
+use Rattle.indexset_ffi.specs.Elements.{numbered_pairs, key_values}
 use Rattle.indexset_c.proofs.MultiLemmas.{for_insertion, value_last}
 use Rattle.indexset_c.proofs.StatusLemmas.{IsRefused, is_refused, not_at, refused_not_no, refused_not_none, refused_not_yes}
 use Rattle.indexset_c.proofs.multi_edits.indexset_multi_push.Goals.{in-Ok, in-Err}
@@ -36,7 +36,7 @@ returns c =
       | in-Ok w ↦
           let e = w.in-Ok.ensures in
           record {
-            last = λ h. ap (λ (o : Option (MultiTree ℕ ℕ)). values_of (numbered_pairs o) k) new ∙ (ap (λ l. pair_values (entries l)) e.added.last ∙ value_last (pairs_of nat_cmp (concat m.nodes) k) (numbered_pair k v m.pair_next));
+            last = λ h. ap (λ (o : Option (MultiTree ℕ ℕ)). key_values (numbered_pairs o) k) new ∙ (ap (λ l. pair_values (entries l)) e.added.last ∙ value_last (pairs_of nat_cmp (concat m.nodes) k) (numbered_pair k v m.pair_next));
             others = λ h other apart. ap (λ (o : Option (MultiTree ℕ ℕ)). pairs_of nat_cmp (numbered_pairs o) other) new ∙ e.added.others other apart;
             unchanged = λ h. absurd (h w.status-is);
             none = (λ h. not_at s YES NONE w.status-is refl h, λ h. absurd (none-some _ (sym h)));
