@@ -79,7 +79,7 @@ struct Holding {
 
 impl Answers for Holding {
     ghost use Rattle.indexset_spine.specs.NodeList.{items};
-    ghost use Rattle.indexset_bench.specs.Run.{lacks};
+    ghost use Rattle.indexset_bench.specs.Run.{numbers_used_up};
     ghost use Rattle.indexset_bench.specs.Text.{Stores, reply_line, stores, stores_after};
 
     ghost State = { Stores };
@@ -92,7 +92,7 @@ impl Answers for Holding {
 
     ghost after = { stores_after };
 
-    ghost lacks_numbers = { lacks };
+    ghost lacks_numbers = { numbers_used_up };
 
     fn answer<W: Write>(&mut self, writer: &mut W, line: &[u8]) -> Result<(), RunFault> {
         answer_line(self.alloc, writer, &mut self.set, &mut self.pairs, line)

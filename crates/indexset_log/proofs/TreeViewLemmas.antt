@@ -12,7 +12,7 @@ use Rattle.std.proofs.lemmas.Bool.Decides.{nat_tests}
 use Rattle.std.below.core.specs.declared.int.u64.TheConstants.{MAX}
 use Rattle.indexset_core.specs.declared.refusal.Refusal.TheVariants.{Numbers}
 use Rattle.indexset_index.specs.Blocks.{block_sums}
-use Rattle.indexset_log.specs.Tree.{Tree, IsIndexed, IsTree, refusal_for}
+use Rattle.indexset_log.specs.Tree.{Tree, IsIndexedTree, IsTree, refusal_for}
 use Rattle.indexset_events.proofs.CallerLemmas.{added, length_view, node_is, put_counted, put_lawful, taken_counted, taken_lawful}
 
 -- a call fails with `Numbers` only if its events do not fit the counter
@@ -40,7 +40,7 @@ pub record Held {T N : Type 0} (cmp : T → T → Ordering) (most : ℕ) (f : N 
   pub indexed : index ≡ block_sums (node_lengths t.nodes)
 
 module _ {T N : Type 0} {cmp : T → T → Ordering} {most size len next : ℕ} {index : List ℕ} {t : Tree T} where
-  pub held : (f : N → List T) (items : List N) → (let seen : Tree T = record { nodes = map f items; size = size; next = next } in seen) ≡ t → IsIndexed cmp most (map f items) size len index → Held cmp most f items size len next index t
+  pub held : (f : N → List T) (items : List N) → (let seen : Tree T = record { nodes = map f items; size = size; next = next } in seen) ≡ t → IsIndexedTree cmp most (map f items) size len index → Held cmp most f items size len next index t
   held f items seen rule = record {
     same = ap (λ t. t.nodes) seen;
     many = length_view f items t.nodes (ap (λ t. t.nodes) seen);

@@ -25,7 +25,7 @@ pub record IsTree {T : Type 0} (cmp : T → T → Ordering) (most : ℕ) (nodes 
   pub counted : len ≡ length (concat nodes)
 
 -- the same, with the sums of the index
-pub record IsIndexed {T : Type 0} (cmp : T → T → Ordering) (most : ℕ) (nodes : List (List T)) (size len : ℕ) (index : List ℕ) : Type 0 where
+pub record IsIndexedTree {T : Type 0} (cmp : T → T → Ordering) (most : ℕ) (nodes : List (List T)) (size len : ℕ) (index : List ℕ) : Type 0 where
   pub tree : IsTree cmp most nodes size len
   pub index_is : index ≡ block_sums (node_lengths nodes)
 

@@ -63,7 +63,7 @@ pub struct BTreeSet<T: Ord + Clone + Drop, Node: NodeLike<T> = Vec<T>> {
 
 impl<T: Ord + Clone + Drop, Node: NodeLike<T>> Model for BTreeSet<T, Node> {
     ghost use Rattle.std.specs.Prelude.{map};
-    ghost use Rattle.indexset_log.specs.Tree.{Tree, IsIndexed};
+    ghost use Rattle.indexset_log.specs.Tree.{Tree, IsIndexedTree};
 
     ghost Value = { Tree T };
 
@@ -73,7 +73,7 @@ impl<T: Ord + Clone + Drop, Node: NodeLike<T>> Model for BTreeSet<T, Node> {
       next = s.next;
     } };
 
-    ghost invariant = { λ s. IsIndexed T.cmp Node.most (map Node.list s.nodes.items) s.size s.len
+    ghost invariant = { λ s. IsIndexedTree T.cmp Node.most (map Node.list s.nodes.items) s.size s.len
         s.index.sums };
 }
 

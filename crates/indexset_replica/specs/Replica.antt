@@ -28,7 +28,7 @@ pub record ReplicaState (T : Type 0) : Type 0 where
   pub next : ℕ
 
 -- the nodes are a node list, and these are the sums of their lengths over blocks
-pub record IsIndexed {T : Type 0} (cmp : T → T → Ordering) (ns : List (List T)) (sums : List ℕ) : Type 0 where
+pub record AreIndexedNodes {T : Type 0} (cmp : T → T → Ordering) (ns : List (List T)) (sums : List ℕ) : Type 0 where
   pub nodes : IsNodeList cmp ns
   pub index : sums ≡ block_sums (node_lengths ns)
 

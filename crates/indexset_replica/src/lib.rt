@@ -65,13 +65,13 @@ pub struct Replica<T: Ord + Clone + Drop> {
 
 impl<T: Ord + Clone + Drop> Model for Replica<T> {
     ghost use Rattle.indexset_core.specs.Nodes.{vec_items};
-    ghost use Rattle.indexset_replica.specs.Replica.{IsIndexed, ReplicaState};
+    ghost use Rattle.indexset_replica.specs.Replica.{AreIndexedNodes, ReplicaState};
 
     ghost Value = { ReplicaState T };
 
     ghost view = { λ r. record { nodes = vec_items r.nodes.items; next = r.next } };
 
-    ghost invariant = { λ r. IsIndexed T.cmp (vec_items r.nodes.items) r.lengths.sums };
+    ghost invariant = { λ r. AreIndexedNodes T.cmp (vec_items r.nodes.items) r.lengths.sums };
 }
 
 impl<T: Ord + Clone + Drop> Replica<T> {
