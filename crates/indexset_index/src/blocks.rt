@@ -156,8 +156,7 @@ impl Blocks {
         ensures sums { self.new.sums ≡ block_sums (node_lengths (map R.list nodes.now)) }
         ensures room { self.new.room ≡ self.old.room }
     {
-        // The sum of all fits.
-        let _count = self.sums.len();
+        self.sums.recall_bounds();
         self.sums.truncate(nodes.len().div_ceil(32));
         self.sums.shift_down::<T, Node, R>(k, n, nodes);
     }
@@ -172,8 +171,7 @@ impl Blocks {
         requires within { k ≤ length nodes.now }
         ensures { result ≡ prefix_sum (node_lengths (map R.list nodes.now)) k }
     {
-        // The sum of all fits.
-        let _count = self.sums.len();
+        self.sums.recall_bounds();
         let block = k / 32;
         self.sums.prefix(block) + sum_between::<T, Node, R>(nodes, 32 * block, k)
     }

@@ -88,6 +88,17 @@ impl Fenwick {
         self.cells.len()
     }
 
+    /// Recalls for a proof that the lengths are within the capacity, and that their sum fits a
+    /// `usize`.
+    ///
+    /// It has no effect.
+    pub fn recall_bounds(&self)
+        ensures within { length self.now.lengths ≤ self.now.room }
+        ensures fits { sum self.now.lengths < 2 ^ 64 }
+    {
+        self.len();
+    }
+
     /// Reserves capacity for one more length.
     ///
     /// # Errors

@@ -45,8 +45,8 @@ impl<K: Ord + Drop, V: Drop> BTreeMap<K, V> {
         ensures size { self.new.size ≡ self.old.size }
         ensures rest_size { IfOk result (λ m. m.size ≡ self.old.size) }
     {
-        // The contract of `len` states that the keys ascend, so the rank of the key splits them.
-        let _len = self.len();
+        // The keys ascend, so the rank of the key splits them.
+        self.recall_order();
         let place = self.rank(key);
         let set = self.set.split_off_index(place)?;
         Ok(BTreeMap { set })

@@ -10,7 +10,7 @@ use super::BTreeMap;
 use indexset_core::lookup_key::LookupKey;
 use indexset_core::pair::Pair;
 use indexset_core::probe::ByKey;
-use indexset_set::Cursor;
+use indexset_set::{Cursor, inner};
 use std::marker::Model;
 use std::ops::Bound;
 
@@ -53,8 +53,7 @@ impl<K: Ord, V> BTreeMap<K, V> {
         ensures position { result.position
             ≡ position_or_len (λ p. is_from_start Q.order bound p.key) self.now.pairs }
     {
-        // The pairs ascend, as in `locate`.
-        let _len = self.set.len();
+        inner::recall_order(&self.set);
         let start = bound.as_ref().map(ByKey::new);
         CursorMap {
             cursor: self.set.cursor_from(start),
@@ -76,8 +75,7 @@ impl<K: Ord, V> BTreeMap<K, V> {
         ensures position { result.position
             ≡ position_or_len (λ p. not (is_up_to_end Q.order bound p.key)) self.now.pairs }
     {
-        // The pairs ascend, as in `locate`.
-        let _len = self.set.len();
+        inner::recall_order(&self.set);
         let end = bound.as_ref().map(ByKey::new);
         CursorMap {
             cursor: self.set.cursor_past(end),

@@ -82,9 +82,8 @@ impl<K: Ord + Drop, V: Drop> BTreeMap<K, V> {
             self.now.pairs (bound_map (λ k. k.now) start.entry)
             (bound_map (λ k. k.now) end.entry) }
     {
-        // The contract of `len` states that the keys ascend, so the range lies between two
-        // positions.
-        let _len = self.len();
+        // The keys ascend, so the range lies between two positions.
+        self.recall_order();
         let (spot, from) = self.start_spot(start);
         let back = self.end_position(end);
         ExtractRange {

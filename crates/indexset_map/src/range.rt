@@ -69,8 +69,7 @@ impl<K: Ord, V> BTreeMap<K, V> {
         ensures position { result.1 ≡ count_by
             (λ p. is_before Q.order (bound_map (λ k. k.now) start.entry) p.key) self.now.pairs }
     {
-        // The pairs ascend, as in `locate`.
-        let _len = self.set.len();
+        inner::recall_order(&self.set);
         let spot = inner::start_of(&self.set, start.map(ByKey::new));
         let position = inner::position(&self.set, &spot);
         (spot, position)
@@ -81,8 +80,7 @@ impl<K: Ord, V> BTreeMap<K, V> {
         ensures { result ≡ count_by (λ p. is_up_to_end Q.order (bound_map (λ k. k.now) end.entry)
             p.key) self.now.pairs }
     {
-        // The pairs ascend, as in `locate`.
-        let _len = self.set.len();
+        inner::recall_order(&self.set);
         self.set.count_up_to(end.map(ByKey::new))
     }
 }

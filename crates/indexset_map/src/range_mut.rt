@@ -59,9 +59,8 @@ impl<K: Ord, V> BTreeMap<K, V> {
             (bound_map (λ k. k.now) end.entry) p.key) self.old.pairs (walk_front result)
             (walk_back result) }
     {
-        // The contract of `len` states that the keys ascend, so the range lies between two
-        // positions.
-        let _len = self.len();
+        // The keys ascend, so the range lies between two positions.
+        self.recall_order();
         let (spot, from) = self.start_spot(start);
         let back = self.end_position(end);
         IterMut {

@@ -24,15 +24,14 @@ impl<K: Ord + Drop, V: Drop> BTreeMap<K, V> {
             ≡ with_entry K.cmp (with_all K.cmp self.old (map entry_of run.old.items)) key value) }
         ensures refusal { IfErr result (λ e. e ≡ Refusal.Memory) }
     {
-        // The contract of `node_count` states the lengths of the nodes, before and after.
-        let _count = self.set.node_count();
+        inner::recall_order(&self.set);
         let concat = inner::join_run(&mut self.set, run, Pair { key, value });
-        let _left = self.set.node_count();
+        inner::recall_order(&self.set);
         match concat {
             Ok(None) => Ok(()),
             Ok(Some(Pair { key, value })) => {
                 self.insert(key, value)?;
-                let _len = self.len();
+                self.recall_order();
                 Ok(())
             }
             Err(refused) => Err(refused.cause),
@@ -46,7 +45,7 @@ impl<K: Ord + Drop, V: Drop> BTreeMap<K, V> {
             ≡ with_all K.cmp self.old (map entry_of run.old.items)) }
         ensures refusal { IfErr result (λ e. e ≡ Refusal.Memory) }
     {
-        let _count = self.set.node_count();
+        inner::recall_order(&self.set);
         inner::take_run(&mut self.set, run)?;
         Ok(())
     }

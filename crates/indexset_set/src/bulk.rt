@@ -195,7 +195,7 @@ impl<T: Ord + Drop> BTreeSet<T> {
         ensures size { self.new.size ≡ self.old.size }
         ensures other_size { other.new.size ≡ other.old.size }
     {
-        let _count = self.spine.node_count();
+        self.spine.recall_lengths();
         self.spine.append(&mut other.spine)
     }
 
@@ -226,7 +226,7 @@ impl<T: Ord + Drop> BTreeSet<T> {
         };
         let spot = locate_near(&self.spine, near, other.spine.item(&first));
         let node = spot.node;
-        let _count = self.spine.node_count();
+        self.spine.recall_lengths();
         let run = self.spine.count_inside(&spot, &other.spine);
         if 0 < run {
             self.spine.merge_from(node, &mut other.spine, run)?;

@@ -1,13 +1,16 @@
 //! Calls for the crates above, which `indexset` does not re-export.
 //!
 //! A map stores its pairs in a set. These calls read and edit where a search has ended (`spots`,
-//! `values`), and gather ascending pairs in a run that is appended by blocks (`runs`). Other
-//! callers use the calls of [`BTreeSet`](super::BTreeSet).
+//! `values`), gather ascending pairs in a run that is appended by blocks (`runs`), and recall for a
+//! proof that the pairs ascend (`invariant`). Other callers use the calls of
+//! [`BTreeSet`](super::BTreeSet).
 
+mod invariant;
 mod runs;
 mod spots;
 mod values;
 
+pub use invariant::recall_order;
 pub use runs::{join_run, take_run};
 pub use spots::{
     allocator, element, first_spot, insert_at, last_spot, position, remove_at, spot_by,

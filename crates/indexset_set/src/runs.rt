@@ -5,7 +5,7 @@ ghost use Rattle.indexset_spine.specs.NodeList.{node_list, items, with_all_last}
 ghost use Rattle.indexset_set.specs.SetNodes.{nodes_kept};
 
 use super::BTreeSet;
-use super::inner::join_run;
+use super::inner::{join_run, recall_order};
 use indexset_core::refusal::Refusal;
 
 impl<T: Ord + Drop> BTreeSet<T> {
@@ -29,12 +29,12 @@ impl<T: Ord + Drop> BTreeSet<T> {
             self.old.size) value) }
         ensures size { self.new.size ≡ self.old.size }
     {
-        let _count = self.node_count();
+        recall_order(self);
         match join_run(self, run, value) {
             Ok(None) => Ok(()),
             Ok(Some(value)) => {
                 self.insert(value)?;
-                let _len = self.len();
+                recall_order(self);
                 Ok(())
             }
             Err(refused) => Err(refused.cause),

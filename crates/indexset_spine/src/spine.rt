@@ -1,5 +1,5 @@
 //! A list partitioned into nodes.
-ghost use Rattle.std.specs.Prelude.{◌≡◌, ◌+◌, ◌<◌, ◌≤◌, IsTrue, Some, length, max, sum, take, slice_get, MatchOption};
+ghost use Rattle.std.specs.Prelude.{◌≡◌, ◌+◌, ◌<◌, ◌≤◌, ◌^◌, IsTrue, Some, length, max, sum, take, slice_get, MatchOption};
 ghost use Rattle.std.specs.Option.{option_copied, option_copied_mut};
 ghost use Rattle.std.specs.Borrow.{sem};
 ghost use Rattle.std.specs.List.{between};
@@ -89,6 +89,19 @@ impl<T> Spine<T> {
         ensures cut { AreNodeLengths (node_lengths self.now.nodes) self.now.size }
     {
         self.nodes.len()
+    }
+
+    /// Recalls for a proof that there is a node, how long the nodes are, and that the sum of their
+    /// lengths fits a `usize`.
+    ///
+    /// It has no effect.
+    pub fn recall_lengths(&self)
+        ensures some { 0 < length self.now.nodes }
+        ensures cut { AreNodeLengths (node_lengths self.now.nodes) self.now.size }
+        ensures fits { length (items self.now) < 2 ^ 64 }
+    {
+        self.node_count();
+        self.len();
     }
 
     /// Returns the number of items.
@@ -256,8 +269,7 @@ impl<T> Spine<T> {
         requires { IsSpot self.now.nodes spot.now }
         ensures { result ≡ position_of self.now.nodes spot.now }
     {
-        // The sum of all lengths fits, and so does each sum of some of them.
-        let _len = self.len;
+        self.recall_lengths();
         self.index.prefix(spot.node) + spot.offset
     }
 
@@ -302,7 +314,7 @@ impl<T> Spine<T> {
         ensures spot { IsSpot self.now.nodes result }
         ensures position { position_of self.now.nodes result ≡ i }
     {
-        let _count = self.node_count();
+        self.recall_lengths();
         if i == 0 {
             return Spot {
                 node: 0,

@@ -37,8 +37,7 @@ impl Fenwick {
         ensures value { result ≡ (self.now.lengths, 0) }
         ensures lawful { IsFenwickOf (cell_of result.0) (length result.0) result.0 }
     {
-        // The cells are those of the lengths.
-        let _cells = &self.cells;
+        self.recall_bounds();
         IndexCells {
             index: self,
             steps: Steps::new(),

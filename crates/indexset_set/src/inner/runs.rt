@@ -3,6 +3,7 @@ ghost use Rattle.std.specs.Prelude.{◌≡◌, [], ◌∷◌, ◌++◌, None, tr
 ghost use Rattle.indexset_core.specs.Order.{IsAscending};
 ghost use Rattle.indexset_spine.specs.NodeList.{items, with_all_last};
 
+use super::invariant::recall_order;
 use crate::BTreeSet;
 use indexset_core::refusal::{Refusal, Refused};
 
@@ -49,7 +50,7 @@ pub fn join_run<T: Ord + Drop>(
     ensures err_nodes { OnErr result (with_all_last set.old.size set.new.nodes run.new.items
         ≡ with_all_last set.old.size set.old.nodes run.old.items) }
 {
-    let _count = set.node_count();
+    recall_order(set);
     let joins = is_above(set, run.as_slice(), &value);
     match ready_run(set, run, joins) {
         Ok(()) if joins => {
@@ -57,7 +58,7 @@ pub fn join_run<T: Ord + Drop>(
             Ok(None)
         }
         Ok(()) => {
-            let _len = set.len();
+            recall_order(set);
             Ok(Some(value))
         }
         Err(cause) => Err(Refused { value, cause }),
@@ -116,7 +117,7 @@ pub fn take_run<T: Ord + Drop>(set: &mut BTreeSet<T>, run: &mut Vec<T>) -> Resul
         ≡ with_all_last set.old.size set.old.nodes run.old.items }
     ensures size { set.new.size ≡ set.old.size }
 {
-    let _count = set.spine.node_count();
+    set.spine.recall_lengths();
     set.spine.append_items(run)
 }
 

@@ -36,8 +36,7 @@ pub fn spot_by<T: Ord, P: Probe<T>>(set: &BTreeSet<T>, probe: &mut P) -> Spot
     // Nodes.
     ensures cut { AreNodeLengths (node_lengths set.now.nodes) set.now.size }
 {
-    // The spine ensures here that its nodes are within the size.
-    let _count = set.spine.node_count();
+    set.spine.recall_lengths();
     set.spine.locate_by(probe)
 }
 
@@ -63,8 +62,7 @@ pub fn spot_from_end_by<T: Ord, P: Probe<T>>(set: &BTreeSet<T>, probe: &mut P) -
     // Nodes.
     ensures cut { AreNodeLengths (node_lengths set.now.nodes) set.now.size }
 {
-    // As in `spot_by`.
-    let _count = set.spine.node_count();
+    set.spine.recall_lengths();
     set.spine.locate_from_end_by(probe)
 }
 

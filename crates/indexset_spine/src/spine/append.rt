@@ -36,12 +36,11 @@ impl<T: Drop> Spine<T> {
         ensures moved { FoldsPrefix (with_last self.old.size) self.old.nodes (items other.old)
             self.new.nodes (items other.new) }
     {
-        let _count = self.node_count();
+        self.recall_lengths();
         let moved = move_nodes(self, &mut other.nodes);
         drop_emptied(&mut other.nodes);
         other.len = lengths::count_items(other.nodes.as_slice());
-        // The index has room for as many lengths as before.
-        let _count = other.index.len();
+        other.index.recall_bounds();
         other
             .index
             .rebuild::<T, Vec<T>, OfVec>(other.nodes.as_slice());
@@ -70,7 +69,7 @@ impl<T: Drop> Spine<T> {
         ensures moved { FoldsPrefix (with_last self.old.size) self.old.nodes from.old.items
             self.new.nodes from.new.items }
     {
-        let _count = self.node_count();
+        self.recall_lengths();
         while !from.is_empty() {
             self.append_block(from)?;
         }

@@ -101,7 +101,7 @@ impl<T: Drop> Spine<T> {
             found: true,
         };
         // A spine with an item has one in its first node.
-        let _count = other.node_count();
+        other.recall_lengths();
         let value = other.remove(first);
         insert_in_room(&mut self.nodes, &mut self.index, to, value);
         self.len += 1;

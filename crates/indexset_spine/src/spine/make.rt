@@ -100,8 +100,7 @@ impl<T: Drop> Spine<T> {
         self.nodes.truncate(1);
         self.nodes[0].clear();
         self.len = 0;
-        // The index has room for as many lengths as before.
-        let _count = self.index.len();
+        self.index.recall_bounds();
         self.index
             .rebuild::<T, Vec<T>, OfVec>(self.nodes.as_slice());
     }

@@ -30,7 +30,7 @@ impl<T: Ord + Drop> Spine<T> {
         ensures room { length (node_at self.now.nodes spot.now.node) + result ≤ self.now.size }
         ensures within { result ≤ length (node_at other.now.nodes 0) }
     {
-        let _count = other.node_count();
+        other.recall_lengths();
         let node = self.nodes[spot.node].as_slice();
         let from = other.nodes[0].as_slice();
         let count = count_below_last(node, from, self.size - node.len());
@@ -76,7 +76,7 @@ impl<T: Ord + Drop> Spine<T> {
         if usize::MAX - self.len < count {
             return Err(Refusal::Memory);
         }
-        let _count = other.node_count();
+        other.recall_lengths();
         let before = self.nodes[node].len();
         merge_first(&mut self.nodes[node], &mut other.nodes[0], count)?;
         let more = self.nodes[node].len() - before;

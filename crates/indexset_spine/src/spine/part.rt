@@ -14,7 +14,7 @@ impl<T> Spine<T> {
         ensures spot { IsSpot self.now.nodes result }
         ensures position { position_of self.now.nodes result ≡ 0 }
     {
-        let _count = self.node_count();
+        self.recall_lengths();
         Spot {
             node: 0,
             offset: 0,
@@ -46,8 +46,7 @@ impl<T> Spine<T> {
         ensures runs { ShowsInOrder (deref {X = T}) }
         ensures runs_back { ShowsInReverse (deref {X = T}) }
     {
-        // The sum of all lengths fits, and so does each sum of some of them.
-        let _len = self.len;
+        self.recall_lengths();
         let walk = walk_between(self.nodes.as_slice(), start, end);
         let left = walk.item_count();
         Iter::new(walk, left)

@@ -63,8 +63,7 @@ pub(super) fn drop_indexed_if_empty<T: Drop>(nodes: &mut Vec<Vec<T>>, index: &mu
     ensures index { index.new.lengths ≡ node_lengths (vec_items nodes.new.items) }
 {
     if drop_if_empty(nodes, k) {
-        // The index has room for as many lengths as before, and their sum fits.
-        let _count = index.len();
+        index.recall_bounds();
         index.rebuild_from::<T, Vec<T>, OfVec>(k, nodes.as_slice());
     }
 }

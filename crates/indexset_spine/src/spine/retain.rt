@@ -23,8 +23,7 @@ impl<T: Drop> Spine<T> {
     {
         retain_nodes(&mut self.nodes, f);
         self.len = lengths::count_items(self.nodes.as_slice());
-        // The index has room for as many lengths as before.
-        let _count = self.index.len();
+        self.index.recall_bounds();
         self.index
             .rebuild::<T, Vec<T>, OfVec>(self.nodes.as_slice());
     }

@@ -5,7 +5,7 @@ use Rattle.indexset_map.proofs.SpanLemmas.{keys_bounded}
 use Rattle.indexset_map.proofs.BTreeMap.end_position.Goals as goal
 
 pub count_up_to-requires : goal.count_up_to-requires
-count_up_to-requires g c = keys_bounded g.Q.LookupKey.order g.met.Q.LookupKey.acts_as_key (items c.self.inside.set) c.len-len.ensures.ascending c.map.result
+count_up_to-requires g c = keys_bounded g.Q.LookupKey.order g.met.Q.LookupKey.acts_as_key (items c.self.inside.set) c.recall_order.ensures.ascending c.map.result
 
 pub returns : goal.returns
 returns g c =

@@ -13,7 +13,7 @@ returns-clause-greatest g c =
 pub returns-clause-held : goal.returns-clause-held
 returns-clause-held g c =
     let pair = c.in_ok-pair.ensures {u = tt} in
-    rw (← c.self.view_is) (value_held g.K.Ord.cmp g.met.K.Ord.total (items c.self.inside.set) c.len-len.ensures.ascending _ _ (sym pair.element) pair.held)
+    rw (← c.self.view_is) (value_held g.K.Ord.cmp g.met.K.Ord.total (items c.self.inside.set) c.recall_order.ensures.ascending _ _ (sym pair.element) pair.held)
 
 pub returns-clause-all_up_to : goal.returns-clause-all_up_to
 returns-clause-all_up_to g c =

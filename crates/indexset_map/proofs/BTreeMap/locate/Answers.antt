@@ -10,7 +10,7 @@ use Rattle.indexset_map.proofs.BTreeMap.locate.Goals as goal
 pub locate_by-requires : goal.locate_by-requires
 locate_by-requires g c =
     let l = items c.self.inside.set in
-    in_order (λ p. g.Q.LookupKey.order p.key c.new.result.0) l (parted_by_sought_key g.met.Q.LookupKey.acts_as_key l c.len-len.ensures.ascending c.new.result.0)
+    in_order (λ p. g.Q.LookupKey.order p.key c.new.result.0) l (parted_by_sought_key g.met.Q.LookupKey.acts_as_key l c.recall_order.ensures.ascending c.new.result.0)
 
 pub returns-clause-absent : goal.returns-clause-absent
 returns-clause-absent g c =

@@ -5,10 +5,10 @@ use Rattle.indexset_map.proofs.SpanLemmas.{first_from, keys_bounded}
 use Rattle.indexset_map.proofs.BTreeMap.lower_bound.Goals as goal
 
 pub cursor_from-requires : goal.cursor_from-requires
-cursor_from-requires g c = keys_bounded g.Q.LookupKey.order g.met.Q.LookupKey.acts_as_key (items c.self.inside.set) c.len-len.ensures.ascending c.map-start.result
+cursor_from-requires g c = keys_bounded g.Q.LookupKey.order g.met.Q.LookupKey.acts_as_key (items c.self.inside.set) c.recall_order.ensures.ascending c.map-start.result
 
 pub returns-clause-position : goal.returns-clause-position
 returns-clause-position g c =
     let l = items c.self.inside.set in
     let count = probed_before g.Q.LookupKey.order (λ k. k.now) (λ p. p.key) l c.as_ref.result c.map-start.result c.map-start.ensures in
-    rw (← c.self.view_is, ← c.as_ref.ensures) (first_from g.Q.LookupKey.order g.met.Q.LookupKey.acts_as_key l c.len-len.ensures.ascending _ _ _ _ count refl (ap (λ s. s.position) c.cursor_from.ensures))
+    rw (← c.self.view_is, ← c.as_ref.ensures) (first_from g.Q.LookupKey.order g.met.Q.LookupKey.acts_as_key l c.recall_order.ensures.ascending _ _ _ _ count refl (ap (λ s. s.position) c.cursor_from.ensures))

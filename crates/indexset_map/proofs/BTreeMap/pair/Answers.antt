@@ -9,7 +9,7 @@ use Rattle.indexset_map.proofs.BTreeMap.pair.Goals as goal
 pub get_by-requires : goal.get_by-requires
 get_by-requires g c =
     let l = items c.self.inside.set in
-    in_order (λ p. g.Q.LookupKey.order p.key c.new.result.0) l (parted_by_sought_key g.met.Q.LookupKey.acts_as_key l c.len-len.ensures.ascending c.new.result.0)
+    in_order (λ p. g.Q.LookupKey.order p.key c.new.result.0) l (parted_by_sought_key g.met.Q.LookupKey.acts_as_key l c.recall_order.ensures.ascending c.new.result.0)
 
 pub returns : goal.returns
 returns g c =

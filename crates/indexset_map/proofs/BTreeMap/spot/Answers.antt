@@ -8,7 +8,7 @@ use Rattle.indexset_map.proofs.BTreeMap.spot.Goals as goal
 pub spot_by-requires : goal.spot_by-requires
 spot_by-requires g c =
     let l = items c.self.inside.set in
-    in_order (λ p. g.Q.LookupKey.order p.key c.new.result.0) l (parted_by_sought_key g.met.Q.LookupKey.acts_as_key l c.len-len.ensures.ascending c.new.result.0)
+    in_order (λ p. g.Q.LookupKey.order p.key c.new.result.0) l (parted_by_sought_key g.met.Q.LookupKey.acts_as_key l c.recall_order.ensures.ascending c.new.result.0)
 
 pub returns-clause-spot : goal.returns-clause-spot
 returns-clause-spot g c =

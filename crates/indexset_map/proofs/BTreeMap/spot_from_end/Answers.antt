@@ -9,7 +9,7 @@ use Rattle.indexset_map.proofs.BTreeMap.spot_from_end.Goals as goal
 pub spot_from_end_by-requires : goal.spot_from_end_by-requires
 spot_from_end_by-requires g c =
     let l = items c.self.inside.set in
-    in_order (λ p. g.K.Ord.cmp p.key c.new.result.0) l (parted_by_key g.K.Ord.cmp g.met.K.Ord.total l c.len-len.ensures.ascending c.new.result.0)
+    in_order (λ p. g.K.Ord.cmp p.key c.new.result.0) l (parted_by_key g.K.Ord.cmp g.met.K.Ord.total l c.recall_order.ensures.ascending c.new.result.0)
 
 pub returns-clause-spot : goal.returns-clause-spot
 returns-clause-spot g c =

@@ -6,7 +6,7 @@ use Rattle.indexset_map.proofs.SpanLemmas.{keys_bounded}
 use Rattle.indexset_map.proofs.BTreeMap.start_spot.Goals as goal
 
 pub start_of-spot-requires : goal.start_of-spot-requires
-start_of-spot-requires g c = keys_bounded g.Q.LookupKey.order g.met.Q.LookupKey.acts_as_key (items c.self.inside.set) c.len-len.ensures.ascending c.map.result
+start_of-spot-requires g c = keys_bounded g.Q.LookupKey.order g.met.Q.LookupKey.acts_as_key (items c.self.inside.set) c.recall_order.ensures.ascending c.map.result
 
 pub returns-clause-place : goal.returns-clause-place
 returns-clause-place g c =

@@ -4,7 +4,7 @@ use Rattle.indexset_set.proofs.BTreeSet.append_above.Goals as goal
 pub invariant_of-self : goal.invariant_of-self
 invariant_of-self g c =
     let up = rw (← c.self.view_is, ← c.other.view_is) at c.requires.order in
-    taken_ascending g.T.Ord.cmp _ _ _ _ _ c.node_count-count.ensures.cut up c.append.ensures.moved
+    taken_ascending g.T.Ord.cmp _ _ _ _ _ c.recall_lengths.ensures.cut up c.append.ensures.moved
 
 pub invariant_of-other : goal.invariant_of-other
 invariant_of-other g c =
@@ -14,9 +14,9 @@ invariant_of-other g c =
 pub returns-clause-moved : goal.returns-clause-moved
 returns-clause-moved g c =
     let up = rw (← c.self.view_is, ← c.other.view_is) at c.requires.order in
-    rw (← c.self.view_is, ← c.other.view_is) (taken_put g.T.Ord.cmp _ _ _ _ _ c.node_count-count.ensures.cut up c.append.ensures.moved)
+    rw (← c.self.view_is, ← c.other.view_is) (taken_put g.T.Ord.cmp _ _ _ _ _ c.recall_lengths.ensures.cut up c.append.ensures.moved)
 
 pub returns-clause-nodes : goal.returns-clause-nodes
 returns-clause-nodes g c =
     let up = rw (← c.self.view_is, ← c.other.view_is) at c.requires.order in
-    rw (← c.self.view_is, ← c.other.view_is) (taken_nodes g.T.Ord.cmp _ _ _ _ _ c.node_count-count.ensures.cut up c.append.ensures.moved)
+    rw (← c.self.view_is, ← c.other.view_is) (taken_nodes g.T.Ord.cmp _ _ _ _ _ c.recall_lengths.ensures.cut up c.append.ensures.moved)

@@ -33,12 +33,12 @@ module _ (g : Over) (c : After-count_inside-run g) where
   module _ (positive : 0 < c.count_inside-run.result) where
     run_moved : FoldsPrefix (put g.T.Ord.cmp) (items c.self.inside.spine) (items c.other.inside.spine) (concat nodes) (drop c.count_inside-run.result (items c.other.inside.spine))
     run_moved =
-        taken_run g.T.Ord.cmp g.met.T.Ord.total c.self.inside.spine.nodes c.locate_near-spot.result.node c.locate_near-spot.ensures.spot.node_in c.self.inside.spine.size c.node_count-count.ensures.cut c.self.invariant c.item.result.now found
+        taken_run g.T.Ord.cmp g.met.T.Ord.total c.self.inside.spine.nodes c.locate_near-spot.result.node c.locate_near-spot.ensures.spot.node_in c.self.inside.spine.size c.recall_lengths.ensures.cut c.self.invariant c.item.result.now found
         (items c.other.inside.spine) c.count_inside-run.result c.other.invariant begins positive c.count_inside-run.ensures.below
 
     run_nodes : FoldsPrefix (λ ms x. nodes_put g.T.Ord.cmp (node_list ms c.self.inside.spine.size) x) c.self.inside.spine.nodes (items c.other.inside.spine) nodes (drop c.count_inside-run.result (items c.other.inside.spine))
     run_nodes =
-        taken_run_nodes g.T.Ord.cmp g.met.T.Ord.total c.self.inside.spine.nodes c.locate_near-spot.result.node c.locate_near-spot.ensures.spot.node_in c.self.inside.spine.size c.node_count-count.ensures.cut c.self.invariant c.item.result.now found
+        taken_run_nodes g.T.Ord.cmp g.met.T.Ord.total c.self.inside.spine.nodes c.locate_near-spot.result.node c.locate_near-spot.ensures.spot.node_in c.self.inside.spine.size c.recall_lengths.ensures.cut c.self.invariant c.item.result.now found
         (items c.other.inside.spine) c.count_inside-run.result c.other.invariant begins positive c.count_inside-run.ensures.below c.count_inside-run.ensures.room
 
 pub locate_near-spot-requires : goal.locate_near-spot-requires

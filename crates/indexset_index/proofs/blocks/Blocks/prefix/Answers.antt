@@ -15,7 +15,7 @@ prefix-requires g c =
 pub sum_between-requires-clause-fits : goal.sum_between-requires-clause-fits
 sum_between-requires-clause-fits g c =
     let ls = node_lengths (map g.R.NodeItems.list c.args.nodes.now) in
-    omega (arith, ap sum (ap (λ v. v.sums) c.self.view_is ∙ c.requires.sums), sum-blocks ls, c.len-count.ensures.fits)
+    omega (arith, ap sum (ap (λ v. v.sums) c.self.view_is ∙ c.requires.sums), sum-blocks ls, c.recall_bounds.ensures.fits)
 
 -- the two parts are the sum
 whole : (g : Over) (c : goal.After-sum_between g) → c.prefix.result + c.sum_between.result ≡ prefix_sum (node_lengths (map g.R.NodeItems.list c.args.nodes.now)) c.args.k
@@ -28,7 +28,7 @@ whole g c =
 pub overflow_add-result : goal.overflow_add-result
 overflow_add-result g c =
     let ls = node_lengths (map g.R.NodeItems.list c.args.nodes.now) in
-    record { fits = omega (arith, whole g c, prefix-le ls c.args.k, ap sum (ap (λ v. v.sums) c.self.view_is ∙ c.requires.sums), sum-blocks ls, c.len-count.ensures.fits) }
+    record { fits = omega (arith, whole g c, prefix-le ls c.args.k, ap sum (ap (λ v. v.sums) c.self.view_is ∙ c.requires.sums), sum-blocks ls, c.recall_bounds.ensures.fits) }
 
 pub returns : goal.returns
 returns g c = whole g c

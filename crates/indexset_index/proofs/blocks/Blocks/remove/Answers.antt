@@ -37,4 +37,4 @@ shift_down-requires-clause-before g c =
 pub shift_down-requires-clause-fits : goal.shift_down-requires-clause-fits
 shift_down-requires-clause-fits g c =
     let ls = node_lengths (map g.R.NodeItems.list c.args.nodes.now) in
-    omega (arith, ap sum (ap (λ v. v.sums) c.self.view_is ∙ c.requires.before), sum-blocks (insert ls c.args.k c.args.n), sum_by-insert (λ x. x) ls c.args.k c.args.n, c.len-count.ensures.fits)
+    omega (arith, ap sum (ap (λ v. v.sums) c.self.view_is ∙ c.requires.before), sum-blocks (insert ls c.args.k c.args.n), sum_by-insert (λ x. x) ls c.args.k c.args.n, c.recall_bounds.ensures.fits)

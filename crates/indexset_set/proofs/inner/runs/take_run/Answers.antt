@@ -6,7 +6,7 @@ use Rattle.indexset_set.proofs.inner.runs.take_run.Goals as goal
 pub invariant_of-set : goal.invariant_of-set
 invariant_of-set g c =
     let up = rw (← c.set.view_is) at c.requires.order in
-    taken_ascending g.T.Ord.cmp _ _ _ _ _ c.node_count-count.ensures.cut up c.append_items.ensures.moved
+    taken_ascending g.T.Ord.cmp _ _ _ _ _ c.recall_lengths.ensures.cut up c.append_items.ensures.moved
 
 pub returns-clause-nodes : goal.returns-clause-nodes
 unfolding with_all_last

@@ -38,7 +38,7 @@ rebuild-requires-clause-room g c =
     let left = vec_items c.move_nodes-moved.new.from.items in
     let many = c.move_nodes-moved.ensures.as_many in
     let few = emptied_few left (omega (arith, many, length-vec_items c.move_nodes-moved.new.from.items, length-vec_items c.other.inside.nodes.items, c.other.invariant.is_spine.is_cut.some, count-lengths ns)) in
-    omega (arith, few, many, ap (λ l. length l) c.drop_emptied.ensures, ap (λ v. length v) c.as_slice-2.ensures.value, length-vec_items c.drop_emptied.new.nodes.items, length-vec_items c.move_nodes-moved.new.from.items, length-vec_items c.other.inside.nodes.items, count-lengths ns, c.len-count.ensures.within, ap (λ l. length l) c.other.invariant.index_is)
+    omega (arith, few, many, ap (λ l. length l) c.drop_emptied.ensures, ap (λ v. length v) c.as_slice-2.ensures.value, length-vec_items c.drop_emptied.new.nodes.items, length-vec_items c.move_nodes-moved.new.from.items, length-vec_items c.other.inside.nodes.items, count-lengths ns, c.recall_bounds.ensures.within, ap (λ l. length l) c.other.invariant.index_is)
 
 pub rebuild-requires-clause-fits : goal.rebuild-requires-clause-fits
 rebuild-requires-clause-fits g c =
@@ -77,4 +77,4 @@ returns-clause-some_left g c =
 pub returns-clause-items : goal.returns-clause-items
 returns-clause-items g c =
     let at = (goal.at.returns-clause-items g c).After-drop_emptied in
-    rw (same g at, ← c.other.view_is) (takes_items c.args.self.now.size _ _ _ _ c.node_count-count.ensures.cut c.move_nodes-moved.ensures.moved)
+    rw (same g at, ← c.other.view_is) (takes_items c.args.self.now.size _ _ _ _ c.recall_lengths.ensures.cut c.move_nodes-moved.ensures.moved)

@@ -22,7 +22,7 @@ module _ (g : Over) (c : After-as_slice-from g) where
       node_bounded (vec_items c.self.inside.nodes.items) c.args.spot.now.node c.self.inside.size spot.node_in c.self.invariant.is_spine.is_cut
 
   some_node : 0 < length (vec_items c.other.inside.nodes.items)
-  some_node = subst (λ (t : NodeList g.row.T.Denot). 0 < length t.nodes) (sym c.other.view_is) (omega (arith, c.node_count-count.ensures.value, c.node_count-count.ensures.some))
+  some_node = subst (λ (t : NodeList g.row.T.Denot). 0 < length t.nodes) (sym c.other.view_is) c.recall_lengths.ensures.some
 
   from_is : node_at (vec_items c.other.inside.nodes.items) 0 ≡ c.as_slice-from.result.now
   from_is = node_is c.other.inside.nodes.items 0 c.index-2.result.now some_node c.index-2.ensures ∙ sym c.as_slice-from.ensures.value

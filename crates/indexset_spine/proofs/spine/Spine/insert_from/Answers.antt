@@ -12,7 +12,7 @@ pub make_room-requires-clause-fits : goal.make_room-requires-clause-fits
 make_room-requires-clause-fits g c = omega (arith, c.self.invariant.is_spine.total_is, ap sum c.self.invariant.index_is)
 
 pub remove-value-requires : goal.remove-value-requires
-remove-value-requires g c = first_in _ _ c.node_count-count.ensures.cut c.requires.other
+remove-value-requires g c = first_in _ _ c.recall_lengths.ensures.cut c.requires.other
 
 pub insert_in_room-requires-clause-fits : goal.insert_in_room-requires-clause-fits
 insert_in_room-requires-clause-fits g c = omega (arith, c.self.invariant.is_spine.total_is, ap sum c.self.invariant.index_is, c.make_room.ensures.sum)

@@ -19,7 +19,7 @@ module _ (g : Over) (c : After-index_mut-2 g) where
   inside = subst (λ (t : NodeList g.row.T.Denot). c.args.node < length t.nodes) (sym c.self.view_is) c.requires.node
 
   some_node : 0 < length (vec_items c.other.inside.nodes.items)
-  some_node = subst (λ (t : NodeList g.row.T.Denot). 0 < length t.nodes) (sym c.other.view_is) (omega (arith, c.node_count-count.ensures.value, c.node_count-count.ensures.some))
+  some_node = subst (λ (t : NodeList g.row.T.Denot). 0 < length t.nodes) (sym c.other.view_is) c.recall_lengths.ensures.some
 
   order : IsAscending g.T.Ord.cmp (concat (vec_items c.self.inside.nodes.items))
   order = subst (λ (t : NodeList g.row.T.Denot). IsAscending g.T.Ord.cmp (items t)) (sym c.self.view_is) c.requires.order
@@ -64,7 +64,7 @@ module _ (g : Over) (c : After-len g) where
   merges = record {
     inside = subst (λ (t : NodeList g.row.T.Denot). c.args.node < length t.nodes) (sym c.self.view_is) c.requires.node;
     node = c.index_mut.ensures.value;
-    some_node = subst (λ (t : NodeList g.row.T.Denot). 0 < length t.nodes) (sym c.other.view_is) (omega (arith, c.node_count-count.ensures.value, c.node_count-count.ensures.some));
+    some_node = subst (λ (t : NodeList g.row.T.Denot). 0 < length t.nodes) (sym c.other.view_is) c.recall_lengths.ensures.some;
     first = c.index_mut-2.ensures.value;
     order = subst (λ (t : NodeList g.row.T.Denot). IsAscending g.T.Ord.cmp (items t)) (sym c.self.view_is) c.requires.order;
     some = c.requires.some;
@@ -140,7 +140,7 @@ pub index-requires-2 : goal.index-requires-2
 index-requires-2 g c = omega (arith, subst (λ (t : NodeList g.row.T.Denot). c.args.node < length t.nodes) (sym c.self.view_is) c.requires.node, length-vec_items c.self.inside.nodes.items, c.self.inside.nodes.ok)
 
 pub index_mut-requires-2 : goal.index_mut-requires-2
-index_mut-requires-2 g c = omega (arith, subst (λ (t : NodeList g.row.T.Denot). 0 < length t.nodes) (sym c.other.view_is) (omega (arith, c.node_count-count.ensures.value, c.node_count-count.ensures.some)), length-vec_items c.other.inside.nodes.items, c.other.inside.nodes.ok)
+index_mut-requires-2 g c = omega (arith, subst (λ (t : NodeList g.row.T.Denot). 0 < length t.nodes) (sym c.other.view_is) c.recall_lengths.ensures.some, length-vec_items c.other.inside.nodes.items, c.other.inside.nodes.ok)
 
 pub merge_first-requires-clause-within : goal.merge_first-requires-clause-within
 merge_first-requires-clause-within g c =

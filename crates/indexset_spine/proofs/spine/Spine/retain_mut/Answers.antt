@@ -19,13 +19,13 @@ rebuild-requires-clause-room g c =
     let some = c.self.invariant.is_spine.is_cut.some in
     let few = retained_few (CalledAtMut g.F.FnMut) _ _ _ c.retain_nodes.ensures (omega (arith, some, count-lengths ns)) in
     let nodes = ap (λ v. length v) c.as_slice-2.ensures.value in
-    omega (arith, few, nodes, length-vec_items c.retain_nodes.new.nodes.items, count-lengths ns, c.len-count.ensures.within, ap (λ l. length l) c.self.invariant.index_is)
+    omega (arith, few, nodes, length-vec_items c.retain_nodes.new.nodes.items, count-lengths ns, c.recall_bounds.ensures.within, ap (λ l. length l) c.self.invariant.index_is)
 
 pub rebuild-requires-clause-fits : goal.rebuild-requires-clause-fits
 rebuild-requires-clause-fits g c =
     let few = nodes_shorter (CalledAtMut g.F.FnMut) _ _ _ c.retain_nodes.ensures in
     let nodes = c.retain_nodes.new.nodes.items in
-    omega (arith, few, c.len-count.ensures.fits, ap sum c.self.invariant.index_is, length-concat (vec_items c.self.inside.nodes.items), length-concat (vec_items nodes), ap (λ v. sum (node_lengths (vec_items v))) c.as_slice-2.ensures.value)
+    omega (arith, few, c.recall_bounds.ensures.fits, ap sum c.self.invariant.index_is, length-concat (vec_items c.self.inside.nodes.items), length-concat (vec_items nodes), ap (λ v. sum (node_lengths (vec_items v))) c.as_slice-2.ensures.value)
 
 pub invariant_of-self : goal.invariant_of-self
 invariant_of-self g c = record {

@@ -22,10 +22,10 @@ rebuild_from-requires-clause-room g c =
     let ns = vec_items c.args.nodes.now.items in
     let keeps = emptied_keeps ns c.args.k c.requires.node in
     let nodes = ap (λ v. vec_items v) c.as_slice.ensures.value ∙ c.drop_if_empty.ensures.nodes in
-    omega (arith, keeps.few, ap (λ l. length l) nodes, length-vec_items c.as_slice.result.now, c.len-count.ensures.within, ap (λ l. length l) c.requires.index, count-lengths ns)
+    omega (arith, keeps.few, ap (λ l. length l) nodes, length-vec_items c.as_slice.result.now, c.recall_bounds.ensures.within, ap (λ l. length l) c.requires.index, count-lengths ns)
 
 pub rebuild_from-requires-clause-fits : goal.rebuild_from-requires-clause-fits
 rebuild_from-requires-clause-fits g c =
     let ns = vec_items c.args.nodes.now.items in
     let nodes = ap (λ v. vec_items v) c.as_slice.ensures.value ∙ c.drop_if_empty.ensures.nodes in
-    omega (arith, emptied_sum ns c.args.k c.requires.node, ap (λ l. sum (node_lengths l)) nodes, ap sum c.requires.index, c.len-count.ensures.fits)
+    omega (arith, emptied_sum ns c.args.k c.requires.node, ap (λ l. sum (node_lengths l)) nodes, ap sum c.requires.index, c.recall_bounds.ensures.fits)
