@@ -34,6 +34,13 @@ use indexset_index::fenwick::Fenwick;
 use std::alloc::Global;
 use std::marker::Model;
 
+// What a search is for.
+#[derive(Clone, Copy)]
+enum Purpose {
+    Lookup,
+    Insertion,
+}
+
 /// A list partitioned into nodes of at most a given number of items each.
 #[derive(Drop)]
 pub struct Spine<T> {
@@ -136,7 +143,7 @@ impl<T> Spine<T> {
         ensures comparisons { P.asked probe.new ≤ P.asked probe.old
             + (digits (length self.now.nodes) + digits self.now.size + 1) }
     {
-        self.locate_among(probe, self.nodes.len())
+        self.locate_for(probe, Purpose::Lookup)
     }
 
     /// Returns the same as `locate_by`, with the last item compared first.
@@ -174,8 +181,7 @@ impl<T> Spine<T> {
                 found: false,
             };
         }
-        // An insertion moves other items, which a search with branches has prefetched by then.
-        self.locate_among(probe, self.nodes.len().saturating_mul(4))
+        self.locate_for(probe, Purpose::Insertion)
     }
 
     /// Returns the same as `locate_by`, with node `near` tried first.
@@ -205,14 +211,14 @@ impl<T> Spine<T> {
             + (digits (length self.now.nodes) + digits self.now.size + 3) }
     {
         if locate::is_sought(self.nodes.as_slice(), near, probe) {
-            return self.locate_in(near, probe, self.nodes.len());
+            return self.locate_in(near, probe, Purpose::Lookup);
         }
         self.locate_by(probe)
     }
 
-    // Does the same as `locate_by`, by the kind of search for `node_count` nodes.
+    // Does the same as `locate_by`, by the kind of search for this purpose.
     #[inline(always)]
-    fn locate_among<P: Probe<T>>(&self, probe: &mut P, node_count: usize) -> Spot
+    fn locate_for<P: Probe<T>>(&self, probe: &mut P, purpose: Purpose) -> Spot
         requires { IsParted (P.answer probe.old) (items self.now) }
 
         // Result.
@@ -232,11 +238,11 @@ impl<T> Spine<T> {
             + (digits (length self.now.nodes) + digits self.now.size + 1) }
     {
         let node = node_by::<T, Vec<T>, OfVec, P>(self.nodes.as_slice(), probe);
-        self.locate_in(node, probe, node_count)
+        self.locate_in(node, probe, purpose)
     }
 
     // Does the same in node `node`, in which the search ends.
-    fn locate_in<P: Probe<T>>(&self, node: usize, probe: &mut P, node_count: usize) -> Spot
+    fn locate_in<P: Probe<T>>(&self, node: usize, probe: &mut P, purpose: Purpose) -> Spot
         requires parted { IsParted (P.answer probe.old) (items self.now) }
         requires node { node ≡ node_for (P.answer probe.old) self.now.nodes }
 
@@ -256,11 +262,22 @@ impl<T> Spine<T> {
         ensures comparisons { P.asked probe.new ≤ P.asked probe.old + (digits self.now.size + 1) }
     {
         let items = self.nodes[node].as_slice();
-        let (offset, found) = search::place_in(items, probe, node_count);
+        let (offset, found) = search::place_in(items, probe, self.cached_node_count(purpose));
         Spot {
             node,
             offset,
             found,
+        }
+    }
+
+    // Returns how many nodes must fit in the cache for a search without branches to be the faster
+    // one.
+    fn cached_node_count(&self, purpose: Purpose) -> usize {
+        match purpose {
+            Purpose::Lookup => self.nodes.len(),
+            // A search with branches prefetches items that the insertion then moves, so one without
+            // branches is faster only among a quarter as many nodes.
+            Purpose::Insertion => self.nodes.len().saturating_mul(4),
         }
     }
 
