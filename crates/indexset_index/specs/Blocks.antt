@@ -1,6 +1,7 @@
--- Sums of blocks of 32 neighbouring lengths.
-use Rattle.std.specs.Prelude.{ℕ, ◌+◌, ◌*◌, ◌/◌, List, length, sum, map}
+-- Sums of blocks of neighbouring lengths.
+use Rattle.std.specs.Prelude.{ℕ, ◌+◌, ◌-◌, ◌*◌, ◌/◌, List, length, sum, map}
 use Rattle.std.specs.List.{between, range_with_len}
+use Rattle.indexset_index.specs.declared.constants.TheConstants.{NODES_PER_BLOCK}
 
 -- the model of block sums in contracts: the sums, and how many there is capacity for
 pub record Sums : Type 0 where
@@ -9,8 +10,10 @@ pub record Sums : Type 0 where
 
 -- the number of blocks of n lengths, of which the last may be short
 abbrev pub block_count : ℕ → ℕ
-block_count n = (n + 31) / 32
+block_count n = (n + (NODES_PER_BLOCK - 1)) / NODES_PER_BLOCK
 
--- the sum of each block: lengths 32j up to 32j + 31
+-- the sum of each block: the lengths from NODES_PER_BLOCK * j up to those of the next
 unfoldable pub block_sums : List ℕ → List ℕ
-block_sums lengths = map (λ j. sum (between (32 * j) (32 * (j + 1)) lengths)) (range_with_len 0 (block_count (length lengths)))
+block_sums lengths =
+    map (λ j. sum (between (NODES_PER_BLOCK * j) (NODES_PER_BLOCK * (j + 1)) lengths))
+    (range_with_len 0 (block_count (length lengths)))

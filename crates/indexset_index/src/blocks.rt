@@ -1,16 +1,17 @@
-//! The lengths of nodes, summed by blocks of 32 neighbouring nodes.
+//! The lengths of nodes, summed by blocks of neighbouring nodes.
 ghost use Rattle.std.specs.Prelude.{◌≡◌, ◌+◌, ◌-◌, ◌/◌, ◌^◌, ◌<◌, ◌≤◌, [], insert, length, map, remove, sum, slice_index, slice_set, IfOk, IfErr, MatchOption, OnOk};
 ghost use Rattle.indexset_core.specs.Nodes.{node_lengths};
 ghost use Rattle.indexset_index.specs.Blocks.{block_count, block_sums};
 ghost use Rattle.indexset_index.specs.Fenwick.{prefix_sum};
 
+use crate::constants::NODES_PER_BLOCK;
 use crate::fenwick::{Fenwick, length_at};
 use indexset_core::item_iter::NodeItems;
 use indexset_core::refusal::Refusal;
 use std::alloc::Global;
 use std::marker::Model;
 
-/// The lengths of nodes, summed by blocks of 32 neighbouring nodes.
+/// The lengths of nodes, summed by blocks of [`NODES_PER_BLOCK`] neighbouring nodes.
 ///
 /// The sum of all lengths is at most `usize::MAX`.
 #[derive(Drop)]
@@ -53,7 +54,7 @@ impl Blocks {
         ensures refusal { IfErr result (λ e. e ≡ Refusal.Memory) }
     {
         let mut blocks = Blocks {
-            sums: Fenwick::with_capacity(alloc, nodes.len().div_ceil(32))?,
+            sums: Fenwick::with_capacity(alloc, nodes.len().div_ceil(NODES_PER_BLOCK))?,
         };
         blocks.rebuild::<T, Node, R>(nodes);
         Ok(blocks)
@@ -84,24 +85,26 @@ impl Blocks {
 
     /// Adds `n` to the length of node `k`.
     pub fn add(&mut self, k: usize, n: usize)
-        requires inside { k / 32 < length self.old.sums }
+        requires inside { k / NODES_PER_BLOCK < length self.old.sums }
         requires fits { sum self.old.sums + n < 2 ^ 64 }
         ensures sums { self.new.sums
-            ≡ slice_set self.old.sums (k / 32) (slice_index self.old.sums (k / 32) + n) }
+            ≡ slice_set self.old.sums (k / NODES_PER_BLOCK)
+            (slice_index self.old.sums (k / NODES_PER_BLOCK) + n) }
         ensures room { self.new.room ≡ self.old.room }
     {
-        self.sums.add(k / 32, n);
+        self.sums.add(k / NODES_PER_BLOCK, n);
     }
 
     /// Subtracts `n` from the length of node `k`.
     pub fn sub(&mut self, k: usize, n: usize)
-        requires inside { k / 32 < length self.old.sums }
-        requires enough { n ≤ slice_index self.old.sums (k / 32) }
+        requires inside { k / NODES_PER_BLOCK < length self.old.sums }
+        requires enough { n ≤ slice_index self.old.sums (k / NODES_PER_BLOCK) }
         ensures sums { self.new.sums
-            ≡ slice_set self.old.sums (k / 32) (slice_index self.old.sums (k / 32) - n) }
+            ≡ slice_set self.old.sums (k / NODES_PER_BLOCK)
+            (slice_index self.old.sums (k / NODES_PER_BLOCK) - n) }
         ensures room { self.new.room ≡ self.old.room }
     {
-        self.sums.sub(k / 32, n);
+        self.sums.sub(k / NODES_PER_BLOCK, n);
     }
 
     /// Replaces the sums by those of these nodes.
@@ -115,7 +118,7 @@ impl Blocks {
         ensures room { self.new.room ≡ self.old.room }
     {
         self.sums.truncate(0);
-        for block in 0..nodes.len().div_ceil(32) {
+        for block in 0..nodes.len().div_ceil(NODES_PER_BLOCK) {
             self.sums.push(sum_of_block::<T, Node, R>(nodes, block));
         }
     }
@@ -136,7 +139,7 @@ impl Blocks {
         ensures sums { self.new.sums ≡ block_sums (node_lengths (map R.list nodes.now)) }
         ensures room { self.new.room ≡ self.old.room }
     {
-        if nodes.len() % 32 == 1 {
+        if nodes.len() % NODES_PER_BLOCK == 1 {
             self.sums.push(0);
         }
         self.sums.shift_up::<T, Node, R>(k, nodes);
@@ -157,7 +160,7 @@ impl Blocks {
         ensures room { self.new.room ≡ self.old.room }
     {
         self.sums.recall_bounds();
-        self.sums.truncate(nodes.len().div_ceil(32));
+        self.sums.truncate(nodes.len().div_ceil(NODES_PER_BLOCK));
         self.sums.shift_down::<T, Node, R>(k, n, nodes);
     }
 
@@ -165,22 +168,22 @@ impl Blocks {
     ///
     /// # Complexity
     ///
-    /// A sum of whole blocks, and of at most 31 nodes.
+    /// A sum of whole blocks, and of fewer than [`NODES_PER_BLOCK`] nodes.
     pub fn prefix<T, Node, R: NodeItems<T, Node>>(&self, k: usize, nodes: &[Node]) -> usize
         requires sums { self.now.sums ≡ block_sums (node_lengths (map R.list nodes.now)) }
         requires within { k ≤ length nodes.now }
         ensures { result ≡ prefix_sum (node_lengths (map R.list nodes.now)) k }
     {
         self.sums.recall_bounds();
-        let block = k / 32;
-        self.sums.prefix(block) + sum_between::<T, Node, R>(nodes, 32 * block, k)
+        let block = k / NODES_PER_BLOCK;
+        self.sums.prefix(block) + sum_between::<T, Node, R>(nodes, NODES_PER_BLOCK * block, k)
     }
 
     /// Returns the node of a position, and the offset in it, or `None` past the end.
     ///
     /// # Complexity
     ///
-    /// A search of the blocks, and of at most 32 nodes.
+    /// A search of the blocks, and of at most [`NODES_PER_BLOCK`] nodes.
     pub fn find<T, Node, R: NodeItems<T, Node>>(
         &self,
         position: usize,
@@ -193,7 +196,7 @@ impl Blocks {
             × (prefix_sum (node_lengths (map R.list nodes.now)) p.0 + p.1 ≡ position)) }
     {
         let (block, offset) = self.sums.find(position)?;
-        Some(find_from::<T, Node, R>(nodes, 32 * block, offset))
+        Some(find_from::<T, Node, R>(nodes, NODES_PER_BLOCK * block, offset))
     }
 }
 
@@ -203,8 +206,8 @@ fn sum_of_block<T, Node, R: NodeItems<T, Node>>(nodes: &[Node], block: usize) ->
     requires fits { sum (node_lengths (map R.list nodes.now)) < 2 ^ 64 }
     ensures { result ≡ slice_index (block_sums (node_lengths (map R.list nodes.now))) block }
 {
-    let start = 32 * block;
-    let end = start + (nodes.len() - start).min(32);
+    let start = NODES_PER_BLOCK * block;
+    let end = start + (nodes.len() - start).min(NODES_PER_BLOCK);
     sum_between::<T, Node, R>(nodes, start, end)
 }
 

@@ -54,7 +54,7 @@ pub struct BTreeSet<T: Ord + Clone + Drop, Node: NodeLike<T> = Vec<T>> {
     size: usize,
     // The number of items.
     len: usize,
-    // The lengths of the nodes, summed over blocks of 32.
+    // The lengths of the nodes, summed over blocks.
     index: Blocks,
     // The number of the next event.
     next: u64,

@@ -7,6 +7,7 @@ ghost use Rattle.indexset_index.specs.Blocks.{block_sums};
 use indexset_core::item_iter::OfVec;
 use indexset_core::refusal::Refusal;
 use indexset_index::blocks::Blocks;
+use indexset_index::constants::NODES_PER_BLOCK;
 use std::alloc::Global;
 use std::marker::Model;
 
@@ -84,10 +85,11 @@ impl NodeIndex {
 
     /// Adds to the length of a node.
     pub(super) fn add_items(&mut self, node: usize, count: usize)
-        requires inside { node / 32 < length self.old.sums }
+        requires inside { node / NODES_PER_BLOCK < length self.old.sums }
         requires fits { sum self.old.sums + count < 2 ^ 64 }
         ensures sums { self.new.sums
-            ≡ slice_set self.old.sums (node / 32) (slice_index self.old.sums (node / 32) + count) }
+            ≡ slice_set self.old.sums (node / NODES_PER_BLOCK)
+            (slice_index self.old.sums (node / NODES_PER_BLOCK) + count) }
         ensures room { self.new.room ≡ self.old.room }
     {
         self.blocks.add(node, count);
@@ -96,10 +98,11 @@ impl NodeIndex {
 
     /// Subtracts from the length of a node.
     pub(super) fn take_items(&mut self, node: usize, count: usize)
-        requires inside { node / 32 < length self.old.sums }
-        requires enough { count ≤ slice_index self.old.sums (node / 32) }
+        requires inside { node / NODES_PER_BLOCK < length self.old.sums }
+        requires enough { count ≤ slice_index self.old.sums (node / NODES_PER_BLOCK) }
         ensures sums { self.new.sums
-            ≡ slice_set self.old.sums (node / 32) (slice_index self.old.sums (node / 32) - count) }
+            ≡ slice_set self.old.sums (node / NODES_PER_BLOCK)
+            (slice_index self.old.sums (node / NODES_PER_BLOCK) - count) }
         ensures room { self.new.room ≡ self.old.room }
     {
         self.blocks.sub(node, count);

@@ -1,10 +1,11 @@
-//! Updates of the sums of blocks of 32 nodes, after a node was inserted or removed.
+//! Updates of the sums of blocks of nodes, after a node was inserted or removed.
 ghost use Rattle.std.specs.Prelude.{◌≡◌, ◌+◌, ◌-◌, ◌*◌, ◌^◌, ◌<◌, ◌≤◌, ℕ, insert, length, map, remove, sum, slice_index};
 ghost use Rattle.indexset_core.specs.Nodes.{node_lengths};
 ghost use Rattle.indexset_index.specs.Blocks.{block_count, block_sums};
 ghost use Rattle.indexset_index.specs.Fenwick.{prefix_sum, lengths_of, IsFenwick};
 
 use super::{Fenwick, length_at};
+use crate::constants::NODES_PER_BLOCK;
 use indexset_core::item_iter::NodeItems;
 
 impl Fenwick {
@@ -13,7 +14,7 @@ impl Fenwick {
         requires inside { k < length nodes.now }
         requires count { length self.old.lengths ≡ block_count (length nodes.now) }
         requires before { (i : ℕ) → i ≤ length self.old.lengths → prefix_sum self.old.lengths i
-            ≡ prefix_sum (remove (node_lengths (map R.list nodes.now)) k) (32 * i) }
+            ≡ prefix_sum (remove (node_lengths (map R.list nodes.now)) k) (NODES_PER_BLOCK * i) }
         requires fits { sum (node_lengths (map R.list nodes.now)) < 2 ^ 64 }
         ensures lengths { self.new.lengths ≡ block_sums (node_lengths (map R.list nodes.now)) }
         ensures room { self.new.room ≡ self.old.room }
@@ -31,7 +32,7 @@ impl Fenwick {
         requires inside { k ≤ length nodes.now }
         requires count { length self.old.lengths ≡ block_count (length nodes.now) }
         requires before { (i : ℕ) → i ≤ length self.old.lengths → prefix_sum self.old.lengths i
-            ≡ prefix_sum (insert (node_lengths (map R.list nodes.now)) k n) (32 * i) }
+            ≡ prefix_sum (insert (node_lengths (map R.list nodes.now)) k n) (NODES_PER_BLOCK * i) }
         requires fits { sum (node_lengths (map R.list nodes.now)) + n < 2 ^ 64 }
         ensures lengths { self.new.lengths ≡ block_sums (node_lengths (map R.list nodes.now)) }
         ensures room { self.new.room ≡ self.old.room }
@@ -47,12 +48,12 @@ fn raise_from<T, Node, R: NodeItems<T, Node>>(cells: &mut [usize], k: usize, nod
     requires inside { k < length nodes.now }
     requires count { length cells.old ≡ block_count (length nodes.now) }
     requires before { (i : ℕ) → i ≤ length cells.old → prefix_sum (lengths_of cells.old) i
-        ≡ prefix_sum (remove (node_lengths (map R.list nodes.now)) k) (32 * i) }
+        ≡ prefix_sum (remove (node_lengths (map R.list nodes.now)) k) (NODES_PER_BLOCK * i) }
     requires fits { sum (node_lengths (map R.list nodes.now)) < 2 ^ 64 }
     ensures cells { IsFenwick cells.new }
     ensures lengths { lengths_of cells.new ≡ block_sums (node_lengths (map R.list nodes.now)) }
 {
-    let mut i = k / 32 + 1;
+    let mut i = k / NODES_PER_BLOCK + 1;
     while i <= cells.len() {
         let gained = moved_in::<T, Node, R>(nodes, k, i & (i - 1));
         let lost = first_of_block::<T, Node, R>(nodes, i);
@@ -73,12 +74,12 @@ fn lower_from<T, Node, R: NodeItems<T, Node>>(
     requires inside { k ≤ length nodes.now }
     requires count { length cells.old ≡ block_count (length nodes.now) }
     requires before { (i : ℕ) → i ≤ length cells.old → prefix_sum (lengths_of cells.old) i
-        ≡ prefix_sum (insert (node_lengths (map R.list nodes.now)) k n) (32 * i) }
+        ≡ prefix_sum (insert (node_lengths (map R.list nodes.now)) k n) (NODES_PER_BLOCK * i) }
     requires fits { sum (node_lengths (map R.list nodes.now)) + n < 2 ^ 64 }
     ensures cells { IsFenwick cells.new }
     ensures lengths { lengths_of cells.new ≡ block_sums (node_lengths (map R.list nodes.now)) }
 {
-    let mut i = k / 32 + 1;
+    let mut i = k / NODES_PER_BLOCK + 1;
     while i <= cells.len() {
         let gained = last_before_block::<T, Node, R>(nodes, i);
         let lost = moved_out::<T, Node, R>(nodes, k, n, i & (i - 1));
@@ -91,11 +92,12 @@ fn lower_from<T, Node, R: NodeItems<T, Node>>(
 // if it is not before them.
 fn moved_in<T, Node, R: NodeItems<T, Node>>(nodes: &[Node], k: usize, start: usize) -> usize
     requires { k < length nodes.now }
-    ensures here { 32 * start ≤ k → result ≡ slice_index (node_lengths (map R.list nodes.now)) k }
-    ensures past { k < 32 * start
-        → result ≡ slice_index (node_lengths (map R.list nodes.now)) (32 * start) }
+    ensures here { NODES_PER_BLOCK * start ≤ k
+        → result ≡ slice_index (node_lengths (map R.list nodes.now)) k }
+    ensures past { k < NODES_PER_BLOCK * start
+        → result ≡ slice_index (node_lengths (map R.list nodes.now)) (NODES_PER_BLOCK * start) }
 {
-    if start <= k / 32 {
+    if start <= k / NODES_PER_BLOCK {
         length_at::<T, Node, R>(nodes, k)
     } else {
         first_of_block::<T, Node, R>(nodes, start)
@@ -110,11 +112,11 @@ fn moved_out<T, Node, R: NodeItems<T, Node>>(
     n: usize,
     start: usize,
 ) -> usize
-    ensures here { 32 * start ≤ k → result ≡ n }
-    ensures past { k < 32 * start
-        → result ≡ slice_index (node_lengths (map R.list nodes.now)) (32 * start - 1) }
+    ensures here { NODES_PER_BLOCK * start ≤ k → result ≡ n }
+    ensures past { k < NODES_PER_BLOCK * start
+        → result ≡ slice_index (node_lengths (map R.list nodes.now)) (NODES_PER_BLOCK * start - 1) }
 {
-    if start <= k / 32 {
+    if start <= k / NODES_PER_BLOCK {
         n
     } else {
         last_before_block::<T, Node, R>(nodes, start)
@@ -123,10 +125,10 @@ fn moved_out<T, Node, R: NodeItems<T, Node>>(
 
 // Returns the length of the first node of a block, or 0 past the last.
 fn first_of_block<T, Node, R: NodeItems<T, Node>>(nodes: &[Node], block: usize) -> usize
-    ensures { result ≡ slice_index (node_lengths (map R.list nodes.now)) (32 * block) }
+    ensures { result ≡ slice_index (node_lengths (map R.list nodes.now)) (NODES_PER_BLOCK * block) }
 {
-    if block < nodes.len().div_ceil(32) {
-        length_at::<T, Node, R>(nodes, 32 * block)
+    if block < nodes.len().div_ceil(NODES_PER_BLOCK) {
+        length_at::<T, Node, R>(nodes, NODES_PER_BLOCK * block)
     } else {
         0
     }
@@ -135,10 +137,11 @@ fn first_of_block<T, Node, R: NodeItems<T, Node>>(nodes: &[Node], block: usize) 
 // Returns the length of the last node before a block, or 0 past the last.
 fn last_before_block<T, Node, R: NodeItems<T, Node>>(nodes: &[Node], block: usize) -> usize
     requires { 1 ≤ block }
-    ensures { result ≡ slice_index (node_lengths (map R.list nodes.now)) (32 * block - 1) }
+    ensures { result ≡ slice_index (node_lengths (map R.list nodes.now))
+        (NODES_PER_BLOCK * block - 1) }
 {
-    if block <= nodes.len() / 32 {
-        length_at::<T, Node, R>(nodes, 32 * block - 1)
+    if block <= nodes.len() / NODES_PER_BLOCK {
+        length_at::<T, Node, R>(nodes, NODES_PER_BLOCK * block - 1)
     } else {
         0
     }
