@@ -56,7 +56,8 @@ fn obey(
 
 // Changes the map, and returns the events of the change.
 fn change(rt: &HostRuntime, names: &mut UniqueKey, line: &str) -> Result<Vec<ChangeEvent<Named>>>
-    ensures { IfOk result (λ events. replay (by_key (slice_cmp nat_cmp)) names.old.nodes events.items
+    ensures { IfOk result
+        (λ events. replay (by_key (slice_cmp nat_cmp)) names.old.nodes events.items
         ≡ Some names.new.nodes) }
 {
     let mut words = line.split_whitespace();

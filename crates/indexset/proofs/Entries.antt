@@ -1,4 +1,5 @@
--- Pairs as the entries of std's map, so that std's lemmas serve, and what a written value does to sums, `All` and look-ups.
+-- Pairs as the entries of std's map, so that std's lemmas serve,
+-- and what a written value does to sums, `All` and look-ups.
 use Rattle.std.proofs.Common.{◌≡◌, ℕ, ◌+◌, true, false, List, [], ◌∷◌, length, map, Ordering, Some, None, refl, ap, subst, sym, ◌∙◌}
 use Rattle.std.specs.Cmp.{IsTotalOrder}
 use Rattle.std.specs.List.{All, sum_by}
@@ -37,10 +38,14 @@ module _ {K V : Type 0} where
       pub set_value_entries : (l : List (Pair K V)) → entries.set_value (λ q. is_eq (cmp q k)) (map entry_of l) w ≡ map entry_of (set_value cmp l k w)
       unfolding set_found
       set_value_entries [] = refl
-      set_value_entries (p ∷ l) = elim (is_eq (cmp p.key k)) as (λ b. is_eq (cmp p.key k) ≡ b → entries.set_value (λ q. is_eq (cmp q k)) (map entry_of (p ∷ l)) w ≡ map entry_of (set_value cmp (p ∷ l) k w)) [
-        | true ↦ λ e. rw e refl
-        | false ↦ λ e. rw e (ap (λ es. entry_of p ∷ es) (set_value_entries l))
-      ] refl
+      set_value_entries (p ∷ l) =
+          elim (is_eq (cmp p.key k))
+          as (λ b. is_eq (cmp p.key k) ≡ b
+          → entries.set_value (λ q. is_eq (cmp q k)) (map entry_of (p ∷ l)) w
+          ≡ map entry_of (set_value cmp (p ∷ l) k w)) [
+            | true ↦ λ e. rw e refl
+            | false ↦ λ e. rw e (ap (λ es. entry_of p ∷ es) (set_value_entries l))
+          ] refl
 
       -- the values, once w is the value of k
       written : (l : List (Pair K V)) → values_of (entries.set_value (λ q. is_eq (cmp q k)) (map entry_of l) w) ≡ pair_values (set_value cmp l k w)
@@ -48,7 +53,9 @@ module _ {K V : Type 0} where
 
       pub sum_by_set_value : (f : V → ℕ) (l : List (Pair K V)) (v : V) → value_of cmp l k ≡ Some v → sum_by f (pair_values (set_value cmp l k w)) + f v ≡ sum_by f (pair_values l) + f w
       sum_by_set_value f l v is =
-          ap (λ vs. sum_by f vs + f v) (sym (written l)) ∙ (sums.sum_by-set_value f (λ q. is_eq (cmp q k)) (map entry_of l) v w (lookup_entries l ∙ is) ∙ ap (λ vs. sum_by f vs + f w) (values_entries l))
+          ap (λ vs. sum_by f vs + f v) (sym (written l))
+          ∙ (sums.sum_by-set_value f (λ q. is_eq (cmp q k)) (map entry_of l) v w (lookup_entries l ∙ is)
+          ∙ ap (λ vs. sum_by f vs + f w) (values_entries l))
 
       pub all_set_value : (P : V → Type 0) (l : List (Pair K V)) → All P (pair_values l) → P w → All P (pair_values (set_value cmp l k w))
       all_set_value P l all holds =
@@ -78,7 +85,10 @@ module _ {K V : Type 0} where
       keys_set_value l = sym (ap keys_of (set_value_entries l) ∙ keys_entries (set_value cmp l k w)) ∙ (maps.keys-set_value (λ q. is_eq (cmp q k)) (map entry_of l) w ∙ keys_entries l)
 
       pub length_set_value : (l : List (Pair K V)) → length (set_value cmp l k w) ≡ length l
-      length_set_value l = sym (length-map (set_value cmp l k w) entry_of) ∙ (ap (λ es. length es) (sym (set_value_entries l)) ∙ (maps.length-set_value (λ q. is_eq (cmp q k)) (map entry_of l) w ∙ length-map l entry_of))
+      length_set_value l =
+          sym (length-map (set_value cmp l k w) entry_of)
+          ∙ (ap (λ es. length es) (sym (set_value_entries l))
+          ∙ (maps.length-set_value (λ q. is_eq (cmp q k)) (map entry_of l) w ∙ length-map l entry_of))
 
       -- the value of k, and of another key
       pub value_set_value : (l : List (Pair K V)) (v : V) → value_of cmp l k ≡ Some v → value_of cmp (set_value cmp l k w) k ≡ Some w

@@ -1,4 +1,5 @@
--- What an insertion and a removal in order do to a sum over the items, to their number, and to what holds of each.
+-- What an insertion and a removal in order do to a sum over the items, to their number,
+-- and to what holds of each.
 use Rattle.std.proofs.Common.{◌≡◌, ℕ, ◌+◌, true, false, List, ◌∷◌, length, get_or, Ordering, refl, ap, sym, ◌∙◌, arith, length-set}
 use Rattle.std.specs.Cmp.{IsTotalOrder}
 use Rattle.std.specs.List.{All, sum_by}

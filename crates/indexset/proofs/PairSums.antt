@@ -22,7 +22,9 @@ module _ {K V : Type 0} (f : V → ℕ) where
   of_pair (Some p) = refl
 
   module _ (cmp : K → K → Ordering) (o : IsTotalOrder cmp) where
-    pub sum_by_without_key : (l : List (Pair K V)) → IsAscending (by_key cmp) l → (k : K) → sum_by f (pair_values (without_key cmp l k)) + unwrap_or (option_map f (value_of cmp l k)) 0 ≡ sum_by f (pair_values l)
+    pub sum_by_without_key : (l : List (Pair K V)) → IsAscending (by_key cmp) l → (k : K)
+        → sum_by f (pair_values (without_key cmp l k)) + unwrap_or (option_map f (value_of cmp l k)) 0
+        ≡ sum_by f (pair_values l)
     unfolding unequal
     sum_by_without_key [] up k = refl
     sum_by_without_key (p ∷ l) up k =
@@ -32,15 +34,22 @@ module _ {K V : Type 0} (f : V → ℕ) where
         ∙ (ap (λ r. sum_by (λ p. f p.value) r + unwrap_or (option_map (λ p. f p.value) (pair_of cmp all k)) 0) (sym (without-pair cmp all k p.value))
         ∙ (sum_by_without (by_key cmp) (pairs_total cmp o) all up (pair k p.value) (λ p. f p.value) ∙ sym (over_pairs all))))
 
-    pub sum_by_put_value : (l : List (Pair K V)) → IsAscending (by_key cmp) l → (k : K) (w : V) → sum_by f (pair_values (put_value cmp l k w)) + unwrap_or (option_map f (value_of cmp l k)) 0 ≡ sum_by f (pair_values l) + f w
+    pub sum_by_put_value : (l : List (Pair K V)) → IsAscending (by_key cmp) l → (k : K) (w : V)
+        → sum_by f (pair_values (put_value cmp l k w)) + unwrap_or (option_map f (value_of cmp l k)) 0
+        ≡ sum_by f (pair_values l) + f w
     unfolding put_value
-    sum_by_put_value l up k w = elim (has_key cmp l k) as (λ b. has_key cmp l k ≡ b → sum_by f (pair_values (if b then set_value cmp l k w else put (by_key cmp) l (pair k w))) + unwrap_or (option_map f (value_of cmp l k)) 0 ≡ sum_by f (pair_values l) + f w) [
-      | true ↦ λ e.
-          let there = some_held (pair_of cmp l k) (is_some-find (λ p. is_eq (cmp p.key k)) l ∙ e) in
-          let is : value_of cmp l k ≡ Some there.0.value = ap (option_map (λ p. p.value)) there.1 in
-          ap (λ q. sum_by f (pair_values (set_value cmp l k w)) + unwrap_or (option_map f q) 0) is ∙ sum_by_set_value cmp k w f l there.0.value is
-      | false ↦ λ e.
-          ap (λ n. n + unwrap_or (option_map f (value_of cmp l k)) 0) (over_pairs (put (by_key cmp) l (pair k w)))
-          ∙ (ap (λ n. sum_by (λ p. f p.value) (put (by_key cmp) l (pair k w)) + n) (of_pair (pair_of cmp l k))
-          ∙ (sum_by_put (by_key cmp) (pairs_total cmp o) l up (pair k w) (λ p. f p.value) ∙ ap (λ n. n + f w) (sym (over_pairs l))))
-    ] refl
+    sum_by_put_value l up k w =
+        elim (has_key cmp l k)
+        as (λ b. has_key cmp l k ≡ b
+        → sum_by f (pair_values (if b then set_value cmp l k w else put (by_key cmp) l (pair k w)))
+        + unwrap_or (option_map f (value_of cmp l k)) 0
+        ≡ sum_by f (pair_values l) + f w) [
+          | true ↦ λ e.
+              let there = some_held (pair_of cmp l k) (is_some-find (λ p. is_eq (cmp p.key k)) l ∙ e) in
+              let is : value_of cmp l k ≡ Some there.0.value = ap (option_map (λ p. p.value)) there.1 in
+              ap (λ q. sum_by f (pair_values (set_value cmp l k w)) + unwrap_or (option_map f q) 0) is ∙ sum_by_set_value cmp k w f l there.0.value is
+          | false ↦ λ e.
+              ap (λ n. n + unwrap_or (option_map f (value_of cmp l k)) 0) (over_pairs (put (by_key cmp) l (pair k w)))
+              ∙ (ap (λ n. sum_by (λ p. f p.value) (put (by_key cmp) l (pair k w)) + n) (of_pair (pair_of cmp l k))
+              ∙ (sum_by_put (by_key cmp) (pairs_total cmp o) l up (pair k w) (λ p. f p.value) ∙ ap (λ n. n + f w) (sym (over_pairs l))))
+        ] refl

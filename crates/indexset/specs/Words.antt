@@ -54,17 +54,23 @@
 
 pub use Rattle.indexset_spine.specs.NodeList.{items}
 pub use Rattle.indexset_spine.specs.Extract.{Extracts, ExtractState, extract_state}
-pub use Rattle.indexset_core.specs.Order.{IsAscending, below, above, rank, has_equal, index_of, equal_element, lower_element, put, keep, without}
+pub use Rattle.indexset_core.specs.Order.{IsAscending, below, above, rank, has_equal, index_of}
+pub use Rattle.indexset_core.specs.Order.{equal_element, lower_element, put, keep, without}
 pub use Rattle.indexset_core.specs.KeyRange.{are_ordered, is_within, in_range, in_positions}
 pub use Rattle.indexset_core.specs.Digits.{digits}
-pub use Rattle.indexset_core.specs.Pairs.{by_key, entry_of, has_key, key_rank, pair, pair_keys, pair_of, pair_values, pairs_within, put_value, set_value, value_of, without_key}
+pub use Rattle.indexset_core.specs.Pairs.{by_key, entry_of, has_key, key_rank, pair}
+pub use Rattle.indexset_core.specs.Pairs.{pair_keys, pair_of, pair_values, pairs_within}
+pub use Rattle.indexset_core.specs.Pairs.{put_value, set_value, value_of, without_key}
 pub use Rattle.indexset_core.specs.MultiPairs.{by_number}
 pub use Rattle.indexset_core.specs.declared.multipair.MultiPair.{MultiPair}
-pub use Rattle.indexset_set.specs.SetAlgebra.{difference, intersection, symmetric_difference, union, put_all}
-pub use Rattle.indexset_set.specs.SetExtract.{CalledOn, ExtractsOne, extract_items, extract_pred, extract_set}
+pub use Rattle.indexset_set.specs.SetAlgebra.{difference, intersection}
+pub use Rattle.indexset_set.specs.SetAlgebra.{symmetric_difference, union, put_all}
+pub use Rattle.indexset_set.specs.SetExtract.{CalledOn, ExtractsOne, extract_items}
+pub use Rattle.indexset_set.specs.SetExtract.{extract_pred, extract_set}
 pub use Rattle.indexset_set.specs.SetRanges.{not_below, upper_element}
 pub use Rattle.indexset_map.specs.Contents.{with_entry, with_pairs, without_at, without_entry}
-pub use Rattle.indexset_map.specs.Extract.{ExtractsPair, extract_map, extract_map_pred, extract_pairs}
+pub use Rattle.indexset_map.specs.Extract.{ExtractsPair, extract_map}
+pub use Rattle.indexset_map.specs.Extract.{extract_map_pred, extract_pairs}
 pub use Rattle.indexset_map.specs.Walk.{HasWritten, walk_back, walk_front, written}
 pub use Rattle.indexset_core.specs.Nodes.{concat, vec_items, IsNodeList}
 pub use Rattle.indexset_events.specs.Clones.{IsEventClone}
@@ -74,12 +80,18 @@ pub use Rattle.indexset_events.specs.EventText.{EventInRange, event_reading, eve
 pub use Rattle.indexset_events.specs.Keys.{key_removal_events}
 unfoldable pub use Rattle.indexset_events.specs.Spelling.{is_item, is_word}
 pub use Rattle.indexset_events.specs.Table.{put_events, checked_put_events, removal_events}
-pub use Rattle.indexset_events.specs.Replay.{IsNumberedFrom, numbered_from, replay, step, unassigned}
+pub use Rattle.indexset_events.specs.Replay.{IsNumberedFrom, numbered_from}
+pub use Rattle.indexset_events.specs.Replay.{replay, step, unassigned}
 pub use Rattle.indexset_log.specs.Tree.{Tree, refusal_for}
 pub use Rattle.indexset_multi.specs.Changed.{IsAdded, IsInserted}
 pub use Rattle.indexset_multi.specs.Keys.{entries, equal_pair, has_pair_of, pairs_of, without_first}
-pub use Rattle.indexset_multi.specs.Tree.{MultiTree, inserted_pair, insertion_refusal, pair_removal_events}
+pub use Rattle.indexset_multi.specs.Tree.{MultiTree, inserted_pair}
+pub use Rattle.indexset_multi.specs.Tree.{insertion_refusal, pair_removal_events}
 pub use Rattle.indexset_replica.specs.Copies.{AreClonesEqual, AreCopies, IsCopy, LeadsToCopies}
-pub use Rattle.indexset_replica.specs.Delivery.{CopiesAll, CopiesPrefix, HasStopped, IsCaughtUp, IsAlike, IsAt, IsPrefix, IsDelivered, IsDelivery, IsEventLog, IsFollowed, IsDeliveredUpTo, IsSubsequence, numbers_from}
+pub use Rattle.indexset_replica.specs.Delivery.{CopiesAll, CopiesPrefix, HasStopped, IsCaughtUp}
+pub use Rattle.indexset_replica.specs.Delivery.{IsAlike, IsAt, IsPrefix, IsDelivered}
+pub use Rattle.indexset_replica.specs.Delivery.{IsDelivery, IsEventLog, IsFollowed}
+pub use Rattle.indexset_replica.specs.Delivery.{IsDeliveredUpTo, IsSubsequence, numbers_from}
 pub use Rattle.indexset_replica.specs.Keyed.{count_equal}
-pub use Rattle.indexset_replica.specs.Replica.{ReplicaState, apply_refusal, AddsClone, IsClonedStep, IsEqualClone}
+pub use Rattle.indexset_replica.specs.Replica.{ReplicaState, apply_refusal}
+pub use Rattle.indexset_replica.specs.Replica.{AddsClone, IsClonedStep, IsEqualClone}

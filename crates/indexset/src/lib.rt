@@ -3,8 +3,8 @@
 //!
 //! This crate re-exports the collections under the paths of the Rust crate. [`BTreeSet`] and
 //! [`BTreeMap`] with their iterators are at the root. The logged set, map and multimap are in
-//! [`concurrent`], their events in [`cdc`], the parts of both families in [`base`], and the replica,
-//! which follows a tree by its events, in [`replica`].
+//! [`concurrent`], their events in [`cdc`], the parts of both families in [`base`], and the
+//! replica, which follows a tree by its events, in [`replica`].
 //! Laws of sets are in [`laws`], laws of iterators over maps in [`map_laws`].
 //!
 //! `Rattle.indexset.specs.Words` has the words of the contracts, and `docs/guide.md` is the page

@@ -20,14 +20,19 @@ abbrev tree_of : {T : Type 0} → List (List T) → ℕ → ℕ → Tree T
 tree_of ns size next = record { nodes = ns; size = size; next = next }
 
 -- the tree is the result of replaying the events
-pub tree_led : {T : Type 0} (cmp : T → T → Ordering) (t new : Tree T) (es : List (ChangeEventUnassigned T)) → replay cmp t.nodes (numbered_from t.next es) ≡ Some new.nodes → new.size ≡ t.size → new.next ≡ t.next + length es → new ≡ tree_after cmp t es
+pub tree_led : {T : Type 0} (cmp : T → T → Ordering) (t new : Tree T) (es : List (ChangeEventUnassigned T))
+    → replay cmp t.nodes (numbered_from t.next es) ≡ Some new.nodes → new.size ≡ t.size → new.next ≡ t.next + length es
+    → new ≡ tree_after cmp t es
 tree_led cmp t new es table size next = λ i. tree_of (unwrap_or (sym table i) t.nodes) (size i) (next i)
 
 -- the same of a multimap
 abbrev multi_tree_of : {K V : Type 0} → List (List (MultiPair K V)) → ℕ → ℕ → ℕ → MultiTree K V
 multi_tree_of ns size next pair_next = record { nodes = ns; size = size; next = next; pair_next = pair_next }
 
-pub multi_led : {K V : Type 0} (cmp : K → K → Ordering) (m new : MultiTree K V) (es : List (ChangeEventUnassigned (MultiPair K V))) (n : ℕ) → replay (by_number cmp) m.nodes (numbered_from m.next es) ≡ Some new.nodes → new.size ≡ m.size → new.next ≡ m.next + length es → new.pair_next ≡ n
+pub multi_led : {K V : Type 0} (cmp : K → K → Ordering) (m new : MultiTree K V)
+    (es : List (ChangeEventUnassigned (MultiPair K V))) (n : ℕ)
+    → replay (by_number cmp) m.nodes (numbered_from m.next es) ≡ Some new.nodes → new.size ≡ m.size
+    → new.next ≡ m.next + length es → new.pair_next ≡ n
     → new ≡ multi_tree_of (nodes_after (by_number cmp) m.nodes m.next es) m.size (m.next + length es) n
 multi_led cmp m new es n table size next pair_next = λ i. multi_tree_of (unwrap_or (sym table i) m.nodes) (size i) (next i) (pair_next i)
 

@@ -28,10 +28,14 @@ module _ {S C R : Type 0} (after : S → C → S) (IsReply : S → C → R → T
   length-replies s (c ∷ cs) (r ∷ rs) are = simp (length-replies (after s c) cs rs are.1)
 
 -- no command was answered yet
-pub none_cloned : {S C R : Type 0} {after : S → C → S} {reply : S → C → R} {IsReply : S → C → R → Type 0} {Premise : Type 0} (s : S) (rest all : List C) (replies : List R) → rest ≡ all → replies ≡ [] → ClonedSoFar after reply IsReply Premise s s [] rest all replies
+pub none_cloned : {S C R : Type 0} {after : S → C → S} {reply : S → C → R} {IsReply : S → C → R → Type 0}
+    {Premise : Type 0} (s : S) (rest all : List C) (replies : List R)
+    → rest ≡ all → replies ≡ [] → ClonedSoFar after reply IsReply Premise s s [] rest all replies
 none_cloned s rest all replies given none = rw none record { given = given; cloned = tt; told = λ _. refl; held = refl }
 
-module _ {S C R : Type 0} {after : S → C → S} {reply : S → C → R} {IsReply : S → C → R → Type 0} {Premise : Type 0} {s s' : S} {done rest all : List C} {replies : List R} (far : ClonedSoFar after reply IsReply Premise s s' done rest all replies) where
+module _ {S C R : Type 0} {after : S → C → S} {reply : S → C → R} {IsReply : S → C → R → Type 0} {Premise : Type 0}
+    {s s' : S} {done rest all : List C} {replies : List R}
+    (far : ClonedSoFar after reply IsReply Premise s s' done rest all replies) where
   -- those commands are the first ones, one for each reply
   answered : take (length replies) all ≡ done
   answered = rw (length-replies after IsReply s done replies far.cloned, ← far.given) (take-append_seam done rest)
@@ -49,7 +53,9 @@ module _ {S C R : Type 0} {after : S → C → S} {reply : S → C → R} {IsRep
   count_answered = rw (length-replies after IsReply s done replies far.cloned, ← far.given) (sym (length-append done rest))
 
   -- one more command
-  pub further_cloned : (c : C) (rest' : List C) (s'' : S) (replies' : List R) → rest ≡ c ∷ rest' → AppendsReply (IsReply s' c) replies replies' → (Premise → replies' ≡ replies ++ reply s' c ∷ []) → s'' ≡ after s' c
+  pub further_cloned : (c : C) (rest' : List C) (s'' : S) (replies' : List R) → rest ≡ c ∷ rest'
+      → AppendsReply (IsReply s' c) replies replies' → (Premise → replies' ≡ replies ++ reply s' c ∷ [])
+      → s'' ≡ after s' c
       → ClonedSoFar after reply IsReply Premise s s'' (done ++ c ∷ []) rest' all replies'
   further_cloned c rest' s'' replies' next cloned told held = record {
     given = append_assoc done (c ∷ []) rest' ∙ ap (λ r. done ++ r) (sym next) ∙ far.given;

@@ -37,7 +37,9 @@ module _ {S C R : Type 0} {after : S → C → S} {reply : S → C → R} {s s' 
   count_of_done = rw far.told (length-scan after reply s done)
 
   -- one more command
-  pub further : (c : C) (rest' : List C) (s'' : S) (replies' : List R) → rest ≡ c ∷ rest' → replies' ≡ replies ++ reply s' c ∷ [] → s'' ≡ after s' c → SoFar after reply s s'' (done ++ c ∷ []) rest' all replies'
+  pub further : (c : C) (rest' : List C) (s'' : S) (replies' : List R) → rest ≡ c ∷ rest'
+      → replies' ≡ replies ++ reply s' c ∷ [] → s'' ≡ after s' c
+      → SoFar after reply s s'' (done ++ c ∷ []) rest' all replies'
   further c rest' s'' replies' next told held = record {
     given = append_assoc done (c ∷ []) rest' ∙ ap (λ r. done ++ r) (sym next) ∙ far.given;
     told = told ∙ ap (λ rs. rs ++ reply s' c ∷ []) far.told ∙ ap (λ x. scan after reply s done ++ reply x c ∷ []) far.held ∙ sym (scan-push after reply s done c);

@@ -58,7 +58,9 @@ module _ {T : Type 0} (texts : Texts T) where
 
     pub pair_told : (p : Pair T T) → PairFits texts p → pair_of texts (pair_text texts p) ≡ Some p
     pair_told p fit =
-        let cut : cut_at 58 (pair_text texts p) ≡ Some (texts.spelling p.key, texts.spelling p.value) = ap (cut_at 58) (pair_parts p) ∙ cut_told 58 (texts.spelling p.key) (texts.spelling p.value) (colon_lacks p.key fit.0) in
+        let cut : cut_at 58 (pair_text texts p) ≡ Some (texts.spelling p.key, texts.spelling p.value) =
+        ap (cut_at 58) (pair_parts p)
+        ∙ cut_told 58 (texts.spelling p.key) (texts.spelling p.value) (colon_lacks p.key fit.0) in
         rw (cut, words.told p.key fit.0, words.told p.value fit.1) refl
 
     pub pair_read : (text : List ℕ) (p : Pair T T) → pair_of texts text ≡ Some p → (text ≡ pair_text texts p) × PairFits texts p

@@ -27,11 +27,15 @@ numbered_from-append s (e ∷ a) b =
 module _ {S C E : Type 0} (left : S → C → S) (events : S → C → List E) where
   events_in_turn-push : (t : S) (cs : List C) (c : C) → events_in_turn left events t (cs ++ c ∷ []) ≡ events_in_turn left events t cs ++ events (fold left t cs) c
   events_in_turn-push t [] c = append-nil (events t c)
-  events_in_turn-push t (d ∷ cs) c = ap (λ l. events t d ++ l) (events_in_turn-push (left t d) cs c) ∙ sym (append_assoc (events t d) (events_in_turn left events (left t d) cs) (events (fold left (left t d) cs) c))
+  events_in_turn-push t (d ∷ cs) c =
+      ap (λ l. events t d ++ l) (events_in_turn-push (left t d) cs c)
+      ∙ sym (append_assoc (events t d) (events_in_turn left events (left t d) cs) (events (fold left (left t d) cs) c))
 
 -- the events so far are those of the definition for the commands so far, with clones of its items;
 -- replaying them on the nodes before gives the nodes now, and the tree is as the commands left it
-pub record LogSoFar {S C T : Type 0} (cmp : T → T → Ordering) (left : S → C → S) (events : S → C → List (ChangeEventUnassigned T)) (R : T → T → Type 0) (P : Type 0) (t t' : S) (ns now : List (List T)) (from next count : ℕ) (done : List C) (told : List (ChangeEvent T)) : Type 0 where
+pub record LogSoFar {S C T : Type 0} (cmp : T → T → Ordering) (left : S → C → S)
+    (events : S → C → List (ChangeEventUnassigned T)) (R : T → T → Type 0) (P : Type 0) (t t' : S)
+    (ns now : List (List T)) (from next count : ℕ) (done : List C) (told : List (ChangeEvent T)) : Type 0 where
   pub cloned : AllZip (IsEventClone R) (numbered_from from (events_in_turn left events t done)) told
   pub told_is : P → told ≡ numbered_from from (events_in_turn left events t done)
   pub replayed : replay cmp ns (numbered_from from (events_in_turn left events t done)) ≡ Some now
@@ -46,14 +50,19 @@ module _ {S C T : Type 0} (cmp : T → T → Ordering) (left : S → C → S) (e
   -- one more command
   pub more_log : (t' t'' : S) (now after : List (List T)) (next next' count : ℕ) (done : List C) (c : C) (told told' : List (ChangeEvent T))
       → LogSoFar cmp left events R P t t' ns now from next count done told
-      → AppendsClones (IsEventClone R) told told' (numbered_from next (events t' c)) → (P → told' ≡ told ++ numbered_from next (events t' c)) → replay cmp now (numbered_from next (events t' c)) ≡ Some after
+      → AppendsClones (IsEventClone R) told told' (numbered_from next (events t' c))
+      → (P → told' ≡ told ++ numbered_from next (events t' c))
+      → replay cmp now (numbered_from next (events t' c)) ≡ Some after
       → length told' ≤ length told + 3 → next' ≡ next + length (events t' c) → t'' ≡ left t' c
       → LogSoFar cmp left events R P t t'' ns after from next' (count + 1) (done ++ c ∷ []) told'
   more_log t' t'' now after next next' count done c told told' far clones is step few num made =
       let es = events_in_turn left events t done in
       let es' = events t' c in
       let more : events_in_turn left events t (done ++ c ∷ []) ≡ es ++ es' = events_in_turn-push left events t done c ∙ ap (λ q. es ++ events q c) (sym far.left_is) in
-      let parts : numbered_from from (events_in_turn left events t (done ++ c ∷ [])) ≡ numbered_from from es ++ numbered_from next es' = ap (numbered_from from) more ∙ numbered_from-append from es es' ∙ ap (λ n. numbered_from from es ++ numbered_from n es') (sym far.next_is) in
+      let parts : numbered_from from (events_in_turn left events t (done ++ c ∷ []))
+      ≡ numbered_from from es ++ numbered_from next es' =
+      ap (numbered_from from) more ∙ numbered_from-append from es es'
+      ∙ ap (λ n. numbered_from from es ++ numbered_from n es') (sym far.next_is) in
       record {
         cloned = rw (parts, clones.1) (zip_on (IsEventClone R) (numbered_from from es) (numbered_from next es') told clones.0 far.cloned clones.2);
         told_is = λ p. rw parts (is p ∙ ap (λ l. l ++ numbered_from next es') (far.told_is p));
@@ -63,12 +72,20 @@ module _ {S C T : Type 0} (cmp : T → T → Ordering) (left : S → C → S) (e
         left_is = made ∙ ap (λ q. left q c) far.left_is ∙ sym (fold-append left t done (c ∷ []));
       }
 
-module _ {S C T : Type 0} {cmp : T → T → Ordering} {left : S → C → S} {events : S → C → List (ChangeEventUnassigned T)} {R : T → T → Type 0} {P : Type 0} {t t' : S} {ns now : List (List T)} {from next count : ℕ} {done : List C} {told : List (ChangeEvent T)} (far : LogSoFar cmp left events R P t t' ns now from next count done told) where
+module _ {S C T : Type 0} {cmp : T → T → Ordering} {left : S → C → S}
+    {events : S → C → List (ChangeEventUnassigned T)} {R : T → T → Type 0} {P : Type 0} {t t' : S}
+    {ns now : List (List T)} {from next count : ℕ} {done : List C} {told : List (ChangeEvent T)}
+    (far : LogSoFar cmp left events R P t t' ns now from next count done told) where
   pub told_numbered : IsNumberedFrom from told
   told_numbered = clones_numbered R from (events_in_turn left events t done) told far.cloned
 
   pub told_next : next ≡ from + length told
-  told_next = omega (arith, far.next_is, length_all_zip (IsEventClone R) (numbered_from from (events_in_turn left events t done)) told far.cloned, length-numbered from (events_in_turn left events t done))
+  told_next = omega (
+    arith,
+    far.next_is,
+    length_all_zip (IsEventClone R) (numbered_from from (events_in_turn left events t done)) told far.cloned,
+    length-numbered from (events_in_turn left events t done),
+  )
 
   pub told_replayed : P → replay cmp ns told ≡ Some now
   told_replayed p = rw (far.told_is p) far.replayed

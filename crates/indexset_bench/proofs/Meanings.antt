@@ -1,5 +1,6 @@
 -- `meaning` is the command that a line spells.
-use Rattle.std.proofs.Common.{take, take-append-drop, Option, None, Some, MatchOption, ◌≡◌, ◌≢◌, ℕ, ◌+◌, ◌*◌, ◌<◌, ◌^◌, true, false, List, [], ◌∷◌, ◌++◌, drop, get_or, length, refl, sym, ap, subst, ◌∙◌, arith}
+use Rattle.std.proofs.Common.{take, take-append-drop, Option, None, Some, MatchOption, ◌≡◌, ◌≢◌, ℕ, ◌+◌, ◌*◌, ◌<◌, ◌^◌}
+use Rattle.std.proofs.Common.{true, false, List, [], ◌∷◌, ◌++◌, drop, get_or, length, refl, sym, ap, subst, ◌∙◌, arith}
 use lib.Chars.{codes}
 use Rattle.std.proofs.Math.Seq.{take-append_seam, drop-append_seam}
 use Rattle.std.specs.List.{find}
@@ -154,7 +155,10 @@ module _ (make : ℕ → Command) (spelled : (n : ℕ) → spelling (make n) ≡
       at None h = λ c fit is.
           let n = number_in c in
           let made : c ≡ make n = same_word (make 0) c digits (sym e ∙ is) ∙ renumbered n in
-          h n ((fits n).1 (subst FitsU64 made fit)) (sym (drop-append_seam (word (make 0)) digits) ∙ ap (drop (length (word (make 0)))) (sym e ∙ is ∙ ap spelling made ∙ spelled n) ∙ drop-append_seam (word (make 0)) (decimal n))
+          h n ((fits n).1 (subst FitsU64 made fit))
+          (sym (drop-append_seam (word (make 0)) digits)
+          ∙ ap (drop (length (word (make 0)))) (sym e ∙ is ∙ ap spelling made ∙ spelled n)
+          ∙ drop-append_seam (word (make 0)) (decimal n))
 
 pub added : Tells Add
 added = numbered Add (λ n. refl) (λ n. refl) (λ n. ((λ h. h), (λ h. h)))

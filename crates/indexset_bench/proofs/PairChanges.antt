@@ -51,7 +51,9 @@ module _ {T : Type 0} (cmp : T → T → Ordering) where
 
 -- ---- the reply to a cut
 
-pub gone_reply : {T : Type 0} (o : Option (Pair T T)) → option_map_or {U = Reply T} (λ entry. GoneValue entry.1) (option_map entry_of o) Nothing ≡ option_map_or GoneValue (option_map (λ p. p.value) o) Nothing
+pub gone_reply : {T : Type 0} (o : Option (Pair T T))
+    → option_map_or {U = Reply T} (λ entry. GoneValue entry.1) (option_map entry_of o) Nothing
+    ≡ option_map_or GoneValue (option_map (λ p. p.value) o) Nothing
 gone_reply None = refl
 gone_reply (Some p) = refl
 

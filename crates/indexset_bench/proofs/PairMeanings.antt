@@ -43,7 +43,8 @@ module _ {T : Type 0} (texts : Texts T) (words : AreWords texts) where
   unfolding pair_meaning
   pair_sound line c h = at (cut_at 32 line) refl (bytes_eq line (codes "nodes")) refl h
     where
-      at : (o : Option (List ℕ × List ℕ)) → cut_at 32 line ≡ o → (b : Bool) → bytes_eq line (codes "nodes") ≡ b → option_map_or (λ cut. word_command texts cut.0 cut.1) o (cond b (Some Nodes) None) ≡ Some c → Spells line c
+      at : (o : Option (List ℕ × List ℕ)) → cut_at 32 line ≡ o → (b : Bool) → bytes_eq line (codes "nodes") ≡ b
+          → option_map_or (λ cut. word_command texts cut.0 cut.1) o (cond b (Some Nodes) None) ≡ Some c → Spells line c
       at None _ true is h = subst (Spells line) (some_inj Nodes c h) (same line (codes "nodes") is, tt)
       at None _ false _ h = none_some c h
       at (Some cut) is b _ h =

@@ -33,10 +33,14 @@ module _ {X : Type 0} (text : X → List ℕ) where
     more_lines w w1 w2 far told = subst (Appends w w2) (sym (ap (lines_for text) next ∙ lines-push (take i xs) x)) (Appends-trans w w1 w2 (lines_for text (take i xs)) (ended (text x)) far told)
 
     -- one more was written after its separator
-    pub more_joined : (lead : List ℕ) (w w1 w2 : Option (List ℕ)) → lead ≡ lead_after (take i xs) → Appends w w1 (join_with_byte 32 (map text (take i xs))) → Appends w1 w2 (lead ++ text x) → Appends w w2 (join_with_byte 32 (map text (take (i + 1) xs)))
+    pub more_joined : (lead : List ℕ) (w w1 w2 : Option (List ℕ)) → lead ≡ lead_after (take i xs)
+        → Appends w w1 (join_with_byte 32 (map text (take i xs))) → Appends w1 w2 (lead ++ text x)
+        → Appends w w2 (join_with_byte 32 (map text (take (i + 1) xs)))
     more_joined lead w w1 w2 led far told =
         let now = subst (λ l. Appends w1 w2 (l ++ text x)) led told in
-        subst (Appends w w2) (sym (ap (λ l. join_with_byte 32 (map text l)) next ∙ join-push (take i xs) x)) (Appends-trans w w1 w2 (join_with_byte 32 (map text (take i xs))) (lead_after (take i xs) ++ text x) far now)
+        subst (Appends w w2) (sym (ap (λ l. join_with_byte 32 (map text l)) next ∙ join-push (take i xs) x))
+        (Appends-trans w w1 w2 (join_with_byte 32 (map text (take i xs))) (lead_after (take i xs) ++ text x) far
+        now)
 
 -- after the first element, a space precedes each
 pub next_lead : {X : Type 0} (xs : List X) (i : ℕ) → i < length xs → 32 ∷ [] ≡ lead_after (take (i + 1) xs)
@@ -51,7 +55,9 @@ module _ {R X : Type 0} (text : X → List ℕ) (read : R → X) where
 
     pub one_line : (w w1 w2 : Option (List ℕ)) → Appends w w1 (lines_for text (map read done)) → Appends w1 w2 (ended (text (read y))) → Appends w w2 (lines_for text (map read (done ++ y ∷ [])))
     one_line w w1 w2 far told =
-        subst (Appends w w2) (sym (ap (lines_for text) (map_push read done y) ∙ lines-push text (map read done) (read y))) (Appends-trans w w1 w2 (lines_for text (map read done)) (ended (text (read y))) far told)
+        subst (Appends w w2)
+        (sym (ap (lines_for text) (map_push read done y) ∙ lines-push text (map read done) (read y)))
+        (Appends-trans w w1 w2 (lines_for text (map read done)) (ended (text (read y))) far told)
 
 pub on_ok_given : {T E : Type 0} (P : Type 0) (r : Result T E) (v : T) → OnOk r P → r ≡ Ok v → P
 on_ok_given P (Ok w) v told e = told

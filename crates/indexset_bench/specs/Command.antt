@@ -1,5 +1,6 @@
 -- The meaning of a line as a command to the set.
-use Rattle.std.specs.Prelude.{Option, ℕ, ◌^◌, ◌<◌, Bool, ◌&&◌, nat_lt, List, [], ◌∷◌, ◌++◌, ◌==◌, true, find, codes}
+use Rattle.std.specs.Prelude.{Option, ℕ, ◌^◌, ◌<◌, Bool, ◌&&◌, nat_lt}
+use Rattle.std.specs.Prelude.{List, [], ◌∷◌, ◌++◌, ◌==◌, true, find, codes}
 use Rattle.std.specs.List.{after_first}
 use Rattle.std.specs.Fmt.{decimal}
 use Rattle.std.specs.Str.{bytes_eq}

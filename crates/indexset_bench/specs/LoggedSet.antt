@@ -6,7 +6,11 @@ use Rattle.indexset_events.specs.Table.{put_events, checked_put_events, removal_
 use Rattle.indexset_log.specs.Tree.{Tree}
 use Rattle.indexset_events.specs.declared.change.ChangeEventUnassigned.{ChangeEventUnassigned}
 use Rattle.indexset_bench.specs.declared.logged.set.LoggedSetCommand.{LoggedSetCommand}
-use Rattle.indexset_bench.specs.declared.logged.set.LoggedSetCommand.TheVariants.{Put, PutChecked, Remove}
+use Rattle.indexset_bench.specs.declared.logged.set.LoggedSetCommand.TheVariants.{
+  Put,
+  PutChecked,
+  Remove,
+}
 use Rattle.indexset_bench.specs.declared.logged.set.LoggedSetReply.{LoggedSetReply}
 use Rattle.indexset_bench.specs.declared.logged.set.LoggedSetReply.TheVariants.{Old, Added}
 use Rattle.indexset_bench.specs.Told.{tree_after}

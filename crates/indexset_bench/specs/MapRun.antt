@@ -4,11 +4,30 @@ use Rattle.std.specs.List.{fold, scan}
 use Rattle.std.specs.Option.{option_map}
 use Rattle.std.specs.declared.cmp.Ordering.{Ordering}
 use Rattle.indexset_core.specs.declared.pair.Pair.{Pair}
-use Rattle.indexset_core.specs.Pairs.{entry_of, has_key, key_rank, pair_of, put_value, value_of, without_key}
+use Rattle.indexset_core.specs.Pairs.{entry_of, has_key, key_rank, pair_of}
+use Rattle.indexset_core.specs.Pairs.{put_value, value_of, without_key}
 use Rattle.indexset_bench.specs.declared.map_run.MapCommand.{MapCommand}
-use Rattle.indexset_bench.specs.declared.map_run.MapCommand.TheVariants.{Insert, Get, Remove, GetIndex, RemoveEntry, PopFirst, PopLast, ContainsKey, Rank, Len, Clear}
+use Rattle.indexset_bench.specs.declared.map_run.MapCommand.TheVariants.{
+  Insert,
+  Get,
+  Remove,
+  GetIndex,
+  RemoveEntry,
+  PopFirst,
+  PopLast,
+  ContainsKey,
+  Rank,
+  Len,
+  Clear,
+}
 use Rattle.indexset_bench.specs.declared.map_run.MapReply.{MapReply}
-use Rattle.indexset_bench.specs.declared.map_run.MapReply.TheVariants.{Value, Entry, Flag, Count, Done}
+use Rattle.indexset_bench.specs.declared.map_run.MapReply.TheVariants.{
+  Value,
+  Entry,
+  Flag,
+  Count,
+  Done,
+}
 
 module _ {K V : Type 0} where
   -- the reply is a clone of the value, if any
@@ -17,9 +36,11 @@ module _ {K V : Type 0} where
   IsValueClone D (Some w) r = (copy : V) × (r ≡ Value (Some copy)) × D w copy
 
   -- the reply is clones of the key and the value of the pair, if any
-  abbrev pub IsEntryClone : (K → K → Type 0) → (V → V → Type 0) → Option (Pair K V) → MapReply K V → Type 0
+  abbrev pub IsEntryClone : (K → K → Type 0) → (V → V → Type 0) → Option (Pair K V)
+      → MapReply K V → Type 0
   IsEntryClone C D None r = r ≡ Entry None
-  IsEntryClone C D (Some p) r = (k : K) × (w : V) × (r ≡ Entry (Some (k, w))) × C p.key k × D p.value w
+  IsEntryClone C D (Some p) r =
+      (k : K) × (w : V) × (r ≡ Entry (Some (k, w))) × C p.key k × D p.value w
 
 module _ {K V : Type 0} (cmp : K → K → Ordering) where
   -- the reply to a command
@@ -37,7 +58,8 @@ module _ {K V : Type 0} (cmp : K → K → Ordering) where
   map_reply l Clear = Done
 
   -- the reply to a command, with clones of what stays in the map
-  abbrev pub IsMapReply : (K → K → Type 0) → (V → V → Type 0) → List (Pair K V) → MapCommand K V → MapReply K V → Type 0
+  abbrev pub IsMapReply : (K → K → Type 0) → (V → V → Type 0) → List (Pair K V) → MapCommand K V
+      → MapReply K V → Type 0
   IsMapReply C D l (Get k) r = IsValueClone D (value_of cmp l k) r
   IsMapReply C D l (GetIndex i) r = IsEntryClone C D (slice_get l i) r
   IsMapReply C D l command r = r ≡ map_reply l command

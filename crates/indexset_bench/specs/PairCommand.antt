@@ -29,4 +29,6 @@ module _ {T : Type 0} (texts : Texts T) where
 
   -- the command that the line spells, if any
   unfoldable pub pair_meaning : List ℕ → Option (PairCommand T)
-  pair_meaning line = option_map_or (λ cut. word_command cut.0 cut.1) (cut_at 32 line) (if bytes_eq line (codes "nodes") then Some Nodes else None)
+  pair_meaning line =
+      option_map_or (λ cut. word_command cut.0 cut.1) (cut_at 32 line)
+      (if bytes_eq line (codes "nodes") then Some Nodes else None)

@@ -4,7 +4,14 @@ use Rattle.std.specs.List.{concat, join_with_byte}
 use Rattle.std.specs.Fmt.{decimal}
 use Rattle.indexset_core.specs.declared.pair.Pair.{Pair}
 use Rattle.indexset_events.specs.declared.change.ChangeEvent.{ChangeEvent}
-use Rattle.indexset_events.specs.declared.change.ChangeEvent.TheVariants.{InsertAt, RemoveAt, CreateNode, RemoveNode, SplitNode, MergeNodes}
+use Rattle.indexset_events.specs.declared.change.ChangeEvent.TheVariants.{
+  InsertAt,
+  RemoveAt,
+  CreateNode,
+  RemoveNode,
+  SplitNode,
+  MergeNodes,
+}
 use Rattle.indexset_events.specs.declared.change.Id.{Id}
 use Rattle.indexset_bench.specs.Texts.{Texts}
 
@@ -27,10 +34,13 @@ module _ {T : Type 0} (texts : Texts T) where
   abbrev pub event_text : ChangeEvent (Pair T T) → List ℕ
   event_text (CreateNode id max) = event_head id (codes " create ") max
   event_text (RemoveNode id max) = event_head id (codes " drop ") max
-  event_text (InsertAt id max p i) = event_head id (codes " insert ") max ++ codes " " ++ pair_text p ++ codes " " ++ decimal i
-  event_text (RemoveAt id max p i) = event_head id (codes " remove ") max ++ codes " " ++ pair_text p ++ codes " " ++ decimal i
+  event_text (InsertAt id max p i) =
+      event_head id (codes " insert ") max ++ codes " " ++ pair_text p ++ codes " " ++ decimal i
+  event_text (RemoveAt id max p i) =
+      event_head id (codes " remove ") max ++ codes " " ++ pair_text p ++ codes " " ++ decimal i
   event_text (SplitNode id max k) = event_head id (codes " split ") max ++ codes " " ++ decimal k
-  event_text (MergeNodes id max next) = event_head id (codes " merge ") max ++ codes " " ++ pair_text next
+  event_text (MergeNodes id max next) =
+      event_head id (codes " merge ") max ++ codes " " ++ pair_text next
 
   -- the pairs of a node, separated by spaces
   abbrev pub node_text : List (Pair T T) → List ℕ

@@ -16,7 +16,8 @@ use Rattle.indexset_events.specs.declared.change.ChangeEventUnassigned.{ChangeEv
 use Rattle.indexset_bench.specs.declared.pair_command.PairCommand.{PairCommand}
 use Rattle.indexset_bench.specs.declared.pair_command.PairCommand.TheVariants.{Put, Cut, Nodes}
 use Rattle.indexset_bench.specs.declared.reply.Reply.{Reply}
-use Rattle.indexset_bench.specs.declared.reply.Reply.TheVariants.{New, OldValue, GoneValue, Nothing, Empty}
+use Rattle.indexset_bench.specs.declared.reply.Reply.TheVariants.{New, OldValue, GoneValue}
+use Rattle.indexset_bench.specs.declared.reply.Reply.TheVariants.{Nothing, Empty}
 use Rattle.indexset_bench.specs.PairText.{ended, event_text, lines_for, node_text}
 use Rattle.indexset_bench.specs.Reply.{reply_text}
 use Rattle.indexset_bench.specs.Texts.{Texts}
@@ -59,6 +60,11 @@ echo_text (Some n) = codes "#" ++ decimal n ++ codes " "
 module _ {T : Type 0} (cmp : T → T → Ordering) (texts : Texts T) where
   -- the output for a command: the reply and the events as lines, or one line for each node
   abbrev pub pair_reply : PairTree T → PairCommand T → List ℕ
-  pair_reply t (Put k v) = reply_ended texts (change_reply cmp t (Put k v)) ++ lines_for (event_text texts) (told_events cmp t (Put k v))
-  pair_reply t (Cut k) = reply_ended texts (change_reply cmp t (Cut k)) ++ lines_for (event_text texts) (told_events cmp t (Cut k))
-  pair_reply t Nodes = if is_filled t.nodes then lines_for (node_text texts) t.nodes else reply_ended texts Empty
+  pair_reply t (Put k v) =
+      reply_ended texts (change_reply cmp t (Put k v))
+      ++ lines_for (event_text texts) (told_events cmp t (Put k v))
+  pair_reply t (Cut k) =
+      reply_ended texts (change_reply cmp t (Cut k))
+      ++ lines_for (event_text texts) (told_events cmp t (Cut k))
+  pair_reply t Nodes =
+      if is_filled t.nodes then lines_for (node_text texts) t.nodes else reply_ended texts Empty

@@ -1,5 +1,6 @@
 -- Commands to the set, defined on an ascending list, and their replies.
-use Rattle.std.specs.Prelude.{Option, ◌≡◌, false, ℕ, ◌++◌, if◌then◌else◌, List, length, None, Some, codes, slice_get}
+use Rattle.std.specs.Prelude.{Option, ◌≡◌, false, ℕ, ◌++◌, if◌then◌else◌}
+use Rattle.std.specs.Prelude.{List, length, None, Some, codes, slice_get}
 use Rattle.std.specs.Ordering.{nat_cmp}
 use Rattle.std.specs.Fmt.{decimal}
 use Rattle.indexset_core.specs.Order.{rank, has_equal, keep, without}
@@ -7,7 +8,9 @@ use Rattle.indexset_bench.specs.Texts.{Texts}
 use Rattle.indexset_bench.specs.declared.command.Command.{Command}
 use Rattle.indexset_bench.specs.declared.command.Command.TheVariants.{Add, Del, Has, Rank, At, Len}
 use Rattle.indexset_bench.specs.declared.reply.Reply.{Reply}
-use Rattle.indexset_bench.specs.declared.reply.Reply.TheVariants.{New, Old, OldValue, Gone, GoneValue, Yes, No, Count, Item, Nothing, Empty, Bad}
+use Rattle.indexset_bench.specs.declared.reply.Reply.TheVariants.{New, Old, OldValue, Gone}
+use Rattle.indexset_bench.specs.declared.reply.Reply.TheVariants.{GoneValue, Yes, No, Count}
+use Rattle.indexset_bench.specs.declared.reply.Reply.TheVariants.{Item, Nothing, Empty, Bad}
 
 -- the element as a reply, if any
 abbrev pub item_reply : Option ℕ → Reply ℕ

@@ -13,7 +13,8 @@ abbrev pub AnswersAll : (reader reader' writer writer' : Option (List ℕ)) → 
 AnswersAll = lines.AnswersAll text_of
 
 -- the reader returned whole lines and such a rest, and the replies to the whole lines were written
-abbrev pub AnswersWholeLines : (List ℕ → Type 0) → (reader reader' writer writer' : Option (List ℕ)) → Type 0
+abbrev pub AnswersWholeLines : (List ℕ → Type 0)
+    → (reader reader' writer writer' : Option (List ℕ)) → Type 0
 AnswersWholeLines = lines.AnswersWholeLines reply_line stores_after no_stores
 
 -- the same, where the rest is the line whose events need more numbers than remain

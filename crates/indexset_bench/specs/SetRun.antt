@@ -1,10 +1,28 @@
 -- Lists of commands to a set, defined on its elements in order.
-use Rattle.std.specs.Prelude.{◌≡◌, ◌-◌, Option, None, Some, List, [], length, take, drop, slice_get, not}
+use Rattle.std.specs.Prelude.{◌≡◌, ◌-◌, Option, None, Some, List, []}
+use Rattle.std.specs.Prelude.{length, take, drop, slice_get, not}
 use Rattle.std.specs.List.{fold, scan}
 use Rattle.std.specs.declared.cmp.Ordering.{Ordering}
-use Rattle.indexset_core.specs.Order.{rank, has_equal, equal_element, lower_element, put, keep, without}
+use Rattle.indexset_core.specs.Order.{rank, has_equal, equal_element}
+use Rattle.indexset_core.specs.Order.{lower_element, put, keep, without}
 use Rattle.indexset_bench.specs.declared.set_run.SetCommand.{SetCommand}
-use Rattle.indexset_bench.specs.declared.set_run.SetCommand.TheVariants.{Insert, Remove, Contains, Replace, Take, Get, LowerBound, GetIndex, First, Last, PopFirst, PopLast, Rank, Len, Clear}
+use Rattle.indexset_bench.specs.declared.set_run.SetCommand.TheVariants.{
+  Insert,
+  Remove,
+  Contains,
+  Replace,
+  Take,
+  Get,
+  LowerBound,
+  GetIndex,
+  First,
+  Last,
+  PopFirst,
+  PopLast,
+  Rank,
+  Len,
+  Clear,
+}
 use Rattle.indexset_bench.specs.declared.set_run.SetReply.{SetReply}
 use Rattle.indexset_bench.specs.declared.set_run.SetReply.TheVariants.{Flag, Item, Count, Done}
 

@@ -26,15 +26,21 @@ no_stores = stores [] (fresh 4)
 
 -- the reply to a line; a byte 10 ends each of its lines
 abbrev pub reply_line : Stores → List ℕ → List ℕ
-reply_line s line = option_map_or (pair_reply nat_cmp number_texts s.pairs) (pair_meaning number_texts line) (reply_ended number_texts (reply_to s.numbers (meaning line)))
+reply_line s line =
+    option_map_or (pair_reply nat_cmp number_texts s.pairs) (pair_meaning number_texts line)
+    (reply_ended number_texts (reply_to s.numbers (meaning line)))
 
 -- the state after a line
 abbrev pub stores_after : Stores → List ℕ → Stores
-stores_after s line = option_map_or (λ c. stores s.numbers (pairs_after nat_cmp s.pairs c)) (pair_meaning number_texts line) (stores (contents_after s.numbers (meaning line)) s.pairs)
+stores_after s line =
+    option_map_or (λ c. stores s.numbers (pairs_after nat_cmp s.pairs c))
+    (pair_meaning number_texts line) (stores (contents_after s.numbers (meaning line)) s.pairs)
 
 -- the line is a command that changes the map, or it inserts an absent number into the set
 abbrev pub Changes : Stores → List ℕ → Type 0
-Changes s line = MatchOption (pair_meaning number_texts line) (AddsNew s.numbers (meaning line)) (λ c. pair_events nat_cmp s.pairs c ≢ [])
+Changes s line =
+    MatchOption (pair_meaning number_texts line) (AddsNew s.numbers (meaning line))
+    (λ c. pair_events nat_cmp s.pairs c ≢ [])
 
 -- the concatenation of the replies to the lines
 abbrev pub replies_of : Stores → List (List ℕ) → List ℕ

@@ -17,13 +17,17 @@ pub record Texts (T : Type 0) : Type 1 where
 -- line end, a space or a colon
 pub record AreWords {T : Type 0} (texts : Texts T) : Type 0 where
   pub told : (x : T) → texts.InRange x → texts.reading (texts.spelling x) ≡ Some x
-  pub sound : (text : List ℕ) (x : T) → texts.reading text ≡ Some x → (text ≡ texts.spelling x) × texts.InRange x
+  pub sound : (text : List ℕ) (x : T) → texts.reading text ≡ Some x
+      → (text ≡ texts.spelling x) × texts.InRange x
   pub whole : (x : T) → texts.InRange x → is_word (texts.spelling x) ≡ true
 
 module _ {T : Type 0} (texts : Texts T) where
   -- the two keys of a text that separates them with a space
   abbrev pub two_keys : List ℕ → Option (T × T)
-  two_keys text = option_and_then (λ cut. option_and_then (λ a. option_map (λ b. (a, b)) (texts.reading cut.1)) (texts.reading cut.0)) (cut_at 32 text)
+  two_keys text =
+      option_and_then (λ cut.
+      option_and_then (λ a. option_map (λ b. (a, b)) (texts.reading cut.1)) (texts.reading cut.0))
+      (cut_at 32 text)
 
   -- the pair of a text that separates the key and the value with a colon
   abbrev pub pair_of : List ℕ → Option (Pair T T)

@@ -3,7 +3,8 @@
 ghost use Rattle.indexset_core.specs.Clones.{AreIdentical};
 ghost use Rattle.std.specs.Prelude.{◌≡◌, Bool, false, IfErr, IfOk, IsOk, OnOk, Some, refl};
 ghost use Rattle.std.specs.Io.KnownBytes.{Appends};
-ghost use Rattle.indexset_bench.specs.Texts.{AreWords, Texts, number_texts, number_words, pair_of, two_keys};
+ghost use Rattle.indexset_bench.specs.Texts.{AreWords, Texts, number_texts};
+ghost use Rattle.indexset_bench.specs.Texts.{number_words, pair_of, two_keys};
 
 use crate::write::write_number;
 use indexset_core::pair::Pair;

@@ -1,10 +1,13 @@
 //! The trait of the logged trees, for lists of commands.
-ghost use Rattle.std.specs.Prelude.{◌≡◌, ◌+◌, ◌/◌, ◌≤◌, ℕ, List, Bool, false, Some, IfOk, OnOk, IfErr, OnErr, if◌then◌else◌, length};
+ghost use Rattle.std.specs.Prelude.{◌≡◌, ◌+◌, ◌/◌, ◌≤◌, ℕ, List, Bool, false, Some};
+ghost use Rattle.std.specs.Prelude.{IfOk, OnOk, IfErr, OnErr, if◌then◌else◌, length};
 ghost use Rattle.std.specs.List.{AllZip};
 ghost use Rattle.indexset_events.specs.Clones.{IsEventClone};
 ghost use Rattle.indexset_events.specs.Merging.{IsDense};
 ghost use Rattle.indexset_events.specs.Replay.{replay, numbered_from};
-ghost use Rattle.indexset_events.specs.declared.change.ChangeEventUnassigned.{ChangeEventUnassigned};
+ghost use Rattle.indexset_events.specs.declared.change.ChangeEventUnassigned.{
+  ChangeEventUnassigned,
+};
 
 pub mod map;
 pub mod multimap;

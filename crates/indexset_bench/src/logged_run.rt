@@ -1,5 +1,7 @@
 //! Lists of commands to a logged tree, their replies and their events.
-ghost use Rattle.std.specs.Prelude.{◌≡◌, ◌≢◌, ◌+◌, ◌-◌, ◌*◌, ◌/◌, ◌≤◌, ◌<◌, ◌++◌, ◌∷◌, [], true, Some, OnOk, IfErr, OnErr, IfSome, OnSome, IfNone, IsSomeAnd, length, take, slice_get};
+ghost use Rattle.std.specs.Prelude.{◌≡◌, ◌≢◌, ◌+◌, ◌-◌, ◌*◌, ◌/◌, ◌≤◌, ◌<◌, ◌++◌, ◌∷◌};
+ghost use Rattle.std.specs.Prelude.{[], true, Some, OnOk, IfErr, OnErr, IfSome, OnSome};
+ghost use Rattle.std.specs.Prelude.{IfNone, IsSomeAnd, length, take, slice_get};
 ghost use Rattle.std.specs.List.{AllZip, AppendsClones, fold, scan};
 ghost use Rattle.indexset_bench.specs.Told.{events_in_turn};
 ghost use Rattle.indexset_core.specs.Nodes.{concat};
@@ -116,7 +118,8 @@ fn answer<L: Logged>(
     ensures events { L.clones → OnOk result
         (events.new.items ≡ events.old.items
         ++ numbered_from (L.next tree.old) (L.events tree.old command)) }
-    ensures at_most_three_events { OnOk result (length events.new.items ≤ length events.old.items + 3) }
+    ensures at_most_three_events { OnOk result
+        (length events.new.items ≤ length events.old.items + 3) }
 
     // Contents.
     ensures state { OnOk result (L.state tree.new ≡ L.after (L.state tree.old) command) }

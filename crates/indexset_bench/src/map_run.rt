@@ -1,9 +1,11 @@
 //! Lists of commands to a map, and their replies.
 
 ghost use Rattle.indexset_core.specs.Clones.{AreIdentical};
-ghost use Rattle.std.specs.Prelude.{◌≡◌, ◌<◌, ◌++◌, [], ◌∷◌, IfOk, OnOk, IfErr, OnErr, IfSome, OnSome, IfNone, length, take};
+ghost use Rattle.std.specs.Prelude.{◌≡◌, ◌<◌, ◌++◌, [], ◌∷◌, IfOk, OnOk, IfErr};
+ghost use Rattle.std.specs.Prelude.{OnErr, IfSome, OnSome, IfNone, length, take};
 ghost use Rattle.indexset_bench.specs.Replies.{AppendsReply, AreReplies};
-ghost use Rattle.indexset_bench.specs.MapRun.{IsMapReply, map_reply, map_after, map_replies, map_after_all};
+ghost use Rattle.indexset_bench.specs.MapRun.{IsMapReply, map_reply, map_after};
+ghost use Rattle.indexset_bench.specs.MapRun.{map_replies, map_after_all};
 
 use crate::command_run::Run;
 use indexset_core::refusal::Refusal;

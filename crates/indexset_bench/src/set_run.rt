@@ -1,10 +1,12 @@
 //! Lists of commands to a set, and their replies.
 
 ghost use Rattle.indexset_core.specs.Clones.{AreIdentical};
-ghost use Rattle.std.specs.Prelude.{◌≡◌, ◌<◌, ◌++◌, [], ◌∷◌, IfOk, OnOk, IfErr, OnErr, IfSome, OnSome, IfNone, length, take};
+ghost use Rattle.std.specs.Prelude.{◌≡◌, ◌<◌, ◌++◌, [], ◌∷◌, IfOk, OnOk, IfErr};
+ghost use Rattle.std.specs.Prelude.{OnErr, IfSome, OnSome, IfNone, length, take};
 ghost use Rattle.indexset_spine.specs.NodeList.{items};
 ghost use Rattle.indexset_bench.specs.Replies.{AppendsReply, AreReplies};
-ghost use Rattle.indexset_bench.specs.SetRun.{IsSetReply, set_reply, set_after, set_replies, set_after_all};
+ghost use Rattle.indexset_bench.specs.SetRun.{IsSetReply, set_reply, set_after};
+ghost use Rattle.indexset_bench.specs.SetRun.{set_replies, set_after_all};
 
 use crate::command_run::Run;
 use indexset_core::refusal::Refusal;

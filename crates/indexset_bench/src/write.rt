@@ -4,7 +4,8 @@ ghost use Rattle.std.specs.Prelude.{◌≡◌, ◌++◌, OnOk, IfErr, codes};
 ghost use Rattle.std.specs.Fmt.{decimal};
 ghost use Rattle.std.specs.Io.KnownBytes.{Appends};
 ghost use Rattle.indexset_bench.specs.Pairs.{echo_text, reply_ended};
-ghost use Rattle.indexset_bench.specs.PairText.{ended, event_head, event_text, lines_for, node_text, pair_text};
+ghost use Rattle.indexset_bench.specs.PairText.{ended, event_head, event_text};
+ghost use Rattle.indexset_bench.specs.PairText.{lines_for, node_text, pair_text};
 
 use crate::digits::fill_decimal;
 use crate::key::Key;

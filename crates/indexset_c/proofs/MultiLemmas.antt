@@ -46,6 +46,8 @@ past_end (x ∷ l) (suc i) e = omega (arith, past_end l i e)
 -- the refusal of an insertion
 pub for_insertion : (eq : ℕ → ℕ → Bool) (m : MultiTree ℕ ℕ) (k w : ℕ) → (insertion_refusal nat_cmp eq m k w ≡ refusals.Memory) ⊎ (insertion_refusal nat_cmp eq m k w ≡ refusals.Numbers)
 for_insertion eq m k w = either (lacks_number nat_cmp eq m k w) (refusal_for m.next (length (insertion_events nat_cmp eq m k w))) (for_events m.next (length (insertion_events nat_cmp eq m k w))) where
-  either : (b : Bool) (r : Refusal) → (r ≡ refusals.Memory) ⊎ (r ≡ refusals.Numbers) → ((if b then refusals.Numbers else r) ≡ refusals.Memory) ⊎ ((if b then refusals.Numbers else r) ≡ refusals.Numbers)
+  either : (b : Bool) (r : Refusal) → (r ≡ refusals.Memory) ⊎ (r ≡ refusals.Numbers)
+      → ((if b then refusals.Numbers else r) ≡ refusals.Memory)
+      ⊎ ((if b then refusals.Numbers else r) ≡ refusals.Numbers)
   either true r h = inr refl
   either false r h = h

@@ -28,13 +28,29 @@ pub record IsRefused (s : ℕ) (cause : Refusal) : Type 0 where
   pub not_none : s ≢ NONE
   pub not_held : s ≢ HELD
 
-pub is_refused : (s t : ℕ) (cause why : Refusal) → s ≡ t → cause ≡ why → (why ≡ refusals.Memory) ⊎ (why ≡ refusals.Numbers) → (t ≡ MEMORY ↔ (cause ≡ refusals.Memory)) → (t ≡ NUMBERS ↔ (cause ≡ refusals.Numbers)) → IsRefused s why
+pub is_refused : (s t : ℕ) (cause why : Refusal) → s ≡ t → cause ≡ why
+    → (why ≡ refusals.Memory) ⊎ (why ≡ refusals.Numbers) → (t ≡ MEMORY ↔ (cause ≡ refusals.Memory))
+    → (t ≡ NUMBERS ↔ (cause ≡ refusals.Numbers)) → IsRefused s why
 is_refused s t cause why is same (inl m) memory numbers =
     let at : s ≡ MEMORY = is ∙ memory.1 (same ∙ m) in
-    record { memory = λ h. m; numbers = λ h. not_at s MEMORY NUMBERS at refl h; least = omega (arith, at); most = omega (arith, at); not_none = λ h. not_at s MEMORY NONE at refl h; not_held = λ h. not_at s MEMORY HELD at refl h }
+    record {
+      memory = λ h. m;
+      numbers = λ h. not_at s MEMORY NUMBERS at refl h;
+      least = omega (arith, at);
+      most = omega (arith, at);
+      not_none = λ h. not_at s MEMORY NONE at refl h;
+      not_held = λ h. not_at s MEMORY HELD at refl h;
+    }
 is_refused s t cause why is same (inr n) memory numbers =
     let at : s ≡ NUMBERS = is ∙ numbers.1 (same ∙ n) in
-    record { memory = λ h. not_at s NUMBERS MEMORY at refl h; numbers = λ h. n; least = omega (arith, at); most = omega (arith, at); not_none = λ h. not_at s NUMBERS NONE at refl h; not_held = λ h. not_at s NUMBERS HELD at refl h }
+    record {
+      memory = λ h. not_at s NUMBERS MEMORY at refl h;
+      numbers = λ h. n;
+      least = omega (arith, at);
+      most = omega (arith, at);
+      not_none = λ h. not_at s NUMBERS NONE at refl h;
+      not_held = λ h. not_at s NUMBERS HELD at refl h;
+    }
 
 pub for_events : (next n : ℕ) → (refusal_for next n ≡ refusals.Memory) ⊎ (refusal_for next n ≡ refusals.Numbers)
 for_events next n = either (nat_lt MAX (next + n)) where
@@ -47,7 +63,9 @@ pub record IsToldOr (s : ℕ) (cause why : Refusal) : Type 0 where
   pub refused : IsRefused s cause
   pub numbers : s ≡ NUMBERS → why ≡ refusals.Numbers
 
-pub is_told_or : (s t : ℕ) (cause why : Refusal) → s ≡ t → (cause ≢ refusals.Memory → cause ≡ why) → (why ≡ refusals.Memory) ⊎ (why ≡ refusals.Numbers) → (t ≡ MEMORY ↔ (cause ≡ refusals.Memory)) → (t ≡ NUMBERS ↔ (cause ≡ refusals.Numbers)) → IsToldOr s cause why
+pub is_told_or : (s t : ℕ) (cause why : Refusal) → s ≡ t → (cause ≢ refusals.Memory → cause ≡ why)
+    → (why ≡ refusals.Memory) ⊎ (why ≡ refusals.Numbers) → (t ≡ MEMORY ↔ (cause ≡ refusals.Memory))
+    → (t ≡ NUMBERS ↔ (cause ≡ refusals.Numbers)) → IsToldOr s cause why
 is_told_or s t cause why is other one memory numbers = decide (eqb t MEMORY) refl where
   apart : eqb t MEMORY ≡ false → cause ≢ refusals.Memory
   apart e m = eqb-false t MEMORY e (memory.1 m)

@@ -125,7 +125,8 @@ pub extern "C" fn indexset_log_remove(
     ensures contains { (log.new.slot.value ≡ None) ↔ (log.old.slot.value ≡ None) }
 
     // Failure.
-    ensures unchanged { result ≢ YES → (out.new ≡ out.old) × (told.new ≡ 0) × (events.new ≡ events.old)
+    ensures unchanged { result ≢ YES
+        → (out.new ≡ out.old) × (told.new ≡ 0) × (events.new ≡ events.old)
         × (log.new.slot.value ≡ log.old.slot.value) }
     ensures cause { IfSome log.old.slot.value (λ m. IsToldAs result (refusal_for m.next
         (length (key_removal_events nat_cmp m.size m.nodes key)))) }

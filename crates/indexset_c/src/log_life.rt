@@ -1,5 +1,6 @@
 //! Creation and release of a logged map, its length and its next event number.
-ghost use Rattle.std.specs.Prelude.{◌≡◌, ◌≢◌, ◌<◌, ◌↔◌, [], Some, None, false, true, length, is_some, option_map};
+ghost use Rattle.std.specs.Prelude.{◌≡◌, ◌≢◌, ◌<◌, ◌↔◌, [], Some, None};
+ghost use Rattle.std.specs.Prelude.{false, true, length, is_some, option_map};
 ghost use Rattle.std.specs.Option.{option_map_or};
 ghost use Rattle.indexset_ffi.specs.Elements.{logged_pairs};
 

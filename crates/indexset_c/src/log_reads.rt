@@ -3,7 +3,8 @@ ghost use Rattle.std.specs.Prelude.{◌≡◌, ◌<◌, ◌≤◌, None, Some, f
 ghost use Rattle.std.specs.Ordering.{nat_cmp};
 ghost use Rattle.std.specs.declared.ops.Bound.TheVariants.{Included};
 ghost use Rattle.indexset_core.specs.Nodes.{node_lengths};
-ghost use Rattle.indexset_core.specs.Pairs.{has_key, pair_keys, pair_values, pairs_within, value_of};
+ghost use Rattle.indexset_core.specs.Pairs.{has_key, pair_keys, pair_values};
+ghost use Rattle.indexset_core.specs.Pairs.{pairs_within, value_of};
 ghost use Rattle.indexset_ffi.specs.Elements.{logged_nodes, logged_pairs, written};
 
 use indexset_ffi::log_calls::{write_lengths, write_logged};

@@ -29,7 +29,8 @@ pub extern "C" fn indexset_map_insert_all(
 
     // Contents.
     ensures put { pairs map.new.slot.value
-        ≡ put_in_turn (pairs map.old.slot.value) (take taken.new keys.now) (take taken.new values.now) }
+        ≡ put_in_turn (pairs map.old.slot.value) (take taken.new keys.now)
+        (take taken.new values.now) }
     ensures contains { is_some map.new.slot.value ≡ is_some map.old.slot.value }
 
     // Failure.

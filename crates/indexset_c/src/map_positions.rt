@@ -1,5 +1,6 @@
 //! Positions in a map, bounds and ends.
-ghost use Rattle.std.specs.Prelude.{◌≡◌, ◌-◌, Some, None, true, false, drop, length, remove, take, is_some};
+ghost use Rattle.std.specs.Prelude.{◌≡◌, ◌-◌, Some, None, true, false};
+ghost use Rattle.std.specs.Prelude.{drop, length, remove, take, is_some};
 ghost use Rattle.std.specs.Ordering.{nat_cmp};
 ghost use Rattle.std.specs.declared.ops.Bound.TheVariants.{Included, Excluded, Unbounded};
 ghost use Rattle.indexset_core.specs.Pairs.{pairs_within};

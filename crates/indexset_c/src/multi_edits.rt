@@ -1,13 +1,16 @@
 //! Changes of a multimap.
-ghost use Rattle.std.specs.Prelude.{◌≡◌, ◌≢◌, ◌≤◌, ◌↔◌, ◌∷◌, ◌++◌, [], drop, length, ℕ, false, true, is_some, IfSome, nat_eq, None, Some};
+ghost use Rattle.std.specs.Prelude.{◌≡◌, ◌≢◌, ◌≤◌, ◌↔◌, ◌∷◌, ◌++◌, [], drop, length, ℕ};
+ghost use Rattle.std.specs.Prelude.{false, true, is_some, IfSome, nat_eq, None, Some};
 ghost use Rattle.std.specs.Ordering.{is_eq, nat_cmp};
 ghost use Rattle.std.specs.Option.{option_map};
 ghost use Rattle.indexset_core.specs.MultiPairs.{by_number, numbered_pair};
 ghost use Rattle.indexset_core.specs.Nodes.{concat};
 ghost use Rattle.indexset_core.specs.Order.{put};
 ghost use Rattle.indexset_multi.specs.Changed.{addition, addition_refusal};
-ghost use Rattle.indexset_multi.specs.Keys.{equal_pair, first_pair, pairs_of, without_first, without_named};
-ghost use Rattle.indexset_multi.specs.Tree.{after_insertion, after_pair_removal, insertion_refusal, pair_removal_events};
+ghost use Rattle.indexset_multi.specs.Keys.{equal_pair, first_pair, pairs_of};
+ghost use Rattle.indexset_multi.specs.Keys.{without_first, without_named};
+ghost use Rattle.indexset_multi.specs.Tree.{after_insertion, after_pair_removal};
+ghost use Rattle.indexset_multi.specs.Tree.{insertion_refusal, pair_removal_events};
 ghost use Rattle.indexset_log.specs.Tree.{refusal_for};
 ghost use Rattle.indexset_ffi.specs.Elements.{numbered_pairs, key_values};
 ghost use Rattle.indexset_ffi.specs.Statuses.{IsToldAs};
@@ -150,7 +153,8 @@ pub extern "C" fn indexset_multi_remove(
 
     // Nodes.
     ensures tree { result ≡ YES → IfSome multi.old.slot.value (λ m. multi.new.slot.value
-        ≡ Some (after_pair_removal nat_cmp m (equal_pair nat_cmp nat_eq (concat m.nodes) key value))) }
+        ≡ Some
+        (after_pair_removal nat_cmp m (equal_pair nat_cmp nat_eq (concat m.nodes) key value))) }
 {
     let Some(mut held) = multi.take(alloc) else {
         return NO;

@@ -70,7 +70,8 @@ pub extern "C" fn indexset_multi_get(
 ) -> usize
     ensures count { result ≡ min (length (key_values (numbered_pairs multi.old.slot.value) key))
         (length out.old) }
-    ensures written { out.new ≡ written result (key_values (numbered_pairs multi.old.slot.value) key)
+    ensures written { out.new
+        ≡ written result (key_values (numbered_pairs multi.old.slot.value) key)
         out.old }
     ensures unchanged { multi.new.slot.value ≡ multi.old.slot.value }
 {

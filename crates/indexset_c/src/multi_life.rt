@@ -1,5 +1,6 @@
 //! Creation and release of a multimap, and its length.
-ghost use Rattle.std.specs.Prelude.{◌≡◌, ◌≢◌, ◌↔◌, [], Some, None, true, length, is_some, option_map};
+ghost use Rattle.std.specs.Prelude.{◌≡◌, ◌≢◌, ◌↔◌, [], Some, None};
+ghost use Rattle.std.specs.Prelude.{true, length, is_some, option_map};
 ghost use Rattle.indexset_ffi.specs.Elements.{fresh_multi, numbered_pairs};
 
 use indexset_ffi::multi_handle::MultiHandle;

@@ -1,5 +1,6 @@
 //! Positions in a multimap.
-ghost use Rattle.std.specs.Prelude.{◌≡◌, ◌≢◌, ◌≤◌, ◌↔◌, IfSome, Some, None, true, false, drop, length, min, slice_get};
+ghost use Rattle.std.specs.Prelude.{◌≡◌, ◌≢◌, ◌≤◌, ◌↔◌, IfSome, Some, None};
+ghost use Rattle.std.specs.Prelude.{true, false, drop, length, min, slice_get};
 ghost use Rattle.std.specs.List.{count_by};
 ghost use Rattle.std.specs.Option.{option_map};
 ghost use Rattle.std.specs.Ordering.{is_lt, nat_cmp};

@@ -21,7 +21,8 @@ pub extern "C" fn indexset_replica_cursor_at(
     position: usize,
     cursor: &mut Cursor,
 )
-    ensures contains { cursor_position (node_lengths (copied_nodes replica.old.slot.value)) cursor.new
+    ensures contains { cursor_position (node_lengths (copied_nodes replica.old.slot.value))
+        cursor.new
         ≡ min position (length (copied_pairs replica.old.slot.value)) }
     ensures unchanged { replica.new.slot.value ≡ replica.old.slot.value }
 {
@@ -41,7 +42,8 @@ pub extern "C" fn indexset_replica_cursor_from(
     from: u64,
     cursor: &mut Cursor,
 )
-    ensures contains { cursor_position (node_lengths (copied_nodes replica.old.slot.value)) cursor.new
+    ensures contains { cursor_position (node_lengths (copied_nodes replica.old.slot.value))
+        cursor.new
         ≡ key_rank nat_cmp (copied_pairs replica.old.slot.value) from }
     ensures unchanged { replica.new.slot.value ≡ replica.old.slot.value }
 {

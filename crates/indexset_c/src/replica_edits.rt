@@ -1,5 +1,6 @@
 //! Application of events to a replica.
-ghost use Rattle.std.specs.Prelude.{◌≡◌, ◌≢◌, ◌<◌, ◌≤◌, ◌↔◌, length, take, unwrap_or, IfSome, None, Some, slice_get};
+ghost use Rattle.std.specs.Prelude.{◌≡◌, ◌≢◌, ◌<◌, ◌≤◌, ◌↔◌, length, take};
+ghost use Rattle.std.specs.Prelude.{unwrap_or, IfSome, None, Some, slice_get};
 ghost use Rattle.indexset_ffi.specs.Replicas.{applied, applied_all, refused};
 
 use indexset_ffi::event::Event;

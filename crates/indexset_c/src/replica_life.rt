@@ -1,5 +1,6 @@
 //! Creation and release of a replica, its length, its node count and the awaited event number.
-ghost use Rattle.std.specs.Prelude.{◌≡◌, ◌≢◌, ◌↔◌, [], Some, None, length, is_some, option_map, true};
+ghost use Rattle.std.specs.Prelude.{◌≡◌, ◌≢◌, ◌↔◌, [], Some, None};
+ghost use Rattle.std.specs.Prelude.{length, is_some, option_map, true};
 ghost use Rattle.std.specs.Option.{option_map_or};
 ghost use Rattle.indexset_ffi.specs.Replicas.{copied_nodes, copied_pairs, replica_of};
 

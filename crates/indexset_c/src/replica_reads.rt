@@ -3,7 +3,8 @@ ghost use Rattle.std.specs.Prelude.{◌≡◌, ◌<◌, ◌≤◌, ◌-◌, None
 ghost use Rattle.std.specs.Ordering.{nat_cmp};
 ghost use Rattle.std.specs.declared.ops.Bound.TheVariants.{Included};
 ghost use Rattle.indexset_core.specs.Nodes.{node_lengths};
-ghost use Rattle.indexset_core.specs.Pairs.{has_key, pair_keys, pair_values, pairs_within, value_of};
+ghost use Rattle.indexset_core.specs.Pairs.{has_key, pair_keys, pair_values};
+ghost use Rattle.indexset_core.specs.Pairs.{pairs_within, value_of};
 ghost use Rattle.indexset_ffi.specs.Elements.{entry_at, written};
 ghost use Rattle.indexset_ffi.specs.Replicas.{copied_nodes, copied_pairs};
 

@@ -1,5 +1,6 @@
 //! Creation and release of a set, its clone and its length.
-ghost use Rattle.std.specs.Prelude.{◌≡◌, ◌≢◌, ◌↔◌, [], Some, None, true, length, is_some, IfSome, ◌∷◌, option_map};
+ghost use Rattle.std.specs.Prelude.{◌≡◌, ◌≢◌, ◌↔◌, [], Some, None, true};
+ghost use Rattle.std.specs.Prelude.{length, is_some, IfSome, ◌∷◌, option_map};
 ghost use Rattle.indexset_core.specs.declared.constants.TheConstants.{DEFAULT_INNER_SIZE};
 ghost use Rattle.indexset_spine.specs.NodeList.{node_list};
 ghost use Rattle.indexset_ffi.specs.Elements.{elements};
@@ -20,7 +21,8 @@ use std::mem::swap;
 pub extern "C" fn indexset_set_new(alloc: Global, set: &mut SetHandle) -> u32
     // Contents.
     ensures empty { result ≡ YES → elements set.new.slot.value ≡ [] }
-    ensures made { result ≡ YES → set.new.slot.value ≡ Some (node_list ([] ∷ []) DEFAULT_INNER_SIZE) }
+    ensures made { result ≡ YES
+        → set.new.slot.value ≡ Some (node_list ([] ∷ []) DEFAULT_INNER_SIZE) }
 
     // Failure.
     ensures refused { result ≢ YES → set.new.slot.value ≡ set.old.slot.value }

@@ -1,5 +1,6 @@
 //! Positions in a set, and its ends.
-ghost use Rattle.std.specs.Prelude.{◌≡◌, ◌-◌, Some, None, true, false, drop, length, remove, slice_get, take, is_some};
+ghost use Rattle.std.specs.Prelude.{◌≡◌, ◌-◌, Some, None, true, false, drop};
+ghost use Rattle.std.specs.Prelude.{length, remove, slice_get, take, is_some};
 ghost use Rattle.indexset_ffi.specs.Elements.{elements};
 
 use indexset_ffi::set_calls::take_index;

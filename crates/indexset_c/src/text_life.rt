@@ -1,5 +1,6 @@
 //! Creation and release of a map from byte strings, its clone and its length.
-ghost use Rattle.std.specs.Prelude.{◌≡◌, ◌≢◌, ◌↔◌, [], Some, None, true, length, is_some, IfSome, option_map};
+ghost use Rattle.std.specs.Prelude.{◌≡◌, ◌≢◌, ◌↔◌, [], Some, None, true};
+ghost use Rattle.std.specs.Prelude.{length, is_some, IfSome, option_map};
 ghost use Rattle.indexset_map.specs.Contents.{no_pairs};
 ghost use Rattle.indexset_ffi.specs.Text.{text_pairs};
 

@@ -1,5 +1,6 @@
 //! Changes of a logged map from byte strings, and their events.
-ghost use Rattle.std.specs.Prelude.{◌≡◌, ◌≢◌, ◌≤◌, ◌↔◌, [], length, IfSome, None, Some, true, false, slice_get};
+ghost use Rattle.std.specs.Prelude.{◌≡◌, ◌≢◌, ◌≤◌, ◌↔◌, [], length, IfSome};
+ghost use Rattle.std.specs.Prelude.{None, Some, true, false, slice_get};
 ghost use Rattle.std.specs.Cmp.Lexicographic.{slice_cmp};
 ghost use Rattle.std.specs.Option.{option_map, option_map_or};
 ghost use Rattle.std.specs.Ordering.{nat_cmp};
@@ -7,7 +8,8 @@ ghost use Rattle.indexset_core.specs.Pairs.{by_key, pair, value_of};
 ghost use Rattle.indexset_core.specs.declared.refusal.Refusal.TheVariants.{Numbers};
 ghost use Rattle.indexset_log.specs.Changed.{Changed, key_removal, put_change, refusal_of};
 ghost use Rattle.indexset_ffi.specs.Text.{written_over};
-ghost use Rattle.indexset_ffi.specs.TextLogs.{after, logged_texts, node_key, pair_key, text_record, told_changes};
+ghost use Rattle.indexset_ffi.specs.TextLogs.{after, logged_texts, node_key};
+ghost use Rattle.indexset_ffi.specs.TextLogs.{pair_key, text_record, told_changes};
 
 use indexset_ffi::status::{HELD, MEMORY, NO, NONE, NUMBERS, YES, of_refusal};
 use indexset_ffi::text_event::{TextEvent, write_change};

@@ -1,5 +1,7 @@
 -- The positions of items in an ascending list, and what an edit leaves of one.
-use Rattle.std.proofs.Common.{◌≡◌, ℕ, zero, suc, ◌<◌, ◌≤◌, ◌≢◌, Bool, true, false, cond, ◌||◌, List, [], ◌∷◌, length, get_or, set, Ordering, Some, None, is_some, slice_get, nat_lt, not, refl, ap, sym, inl, inr, ◌∙◌, subst, arith, length-set, get_or-set_same, get_or-set_other}
+use Rattle.std.proofs.Common.{◌≡◌, ℕ, zero, suc, ◌<◌, ◌≤◌, ◌≢◌, Bool, true, false, cond, ◌||◌, List, [], ◌∷◌}
+use Rattle.std.proofs.Common.{length, get_or, set, Ordering, Some, None, is_some, slice_get, nat_lt, not, refl}
+use Rattle.std.proofs.Common.{ap, sym, inl, inr, ◌∙◌, subst, arith, length-set, get_or-set_same, get_or-set_other}
 use Rattle.std.specs.declared.cmp.Ordering.TheVariants.{Less, Equal, Greater}
 use Rattle.std.specs.Bool.{OnTrue, OnFalse}
 use Rattle.std.specs.List.{AllWithin, HoldsAt, find, list_any, position, position_or_len, remove}
@@ -160,7 +162,10 @@ module _ {T Q : Type 0} {cmp : T → T → Ordering} {order : T → Q → Orderi
   pub lower_sought : slice_get l (rank order l v) ≡ lower_element order l v
   lower_sought =
       let parts : Parts (λ x. is_lt (order x v)) l (rank order l v) = count_parts is_lt front-is_lt (λ x. order x v) l parted in
-      sym (find_is (λ x. not (is_lt (order x v))) l (rank order l v) parts.inside (λ k d low high. ap not (parts.before k d low high)) (λ lt d. ap not (parts.after (rank order l v) d (omega arith) lt)))
+      sym
+      (find_is (λ x. not (is_lt (order x v))) l (rank order l v) parts.inside
+      (λ k d low high. ap not (parts.before k d low high))
+      (λ lt d. ap not (parts.after (rank order l v) d (omega arith) lt)))
 
   -- the item at the rank, if an equal one is present
   pub equal_sought : has_equal order l v ≡ true → slice_get l (rank order l v) ≡ equal_element order l v

@@ -36,7 +36,9 @@ module _ {X : Type 0} (answer : X → Ordering) where
   item_of (x ∷ xs) some = x
 
   -- the last item of a later node compares no less
-  later : (ns : List (List X)) → All (λ n. 1 ≤ n) (node_lengths ns) → IsParted answer (concat ns) → (i j : ℕ) → i < j → j < length ns → X → ordering_index (end_answer (get_or ns i [])) ≤ ordering_index (end_answer (get_or ns j []))
+  later : (ns : List (List X)) → All (λ n. 1 ≤ n) (node_lengths ns) → IsParted answer (concat ns) → (i j : ℕ)
+      → i < j → j < length ns → X
+      → ordering_index (end_answer (get_or ns i [])) ≤ ordering_index (end_answer (get_or ns j []))
   later ns filled h i j before lt d =
       let a = get_or ns i [] in let b = get_or ns j [] in
       let some_a : 1 ≤ length a = filled_at answer ns filled i (omega arith) in

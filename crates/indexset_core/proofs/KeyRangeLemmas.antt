@@ -21,12 +21,15 @@ module _ {K V : Type 0} (cmp : K → K → Ordering) (o : IsTotalOrder cmp) wher
   past_found [] up k i h = let lt = key_inside {V = V} cmp [] k i h in absurd (omega (arith, lt))
   past_found (p ∷ l) up k i h = sym (found_not_above (by_key cmp) (p ∷ l) (pair k p.value) i pairs_total up (key_found cmp (p ∷ l) k i h (parted_by_key cmp o (p ∷ l) up k) p.value))
 
-  pub past_absent : (l : List (Pair K V)) → IsAscending (by_key cmp) l → (k : K) (i : ℕ) → position (λ p. is_eq (cmp p.key k)) l ≡ None → i ≡ key_rank cmp l k → i ≡ count_by (λ p. is_le (cmp p.key k)) l
+  pub past_absent : (l : List (Pair K V)) → IsAscending (by_key cmp) l → (k : K) (i : ℕ)
+      → position (λ p. is_eq (cmp p.key k)) l ≡ None → i ≡ key_rank cmp l k → i ≡ count_by (λ p. is_le (cmp p.key k)) l
   past_absent [] up k i h place = place
   past_absent (p ∷ l) up k i h place =
       sym (gap_not_above (by_key cmp) (p ∷ l) (pair k p.value) i (absent_gap cmp (p ∷ l) k (key_absent cmp (p ∷ l) k h) (parted_by_key cmp o (p ∷ l) up k) i place p.value))
 
-  module _ (l : List (Pair K V)) (up : IsAscending (by_key cmp) l) (start end : Bound K) (ordered : are_ordered cmp start end ≡ true) (i j : ℕ) (from : i ≡ count_by (λ p. is_before cmp start p.key) l) (to : j ≡ count_by (λ p. is_up_to_end cmp end p.key) l) where
+  module _ (l : List (Pair K V)) (up : IsAscending (by_key cmp) l) (start end : Bound K)
+      (ordered : are_ordered cmp start end ≡ true) (i j : ℕ) (from : i ≡ count_by (λ p. is_before cmp start p.key) l)
+      (to : j ≡ count_by (λ p. is_up_to_end cmp end p.key) l) where
     -- the pairs between the two counts are those within the bounds
     pub key_range_is : between i j l ≡ pairs_within cmp l start end
     key_range_is = keyed_range_is cmp o (λ p. p.key) l (parted_by_key cmp o l up) start end ordered i j from to
@@ -36,7 +39,10 @@ module _ {K V : Type 0} (cmp : K → K → Ordering) (o : IsTotalOrder cmp) wher
     key_range_order = keyed_range_order cmp o (λ p. p.key) l (parted_by_key cmp o l up) start end ordered i j from to
 
 -- the same for bounds on look-up keys
-module _ {K V Q : Type 0} {cmp : K → K → Ordering} {order : K → Q → Ordering} {among : Q → Q → Ordering} (acts : OrdersAsItem cmp order among) (l : List (Pair K V)) (up : IsAscending (by_key cmp) l) (start end : Bound Q) (ordered : are_ordered among start end ≡ true) (i j : ℕ) (from : i ≡ count_by (λ p. is_before order start p.key) l) (to : j ≡ count_by (λ p. is_up_to_end order end p.key) l) where
+module _ {K V Q : Type 0} {cmp : K → K → Ordering} {order : K → Q → Ordering} {among : Q → Q → Ordering}
+    (acts : OrdersAsItem cmp order among) (l : List (Pair K V)) (up : IsAscending (by_key cmp) l) (start end : Bound Q)
+    (ordered : are_ordered among start end ≡ true) (i j : ℕ) (from : i ≡ count_by (λ p. is_before order start p.key) l)
+    (to : j ≡ count_by (λ p. is_up_to_end order end p.key) l) where
   pub sought_keys_are : between i j l ≡ pairs_within order l start end
   sought_keys_are = sought_range_is order (λ (p : Pair K V). p.key) l (parted_by_sought_key acts l up) acts start end ordered i j from to
 

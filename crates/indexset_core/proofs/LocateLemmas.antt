@@ -1,5 +1,7 @@
 -- The node in which a search ends, and the spot in it.
-use Rattle.std.proofs.Common.{◌≡◌, ℕ, zero, suc, ◌+◌, ◌-◌, ◌<◌, ◌≤◌, true, false, not, cond, List, [], ◌∷◌, ◌++◌, length, map, get_or, take, slice_get, Some, None, Ordering, refl, sym, ap, ◌∙◌, arith, subst, length-append, inl, inr}
+use Rattle.std.proofs.Common.{◌≡◌, ℕ, zero, suc, ◌+◌, ◌-◌, ◌<◌, ◌≤◌, true, false, not, cond, List}
+use Rattle.std.proofs.Common.{[], ◌∷◌, ◌++◌, length, map, get_or, take, slice_get, Some, None}
+use Rattle.std.proofs.Common.{Ordering, refl, sym, ap, ◌∙◌, arith, subst, length-append, inl, inr}
 use Rattle.std.specs.List.{All, AllWithin, HoldsAt, position_or_len}
 use Rattle.std.specs.Ordering.{is_lt, is_eq}
 use Rattle.std.proofs.lemmas.List.{append-nil, get_or_append_left, get_or-append-add, get_or_default, get_or-map, length-map}
@@ -55,7 +57,9 @@ module _ {X : Type 0} (answer : X → Ordering) where
   first (x ∷ xs) some h = ends_last (x ∷ xs) x some ∙ h x
 
   -- if each node has an item, the nodes before one that ends Less end Less too
-  pub ends_before : (ns : List (List X)) → All (λ n. 1 ≤ n) (node_lengths ns) → IsParted answer (concat ns) → (j k : ℕ) → j < k → k < length ns → ends_less answer (get_or ns k []) ≡ true → ends_less answer (get_or ns j []) ≡ true
+  pub ends_before : (ns : List (List X)) → All (λ n. 1 ≤ n) (node_lengths ns) → IsParted answer (concat ns)
+      → (j k : ℕ) → j < k → k < length ns → ends_less answer (get_or ns k []) ≡ true
+      → ends_less answer (get_or ns j []) ≡ true
   ends_before ns filled h j k lt inside e =
       let a = get_or ns j [] in let b = get_or ns k [] in
       let some_a : 0 < length a = filled_at ns filled j (omega arith) in
@@ -101,7 +105,11 @@ module _ {X : Type 0} (answer : X → Ordering) where
       let all = filled (omega arith) in
       let more : All (λ n. 1 ≤ n) (node_lengths (m ∷ ms)) = λ k d lt. all (suc k) d (omega arith) in
       elim (ends_less answer n) as (λ b. ends_less answer n ≡ b → Place (n ∷ m ∷ ms) (node_for answer (n ∷ m ∷ ms))) [
-        | true ↦ λ e. rw (node_for-past n m ms e) (place_past n (m ∷ ms) _ (less_all n (parted-left n (concat (m ∷ ms)) h) e) (place_for (m ∷ ms) (omega arith) (λ _. more) (parted-right n (concat (m ∷ ms)) h)))
+        | true ↦
+            λ e.
+            rw (node_for-past n m ms e)
+            (place_past n (m ∷ ms) _ (less_all n (parted-left n (concat (m ∷ ms)) h) e)
+            (place_for (m ∷ ms) (omega arith) (λ _. more) (parted-right n (concat (m ∷ ms)) h)))
         | false ↦ λ e. rw (node_for-here n (m ∷ ms) e) (place_here n (m ∷ ms) (less_none n (concat (m ∷ ms)) (all 0 0 (omega arith)) h e))
       ] refl
 
@@ -144,7 +152,9 @@ module _ {X : Type 0} (answer : X → Ordering) where
   parted_node (n ∷ ns) (suc k) lt h = parted_node ns k (omega arith) (parted-right n (concat ns) h)
 
   -- the end of the search
-  pub node_found : (ns : List (List X)) (k : ℕ) → 1 ≤ length ns → k ≤ length ns - 1 → AllWithin (λ n. ends_less answer n ≡ true) ns 0 k → (k < length ns - 1 → HoldsAt (λ n. ends_less answer n ≡ false) ns k) → k ≡ node_for answer ns
+  pub node_found : (ns : List (List X)) (k : ℕ) → 1 ≤ length ns → k ≤ length ns - 1
+      → AllWithin (λ n. ends_less answer n ≡ true) ns 0 k
+      → (k < length ns - 1 → HoldsAt (λ n. ends_less answer n ≡ false) ns k) → k ≡ node_for answer ns
   node_found ns k some le before here =
       let test = λ (n : List X). not (ends_less answer n) in
       elim (cases_lt k (length ns - 1)) [
@@ -156,7 +166,9 @@ module _ {X : Type 0} (answer : X → Ordering) where
       ]
 
   -- a node that ends Less, and all before it
-  pub ends_until : (ns : List (List X)) → All (λ n. 1 ≤ n) (node_lengths ns) → IsParted answer (concat ns) → (k : ℕ) → k < length ns → ends_less answer (get_or ns k []) ≡ true → AllWithin (λ n. ends_less answer n ≡ true) ns 0 (k + 1)
+  pub ends_until : (ns : List (List X)) → All (λ n. 1 ≤ n) (node_lengths ns) → IsParted answer (concat ns) → (k : ℕ)
+      → k < length ns → ends_less answer (get_or ns k []) ≡ true
+      → AllWithin (λ n. ends_less answer n ≡ true) ns 0 (k + 1)
   ends_until ns filled h k inside e j d low high =
       let same : get_or ns j d ≡ get_or ns j [] = get_or_default ns j d [] (omega arith) in
       rw same (elim (cases_lt j k) [
@@ -169,11 +181,15 @@ module _ {N X : Type 0} (answer : X → Ordering) (held : N → List X) where
   pub node_some : (vs : List N) (k : ℕ) (v : N) → k < length vs → v ≡ get_or vs k v → All (λ n. 1 ≤ n) (node_lengths (map held vs)) → 1 ≤ length (held v)
   node_some vs k v h e filled = subst (λ (l : List X). 1 ≤ length l) (node_read held vs k v h e []) (filled_at answer (map held vs) filled k (omega (arith, length-held held vs)))
 
-  pub node_ends : (vs : List N) (k : ℕ) (v : N) (x : X) → k < length vs → v ≡ get_or vs k v → 1 ≤ length (held v) → x ≡ get_or (held v) (length (held v) - 1) x → (d : List X) → ends_less answer (get_or (map held vs) k d) ≡ is_lt (answer x)
+  pub node_ends : (vs : List N) (k : ℕ) (v : N) (x : X) → k < length vs → v ≡ get_or vs k v → 1 ≤ length (held v)
+      → x ≡ get_or (held v) (length (held v) - 1) x → (d : List X)
+      → ends_less answer (get_or (map held vs) k d) ≡ is_lt (answer x)
   node_ends vs k v x h e some is d = ap (λ n. ends_less answer n) (node_read held vs k v h e d) ∙ (ends_last answer (held v) x some ∙ ap (λ y. is_lt (answer y)) (sym is))
 
 -- the node that a search ends in, as the code reads it
-pub searched : {N X : Type 0} (answer : X → Ordering) (held : N → List X) (vs : List N) (k : ℕ) (v : N) → 1 ≤ length vs → k ≡ node_for answer (map held vs) → v ≡ get_or vs k v → (k < length (map held vs)) × (held v ≡ node_at (map held vs) k)
+pub searched : {N X : Type 0} (answer : X → Ordering) (held : N → List X) (vs : List N) (k : ℕ) (v : N)
+    → 1 ≤ length vs → k ≡ node_for answer (map held vs) → v ≡ get_or vs k v
+    → (k < length (map held vs)) × (held v ≡ node_at (map held vs) k)
 searched answer held vs k v some at is =
     let long = length-held held vs in
     let inside : k < length vs = omega (arith, some, at, long) in

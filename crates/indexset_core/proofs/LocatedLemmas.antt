@@ -1,5 +1,7 @@
 -- The end of a search of a list of nodes, and what it finds.
-use Rattle.std.proofs.Common.{◌≡◌, ℕ, ◌+◌, ◌<◌, ◌≤◌, Bool, true, false, if◌then◌else◌, List, [], ◌∷◌, length, Result, Ok, Err, IfOk, IfErr, Ordering, Some, None, slice_get, refl, sym, ◌∙◌, subst, arith, inl, inr}
+use Rattle.std.proofs.Common.{◌≡◌, ℕ, ◌+◌, ◌<◌, ◌≤◌, Bool, true, false, if◌then◌else◌, List}
+use Rattle.std.proofs.Common.{[], ◌∷◌, length, Result, Ok, Err, IfOk, IfErr, Ordering, Some}
+use Rattle.std.proofs.Common.{None, slice_get, refl, sym, ◌∙◌, subst, arith, inl, inr}
 use Rattle.std.specs.List.{All, find, position}
 use Rattle.std.specs.Ordering.{is_lt, is_eq}
 use Rattle.std.proofs.lemmas.Bool.{cases_lt, false≢true}
@@ -72,7 +74,10 @@ module _ {T : Type 0} (answer : T → Ordering) where
       ] refl
 
   pub located_end : (ns : List (List T)) → All (λ n. 1 ≤ n) (node_lengths ns) → IsParted answer (concat ns) → Ends ns (located answer ns)
-  located_end [] filled parted = (tt, record { node_is = refl; offset_is = refl; place = record { node_in = omega arith; offset_in = omega arith }; after = λ yes. absurd (false≢true yes); before = refl; equal = refl })
+  located_end [] filled parted = (
+    tt,
+    record { node_is = refl; offset_is = refl; place = record { node_in = omega arith; offset_in = omega arith }; after = λ yes. absurd (false≢true yes); before = refl; equal = refl },
+  )
   located_end (n ∷ ns) filled parted = some_end (n ∷ ns) filled parted (omega arith)
 
 -- a place that is not at the end of its node is in an existing node
@@ -81,7 +86,8 @@ place_inside [] p after = absurd (omega (arith, after.offset_in))
 place_inside (n ∷ ns) p after = omega (arith, after.node_in)
 
 -- what a search finds
-module _ {T : Type 0} (answer : T → Ordering) (ns : List (List T)) (filled : All (λ n. 1 ≤ n) (node_lengths ns)) (parted : IsParted answer (concat ns)) (r : Result (ℕ × ℕ) (ℕ × ℕ)) (e : r ≡ located answer ns) (p : ℕ × ℕ) where
+module _ {T : Type 0} (answer : T → Ordering) (ns : List (List T)) (filled : All (λ n. 1 ≤ n) (node_lengths ns))
+    (parted : IsParted answer (concat ns)) (r : Result (ℕ × ℕ) (ℕ × ℕ)) (e : r ≡ located answer ns) (p : ℕ × ℕ) where
   pub end_at : r ≡ Ok p → IsEnd answer true ns p
   end_at is = subst (λ q. IfOk q (IsEnd answer true ns)) (sym e ∙ is) (located_end answer ns filled parted).0
 

@@ -1,6 +1,7 @@
 -- The invariants of a search that keeps the place of the item last found Equal, or the place past
 -- it: if there is one, it is where the search ends.
-use Rattle.std.proofs.Common.{◌≡◌, ℕ, zero, suc, ◌+◌, ◌-◌, ◌/◌, ◌%◌, ◌<◌, ◌≤◌, true, false, cond, List, [], ◌∷◌, length, get_or, slice_get, Some, nat_lt, Ordering, refl, ap, sym, subst, inl, inr, ◌∙◌, arith}
+use Rattle.std.proofs.Common.{◌≡◌, ℕ, zero, suc, ◌+◌, ◌-◌, ◌/◌, ◌%◌, ◌<◌, ◌≤◌, true, false, cond, List, [], ◌∷◌, length}
+use Rattle.std.proofs.Common.{get_or, slice_get, Some, nat_lt, Ordering, refl, ap, sym, subst, inl, inr, ◌∙◌, arith}
 use Rattle.std.specs.declared.cmp.Ordering.TheVariants.{Less, Equal, Greater}
 use Rattle.std.specs.List.{HoldsAt}
 use Rattle.std.specs.Ordering.{ordering_index, is_eq, is_le, is_lt}
@@ -96,7 +97,8 @@ module _ {T : Type 0} (answer : T → Ordering) (xs : List T) (parted : IsParted
       equal = subst (λ i. HoldsAt (λ x. answer x ≡ Equal) xs i) (omega arith) (at_read xs (λ x. answer x ≡ Equal) (low + left / 2) x (omega arith) is equal);
     }
 
-    pub past_half : (next kept : ℕ) → next ≡ cond (is_le (answer x)) (low + left / 2 + left % 2) low → kept ≡ cond (is_eq (answer x)) (low + left / 2 + 1) past → 0 < kept → IsPastEqual answer xs kept next
+    pub past_half : (next kept : ℕ) → next ≡ cond (is_le (answer x)) (low + left / 2 + left % 2) low
+        → kept ≡ cond (is_eq (answer x)) (low + left / 2 + 1) past → 0 < kept → IsPastEqual answer xs kept next
     past_half next kept goes keeps =
         elim (answer x) as (λ o. answer x ≡ o → next ≡ cond (is_le o) (low + left / 2 + left % 2) low → kept ≡ cond (is_eq o) (low + left / 2 + 1) past → 0 < kept → IsPastEqual answer xs kept next) [
           | Less ↦ λ e goes keeps. rw keeps (past_less e next goes)
@@ -105,7 +107,9 @@ module _ {T : Type 0} (answer : T → Ordering) (xs : List T) (parted : IsParted
         ] refl goes keeps
 
 -- at the end of the search, that place is the count
-pub past_met : {T : Type 0} (answer : T → Ordering) (xs : List T) (low high past : ℕ) → high ≤ low → Narrowed (λ x. is_le (answer x)) xs low high → (0 < past → IsPastEqual answer xs past low) → cond (nat_lt 0 past) past low ≡ low
+pub past_met : {T : Type 0} (answer : T → Ordering) (xs : List T) (low high past : ℕ) → high ≤ low
+    → Narrowed (λ x. is_le (answer x)) xs low high → (0 < past → IsPastEqual answer xs past low)
+    → cond (nat_lt 0 past) past low ≡ low
 past_met answer xs low high zero met now told = refl
 past_met answer [] low high (suc past) met now told = absurd (omega (arith, (told (omega arith)).within))
 past_met answer (x ∷ xs) low high (suc past) met now told =

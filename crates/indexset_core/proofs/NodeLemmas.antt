@@ -1,5 +1,7 @@
 -- Lists of nodes, joined and measured.
-use Rattle.std.proofs.Common.{◌≡◌, ℕ, zero, suc, ◌+◌, ◌<◌, ◌≤◌, List, [], ◌∷◌, ◌++◌, length, map, sum, take, drop, get_or, slice_set, slice_get, Option, Some, unwrap_or, refl, sym, ap, ◌∙◌, arith, subst, length-append, append_assoc, add-one}
+use Rattle.std.proofs.Common.{◌≡◌, ℕ, zero, suc, ◌+◌, ◌<◌, ◌≤◌, List, [], ◌∷◌, ◌++◌, length, map}
+use Rattle.std.proofs.Common.{sum, take, drop, get_or, slice_set, slice_get, Option, Some, unwrap_or}
+use Rattle.std.proofs.Common.{refl, sym, ap, ◌∙◌, arith, subst, length-append, append_assoc, add-one}
 use Rattle.std.proofs.lemmas.List.{length-map, map-set, map-append, take-map, drop-map, set_split, set-get_or, take-take}
 use Rattle.std.proofs.lemmas.Option.{slice_get_read, unwrap_or-slice_get}
 use Rattle.std.proofs.lemmas.List.Sums.{sum_by-cons}
@@ -107,7 +109,8 @@ module _ {N X : Type 0} (held : N → List X) where
       omega (arith, length-concat-more (map held vs) k (omega (arith, length-held vs)), ap (λ (l : List X). length l) m)
 
   -- the item that the code reads at an offset of a node
-  pub item_read : (vs : List N) (k o : ℕ) (v : N) (x : X) → k < length vs → o < length (held v) → v ≡ get_or vs k v → x ≡ get_or (held v) o x → slice_get (concat (map held vs)) (length (concat (take k (map held vs))) + o) ≡ Some x
+  pub item_read : (vs : List N) (k o : ℕ) (v : N) (x : X) → k < length vs → o < length (held v) → v ≡ get_or vs k v
+      → x ≡ get_or (held v) o x → slice_get (concat (map held vs)) (length (concat (take k (map held vs))) + o) ≡ Some x
   item_read vs k o v x lt inside at is =
       let m : get_or (map held vs) k [] ≡ held v = node_read vs k v lt at [] in
       let within : o < length (get_or (map held vs) k []) = subst (λ (l : List X). o < length l) (sym m) inside in

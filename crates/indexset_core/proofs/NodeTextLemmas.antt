@@ -1,5 +1,7 @@
 -- The text of a node, as it is written item by item.
-use Rattle.std.proofs.Common.{◌≡◌, ℕ, zero, suc, ◌+◌, ◌==◌, Bool, true, false, if◌then◌else◌, List, [], ◌∷◌, ◌++◌, take, get_or, length, ◌<◌, Option, None, Some, codes, Result, Ok, refl, sym, ap, ◌∙◌, arith, subst, append_assoc}
+use Rattle.std.proofs.Common.{◌≡◌, ℕ, zero, suc, ◌+◌, ◌==◌, Bool, true, false, if◌then◌else◌}
+use Rattle.std.proofs.Common.{List, [], ◌∷◌, ◌++◌, take, get_or, length, ◌<◌, Option, None, Some}
+use Rattle.std.proofs.Common.{codes, Result, Ok, refl, sym, ap, ◌∙◌, arith, subst, append_assoc}
 use Rattle.std.specs.Fmt.{◌++?◌, DisplaysOnOk}
 use Rattle.std.specs.declared.fmt.Error.{Error}
 use Rattle.std.specs.declared.fmt.Formatter.{Formatter}
@@ -48,21 +50,27 @@ module _ {T : Type 0} (shown : T → Option (List ℕ)) where
       ∙ (ap (λ o. shown y ++? o) (rest_more (take i l) x) ∙ sym (shown_assoc (shown y) (rest_shown shown (take i l)) (Some (codes ", ") ++? shown x))))
 
   -- the text with one item more, after a prefix
-  pub items_more : (front : Option (List ℕ)) (l : List T) (i : ℕ) (x : T) → i < length l → x ≡ get_or l i x → (front ++? items_shown shown (take i l)) ++? (before_item (i == 0) ++? shown x) ≡ front ++? items_shown shown (take (i + 1) l)
+  pub items_more : (front : Option (List ℕ)) (l : List T) (i : ℕ) (x : T) → i < length l → x ≡ get_or l i x
+      → (front ++? items_shown shown (take i l)) ++? (before_item (i == 0) ++? shown x)
+      ≡ front ++? items_shown shown (take (i + 1) l)
   items_more front l i x lt there =
       let on : suc i ≡ i + 1 = omega arith in
       shown_assoc front (items_shown shown (take i l)) (before_item (i == 0) ++? shown x)
       ∙ ap (λ o. front ++? o) (sym (items_on l i x lt there) ∙ ap (λ n. items_shown shown (take n l)) on)
 
 -- a second text is written
-pub then_shown : {W : Type 0} (took : W → List ℕ → W → Type 0) (f g h : Formatter W) (r : Result (Unit {0}) Error) (a b : Option (List ℕ)) → DisplaysOnOk took f (Ok tt) a g → DisplaysOnOk took g r b h → DisplaysOnOk took f r (a ++? b) h
+pub then_shown : {W : Type 0} (took : W → List ℕ → W → Type 0) (f g h : Formatter W) (r : Result (Unit {0}) Error)
+    (a b : Option (List ℕ))
+    → DisplaysOnOk took f (Ok tt) a g → DisplaysOnOk took g r b h → DisplaysOnOk took f r (a ++? b) h
 then_shown took f g h r None b p q = tt
 then_shown took f g h r (Some a) None p q = tt
 then_shown took f g h r (Some a) (Some b) p q = λ plain ok. let x = p plain refl in put_two took f g h a b (a ++ b) x (q x.plain ok) refl
 
 -- the text of an item, after a comma unless it is the first
 module _ {W : Type 0} (took : W → List ℕ → W → Type 0) (f g h : Formatter W) where
-  pub behind_comma : (is_first : Bool) (a : Option (List ℕ)) → is_first ≡ false → DisplaysOnOk took f (Ok tt) (Some (codes ", ")) g → DisplaysOnOk took g (Ok tt) a h → DisplaysOnOk took f (Ok tt) (before_item is_first ++? a) h
+  pub behind_comma : (is_first : Bool) (a : Option (List ℕ)) → is_first ≡ false
+      → DisplaysOnOk took f (Ok tt) (Some (codes ", ")) g → DisplaysOnOk took g (Ok tt) a h
+      → DisplaysOnOk took f (Ok tt) (before_item is_first ++? a) h
   behind_comma true a later p q = absurd (false≢true (sym later))
   behind_comma false a later p q = then_shown took f g h (Ok tt) (Some (codes ", ")) a p q
 

@@ -1,5 +1,7 @@
 -- Searches for a key, and written values, in a list of pairs.
-use Rattle.std.proofs.Common.{◌≡◌, ℕ, zero, suc, ◌+◌, ◌<◌, ◌≤◌, Bool, true, false, cond, ◌||◌, not, List, [], ◌∷◌, length, get_or, Ordering, Some, None, is_some, slice_get, nat_lt, refl, ap, sym, ◌∙◌, arith, length-set}
+use Rattle.std.proofs.Common.{◌≡◌, ℕ, zero, suc, ◌+◌, ◌<◌, ◌≤◌, Bool, true, false, cond, ◌||◌}
+use Rattle.std.proofs.Common.{not, List, [], ◌∷◌, length, get_or, Ordering, Some, None, is_some}
+use Rattle.std.proofs.Common.{slice_get, nat_lt, refl, ap, sym, ◌∙◌, arith, length-set}
 use Rattle.std.specs.declared.cmp.Ordering.TheVariants.{Less, Equal, Greater}
 use Rattle.std.specs.Option.{option_map_or}
 use Rattle.std.specs.Ordering.{is_eq, is_lt, is_le}
@@ -29,7 +31,8 @@ module _ {K V : Type 0} where
   key_kept (q ∷ l) (suc i) zero p d w at = refl
   key_kept (q ∷ l) (suc i) (suc k) p d w at = key_kept l i k p d w at
 
-  pub value_ascending : (cmp : K → K → Ordering) (l : List (Pair K V)) (i : ℕ) (p : Pair K V) (w : V) → slice_get l i ≡ Some p → IsAscending (by_key cmp) l → IsAscending (by_key cmp) (slice_set l i (valued p w))
+  pub value_ascending : (cmp : K → K → Ordering) (l : List (Pair K V)) (i : ℕ) (p : Pair K V) (w : V)
+      → slice_get l i ≡ Some p → IsAscending (by_key cmp) l → IsAscending (by_key cmp) (slice_set l i (valued p w))
   value_ascending cmp l i p w at up = λ a b d lt inside. rw (key_kept l i a p d w at, key_kept l i b p d w at) (up a b d lt (omega (arith, length-set l i (valued p w))))
 
 -- a test of the elements, and the first that passes
@@ -46,10 +49,13 @@ module _ {X : Type 0} (p : X → Bool) where
   ] refl h
 
   position_past : (xs : List X) → position p xs ≡ None → length xs ≤ position_or_len p xs
-  position_past xs h = elim (nat_lt (position_or_len p xs) (length xs)) as (λ b. nat_lt (position_or_len p xs) (length xs) ≡ b → cond b (Some (position_or_len p xs)) None ≡ None → length xs ≤ position_or_len p xs) [
-    | true ↦ λ e g. absurd (cc)
-    | false ↦ λ e g. grind (arith, nat_tests)
-  ] refl h
+  position_past xs h =
+      elim (nat_lt (position_or_len p xs) (length xs))
+      as (λ b. nat_lt (position_or_len p xs) (length xs) ≡ b → cond b (Some (position_or_len p xs)) None ≡ None
+      → length xs ≤ position_or_len p xs) [
+        | true ↦ λ e g. absurd (cc)
+        | false ↦ λ e g. grind (arith, nat_tests)
+      ] refl h
 
   position_is : (xs : List X) (i : ℕ) → position p xs ≡ Some i → position_or_len p xs ≡ i
   position_is xs i h = elim (nat_lt (position_or_len p xs) (length xs)) as (λ b. cond b (Some (position_or_len p xs)) None ≡ Some i → position_or_len p xs ≡ i) [
@@ -82,7 +88,10 @@ module _ {K V : Type 0} (cmp : K → K → Ordering) where
   parted_by_key o l up k = searchable_from_sorted o (λ (p : Pair K V). p.key) l k (λ j d low high. not_below o _ _ (up j (j + 1) d (omega arith) high))
 
 -- the same for a look-up key
-pub parted_by_sought_key : {K V Q : Type 0} {cmp : K → K → Ordering} {order : K → Q → Ordering} {among : Q → Q → Ordering} → OrdersAsItem cmp order among → (l : List (Pair K V)) → IsAscending (by_key cmp) l → (k : Q) → IsParted (λ p. order p.key k) l
+pub parted_by_sought_key : {K V Q : Type 0} {cmp : K → K → Ordering} {order : K → Q → Ordering}
+    {among : Q → Q → Ordering}
+    → OrdersAsItem cmp order among → (l : List (Pair K V)) → IsAscending (by_key cmp) l → (k : Q)
+    → IsParted (λ p. order p.key k) l
 parted_by_sought_key acts l up k = parted_by_sought (acts_on (λ (p : Pair _ _). p.key) acts) l up k
 
 module _ {K V Q : Type 0} (cmp : K → Q → Ordering) where
@@ -99,7 +108,15 @@ module _ {K V Q : Type 0} (cmp : K → Q → Ordering) where
   set_value-at (p ∷ l) k w =
       let on : (b : Bool) → is_eq (cmp p.key k) ≡ b → set_value cmp (p ∷ l) k w ≡ set_value_at (p ∷ l) (position_or_len (λ q. is_eq (cmp q.key k)) (p ∷ l)) w = elim [
         | true ↦ λ e. rw e refl
-        | false ↦ λ e. rw e (let s : 1 + position_or_len (λ q. is_eq (cmp q.key k)) l ≡ suc (position_or_len (λ q. is_eq (cmp q.key k)) l) = omega arith in rw s (ap (λ t. p ∷ t) (set_value-at l k w) ∙ set_value-cons p l (position_or_len (λ q. is_eq (cmp q.key k)) l) w))
+        | false ↦
+            λ e.
+            rw e
+            (let s : 1 + position_or_len (λ q. is_eq (cmp q.key k)) l
+            ≡ suc (position_or_len (λ q. is_eq (cmp q.key k)) l) =
+            omega arith in
+            rw s
+            (ap (λ t. p ∷ t) (set_value-at l k w)
+            ∙ set_value-cons p l (position_or_len (λ q. is_eq (cmp q.key k)) l) w))
       ] in on (is_eq (cmp p.key k)) refl
 
   module _ (l : List (Pair K V)) (k : Q) where

@@ -37,7 +37,9 @@ module _ {X : Type 0} where
         ∙ (drop-append-add (concat (take l ns)) (take q (node_at ns l)) o ∙ sym (between_is (node_at ns l) o q))))
 
     -- and of two
-    pub between_across : k < l → o ≤ length (node_at ns k) → between (length (concat (take k ns)) + o) (length (concat (take l ns)) + q) (concat ns) ≡ drop o (node_at ns k) ++ (concat (between (k + 1) l ns) ++ take q (node_at ns l))
+    pub between_across : k < l → o ≤ length (node_at ns k)
+        → between (length (concat (take k ns)) + o) (length (concat (take l ns)) + q) (concat ns)
+        ≡ drop o (node_at ns k) ++ (concat (between (k + 1) l ns) ++ take q (node_at ns l))
     between_across below from =
         let ms = take l ns in
         let same : take k ms ≡ take k ns = take-take k l ns (omega arith) in

@@ -16,17 +16,28 @@ use Rattle.indexset_core.proofs.PartedLemmas.{Parts, count_parts, count_parted, 
 
 module _ {T : Type 0} where
   -- the elements that pass are the n from place i on
-  filter_part : (r : T → Bool) (l : List T) (i n : ℕ) → i + n ≤ length l → AllWithin (λ x. r x ≡ false) l 0 i → AllWithin (λ x. r x ≡ true) l i (i + n) → AllWithin (λ x. r x ≡ false) l (i + n) (length l) → filter r l ≡ take n (drop i l)
+  filter_part : (r : T → Bool) (l : List T) (i n : ℕ) → i + n ≤ length l → AllWithin (λ x. r x ≡ false) l 0 i
+      → AllWithin (λ x. r x ≡ true) l i (i + n) → AllWithin (λ x. r x ≡ false) l (i + n) (length l)
+      → filter r l ≡ take n (drop i l)
   filter_part r [] zero zero le before inside after = refl
   filter_part r [] zero (suc n) le before inside after = refl
   filter_part r [] (suc i) zero le before inside after = refl
   filter_part r [] (suc i) (suc n) le before inside after = refl
   filter_part r (x ∷ xs) zero zero le before inside after =
-      rw (after 0 x (omega arith) (omega arith)) (filter_part r xs 0 0 (omega arith) (λ k d low high. absurd (omega arith)) (λ k d low high. absurd (omega arith)) (λ k d low high. after (suc k) d (omega arith) (omega arith)))
+      rw (after 0 x (omega arith) (omega arith))
+      (filter_part r xs 0 0 (omega arith) (λ k d low high. absurd (omega arith))
+      (λ k d low high. absurd (omega arith)) (λ k d low high. after (suc k) d (omega arith) (omega arith)))
   filter_part r (x ∷ xs) zero (suc n) le before inside after =
-      rw (inside 0 x (omega arith) (omega arith)) (ap (λ ys. x ∷ ys) (filter_part r xs 0 n (omega arith) (λ k d low high. absurd (omega arith)) (λ k d low high. inside (suc k) d (omega arith) (omega arith)) (λ k d low high. after (suc k) d (omega arith) (omega arith))))
+      rw (inside 0 x (omega arith) (omega arith))
+      (ap (λ ys. x ∷ ys)
+      (filter_part r xs 0 n (omega arith) (λ k d low high. absurd (omega arith))
+      (λ k d low high. inside (suc k) d (omega arith) (omega arith))
+      (λ k d low high. after (suc k) d (omega arith) (omega arith))))
   filter_part r (x ∷ xs) (suc i) n le before inside after =
-      rw (before 0 x (omega arith) (omega arith)) (filter_part r xs i n (omega arith) (λ k d low high. before (suc k) d (omega arith) (omega arith)) (λ k d low high. inside (suc k) d (omega arith) (omega arith)) (λ k d low high. after (suc k) d (omega arith) (omega arith)))
+      rw (before 0 x (omega arith) (omega arith))
+      (filter_part r xs i n (omega arith) (λ k d low high. before (suc k) d (omega arith) (omega arith))
+      (λ k d low high. inside (suc k) d (omega arith) (omega arith))
+      (λ k d low high. after (suc k) d (omega arith) (omega arith)))
 
   -- if p passes the elements before i, and q those before j
   module _ (p q : T → Bool) (l : List T) (i j : ℕ) (ps : Parts p l i) (qs : Parts q l j) where
@@ -73,7 +84,8 @@ module _ {T Q : Type 0} {cmp : T → T → Ordering} {order : T → Q → Orderi
   before_less : (x : T) (a b : Q) → is_lt (order x a) ≡ true → is_le (among a b) ≡ true → is_lt (order x b) ≡ true
   before_less x a b e h = ap is_lt (acts.below x a b (less_is _ e) h)
 
-  up_to : (test : Ordering → Bool) → test Less ≡ true → (x : T) (a b : Q) → (r : Ordering) → order x a ≡ r → is_le r ≡ true → is_le (among a b) ≡ true → test (among a b) ≡ true → test (order x b) ≡ true
+  up_to : (test : Ordering → Bool) → test Less ≡ true → (x : T) (a b : Q) → (r : Ordering) → order x a ≡ r
+      → is_le r ≡ true → is_le (among a b) ≡ true → test (among a b) ≡ true → test (order x b) ≡ true
   up_to test passes x a b Less e h le g = ap test (acts.below x a b e le) ∙ passes
   up_to test passes x a b Equal e h le g = ap test (acts.tied x a b e) ∙ g
   up_to test passes x a b Greater e h le g = absurd (false≢true h)
@@ -97,10 +109,17 @@ not_before order Unbounded x = refl
 -- a list that a comparator by a look-up key partitions: f is the part of an item that is compared
 module _ {X T Q : Type 0} (order : T → Q → Ordering) (f : X → T) (l : List X) (parted : (v : Q) → IsParted (λ x. order (f x) v) l) where
   none_parts : Parts (λ x. false) l (count_by (λ x. false) l)
-  none_parts = rw (count_parted (λ (x : X). false) l 0 (omega arith) (λ k d low high. absurd (omega arith)) (λ k d low high. refl)) (record { inside = omega arith; before = λ k d low high. absurd (omega arith); after = λ k d low high. refl })
+  none_parts =
+      rw
+      (count_parted (λ (x : X). false) l 0 (omega arith) (λ k d low high. absurd (omega arith)) (λ k d low high. refl))
+      (record { inside = omega arith; before = λ k d low high. absurd (omega arith); after = λ k d low high. refl })
 
   all_parts : Parts (λ x. true) l (count_by (λ x. true) l)
-  all_parts = rw (count_parted (λ (x : X). true) l (length l) (omega arith) (λ k d low high. refl) (λ k d low high. absurd (omega arith))) (record { inside = omega arith; before = λ k d low high. refl; after = λ k d low high. absurd (omega arith) })
+  all_parts =
+      rw
+      (count_parted (λ (x : X). true) l (length l) (omega arith) (λ k d low high. refl)
+      (λ k d low high. absurd (omega arith)))
+      (record { inside = omega arith; before = λ k d low high. refl; after = λ k d low high. absurd (omega arith) })
 
   pub before_parts : (start : Bound Q) → Parts (λ x. is_before order start (f x)) l (count_by (λ x. is_before order start (f x)) l)
   before_parts (Included a) = count_parts is_lt front-is_lt (λ x. order (f x) a) l (parted a)
@@ -112,9 +131,15 @@ module _ {X T Q : Type 0} (order : T → Q → Ordering) (f : X → T) (l : List
   up_to_parts (Excluded a) = count_parts is_lt front-is_lt (λ x. order (f x) a) l (parted a)
   up_to_parts Unbounded = all_parts
 
-  module _ {cmp : T → T → Ordering} {among : Q → Q → Ordering} (acts : OrdersAsItem cmp order among) (start end : Bound Q) (ordered : are_ordered among start end ≡ true) (i j : ℕ) (from : i ≡ count_by (λ x. is_before order start (f x)) l) (to : j ≡ count_by (λ x. is_up_to_end order end (f x)) l) where
+  module _ {cmp : T → T → Ordering} {among : Q → Q → Ordering} (acts : OrdersAsItem cmp order among)
+      (start end : Bound Q) (ordered : are_ordered among start end ≡ true) (i j : ℕ)
+      (from : i ≡ count_by (λ x. is_before order start (f x)) l)
+      (to : j ≡ count_by (λ x. is_up_to_end order end (f x)) l) where
     pub sought_range_order : i ≤ j
-    sought_range_order = rw (from, to) (parts_le (λ x. is_before order start (f x)) (λ x. is_up_to_end order end (f x)) l _ _ (before_parts start) (up_to_parts end) (λ x. ordered_weaker acts start end ordered (f x)))
+    sought_range_order =
+        rw (from, to)
+        (parts_le (λ x. is_before order start (f x)) (λ x. is_up_to_end order end (f x)) l _ _ (before_parts start)
+        (up_to_parts end) (λ x. ordered_weaker acts start end ordered (f x)))
 
     pub sought_range_is : between i j l ≡ filter (λ x. is_within order start end (f x)) l
     sought_range_is =
@@ -123,7 +148,10 @@ module _ {X T Q : Type 0} (order : T → Q → Ordering) (f : X → T) (l : List
 
 -- the same for bounds that are themselves compared
 module _ {T : Type 0} (cmp : T → T → Ordering) (o : IsTotalOrder cmp) where
-  module _ {X : Type 0} (f : X → T) (l : List X) (parted : (v : T) → IsParted (λ x. cmp (f x) v) l) (start end : Bound T) (ordered : are_ordered cmp start end ≡ true) (i j : ℕ) (from : i ≡ count_by (λ x. is_before cmp start (f x)) l) (to : j ≡ count_by (λ x. is_up_to_end cmp end (f x)) l) where
+  module _ {X : Type 0} (f : X → T) (l : List X) (parted : (v : T) → IsParted (λ x. cmp (f x) v) l)
+      (start end : Bound T) (ordered : are_ordered cmp start end ≡ true) (i j : ℕ)
+      (from : i ≡ count_by (λ x. is_before cmp start (f x)) l)
+      (to : j ≡ count_by (λ x. is_up_to_end cmp end (f x)) l) where
     pub keyed_range_order : i ≤ j
     keyed_range_order = sought_range_order cmp f l parted (acts_as_itself o) start end ordered i j from to
 
@@ -131,7 +159,8 @@ module _ {T : Type 0} (cmp : T → T → Ordering) (o : IsTotalOrder cmp) where
     keyed_range_is = sought_range_is cmp f l parted (acts_as_itself o) start end ordered i j from to
 
   -- the part of an ascending list between two bounds on its items
-  module _ (l : List T) (up : IsAscending cmp l) (start end : Bound T) (ordered : are_ordered cmp start end ≡ true) (i j : ℕ) (from : i ≡ count_by (is_before cmp start) l) (to : j ≡ count_by (is_up_to_end cmp end) l) where
+  module _ (l : List T) (up : IsAscending cmp l) (start end : Bound T) (ordered : are_ordered cmp start end ≡ true)
+      (i j : ℕ) (from : i ≡ count_by (is_before cmp start) l) (to : j ≡ count_by (is_up_to_end cmp end) l) where
     pub range_order : i ≤ j
     range_order = keyed_range_order (λ x. x) l (parted_by_item cmp o l up) start end ordered i j from to
 

@@ -1,5 +1,6 @@
 -- The rank and the position of an item in a list that a comparator partitions.
-use Rattle.std.proofs.Common.{◌≡◌, ℕ, ◌<◌, Bool, true, false, if◌then◌else◌, List, length, Ordering, Option, Some, None, IfSome, Result, Ok, Err, IfOk, IfErr, is_some, slice_get, refl, ap, sym, inl, inr, ◌∙◌}
+use Rattle.std.proofs.Common.{◌≡◌, ℕ, ◌<◌, Bool, true, false, if◌then◌else◌, List, length, Ordering, Option, Some, None}
+use Rattle.std.proofs.Common.{IfSome, Result, Ok, Err, IfOk, IfErr, is_some, slice_get, refl, ap, sym, inl, inr, ◌∙◌}
 use Rattle.std.specs.declared.cmp.Ordering.TheVariants.{Less}
 use Rattle.std.specs.List.{AllWithin, find, list_any, position}
 use Rattle.std.specs.Ordering.{is_eq, is_lt}

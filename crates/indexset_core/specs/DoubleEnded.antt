@@ -1,5 +1,6 @@
 -- Calls of `next` and `next_back` of an iterator.
-use Rattle.std.specs.Prelude.{◌≡◌, ◌-◌, Bool, true, false, List, [], ◌∷◌, ◌++◌, length, Option, Some, None}
+use Rattle.std.specs.Prelude.{◌≡◌, ◌-◌, Bool, true, false, List, []}
+use Rattle.std.specs.Prelude.{◌∷◌, ◌++◌, length, Option, Some, None}
 use Rattle.std.specs.Map.Iter.{TakesFirst, TakesLast}
 
 module _ {A X : Type 0} (next back : List X → Option A → List X → Type 0) where
@@ -35,8 +36,12 @@ module _ {A X : Type 0} (shows : A → X) where
 
 -- for any calls of `next` and `next_back`, the iterator yields each item once; each call leaves one
 -- item less; with no item remaining both return `None`
-pub record IsDoubleEnded {A X : Type 0} (shows : A → X) (next back : List X → Option A → List X → Type 0) : Type 0 where
-  pub each_once : (ends : List Bool) (s t : List X) (rs : List (Option A)) → CallsBy next back ends s rs t → s ≡ front_items shows ends rs ++ (t ++ back_items shows ends rs)
-  pub ends : (ends : List Bool) (s t : List X) (rs : List (Option A)) → CallsBy next back ends s rs t → length t ≡ length s - length ends
+pub record IsDoubleEnded {A X : Type 0} (shows : A → X)
+    (next back : List X → Option A → List X → Type 0) : Type 0 where
+  pub each_once : (ends : List Bool) (s t : List X) (rs : List (Option A))
+      → CallsBy next back ends s rs t
+      → s ≡ front_items shows ends rs ++ (t ++ back_items shows ends rs)
+  pub ends : (ends : List Bool) (s t : List X) (rs : List (Option A))
+      → CallsBy next back ends s rs t → length t ≡ length s - length ends
   pub fused : (r : Option A) (t : List X) → next [] r t → (r ≡ None) × (t ≡ [])
   pub fused_back : (r : Option A) (t : List X) → back [] r t → (r ≡ None) × (t ≡ [])

@@ -1,5 +1,6 @@
 -- Lists of nodes, of either family.
-use Rattle.std.specs.Prelude.{ℕ, ◌-◌, ◌≤◌, Bool, false, not, min, List, [], ◌∷◌, ◌++◌, length, map, get_or, slice_get}
+use Rattle.std.specs.Prelude.{ℕ, ◌-◌, ◌≤◌, Bool, false, not, min, List, []}
+use Rattle.std.specs.Prelude.{◌∷◌, ◌++◌, length, map, get_or, slice_get}
 use Rattle.std.specs.List.{All, position_or_len}
 use Rattle.std.specs.Option.{option_map_or}
 use Rattle.std.specs.Ordering.{is_lt, is_eq}

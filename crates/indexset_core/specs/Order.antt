@@ -1,6 +1,8 @@
 -- Lists in the order of a comparison. Equal does not mean identical. An item may be compared with a
 -- value of another type, as in a look-up.
-use Rattle.std.specs.Prelude.{◌≡◌, ℕ, ◌-◌, ◌<◌, ◌≤◌, ◌==◌, length, Bool, true, false, List, ◌∷◌, ◌++◌, if◌then◌else◌, filter, not, AllPairs, count_by, Option, Some, None, find}
+use Rattle.std.specs.Prelude.{◌≡◌, ℕ, ◌-◌, ◌<◌, ◌≤◌, ◌==◌, length, Bool, true}
+use Rattle.std.specs.Prelude.{false, List, ◌∷◌, ◌++◌, if◌then◌else◌, filter}
+use Rattle.std.specs.Prelude.{not, AllPairs, count_by, Option, Some, None, find}
 use Rattle.std.specs.declared.cmp.Ordering.{Ordering}
 use Rattle.std.specs.declared.cmp.Ordering.TheVariants.{Less, Equal, Greater}
 use Rattle.std.specs.declared.ops.Bound.{Bound}
@@ -70,14 +72,16 @@ abbrev pub last_index : ℕ → Option ℕ
 last_index n = if n == 0 then None else Some (n - 1)
 
 -- the element at index i equals v, and all before it are below v
-pub record IsFoundAt {T Q : Type 0} (cmp : T → Q → Ordering) (l : List T) (v : Q) (i : ℕ) : Type 0 where
+pub record IsFoundAt {T Q : Type 0} (cmp : T → Q → Ordering) (l : List T) (v : Q)
+    (i : ℕ) : Type 0 where
   pub inside : i < length l
   pub equal : HoldsAt (λ x. cmp x v ≡ Equal) l i
   pub below_before : AllWithin (λ x. cmp x v ≡ Less) l 0 i
 
 -- index i is the insertion point of v: all elements before it are below v, and all from it on are
 -- above v
-pub record IsGapFor {T Q : Type 0} (cmp : T → Q → Ordering) (l : List T) (v : Q) (i : ℕ) : Type 0 where
+pub record IsGapFor {T Q : Type 0} (cmp : T → Q → Ordering) (l : List T) (v : Q)
+    (i : ℕ) : Type 0 where
   pub inside : i ≤ length l
   pub below_before : AllWithin (λ x. cmp x v ≡ Less) l 0 i
   pub above_after : AllWithin (λ x. cmp x v ≡ Greater) l i (length l)

@@ -1,5 +1,6 @@
 -- Lists of pairs, by key and by position.
-use Rattle.std.specs.Prelude.{◌≡◌, ℕ, Bool, List, [], ◌∷◌, Option, if◌then◌else◌, filter, find, not, map, count_by, slice_get, slice_set}
+use Rattle.std.specs.Prelude.{◌≡◌, ℕ, Bool, List, [], ◌∷◌, Option, if◌then◌else◌}
+use Rattle.std.specs.Prelude.{filter, find, not, map, count_by, slice_get, slice_set}
 use Rattle.std.specs.List.{list_any}
 use Rattle.std.specs.Borrow.{Bor, MutBor}
 use Rattle.std.specs.Fn.{Mut}
@@ -46,7 +47,9 @@ module _ {K V : Type 0} where
   pair_values l = map (λ p. p.value) l
 
   -- a call of the closure at the key and the value of p may return b and leave the value of q
-  abbrev pub CalledOnPair : {F : Type 0} → Mut F (Bor K × (MutBor V × Unit {0})) (Bool × (MutBor V × Unit {0})) → F → Pair K V → Bool → F → Pair K V → Type 0
+  abbrev pub CalledOnPair : {F : Type 0}
+      → Mut F (Bor K × (MutBor V × Unit {0})) (Bool × (MutBor V × Unit {0})) → F → Pair K V → Bool
+      → F → Pair K V → Type 0
   CalledOnPair g f p b f' q = CalledAtPair g f p.key p.value b q.value f' × (q.key ≡ p.key)
 
   module _ {Q : Type 0} (cmp : K → Q → Ordering) where
@@ -88,10 +91,12 @@ module _ {K V : Type 0} where
   set_found answer (p ∷ l) w = if is_eq (answer p) then valued p w ∷ l else p ∷ set_found answer l w
 
   -- the pairs, with w as the value of the pair of the key, which keeps its key
-  abbrev pub set_value : {Q : Type 0} → (K → Q → Ordering) → List (Pair K V) → Q → V → List (Pair K V)
+  abbrev pub set_value : {Q : Type 0} → (K → Q → Ordering) → List (Pair K V) → Q → V
+      → List (Pair K V)
   set_value cmp l k w = set_found (λ p. cmp p.key k) l w
 
   -- the pairs, with w as the value of the pair of k, or, if there is none, with the pair of k and w
   -- inserted
   unfoldable pub put_value : (K → K → Ordering) → List (Pair K V) → K → V → List (Pair K V)
-  put_value cmp l k w = if has_key cmp l k then set_value cmp l k w else put (by_key cmp) l (pair k w)
+  put_value cmp l k w =
+      if has_key cmp l k then set_value cmp l k w else put (by_key cmp) l (pair k w)

@@ -1,5 +1,6 @@
 -- Places in a list of nodes, and the result of a search.
-use Rattle.std.specs.Prelude.{ℕ, ◌+◌, ◌<◌, ◌≤◌, max, length, List, take, Result, Ok, Err, if◌then◌else◌}
+use Rattle.std.specs.Prelude.{ℕ, ◌+◌, ◌<◌, ◌≤◌, max, length, List}
+use Rattle.std.specs.Prelude.{take, Result, Ok, Err, if◌then◌else◌}
 use Rattle.std.specs.declared.cmp.Ordering.{Ordering}
 use Rattle.indexset_core.specs.Nodes.{concat, node_at, node_for, equal_at}
 use Rattle.indexset_core.specs.Parted.{less_count}

@@ -1,7 +1,12 @@
 -- The numbers and the texts of errors.
 use Rattle.std.specs.Prelude.{ℕ, List, codes}
 use Rattle.indexset_core.specs.declared.refusal.Refusal.{Refusal}
-use Rattle.indexset_core.specs.declared.refusal.Refusal.TheVariants.{Memory, Numbers, Empty, TooLarge, Unsorted, Overlaps, PairNumber, Gap, NoSuchNode, IndexOutside, ValueDiffers, WouldBeEmpty, OutOfOrder, BadSplit, NotNeighbours}
+use Rattle.indexset_core.specs.declared.refusal.Refusal.TheVariants.{Memory, Numbers, Empty}
+use Rattle.indexset_core.specs.declared.refusal.Refusal.TheVariants.{TooLarge, Unsorted, Overlaps}
+use Rattle.indexset_core.specs.declared.refusal.Refusal.TheVariants.{PairNumber, Gap, NoSuchNode}
+use Rattle.indexset_core.specs.declared.refusal.Refusal.TheVariants.{IndexOutside, ValueDiffers}
+use Rattle.indexset_core.specs.declared.refusal.Refusal.TheVariants.{WouldBeEmpty, OutOfOrder}
+use Rattle.indexset_core.specs.declared.refusal.Refusal.TheVariants.{BadSplit, NotNeighbours}
 
 -- the number of an error
 abbrev pub number_of : Refusal → ℕ

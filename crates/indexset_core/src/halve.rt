@@ -1,5 +1,6 @@
 //! The halving of a node.
-ghost use Rattle.std.specs.Prelude.{◌≡◌, ◌/◌, ◌≤◌, length, take, drop, IfOk, OnOk, IfErr, OnErr, vec_capacity};
+ghost use Rattle.std.specs.Prelude.{◌≡◌, ◌/◌, ◌≤◌, length, take, drop};
+ghost use Rattle.std.specs.Prelude.{IfOk, OnOk, IfErr, OnErr, vec_capacity};
 
 use crate::refusal::Refusal;
 

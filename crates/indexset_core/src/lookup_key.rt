@@ -6,7 +6,8 @@ ghost use Rattle.std.specs.Cmp.Lexicographic.{lists_total, nat_list_cmp_total, s
 ghost use Rattle.std.specs.Ordering.{nat_cmp};
 ghost use Rattle.std.specs.declared.cmp.Ordering.{Ordering};
 ghost use Rattle.indexset_core.specs.ByteOrder.{acts_by_view, one_by_view};
-ghost use Rattle.indexset_core.specs.LookupKey.{OrdersAsItem, EqualsAtMostOne, acts_as_itself, acts_by, one_as_itself, one_by};
+ghost use Rattle.indexset_core.specs.LookupKey.{OrdersAsItem, EqualsAtMostOne, acts_as_itself};
+ghost use Rattle.indexset_core.specs.LookupKey.{acts_by, one_as_itself, one_by};
 
 mod pairs;
 mod parts;
@@ -101,7 +102,8 @@ impl<T: ByBytes> LookupKey<T> for &str {
 }
 
 impl<T: ByBytes> UniqueKey<T> for &str {
-    ghost equals_at_most_one = { one_by_view nat_list_cmp_total T.bytes (λ q. q.now) T.ordered_by_bytes };
+    ghost equals_at_most_one = { one_by_view nat_list_cmp_total T.bytes (λ q. q.now)
+        T.ordered_by_bytes };
 }
 
 impl<T: ByBytes> LookupKey<T> for &[u8] {
@@ -115,13 +117,15 @@ impl<T: ByBytes> LookupKey<T> for &[u8] {
 }
 
 impl<T: ByBytes> UniqueKey<T> for &[u8] {
-    ghost equals_at_most_one = { one_by_view nat_list_cmp_total T.bytes (λ q. q.now) T.ordered_by_bytes };
+    ghost equals_at_most_one = { one_by_view nat_list_cmp_total T.bytes (λ q. q.now)
+        T.ordered_by_bytes };
 }
 
 impl<U: Ord, A: Allocator> LookupKey<Vec<U, A>> for &[U] {
     ghost order = { λ x q. slice_cmp U.cmp x.items q.now };
 
-    ghost acts_as_key = { acts_by (slice_cmp U.cmp) (lists_total U.total) (λ x. x.items) (λ q. q.now) };
+    ghost acts_as_key = { acts_by (slice_cmp U.cmp) (lists_total U.total) (λ x. x.items)
+        (λ q. q.now) };
 
     fn cmp_item(&self, item: &Vec<U, A>) -> Ordering {
         compare_slices(item.as_slice(), *self)
@@ -129,7 +133,8 @@ impl<U: Ord, A: Allocator> LookupKey<Vec<U, A>> for &[U] {
 }
 
 impl<U: Ord, A: Allocator> UniqueKey<Vec<U, A>> for &[U] {
-    ghost equals_at_most_one = { one_by (slice_cmp U.cmp) (lists_total U.total) (λ x. x.items) (λ q. q.now) };
+    ghost equals_at_most_one = { one_by (slice_cmp U.cmp) (lists_total U.total) (λ x. x.items)
+        (λ q. q.now) };
 }
 
 // Compares two slices of one lifetime, as the borrow checker requires.

@@ -1,5 +1,6 @@
 //! Insertion, removal and block moves of items, in lists that have capacity for them.
-ghost use Rattle.std.specs.Prelude.{◌≡◌, ◌+◌, ◌-◌, ◌<◌, ◌≤◌, ◌++◌, length, take, drop, insert, remove, slice_index_or, vec_len, vec_capacity};
+ghost use Rattle.std.specs.Prelude.{◌≡◌, ◌+◌, ◌-◌, ◌<◌, ◌≤◌, ◌++◌, length, take, drop};
+ghost use Rattle.std.specs.Prelude.{insert, remove, slice_index_or, vec_len, vec_capacity};
 
 use std::mem;
 

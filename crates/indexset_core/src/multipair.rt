@@ -1,7 +1,9 @@
 //! A key with its value and a number, compared by the key and then the number.
 ghost use Rattle.std.specs.Prelude.{◌≡◌, ◌&&◌, ◌++◌, Some, nat_eq, refl};
 ghost use Rattle.std.specs.Ordering.{nat_cmp, ordering_then, partial_ordering_then};
-ghost use Rattle.std.specs.Cmp.{on_equiv, and_equiv, then_agrees, on_total, then_total, both_tied, on_per, and_per, on_po, then_po, nat_eq_equiv, nat_cmp_total, partial_equiv_from_equiv, partial_order_from_total};
+ghost use Rattle.std.specs.Cmp.{on_equiv, and_equiv, then_agrees, on_total, then_total, both_tied};
+ghost use Rattle.std.specs.Cmp.{on_per, and_per, on_po, then_po, nat_eq_equiv, nat_cmp_total};
+ghost use Rattle.std.specs.Cmp.{partial_equiv_from_equiv, partial_order_from_total};
 ghost use Rattle.std.specs.Hash as fed;
 ghost use Rattle.std.specs.Cmp.Rules.{comparing};
 ghost use Rattle.std.proofs.Common.{rules};

@@ -255,8 +255,21 @@ module _ {T : Type 0} (cmp : T → T → Ordering) where
       pub put-within : put cmp (p ++ (n ++ q)) v ≡ p ++ (put cmp n v ++ q)
       unfolding put
       put-within =
-          let front : below cmp (p ++ (n ++ q)) v ≡ p ++ below cmp n v = within-filter (λ x. is_lt (cmp x v)) ∙ rw (filter_every (λ x. is_lt (cmp x v)) p (each-map _ _ (λ x e. ap is_lt e) p low), filter_no (λ x. is_lt (cmp x v)) q (each-map _ _ (λ x e. ap is_lt (greater x v e)) q high), append-nil (below cmp n v)) refl in
-          let back : above cmp (p ++ (n ++ q)) v ≡ above cmp n v ++ q = within-filter (λ x. is_gt (cmp x v)) ∙ rw (filter_no (λ x. is_gt (cmp x v)) p (each-map _ _ (λ x e. ap is_gt e) p low), filter_every (λ x. is_gt (cmp x v)) q (each-map _ _ (λ x e. ap is_gt (greater x v e)) q high)) refl in
+          let front : below cmp (p ++ (n ++ q)) v ≡ p ++ below cmp n v =
+          within-filter (λ x. is_lt (cmp x v))
+          ∙ rw (
+            filter_every (λ x. is_lt (cmp x v)) p (each-map _ _ (λ x e. ap is_lt e) p low),
+            filter_no (λ x. is_lt (cmp x v)) q (each-map _ _ (λ x e. ap is_lt (greater x v e)) q high),
+            append-nil (below cmp n v),
+          )
+          refl in
+          let back : above cmp (p ++ (n ++ q)) v ≡ above cmp n v ++ q =
+          within-filter (λ x. is_gt (cmp x v))
+          ∙ rw (
+            filter_no (λ x. is_gt (cmp x v)) p (each-map _ _ (λ x e. ap is_gt e) p low),
+            filter_every (λ x. is_gt (cmp x v)) q (each-map _ _ (λ x e. ap is_gt (greater x v e)) q high),
+          )
+          refl in
           rw (front, back) (simp append_assoc)
 
     module _ (l m r : List T) (v : T) (low : Each (λ x. cmp x v ≡ Less) l) (same : Each (λ x. cmp x v ≡ Equal) m) (high : Each (λ x. cmp v x ≡ Less) r) where
@@ -282,7 +295,14 @@ module _ {T : Type 0} (cmp : T → T → Ordering) where
 
       pub parts-without : without cmp (l ++ (m ++ r)) v ≡ l ++ r
       unfolding unequal
-      parts-without = parts-filter (λ x. not (is_eq (cmp x v))) ∙ rw (filter_every (λ x. not (is_eq (cmp x v))) l (test-low (λ a. not (is_eq a)) true refl), filter_no (λ x. not (is_eq (cmp x v))) m (test-same (λ a. not (is_eq a)) false refl), filter_every (λ x. not (is_eq (cmp x v))) r (test-high (λ a. not (is_eq a)) true refl)) refl
+      parts-without =
+          parts-filter (λ x. not (is_eq (cmp x v)))
+          ∙ rw (
+            filter_every (λ x. not (is_eq (cmp x v))) l (test-low (λ a. not (is_eq a)) true refl),
+            filter_no (λ x. not (is_eq (cmp x v))) m (test-same (λ a. not (is_eq a)) false refl),
+            filter_every (λ x. not (is_eq (cmp x v))) r (test-high (λ a. not (is_eq a)) true refl),
+          )
+          refl
 
       pub parts-rank : rank cmp (l ++ (m ++ r)) v ≡ length l
       parts-rank = count_front (λ x. is_lt (cmp x v)) l (m ++ r) (test-low is_lt true refl) (each-append _ m r (test-same is_lt false refl) (test-high is_lt false refl))

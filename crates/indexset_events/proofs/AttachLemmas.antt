@@ -1,5 +1,8 @@
 -- Lawful nodes after a node was attached.
-use Rattle.std.proofs.Common.{◌≡◌, ℕ, suc, min, ◌<◌, get_or, nat_lt, map, take, drop, not, if◌then◌else◌, inl, inr, ◌+◌, ◌-◌, ◌≤◌, Bool, true, false, ◌||◌, ◌&&◌, List, [], ◌∷◌, ◌++◌, length, insert, slice_get, Some, None, Option, Ordering, refl, ap, sym, ◌∙◌, subst, arith, append_assoc, length-append}
+use Rattle.std.proofs.Common.{◌≡◌, ℕ, suc, min, ◌<◌, get_or, nat_lt, map, take, drop, not}
+use Rattle.std.proofs.Common.{if◌then◌else◌, inl, inr, ◌+◌, ◌-◌, ◌≤◌, Bool, true, false, ◌||◌, ◌&&◌}
+use Rattle.std.proofs.Common.{List, [], ◌∷◌, ◌++◌, length, insert, slice_get, Some, None, Option}
+use Rattle.std.proofs.Common.{Ordering, refl, ap, sym, ◌∙◌, subst, arith, append_assoc, length-append}
 use Rattle.std.specs.declared.cmp.Ordering.TheVariants.{Less, Equal, Greater}
 use Rattle.std.specs.List.{list_all, position_or_len, IsAllAdjacentAnswer}
 use Rattle.std.specs.Option.{option_map_or}
@@ -15,7 +18,10 @@ use Rattle.indexset_core.proofs.CallerLemmas.{concat-append, less_from}
 use Rattle.indexset_events.specs.Attach.{lies_below, lies_apart, attach_index, attached, attach_refusal}
 use Rattle.indexset_events.specs.Nodes.{last_of, is_filled, is_ascending}
 use Rattle.indexset_events.specs.Replay.{reaches}
-use Rattle.indexset_events.proofs.AscendingListLemmas.{Each, each-append, each-left, each-right, each-map, each_last, each_from_all, all_from_each, count_front, last_answer, true_up, up_true, ascends, Up, up-left, up-right, up-between, Ruled, upto_last, lawful_from, lawful_ruled, lawful_bounded}
+use Rattle.indexset_events.proofs.AscendingListLemmas.{Each, each-append, each-left, each-right, each-map, each_last}
+use Rattle.indexset_events.proofs.AscendingListLemmas.{each_from_all, all_from_each, count_front, last_answer}
+use Rattle.indexset_events.proofs.AscendingListLemmas.{true_up, up_true, ascends, Up, up-left, up-right, up-between}
+use Rattle.indexset_events.proofs.AscendingListLemmas.{Ruled, upto_last, lawful_from, lawful_ruled, lawful_bounded}
 use Rattle.indexset_events.proofs.StepLemmas.{place_seam, insert_at, reached}
 use Rattle.indexset_events.proofs.ReplayLemmas.{over_rest, reaching, not_reaching}
 
@@ -112,7 +118,13 @@ module _ {T : Type 0} (cmp : T → T → Ordering) where
       before_it m full rise h = each_below m (f ∷ t) (each-map _ _ over_first m (upto_last cmp o m f f rise (not_reaching cmp o f m full h)))
 
       not_before : (m : List T) → is_filled m ≡ true → reaches cmp f m ≡ true → lies_below cmp m (f ∷ t) ≡ false
-      not_before m full h = false_unless _ (λ e. false≢true (sym (reaching cmp o f m full h) ∙ ap is_lt (each_last (λ x. cmp x f ≡ Less) m f full (each-map _ _ (λ x (k : Each (λ y. cmp x y ≡ Less) (f ∷ t)). k.0) m (below_each m (f ∷ t) e)))))
+      not_before m full h =
+          false_unless _ (λ e.
+          false≢true
+          (sym (reaching cmp o f m full h)
+          ∙ ap is_lt
+          (each_last (λ x. cmp x f ≡ Less) m f full
+          (each-map _ _ (λ x (k : Each (λ y. cmp x y ≡ Less) (f ∷ t)). k.0) m (below_each m (f ∷ t) e)))))
 
       all_not_before : (a : List (List T)) → Each (λ m. is_filled m ≡ true) a → Each (λ m. reaches cmp f m ≡ true) a → Each (λ m. lies_below cmp m (f ∷ t) ≡ false) a
       all_not_before [] full h = tt
@@ -120,12 +132,16 @@ module _ {T : Type 0} (cmp : T → T → Ordering) where
 
       -- the nodes before the place of the node and those after it
       parts : (P : List (List T) → Type 0)
-          → ((b a : List (List T)) → Ruled cmp (b ++ a) → Each (λ m. lies_below cmp m (f ∷ t) ≡ true) b → Each (λ m. reaches cmp f m ≡ false) b → Each (λ m. lies_below cmp m (f ∷ t) ≡ false) a → Each (λ m. reaches cmp f m ≡ true) a → P (b ++ a))
+          → ((b a : List (List T)) → Ruled cmp (b ++ a) → Each (λ m. lies_below cmp m (f ∷ t) ≡ true) b
+          → Each (λ m. reaches cmp f m ≡ false) b → Each (λ m. lies_below cmp m (f ∷ t) ≡ false) a
+          → Each (λ m. reaches cmp f m ≡ true) a → P (b ++ a))
           → (ns : List (List T)) → Ruled cmp ns → P ns
       parts P hit ns rule = go P hit [] ns rule rule tt tt
         where
           go : (P : List (List T) → Type 0)
-              → ((b a : List (List T)) → Ruled cmp (b ++ a) → Each (λ m. lies_below cmp m (f ∷ t) ≡ true) b → Each (λ m. reaches cmp f m ≡ false) b → Each (λ m. lies_below cmp m (f ∷ t) ≡ false) a → Each (λ m. reaches cmp f m ≡ true) a → P (b ++ a))
+              → ((b a : List (List T)) → Ruled cmp (b ++ a) → Each (λ m. lies_below cmp m (f ∷ t) ≡ true) b
+              → Each (λ m. reaches cmp f m ≡ false) b → Each (λ m. lies_below cmp m (f ∷ t) ≡ false) a
+              → Each (λ m. reaches cmp f m ≡ true) a → P (b ++ a))
               → (b ns : List (List T)) → Ruled cmp (b ++ ns) → Ruled cmp ns → Each (λ m. lies_below cmp m (f ∷ t) ≡ true) b → Each (λ m. reaches cmp f m ≡ false) b → P (b ++ ns)
           go P hit b [] whole rule below past = hit b [] whole below past tt tt
           go P hit b (m ∷ ns) whole rule below past =
@@ -137,10 +153,15 @@ module _ {T : Type 0} (cmp : T → T → Ordering) where
                 | false ↦ λ e.
                     let more : (b ++ m ∷ []) ++ ns ≡ b ++ m ∷ ns = append_assoc b (m ∷ []) ns in
                     let under : lies_below cmp m (f ∷ t) ≡ true = before_it m filled.0 (up-left cmp m (concat ns) rule.up) e in
-                    subst P more (go P hit (b ++ m ∷ []) ns (subst (Ruled cmp) (sym more) whole) (record { filled = filled.1; up = up-right cmp m (concat ns) rule.up }) (each-append _ b (m ∷ []) below (under, tt)) (each-append _ b (m ∷ []) past (e, tt)))
+                    subst P more
+                    (go P hit (b ++ m ∷ []) ns (subst (Ruled cmp) (sym more) whole)
+                    (record { filled = filled.1; up = up-right cmp m (concat ns) rule.up })
+                    (each-append _ b (m ∷ []) below (under, tt)) (each-append _ b (m ∷ []) past (e, tt)))
               ] refl
 
-      apart_rest : (b a : List (List T)) → Each (λ m. lies_below cmp m (f ∷ t) ≡ true) b → Each (λ m. lies_below cmp m (f ∷ t) ≡ false) a → lies_apart cmp (b ++ a) (f ∷ t) ≡ list_all (λ m. lies_below cmp (f ∷ t) m) a
+      apart_rest : (b a : List (List T)) → Each (λ m. lies_below cmp m (f ∷ t) ≡ true) b
+          → Each (λ m. lies_below cmp m (f ∷ t) ≡ false) a
+          → lies_apart cmp (b ++ a) (f ∷ t) ≡ list_all (λ m. lies_below cmp (f ∷ t) m) a
       unfolding lies_apart
       apart_rest b a below above =
           all_front _ b a (each-map _ _ (λ m e. or_left (lies_below cmp m (f ∷ t)) (lies_below cmp (f ∷ t) m) e) b below)
@@ -158,16 +179,30 @@ module _ {T : Type 0} (cmp : T → T → Ordering) where
           clear e =
               let rest : Each (λ z. cmp (last_of t f) z ≡ Less) (concat ((x ∷ m) ∷ a)) = (e, each-map _ _ (λ z k. o.trans (last_of t f) x z e k) (m ++ concat a) rise.0) in
               all_from_each (λ m. lies_below cmp (f ∷ t) m) ((x ∷ m) ∷ a)
-              (each-map _ _ (λ q (k : Each (λ z. cmp (last_of t f) z ≡ Less) q). each_below (f ∷ t) q (each-map _ _ (λ y (u : (z : T) → cmp (last_of t f) z ≡ Less → cmp y z ≡ Less). each-map _ _ u q k) (f ∷ t) (under_last (f ∷ t) f up))) ((x ∷ m) ∷ a) (each_split _ ((x ∷ m) ∷ a) rest))
+              (each-map _ _
+              (λ q (k : Each (λ z. cmp (last_of t f) z ≡ Less) q). each_below (f ∷ t) q
+              (each-map _ _ (λ y (u : (z : T) → cmp (last_of t f) z ≡ Less → cmp y z ≡ Less). each-map _ _ u q k)
+              (f ∷ t) (under_last (f ∷ t) f up)))
+              ((x ∷ m) ∷ a) (each_split _ ((x ∷ m) ∷ a) rest))
 
           blocked : is_lt (cmp (last_of t f) x) ≡ false → list_all (λ m. lies_below cmp (f ∷ t) m) ((x ∷ m) ∷ a) ≡ false
           blocked e =
               elim (lies_below cmp (f ∷ t) (x ∷ m)) as (λ b. lies_below cmp (f ∷ t) (x ∷ m) ≡ b → (b && list_all (λ m. lies_below cmp (f ∷ t) m) a) ≡ false) [
-                | true ↦ λ k. absurd (false≢true (sym e ∙ ap is_lt (each_last (λ y. cmp y x ≡ Less) (f ∷ t) f refl (each-map _ _ (λ y (u : Each (λ z. cmp y z ≡ Less) (x ∷ m)). u.0) (f ∷ t) (below_each (f ∷ t) (x ∷ m) k)))))
+                | true ↦
+                    λ k.
+                    absurd
+                    (false≢true
+                    (sym e
+                    ∙ ap is_lt
+                    (each_last (λ y. cmp y x ≡ Less) (f ∷ t) f refl
+                    (each-map _ _ (λ y (u : Each (λ z. cmp y z ≡ Less) (x ∷ m)). u.0) (f ∷ t)
+                    (below_each (f ∷ t) (x ∷ m) k)))))
                 | false ↦ λ k. refl
               ] refl
 
-      after : (a : List (List T)) → Each (λ m. is_filled m ≡ true) a → Up cmp (concat a) → list_all (λ m. lies_below cmp (f ∷ t) m) a ≡ option_map_or (λ x. is_lt (cmp (last_of t f) x)) (slice_get (node_at a 0) 0) true
+      after : (a : List (List T)) → Each (λ m. is_filled m ≡ true) a → Up cmp (concat a)
+          → list_all (λ m. lies_below cmp (f ∷ t) m) a
+          ≡ option_map_or (λ x. is_lt (cmp (last_of t f) x)) (slice_get (node_at a 0) 0) true
       after [] full rise = refl
       after ([] ∷ a) full rise = absurd (false≢true full.0)
       after ((x ∷ m) ∷ a) full rise = first_clear x m a rise
@@ -196,11 +231,20 @@ module _ {T : Type 0} (cmp : T → T → Ordering) where
                       (both (f ∷ t) (concat a) (concat b) (joined_below (f ∷ t) b below) (up-between cmp (concat b) (concat a) rise)));
                 });
             small = λ size fits small. rw (index, made) (each-append _ b ((f ∷ t) ∷ a) (each-left _ b a small) (fits, each-right _ b a small));
-            count = rw (index, made, concat-append b ((f ∷ t) ∷ a), concat-append b a) (omega (arith, length-append (concat b) ((f ∷ t) ++ concat a), length-append (concat b) (concat a), length-append (f ∷ t) (concat a)));
+            count =
+                rw (index, made, concat-append b ((f ∷ t) ∷ a), concat-append b a)
+                (omega (
+                  arith,
+                  length-append (concat b) ((f ∷ t) ++ concat a),
+                  length-append (concat b) (concat a),
+                  length-append (f ∷ t) (concat a),
+                ));
           })
 
     -- the same for a node as the code reads it
-    pub attaches_node : (ns : List (List T)) → Ruled cmp ns → (n : List T) (first last : T) → slice_get n 0 ≡ Some first → last ≡ get_or n (length n - 1) last → is_ascending cmp n ≡ true → Attaches ns n first last
+    pub attaches_node : (ns : List (List T)) → Ruled cmp ns → (n : List T) (first last : T)
+        → slice_get n 0 ≡ Some first → last ≡ get_or n (length n - 1) last → is_ascending cmp n ≡ true
+        → Attaches ns n first last
     attaches_node ns rule [] first last e l up = let none : (let n : Option T = None in n) ≡ Some first = e in cc
     attaches_node ns rule (f ∷ t) first last e l up =
         let same : f ≡ first = cc in
@@ -239,7 +283,11 @@ module _ {T : Type 0} (cmp : T → T → Ordering) (size : ℕ) (ns : List (List
       refused_overlap up h = rw (full, small, up, h) refl
 
       -- by the place of the node, and whether the next node, if any, begins above it
-      pub attach_told : (o : IsTotalOrder cmp) → Ruled cmp ns → is_ascending cmp n ≡ true → (p : ℕ) (f l : T) (b : Bool) → slice_get n 0 ≡ Some f → l ≡ get_or n (length n - 1) l → p ≡ position_or_len (reaches cmp f) ns → b ≡ option_map_or (λ x. is_lt (cmp l x)) (slice_get (node_at ns p) 0) true → (p ≡ attach_index cmp ns n) × (attach_refusal cmp size ns n ≡ (if not b then Some Overlaps else None))
+      pub attach_told : (o : IsTotalOrder cmp) → Ruled cmp ns → is_ascending cmp n ≡ true
+          → (p : ℕ) (f l : T) (b : Bool) → slice_get n 0 ≡ Some f → l ≡ get_or n (length n - 1) l
+          → p ≡ position_or_len (reaches cmp f) ns
+          → b ≡ option_map_or (λ x. is_lt (cmp l x)) (slice_get (node_at ns p) 0) true
+          → (p ≡ attach_index cmp ns n) × (attach_refusal cmp size ns n ≡ (if not b then Some Overlaps else None))
       unfolding attach_refusal
       attach_told o rule up p f l b first last place above =
           let d = attaches_node cmp o ns rule n f l first last up in
@@ -303,7 +351,9 @@ module _ {T : Type 0} (cmp : T → T → Ordering) (o : IsTotalOrder cmp) where
 
 -- how many nodes end below a value, from where the search for a node ends
 module _ {X : Type 0} (q : X → Bool) where
-  pub min_place_past : (xs : List X) (d : X) → 1 ≤ length xs → q (get_or xs (min (position_or_len q xs) (length xs - 1)) d) ≡ false → min (position_or_len q xs) (length xs - 1) + 1 ≡ position_or_len q xs
+  pub min_place_past : (xs : List X) (d : X) → 1 ≤ length xs
+      → q (get_or xs (min (position_or_len q xs) (length xs - 1)) d) ≡ false
+      → min (position_or_len q xs) (length xs - 1) + 1 ≡ position_or_len q xs
   min_place_past xs d some h =
       elim (cases_lt (position_or_len q xs) (length xs)) [
         | inl lt ↦

@@ -45,7 +45,9 @@ module _ {T : Type 0} (cmp : T → T → Ordering) (o : IsTotalOrder cmp) (P : T
       let all : Each P (put cmp (concat ns) v) = each-append P (below cmp (concat ns) v) (v ∷ above cmp (concat ns) v) (each_filter P _ (concat ns) held) (new, each_filter P _ (concat ns) held) in
       record { after = with_put cmp size ns v; replayed = put_replayed o two law v s; lawful = put_lawful o two law v; kept = subst (Each P) (sym (put_contents o two law v)) all }
 
-  pub sought_leads : {Q : Type 0} {order : T → Q → Ordering} {among : Q → Q → Ordering} → OrdersAsItem cmp order among → EqualsAtMostOne cmp order → (v : Q) → Leads cmp P size s ns (removal_events order size ns v)
+  pub sought_leads : {Q : Type 0} {order : T → Q → Ordering} {among : Q → Q → Ordering}
+      → OrdersAsItem cmp order among → EqualsAtMostOne cmp order → (v : Q)
+      → Leads cmp P size s ns (removal_events order size ns v)
   unfolding unequal
   sought_leads {Q = Q} {order = order} acts one v = at (located (λ x. order x v) ns) refl
     where
@@ -68,6 +70,8 @@ module _ {T : Type 0} (cmp : T → T → Ordering) (o : IsTotalOrder cmp) (P : T
   removal_leads = sought_leads (acts_as_itself o) (one_as_itself o)
 
 -- the removal of the pair of a key
-pub key_removal_leads : {K V : Type 0} (cmp : K → K → Ordering) → IsTotalOrder cmp → (P : Pair K V → Type 0) (size s : ℕ) → 2 ≤ size → (ns : List (List (Pair K V))) → IsLawful (by_key cmp) size ns → Each P (concat ns) → (k : K) → Leads (by_key cmp) P size s ns (key_removal_events cmp size ns k)
+pub key_removal_leads : {K V : Type 0} (cmp : K → K → Ordering) → IsTotalOrder cmp
+    → (P : Pair K V → Type 0) (size s : ℕ) → 2 ≤ size → (ns : List (List (Pair K V))) → IsLawful (by_key cmp) size ns
+    → Each P (concat ns) → (k : K) → Leads (by_key cmp) P size s ns (key_removal_events cmp size ns k)
 key_removal_leads cmp o P size s two ns law held =
     sought_leads (by_key cmp) (pairs_total cmp o) P size s two ns law held (acts_on (λ p. p.key) (acts_as_itself o)) (one_on (λ p. p.key) (one_as_itself o))

@@ -31,7 +31,9 @@ number_same : {T : Type 0} (e f : ChangeEvent T) → event_shape f ≡ event_sha
 number_same e f same = sym (number_shape f) ∙ (ap (λ s. event_number s) same ∙ number_shape e)
 
 -- the numbers are those of the table
-pub clones_numbered : {T : Type 0} (C : T → T → Type 0) (s : ℕ) (es : List (ChangeEventUnassigned T)) (fs : List (ChangeEvent T)) → AllZip (IsEventClone C) (numbered_from s es) fs → IsNumberedFrom s fs
+pub clones_numbered : {T : Type 0} (C : T → T → Type 0) (s : ℕ) (es : List (ChangeEventUnassigned T))
+    (fs : List (ChangeEvent T))
+    → AllZip (IsEventClone C) (numbered_from s es) fs → IsNumberedFrom s fs
 clones_numbered C s [] [] h i lt d = absurd (omega arith)
 clones_numbered C s [] (f ∷ fs) h i lt d = absurd h
 clones_numbered C s (e ∷ es) [] h i lt d = absurd h
@@ -76,7 +78,10 @@ module _ {T : Type 0} (C : T → T → Type 0) (s size : ℕ) (ns : List (List T
     pub one_cloned : merge_after size ns k i ≡ None → items ≡ assigned s e ∷ [] → AllZip (IsEventClone C) (numbered_from s (place_removal_events size ns k i x)) items
     one_cloned none made = rw (made, none) (first, tt)
 
-    pub both_cloned : {j : ℕ} (f : ChangeEventUnassigned T) → merge_after size ns k i ≡ Some j → IsEventClone C (assigned (s + 1) (merge_event (item_removed ns k i) x j)) (assigned (s + 1) f) → items ≡ assigned s e ∷ assigned (s + 1) f ∷ [] → AllZip (IsEventClone C) (numbered_from s (place_removal_events size ns k i x)) items
+    pub both_cloned : {j : ℕ} (f : ChangeEventUnassigned T) → merge_after size ns k i ≡ Some j
+        → IsEventClone C (assigned (s + 1) (merge_event (item_removed ns k i) x j)) (assigned (s + 1) f)
+        → items ≡ assigned s e ∷ assigned (s + 1) f ∷ []
+        → AllZip (IsEventClone C) (numbered_from s (place_removal_events size ns k i x)) items
     both_cloned f some second made = rw (made, some) (first, (second, tt))
 
 -- clones of pairs are identical to their sources if clones of keys and of values are

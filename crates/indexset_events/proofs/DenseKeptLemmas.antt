@@ -1,5 +1,7 @@
 -- Puts and removals keep neighbours that hold more than half the node size together.
-use Rattle.std.proofs.Common.{◌≡◌, ℕ, zero, suc, ◌+◌, ◌/◌, ◌<◌, ◌≤◌, ◌⊎◌, true, false, if◌then◌else◌, List, [], ◌∷◌, ◌++◌, length, set, remove, take, drop, eqb, Some, None, Ordering, refl, sym, inl, inr, subst, arith, length-append, length-take, length-drop}
+use Rattle.std.proofs.Common.{◌≡◌, ℕ, zero, suc, ◌+◌, ◌/◌, ◌<◌, ◌≤◌, ◌⊎◌, true, false, if◌then◌else◌, List}
+use Rattle.std.proofs.Common.{[], ◌∷◌, ◌++◌, length, set, remove, take, drop, eqb, Some, None, Ordering}
+use Rattle.std.proofs.Common.{refl, sym, inl, inr, subst, arith, length-append, length-take, length-drop}
 use Rattle.std.specs.Cmp.{IsTotalOrder}
 use Rattle.std.specs.Option.{option_map_or}
 use Rattle.std.proofs.lemmas.Bool.{cases_eq, eqb-true}
@@ -36,7 +38,8 @@ longer_spaced h ns k m le s j lt =
     omega (arith, before, longer_at ns k m le j, longer_at ns k m le (j + 1))
 
 -- a node of at least twice h items halved
-halved_spaced : {T : Type 0} (h : ℕ) (ns : List (List T)) (k : ℕ) → k < length ns → 1 ≤ h → h + h ≤ length (node_at ns k) → Each (λ c. is_filled c ≡ true) ns → IsDense h ns → IsDense h (with_halved ns k)
+halved_spaced : {T : Type 0} (h : ℕ) (ns : List (List T)) (k : ℕ) → k < length ns → 1 ≤ h
+    → h + h ≤ length (node_at ns k) → Each (λ c. is_filled c ≡ true) ns → IsDense h ns → IsDense h (with_halved ns k)
 halved_spaced h ns k inside some full filled s =
     at_place (λ q j n. h + h ≤ length n → Each (λ c. is_filled c ≡ true) q → IsDense h q → IsDense h (with_halved q j))
     (λ b n a long filled s.
@@ -45,7 +48,9 @@ halved_spaced h ns k inside some full filled s =
     let right = length-drop half n in
     let rest : Each (λ c. is_filled c ≡ true) (n ∷ a) = each-right _ b (n ∷ a) filled in
     rw (get_or-append_seam b n a [], splice_at b n a (take half n ∷ drop half n ∷ []))
-    (spaced h (b ++ take half n ∷ drop half n ∷ a) (cut_spread h b n (take half n) (drop half n) a (each-left _ b (n ∷ a) filled) rest.1 (omega arith) (omega arith) (omega arith) (spread h (b ++ n ∷ a) s))))
+    (spaced h (b ++ take half n ∷ drop half n ∷ a)
+    (cut_spread h b n (take half n) (drop half n) a (each-left _ b (n ∷ a) filled) rest.1 (omega arith)
+    (omega arith) (omega arith) (spread h (b ++ n ∷ a) s))))
     ns k (node_at ns k) (slice_get-get_or ns k [] inside) full filled s
 
 module _ {T : Type 0} (cmp : T → T → Ordering) (o : IsTotalOrder cmp) (size : ℕ) (two : 2 ≤ size) where
@@ -62,7 +67,14 @@ module _ {T : Type 0} (cmp : T → T → Ordering) (o : IsTotalOrder cmp) (size 
   unfolding with_put
   put_spaced ns v law s =
       let ruled = lawful_ruled cmp size ns law in
-      elim (is_filled ns) as (λ t. is_filled ns ≡ t → IsDense (size / 2) (if t then set (with_room cmp size ns v) (target cmp (with_room cmp size ns v) v) (put cmp (node_at (with_room cmp size ns v) (target cmp (with_room cmp size ns v) v)) v) else (v ∷ []) ∷ [])) [
+      elim (is_filled ns)
+      as (λ t. is_filled ns ≡ t
+      → IsDense (size / 2)
+      (if t
+      then
+      set (with_room cmp size ns v) (target cmp (with_room cmp size ns v) v)
+      (put cmp (node_at (with_room cmp size ns v) (target cmp (with_room cmp size ns v) v)) v)
+      else (v ∷ []) ∷ [])) [
         | true ↦ λ e.
             let ms = with_room cmp size ns v in
             let k = target cmp ms v in
@@ -85,7 +97,9 @@ module _ {T : Type 0} (h : ℕ) where
       ]
 
   -- an item less, and the node merged with the next one
-  joined_next : (b : List (List T)) (l r : List T) (a : List (List T)) (m : List T) → length l ≡ length m + 1 → 1 ≤ length r → IsDense h (b ++ l ∷ r ∷ a) → IsDense h (with_merged (set (b ++ l ∷ r ∷ a) (length b) m) (length b))
+  joined_next : (b : List (List T)) (l r : List T) (a : List (List T)) (m : List T) → length l ≡ length m + 1
+      → 1 ≤ length r → IsDense h (b ++ l ∷ r ∷ a)
+      → IsDense h (with_merged (set (b ++ l ∷ r ∷ a) (length b) m) (length b))
   joined_next b l r a m fewer some s =
       let all = spread h (b ++ l ∷ r ∷ a) s in
       let rest : Spread h (l ∷ r ∷ a) = spread-right h b l (r ∷ a) all in
@@ -94,7 +108,9 @@ module _ {T : Type 0} (h : ℕ) where
       (spaced h (b ++ (m ++ r) ∷ a) (joined_spread h b l r (m ++ r) a (omega arith) (omega arith) (spread-left h b l (r ∷ a) all) rest.1))
 
   -- an item less, and the node merged with the one before
-  joined_before : (b : List (List T)) (l r : List T) (a : List (List T)) (m : List T) → length r ≡ length m + 1 → are_small h (set (b ++ l ∷ r ∷ a) (length b + 1) m) (length b + 1) ≡ false → IsDense h (b ++ l ∷ r ∷ a) → IsDense h (with_merged (set (b ++ l ∷ r ∷ a) (length b + 1) m) (length b))
+  joined_before : (b : List (List T)) (l r : List T) (a : List (List T)) (m : List T) → length r ≡ length m + 1
+      → are_small h (set (b ++ l ∷ r ∷ a) (length b + 1) m) (length b + 1) ≡ false → IsDense h (b ++ l ∷ r ∷ a)
+      → IsDense h (with_merged (set (b ++ l ∷ r ∷ a) (length b + 1) m) (length b))
   joined_before b l r a m fewer large s =
       let all = spread h (b ++ l ∷ r ∷ a) s in
       let rest : Spread h (l ∷ r ∷ a) = spread-right h b l (r ∷ a) all in
@@ -112,14 +128,21 @@ module _ {T : Type 0} (h : ℕ) where
       after (c ∷ a) large t =
           let next : (length b + 1) + 1 < length (b ++ l ∷ m ∷ c ∷ a) = omega (arith, length-append b (l ∷ m ∷ c ∷ a)) in
           let here = second_at b l m (c ∷ a) in
-          let more : node_at (b ++ l ∷ m ∷ c ∷ a) ((length b + 1) + 1) ≡ c = subst (λ k. node_at (b ++ l ∷ m ∷ c ∷ a) k ≡ c) {x = suc (suc (length b))} {y = (length b + 1) + 1} (omega arith) (third_at b c a) in
+          let more : node_at (b ++ l ∷ m ∷ c ∷ a) ((length b + 1) + 1) ≡ c =
+          subst (λ k. node_at (b ++ l ∷ m ∷ c ∷ a) k ≡ c) {x = suc (suc (length b))} {y = (length b + 1) + 1}
+          (omega arith) (third_at b c a) in
           let big = not_small h (b ++ l ∷ m ∷ c ∷ a) (length b + 1) large next in
           (rw (here, more) at big, t.1)
 
   -- an item less, and two nodes merged
-  joined_spaced : (ns : List (List T)) (k j : ℕ) (m : List T) → length (node_at ns k) ≡ length m + 1 → Each (λ c. is_filled c ≡ true) ns → JoinedPair h (set ns k m) k j → IsDense h ns → IsDense h (with_merged (set ns k m) j)
+  joined_spaced : (ns : List (List T)) (k j : ℕ) (m : List T) → length (node_at ns k) ≡ length m + 1
+      → Each (λ c. is_filled c ≡ true) ns → JoinedPair h (set ns k m) k j → IsDense h ns
+      → IsDense h (with_merged (set ns k m) j)
   joined_spaced ns k j m fewer filled p s =
-      at_pair (λ q j. (k : ℕ) → length (node_at q k) ≡ length m + 1 → Each (λ c. is_filled c ≡ true) q → (k ≡ j) ⊎ ((k ≡ j + 1) × (are_small h (set q k m) k ≡ false)) → IsDense h q → IsDense h (with_merged (set q k m) j))
+      at_pair
+      (λ q j. (k : ℕ) → length (node_at q k) ≡ length m + 1 → Each (λ c. is_filled c ≡ true) q
+      → (k ≡ j) ⊎ ((k ≡ j + 1) × (are_small h (set q k m) k ≡ false)) → IsDense h q
+      → IsDense h (with_merged (set q k m) j))
       (λ b l r a k fewer filled which s.
       let rest : Each (λ c. is_filled c ≡ true) (l ∷ r ∷ a) = each-right _ b (l ∷ r ∷ a) filled in
       elim which [
@@ -128,7 +151,9 @@ module _ {T : Type 0} (h : ℕ) where
       ])
       ns j (rw (length-set ns k m) at p.next_in) k fewer filled p.either s
 
-module _ {T : Type 0} (cmp : T → T → Ordering) (size : ℕ) (two : 2 ≤ size) (ns : List (List T)) (k i : ℕ) (law : IsLawful cmp size ns) (inside : k < length ns) (here : i < length (node_at ns k)) (s : IsDense (size / 2) ns) where
+module _ {T : Type 0} (cmp : T → T → Ordering) (size : ℕ) (two : 2 ≤ size) (ns : List (List T)) (k i : ℕ)
+    (law : IsLawful cmp size ns) (inside : k < length ns) (here : i < length (node_at ns k))
+    (s : IsDense (size / 2) ns) where
   filled : Each (λ c. is_filled c ≡ true) ns
   filled = let ruled = lawful_ruled cmp size ns law in ruled.filled
 
@@ -142,7 +167,12 @@ module _ {T : Type 0} (cmp : T → T → Ordering) (size : ℕ) (two : 2 ≤ siz
   pub taken_spaced : IsDense (size / 2) (with_removed size ns k i)
   taken_spaced =
       let m = remove (node_at ns k) i in
-      elim (eqb (length (node_at ns k)) 1) as (λ t. eqb (length (node_at ns k)) 1 ≡ t → IsDense (size / 2) (option_map_or (with_merged (if t then remove ns k else set ns k m)) (if t then None else merge_place (size / 2) (if t then remove ns k else set ns k m) k) (if t then remove ns k else set ns k m))) [
+      elim (eqb (length (node_at ns k)) 1)
+      as (λ t. eqb (length (node_at ns k)) 1 ≡ t
+      → IsDense (size / 2)
+      (option_map_or (with_merged (if t then remove ns k else set ns k m))
+      (if t then None else merge_place (size / 2) (if t then remove ns k else set ns k m) k)
+      (if t then remove ns k else set ns k m))) [
         | true ↦ λ e. out_spaced (eqb-true _ _ e)
         | false ↦ λ e.
             elim (merge_place (size / 2) (set ns k m) k) as (λ t. merge_place (size / 2) (set ns k m) k ≡ t → IsDense (size / 2) (option_map_or (with_merged (set ns k m)) t (set ns k m))) [

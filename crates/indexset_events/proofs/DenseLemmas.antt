@@ -63,7 +63,9 @@ module _ {T : Type 0} (h : ℕ) where
   start_large n m (c ∷ a) full le s = (omega (arith, filled_length c full.0), s.1)
 
   -- a node split into two of at least h items, one of them of more
-  pub cut_spread : (b : List (List T)) (n l r : List T) (a : List (List T)) → Each (λ c. is_filled c ≡ true) b → Each (λ c. is_filled c ≡ true) a → h ≤ length l → h ≤ length r → h < length l + length r → Spread (b ++ n ∷ a) → Spread (b ++ l ∷ r ∷ a)
+  pub cut_spread : (b : List (List T)) (n l r : List T) (a : List (List T)) → Each (λ c. is_filled c ≡ true) b
+      → Each (λ c. is_filled c ≡ true) a → h ≤ length l → h ≤ length r → h < length l + length r → Spread (b ++ n ∷ a)
+      → Spread (b ++ l ∷ r ∷ a)
   cut_spread b n l r a before after left right more s = spread-append b l (r ∷ a) (end_large b n l before left (spread-left b n a s)) (more, start_large n r a after right (spread-right b n a s))
 
   -- the removal of a node of one item

@@ -8,10 +8,14 @@ use Rattle.std.specs.Str.{bytes_eq}
 use Rattle.indexset_events.specs.declared.change.ChangeEvent.{ChangeEvent}
 use Rattle.indexset_events.specs.declared.change.ChangeEvent.TheVariants.{InsertAt, RemoveAt, CreateNode, RemoveNode, SplitNode, MergeNodes}
 use Rattle.indexset_events.specs.declared.change.Id.{Id}
-use Rattle.indexset_events.specs.EventText.{EventInRange, change_reading, event_reading, event_text, line_text, merge_reading, named_reading, node_reading, place_reading, place_text, rest_reading, word_reading}
+use Rattle.indexset_events.specs.EventText.{EventInRange, change_reading, event_reading, event_text}
+use Rattle.indexset_events.specs.EventText.{line_text, merge_reading, named_reading, node_reading}
+use Rattle.indexset_events.specs.EventText.{place_reading, place_text, rest_reading, word_reading}
 use Rattle.indexset_events.specs.EventText.Laws.{Shown, Sound, Told, lacks_append}
 use Rattle.indexset_events.specs.Spelling.{behind, cut_at, cut_item, is_item, lacks, number_of}
-use Rattle.indexset_events.specs.Spelling.Laws.{behind_sound, behind_told, both, cut_sound, cut_told, decimal_word, item_sound, item_told, lacks_tested, map_some, none_some, number_sound, number_told, then_some, word_parts}
+use Rattle.indexset_events.specs.Spelling.Laws.{behind_sound, behind_told, both, cut_sound, cut_told}
+use Rattle.indexset_events.specs.Spelling.Laws.{decimal_word, item_sound, item_told, lacks_tested, map_some}
+use Rattle.indexset_events.specs.Spelling.Laws.{none_some, number_sound, number_told, then_some, word_parts}
 use Rattle.indexset_events.specs.Text.{event_shown}
 
 -- ---- what is written
@@ -61,13 +65,19 @@ module _ {T : Type 0} (spelling : T → List ℕ) (reading : List ℕ → Option
   unfolding word_reading named_reading node_reading
   drop_told id m pm = rw (behind_told (codes "the node of ") (spelling m), told m pm) refl
 
-  split_told : (id : Id) (m : T) (k : ℕ) → P m → k < 2 ^ 64 → word_reading reading id (codes "split") (codes "the node of " ++ (spelling m ++ 32 ∷ (codes "at " ++ decimal k))) ≡ Some (SplitNode id m k)
+  split_told : (id : Id) (m : T) (k : ℕ) → P m → k < 2 ^ 64
+      → word_reading reading id (codes "split")
+      (codes "the node of " ++ (spelling m ++ 32 ∷ (codes "at " ++ decimal k)))
+      ≡ Some (SplitNode id m k)
   unfolding word_reading named_reading node_reading rest_reading
   split_told id m k pm less =
       let rest = codes "at " ++ decimal k in
       rw (behind_told (codes "the node of ") (spelling m ++ 32 ∷ rest), item_told (spelling m) rest (apart m pm) refl, told m pm, behind_told (codes "at ") (decimal k), number_told k less) refl
 
-  merge_told : (id : Id) (m w : T) → P m → P w → word_reading reading id (codes "merge") (codes "the node of " ++ (spelling m ++ 32 ∷ (codes "with the node of " ++ spelling w))) ≡ Some (MergeNodes id m w)
+  merge_told : (id : Id) (m w : T) → P m → P w
+      → word_reading reading id (codes "merge")
+      (codes "the node of " ++ (spelling m ++ 32 ∷ (codes "with the node of " ++ spelling w)))
+      ≡ Some (MergeNodes id m w)
   unfolding word_reading named_reading node_reading rest_reading merge_reading
   merge_told id m w pm pw =
       let rest = codes "with the node of " ++ spelling w in
@@ -98,10 +108,42 @@ module _ {T : Type 0} (spelling : T → List ℕ) (reading : List ℕ → Option
   place_sound : (text : List ℕ) (p : T × ℕ × T) → place_reading reading text ≡ Some p → Placed text p
   unfolding place_reading
   place_sound text p e =
-      let item = then_some (cut_item text) (λ cut. option_and_then (λ v. option_and_then (λ rest. option_and_then (λ more. option_and_then (λ i. option_map (λ m. (v, i, m)) (option_and_then reading (behind (codes "in the node of ") more.1))) (number_of more.0)) (cut_at 32 rest)) (behind (codes "at ") cut.1)) (reading cut.0)) p e in
-      let value = then_some (reading item.0.0) (λ v. option_and_then (λ rest. option_and_then (λ more. option_and_then (λ i. option_map (λ m. (v, i, m)) (option_and_then reading (behind (codes "in the node of ") more.1))) (number_of more.0)) (cut_at 32 rest)) (behind (codes "at ") item.0.1)) p item.2 in
-      let at = then_some (behind (codes "at ") item.0.1) (λ rest. option_and_then (λ more. option_and_then (λ i. option_map (λ m. (value.0, i, m)) (option_and_then reading (behind (codes "in the node of ") more.1))) (number_of more.0)) (cut_at 32 rest)) p value.2 in
-      let more = then_some (cut_at 32 at.0) (λ more. option_and_then (λ i. option_map (λ m. (value.0, i, m)) (option_and_then reading (behind (codes "in the node of ") more.1))) (number_of more.0)) p at.2 in
+      let item =
+      then_some (cut_item text) (λ cut.
+      option_and_then (λ v.
+      option_and_then (λ rest.
+      option_and_then (λ more.
+      option_and_then
+      (λ i. option_map (λ m. (v, i, m)) (option_and_then reading (behind (codes "in the node of ") more.1)))
+      (number_of more.0))
+      (cut_at 32 rest))
+      (behind (codes "at ") cut.1))
+      (reading cut.0))
+      p e in
+      let value =
+      then_some (reading item.0.0) (λ v.
+      option_and_then (λ rest.
+      option_and_then (λ more.
+      option_and_then
+      (λ i. option_map (λ m. (v, i, m)) (option_and_then reading (behind (codes "in the node of ") more.1)))
+      (number_of more.0))
+      (cut_at 32 rest))
+      (behind (codes "at ") item.0.1))
+      p item.2 in
+      let at =
+      then_some (behind (codes "at ") item.0.1) (λ rest.
+      option_and_then (λ more.
+      option_and_then
+      (λ i. option_map (λ m. (value.0, i, m)) (option_and_then reading (behind (codes "in the node of ") more.1)))
+      (number_of more.0))
+      (cut_at 32 rest))
+      p value.2 in
+      let more =
+      then_some (cut_at 32 at.0) (λ more.
+      option_and_then
+      (λ i. option_map (λ m. (value.0, i, m)) (option_and_then reading (behind (codes "in the node of ") more.1)))
+      (number_of more.0))
+      p at.2 in
       let index = then_some (number_of more.0.0) (λ i. option_map (λ m. (value.0, i, m)) (option_and_then reading (behind (codes "in the node of ") more.0.1))) p more.2 in
       let node = map_some (option_and_then reading (behind (codes "in the node of ") more.0.1)) (λ m. (value.0, index.0, m)) p index.2 in
       let name = then_some (behind (codes "in the node of ") more.0.1) reading node.0 node.1 in
@@ -118,26 +160,40 @@ module _ {T : Type 0} (spelling : T → List ℕ) (reading : List ℕ → Option
     unfolding merge_reading
     merge_sound m rest e pm h = at (bytes_eq word (codes "merge")) refl h
       where
-        at : (b : Bool) → bytes_eq word (codes "merge") ≡ b → cond b (option_map (MergeNodes id m) (option_and_then reading (behind (codes "with the node of ") rest))) None ≡ Some e → Spells (line_text id word (codes "the node of " ++ (spelling m ++ 32 ∷ rest))) e
+        at : (b : Bool) → bytes_eq word (codes "merge") ≡ b
+            → cond b (option_map (MergeNodes id m) (option_and_then reading (behind (codes "with the node of ") rest)))
+            None
+            ≡ Some e
+            → Spells (line_text id word (codes "the node of " ++ (spelling m ++ 32 ∷ rest))) e
         at true is h =
             let made = map_some (option_and_then reading (behind (codes "with the node of ") rest)) (MergeNodes id m) e h in
             let name = then_some (behind (codes "with the node of ") rest) reading made.0 made.1 in
             let w = sound name.0 made.0 name.2 in
             let text = behind_sound (codes "with the node of ") rest name.0 name.1 ∙ ap (λ l. codes "with the node of " ++ l) w.0 in
-            subst (Spells (line_text id word (codes "the node of " ++ (spelling m ++ 32 ∷ rest)))) made.2 ((λ j. line_text id (same word (codes "merge") is j) (codes "the node of " ++ (spelling m ++ 32 ∷ text j))), (small, pm, w.1))
+            subst (Spells (line_text id word (codes "the node of " ++ (spelling m ++ 32 ∷ rest)))) made.2 (
+              (λ j. line_text id (same word (codes "merge") is j) (codes "the node of " ++ (spelling m ++ 32 ∷ text j))),
+              (small, pm, w.1),
+            )
         at false is h = none_some e h
 
     rest_sound : (m : T) (rest : List ℕ) (e : ChangeEvent T) → P m → rest_reading reading id word m rest ≡ Some e → Spells (line_text id word (codes "the node of " ++ (spelling m ++ 32 ∷ rest))) e
     unfolding rest_reading
     rest_sound m rest e pm h = at (bytes_eq word (codes "split")) refl h
       where
-        at : (b : Bool) → bytes_eq word (codes "split") ≡ b → cond b (option_map (SplitNode id m) (option_and_then number_of (behind (codes "at ") rest))) (merge_reading reading id word m rest) ≡ Some e → Spells (line_text id word (codes "the node of " ++ (spelling m ++ 32 ∷ rest))) e
+        at : (b : Bool) → bytes_eq word (codes "split") ≡ b
+            → cond b (option_map (SplitNode id m) (option_and_then number_of (behind (codes "at ") rest)))
+            (merge_reading reading id word m rest)
+            ≡ Some e
+            → Spells (line_text id word (codes "the node of " ++ (spelling m ++ 32 ∷ rest))) e
         at true is h =
             let made = map_some (option_and_then number_of (behind (codes "at ") rest)) (SplitNode id m) e h in
             let digits = then_some (behind (codes "at ") rest) number_of made.0 made.1 in
             let k = number_sound digits.0 made.0 digits.2 in
             let text = behind_sound (codes "at ") rest digits.0 digits.1 ∙ ap (λ l. codes "at " ++ l) k.0 in
-            subst (Spells (line_text id word (codes "the node of " ++ (spelling m ++ 32 ∷ rest)))) made.2 ((λ j. line_text id (same word (codes "split") is j) (codes "the node of " ++ (spelling m ++ 32 ∷ text j))), (small, pm, k.1))
+            subst (Spells (line_text id word (codes "the node of " ++ (spelling m ++ 32 ∷ rest)))) made.2 (
+              (λ j. line_text id (same word (codes "split") is j) (codes "the node of " ++ (spelling m ++ 32 ∷ text j))),
+              (small, pm, k.1),
+            )
         at false is h = merge_sound m rest e pm h
 
     node_sound : (text : List ℕ) (e : ChangeEvent T) → node_reading reading id word text ≡ Some e → Spells (line_text id word (codes "the node of " ++ text)) e
@@ -147,7 +203,11 @@ module _ {T : Type 0} (spelling : T → List ℕ) (reading : List ℕ → Option
         cutting : List ℕ × List ℕ → Option (ChangeEvent T)
         cutting cut = option_and_then (λ m. rest_reading reading id word m cut.1) (reading cut.0)
 
-        at : (a b : Bool) → bytes_eq word (codes "create") ≡ a → bytes_eq word (codes "drop") ≡ b → cond a (option_map (CreateNode id) (reading text)) (cond b (option_map (RemoveNode id) (reading text)) (option_and_then cutting (cut_item text))) ≡ Some e → Spells (line_text id word (codes "the node of " ++ text)) e
+        at : (a b : Bool) → bytes_eq word (codes "create") ≡ a → bytes_eq word (codes "drop") ≡ b
+            → cond a (option_map (CreateNode id) (reading text))
+            (cond b (option_map (RemoveNode id) (reading text)) (option_and_then cutting (cut_item text)))
+            ≡ Some e
+            → Spells (line_text id word (codes "the node of " ++ text)) e
         at true b is _ h =
             let made = map_some (reading text) (CreateNode id) e h in
             let m = sound text made.0 made.1 in
@@ -167,7 +227,12 @@ module _ {T : Type 0} (spelling : T → List ℕ) (reading : List ℕ → Option
     unfolding word_reading named_reading
     word_sound text e h = at (bytes_eq word (codes "insert")) (bytes_eq word (codes "remove")) refl refl h
       where
-        at : (a b : Bool) → bytes_eq word (codes "insert") ≡ a → bytes_eq word (codes "remove") ≡ b → cond a (option_map (λ p. InsertAt id p.2 p.0 p.1) (place_reading reading text)) (cond b (option_map (λ p. RemoveAt id p.2 p.0 p.1) (place_reading reading text)) (option_and_then (node_reading reading id word) (behind (codes "the node of ") text))) ≡ Some e → Spells (line_text id word text) e
+        at : (a b : Bool) → bytes_eq word (codes "insert") ≡ a → bytes_eq word (codes "remove") ≡ b
+            → cond a (option_map (λ p. InsertAt id p.2 p.0 p.1) (place_reading reading text))
+            (cond b (option_map (λ p. RemoveAt id p.2 p.0 p.1) (place_reading reading text))
+            (option_and_then (node_reading reading id word) (behind (codes "the node of ") text)))
+            ≡ Some e
+            → Spells (line_text id word text) e
         at true b is _ h =
             let made = map_some (place_reading reading text) (λ p. InsertAt id p.2 p.0 p.1) e h in
             let p = place_sound text made.0 made.1 in
@@ -220,5 +285,10 @@ module _ {T : Type 0} (spelling : T → List ℕ) (P : T → Type 0) (apart : (x
   event_one (RemoveAt id m v i) h = line_one id h.0 (codes "remove") (place_text spelling v i m) refl (place_one v i m h.2 h.3 h.1)
   event_one (CreateNode id m) h = line_one id h.0 (codes "create") (codes "the node of " ++ spelling m) refl (lacks_item (spelling m) (apart m h.1))
   event_one (RemoveNode id m) h = line_one id h.0 (codes "drop") (codes "the node of " ++ spelling m) refl (lacks_item (spelling m) (apart m h.1))
-  event_one (SplitNode id m k) h = line_one id h.0 (codes "split") (codes "the node of " ++ (spelling m ++ 32 ∷ (codes "at " ++ decimal k))) refl (item_one m h.1 (codes "at " ++ decimal k) (digits_lack 10 k h.2).0)
-  event_one (MergeNodes id m w) h = line_one id h.0 (codes "merge") (codes "the node of " ++ (spelling m ++ 32 ∷ (codes "with the node of " ++ spelling w))) refl (item_one m h.1 (codes "with the node of " ++ spelling w) (lacks_item (spelling w) (apart w h.2)))
+  event_one (SplitNode id m k) h =
+      line_one id h.0 (codes "split") (codes "the node of " ++ (spelling m ++ 32 ∷ (codes "at " ++ decimal k))) refl
+      (item_one m h.1 (codes "at " ++ decimal k) (digits_lack 10 k h.2).0)
+  event_one (MergeNodes id m w) h =
+      line_one id h.0 (codes "merge")
+      (codes "the node of " ++ (spelling m ++ 32 ∷ (codes "with the node of " ++ spelling w))) refl
+      (item_one m h.1 (codes "with the node of " ++ spelling w) (lacks_item (spelling w) (apart w h.2)))

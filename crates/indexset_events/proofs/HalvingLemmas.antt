@@ -1,5 +1,7 @@
 -- The place of an item after a full target is halved.
-use Rattle.std.proofs.Common.{◌≡◌, ℕ, ◌+◌, ◌/◌, ◌<◌, ◌≤◌, ◌⊎◌, true, false, not, cond, if◌then◌else◌, List, [], ◌∷◌, ◌++◌, ◌&&◌, length, take, drop, eqb, Some, Ordering, refl, ap, sym, inl, inr, ◌∙◌, subst, arith, append_assoc, length-append, length-take, length-drop}
+use Rattle.std.proofs.Common.{◌≡◌, ℕ, ◌+◌, ◌/◌, ◌<◌, ◌≤◌, ◌⊎◌, true, false, not, cond, if◌then◌else◌, List, []}
+use Rattle.std.proofs.Common.{◌∷◌, ◌++◌, ◌&&◌, length, take, drop, eqb, Some, Ordering, refl, ap, sym, inl}
+use Rattle.std.proofs.Common.{inr, ◌∙◌, subst, arith, append_assoc, length-append, length-take, length-drop}
 use Rattle.std.specs.declared.cmp.Ordering.TheVariants.{Less}
 use Rattle.std.specs.Cmp.{IsTotalOrder}
 use Rattle.std.specs.Ordering.{is_lt}
@@ -36,7 +38,10 @@ module _ {T : Type 0} (cmp : T → T → Ordering) (o : IsTotalOrder cmp) (v : T
     | inr none ↦ inr none
     | inl e ↦
         let answer : T → Ordering = λ x. cmp x v in
-        let both : reaches cmp v (l ++ r) ≡ reaches cmp v r = ap not (ends_by answer (l ++ r) v (filled-end l r full) ∙ (ap (λ x. is_lt (cmp x v)) (last-append l r v v full) ∙ sym (ends_by answer r v full))) in
+        let both : reaches cmp v (l ++ r) ≡ reaches cmp v r =
+        ap not
+        (ends_by answer (l ++ r) v (filled-end l r full)
+        ∙ (ap (λ x. is_lt (cmp x v)) (last-append l r v v full) ∙ sym (ends_by answer r v full))) in
         inl (sym both ∙ e)
   ]
     where
@@ -44,18 +49,34 @@ module _ {T : Type 0} (cmp : T → T → Ordering) (o : IsTotalOrder cmp) (v : T
       filled-end [] r full = full
       filled-end (x ∷ l) r full = refl
 
-  module _ (b : List (List T)) (a : List (List T)) (low : Each (λ x. cmp x v ≡ Less) (concat b)) (high : Each (λ x. cmp v x ≡ Less) (concat a)) (sb : Small cmp o v size b) (sa : Small cmp o v size a) where
-    roomy_halved : (l r : List T) → At cmp o b (l ++ r) a → (reaches cmp v (l ++ r) ≡ true) ⊎ (a ≡ []) → is_filled l ≡ true → is_filled r ≡ true → length l < size → length r < size → length (l ++ r) ≡ size → length (l ++ r) / 2 ≡ length l → Roomy (b ++ (l ++ r) ∷ a) (l ++ r) (length b) (b ++ l ∷ r ∷ a)
+  module _ (b : List (List T)) (a : List (List T)) (low : Each (λ x. cmp x v ≡ Less) (concat b))
+      (high : Each (λ x. cmp v x ≡ Less) (concat a)) (sb : Small cmp o v size b) (sa : Small cmp o v size a) where
+    roomy_halved : (l r : List T) → At cmp o b (l ++ r) a → (reaches cmp v (l ++ r) ≡ true) ⊎ (a ≡ [])
+        → is_filled l ≡ true → is_filled r ≡ true → length l < size → length r < size → length (l ++ r) ≡ size
+        → length (l ++ r) / 2 ≡ length l → Roomy (b ++ (l ++ r) ∷ a) (l ++ r) (length b) (b ++ l ∷ r ∷ a)
     roomy_halved l r at stop left right fewer less full half =
         let did = split_step cmp o b a l r v at left right in
         let mid = ruled_at cmp o b l (r ∷ a) did.0 in
         let inner : Up cmp (l ++ (r ++ concat a)) = up-right cmp (concat b) (l ++ (r ++ concat a)) mid.up in
         let same : concat (b ++ l ∷ r ∷ a) ≡ concat (b ++ (l ++ r) ∷ a) = rw (concat-append b (l ∷ r ∷ a), concat-append b ((l ++ r) ∷ a)) (simp append_assoc) in
-        let first : (es : List (ChangeEventUnassigned T)) → replay_plain cmp (b ++ (l ++ r) ∷ a) (halving_events size (l ++ r) v ++ es) ≡ replay_plain cmp (b ++ l ∷ r ∷ a) es = λ es. rw (eq-eqb (length (l ++ r)) size full, half, did.1) refl in
-        let spot : (target cmp (b ++ l ∷ r ∷ a) v ≡ length b + cond (is_after_last cmp l v) 1 0) × (node_at (b ++ l ∷ r ∷ a) (length b + cond (is_after_last cmp l v) 1 0) ≡ (if is_after_last cmp l v then r else l)) × (length (if is_after_last cmp l v then r else l) < size) =
-        elim (is_after_last cmp l v) as (λ t. is_after_last cmp l v ≡ t → (target cmp (b ++ l ∷ r ∷ a) v ≡ length b + cond t 1 0) × (node_at (b ++ l ∷ r ∷ a) (length b + cond t 1 0) ≡ (if t then r else l)) × (length (if t then r else l) < size)) [
+        let first : (es : List (ChangeEventUnassigned T))
+        → replay_plain cmp (b ++ (l ++ r) ∷ a) (halving_events size (l ++ r) v ++ es)
+        ≡ replay_plain cmp (b ++ l ∷ r ∷ a) es =
+        λ es. rw (eq-eqb (length (l ++ r)) size full, half, did.1) refl in
+        let spot : (target cmp (b ++ l ∷ r ∷ a) v ≡ length b + cond (is_after_last cmp l v) 1 0)
+        × (node_at (b ++ l ∷ r ∷ a) (length b + cond (is_after_last cmp l v) 1 0)
+        ≡ (if is_after_last cmp l v then r else l))
+        × (length (if is_after_last cmp l v then r else l) < size) =
+        elim (is_after_last cmp l v)
+        as (λ t. is_after_last cmp l v ≡ t
+        → (target cmp (b ++ l ∷ r ∷ a) v ≡ length b + cond t 1 0)
+        × (node_at (b ++ l ∷ r ∷ a) (length b + cond t 1 0) ≡ (if t then r else l))
+        × (length (if t then r else l) < size)) [
           | true ↦ λ e.
-              let low2 : Each (λ x. cmp x v ≡ Less) (concat (b ++ l ∷ [])) = rw (concat-append b (l ∷ []), append-nil l) (each-append _ (concat b) l low (upto_last cmp o l v v (up-left cmp l (r ++ concat a) inner) (past_last cmp o v l e))) in
+              let low2 : Each (λ x. cmp x v ≡ Less) (concat (b ++ l ∷ [])) =
+              rw (concat-append b (l ∷ []), append-nil l)
+              (each-append _ (concat b) l low
+              (upto_last cmp o l v v (up-left cmp l (r ++ concat a) inner) (past_last cmp o v l e))) in
               let regrouped : (b ++ l ∷ []) ++ r ∷ a ≡ b ++ l ∷ r ∷ a = append_assoc b (l ∷ []) (r ∷ a) in
               let at2 = ruled_at cmp o (b ++ l ∷ []) r a (subst (Ruled cmp) (sym regrouped) did.0) in (
                 subst (λ q. target cmp q v ≡ length b + 1) regrouped (target_at cmp o v (b ++ l ∷ []) r a at2 low2 (reach_right l r a right stop) ∙ length-append b (l ∷ [])),
@@ -78,9 +99,18 @@ module _ {T : Type 0} (cmp : T → T → Ordering) (o : IsTotalOrder cmp) (v : T
           same = same;
         }
 
-    roomy_at : (n : List T) → 2 ≤ size → At cmp o b n a → (reaches cmp v n ≡ true) ⊎ (a ≡ []) → length n ≤ size → Roomy (b ++ n ∷ a) n (length b) (if eqb (length n) size then splice (b ++ n ∷ a) (length b) (length b + 1) (take (length n / 2) n ∷ drop (length n / 2) n ∷ []) else (b ++ n ∷ a))
+    roomy_at : (n : List T) → 2 ≤ size → At cmp o b n a → (reaches cmp v n ≡ true) ⊎ (a ≡ []) → length n ≤ size
+        → Roomy (b ++ n ∷ a) n (length b)
+        (if eqb (length n) size
+        then splice (b ++ n ∷ a) (length b) (length b + 1) (take (length n / 2) n ∷ drop (length n / 2) n ∷ [])
+        else (b ++ n ∷ a))
     roomy_at n two at stop fits =
-        elim (eqb (length n) size) as (λ t. eqb (length n) size ≡ t → Roomy (b ++ n ∷ a) n (length b) (if t then splice (b ++ n ∷ a) (length b) (length b + 1) (take (length n / 2) n ∷ drop (length n / 2) n ∷ []) else (b ++ n ∷ a))) [
+        elim (eqb (length n) size)
+        as (λ t. eqb (length n) size ≡ t
+        → Roomy (b ++ n ∷ a) n (length b)
+        (if t
+        then splice (b ++ n ∷ a) (length b) (length b + 1) (take (length n / 2) n ∷ drop (length n / 2) n ∷ [])
+        else (b ++ n ∷ a))) [
           | true ↦ λ e.
               let k = length n / 2 in
               let full : length n ≡ size = eqb-true (length n) size e in
@@ -88,7 +118,10 @@ module _ {T : Type 0} (cmp : T → T → Ordering) (o : IsTotalOrder cmp) (v : T
               let left = length-take k n in
               let right = length-drop k n in
               rw (splice_at b n a (take k n ∷ drop k n ∷ []))
-              (subst (λ q. At cmp o b q a → (reaches cmp v q ≡ true) ⊎ (a ≡ []) → length q ≡ size → length q / 2 ≡ length (take k n) → Roomy (b ++ q ∷ a) q (length b) (b ++ take k n ∷ drop k n ∷ a)) whole
+              (subst
+              (λ q. At cmp o b q a → (reaches cmp v q ≡ true) ⊎ (a ≡ []) → length q ≡ size
+              → length q / 2 ≡ length (take k n) → Roomy (b ++ q ∷ a) q (length b) (b ++ take k n ∷ drop k n ∷ a))
+              whole
               (λ at stop full half. roomy_halved (take k n) (drop k n) at stop (length_filled (take k n) (omega arith)) (length_filled (drop k n) (omega arith)) (omega arith) (omega arith) full half)
               at stop full (omega arith))
           | false ↦ λ e.
@@ -122,7 +155,9 @@ module _ {T : Type 0} (cmp : T → T → Ordering) (o : IsTotalOrder cmp) (v : T
     pub small : Small cmp o v size after
     pub holds : concat after ≡ list
 
-  pub target_makes : 2 ≤ size → (ns : List (List T)) → Ruled cmp ns → Small cmp o v size ns → is_filled ns ≡ true → Makes ns (target_events cmp size (node_at ns (target cmp ns v)) v) (put_into_target cmp (with_room cmp size ns v) v) (put cmp (concat ns) v)
+  pub target_makes : 2 ≤ size → (ns : List (List T)) → Ruled cmp ns → Small cmp o v size ns → is_filled ns ≡ true
+      → Makes ns (target_events cmp size (node_at ns (target cmp ns v)) v)
+      (put_into_target cmp (with_room cmp size ns v) v) (put cmp (concat ns) v)
   unfolding target_events
   target_makes two ns ruled small some =
       let r = roomy two ns ruled small some in

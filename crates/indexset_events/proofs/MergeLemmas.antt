@@ -1,5 +1,7 @@
 -- Lawful nodes after two neighbours were merged.
-use Rattle.std.proofs.Common.{◌≡◌, ℕ, zero, suc, ◌+◌, ◌-◌, ◌/◌, ◌<◌, ◌≤◌, ◌&&◌, ◌⊎◌, Bool, true, false, if◌then◌else◌, List, [], ◌∷◌, ◌++◌, length, map, get_or, set, remove, eqb, ltb, leb, Option, Some, None, Ordering, refl, ap, sym, inl, inr, ◌∙◌, subst, arith, append_assoc, length-append}
+use Rattle.std.proofs.Common.{◌≡◌, ℕ, zero, suc, ◌+◌, ◌-◌, ◌/◌, ◌<◌, ◌≤◌, ◌&&◌, ◌⊎◌, Bool, true, false, if◌then◌else◌}
+use Rattle.std.proofs.Common.{List, [], ◌∷◌, ◌++◌, length, map, get_or, set, remove, eqb, ltb, leb, Option, Some}
+use Rattle.std.proofs.Common.{None, Ordering, refl, ap, sym, inl, inr, ◌∙◌, subst, arith, append_assoc, length-append}
 use Rattle.std.specs.Cmp.{IsTotalOrder}
 use Rattle.std.proofs.lemmas.Bool.{false≢true, lt-ltb, ltb-true, leb-true, leb-false, eqb-false}
 use Rattle.std.proofs.lemmas.List.Edits.{length-remove}
@@ -42,10 +44,15 @@ module _ {T : Type 0} where
   -- if no nodes are merged, the node and its neighbours hold more
   pub none_small : (h : ℕ) (ms : List (List T)) (k : ℕ) → merge_place h ms k ≡ None → (j : ℕ) → (k ≡ j) ⊎ (k ≡ j + 1) → j + 1 < length ms → h < length (node_at ms j) + length (node_at ms (j + 1))
   none_small h ms k =
-      elim (are_small h ms k) as (λ t. are_small h ms k ≡ t → (if t then Some k else if ltb 0 k && are_small h ms (k - 1) then Some (k - 1) else None) ≡ None → (j : ℕ) → (k ≡ j) ⊎ (k ≡ j + 1) → j + 1 < length ms → h < length (node_at ms j) + length (node_at ms (j + 1))) [
+      elim (are_small h ms k)
+      as (λ t. are_small h ms k ≡ t
+      → (if t then Some k else if ltb 0 k && are_small h ms (k - 1) then Some (k - 1) else None) ≡ None → (j : ℕ)
+      → (k ≡ j) ⊎ (k ≡ j + 1) → j + 1 < length ms → h < length (node_at ms j) + length (node_at ms (j + 1))) [
         | true ↦ λ e g. let none : Some k ≡ None = g in cc
         | false ↦ λ e.
-            elim (ltb 0 k && are_small h ms (k - 1)) as (λ t. (ltb 0 k && are_small h ms (k - 1)) ≡ t → (if t then Some (k - 1) else None) ≡ None → (j : ℕ) → (k ≡ j) ⊎ (k ≡ j + 1) → j + 1 < length ms → h < length (node_at ms j) + length (node_at ms (j + 1))) [
+            elim (ltb 0 k && are_small h ms (k - 1))
+            as (λ t. (ltb 0 k && are_small h ms (k - 1)) ≡ t → (if t then Some (k - 1) else None) ≡ None → (j : ℕ)
+            → (k ≡ j) ⊎ (k ≡ j + 1) → j + 1 < length ms → h < length (node_at ms j) + length (node_at ms (j + 1))) [
               | true ↦ λ f g. let none : Some (k - 1) ≡ None = g in cc
               | false ↦ λ f g j which lt. elim which [
                 | inl same ↦ subst (λ q. q + 1 < length ms → h < length (node_at ms q) + length (node_at ms (q + 1))) same (not_small h ms k e) lt
@@ -91,7 +98,12 @@ module _ {T : Type 0} where
 
   pub after_from : (size : ℕ) (ns : List (List T)) (k i j : ℕ) → merge_after size ns k i ≡ Some j → JoinedAfter size ns k i j
   after_from size ns k i j =
-      elim (eqb (length (node_at ns k)) 1) as (λ t. eqb (length (node_at ns k)) 1 ≡ t → (if t then None else merge_place (size / 2) (if t then remove ns k else set ns k (remove (node_at ns k) i)) k) ≡ Some j → JoinedAfter size ns k i j) [
+      elim (eqb (length (node_at ns k)) 1)
+      as (λ t. eqb (length (node_at ns k)) 1 ≡ t
+      → (if t then None
+      else merge_place (size / 2) (if t then remove ns k else set ns k (remove (node_at ns k) i)) k)
+      ≡ Some j
+      → JoinedAfter size ns k i j) [
         | true ↦ λ e g. let none : (let n : Option ℕ = None in n) ≡ Some j = g in cc
         | false ↦ λ e g. record {
           more = eqb-false _ _ e;
@@ -146,11 +158,20 @@ module _ {T N : Type 0} (f : N → List T) (first : N) where
       (λ b l r a.
       let whole : map f (b ++ l ∷ r ∷ a) ≡ map f b ++ f l ∷ f r ∷ map f a = map-append f b (l ∷ r ∷ a) in
       let long : length (map f b) ≡ length b = length-map b f in
-      let left : node_at (map f (b ++ l ∷ r ∷ a)) (length b) ≡ f l = rw whole (subst (λ i. node_at (map f b ++ f l ∷ f r ∷ map f a) i ≡ f l) long (get_or-append_seam (map f b) (f l) (f r ∷ map f a) [])) in
-      let right : node_at (map f (b ++ l ∷ r ∷ a)) (length b + 1) ≡ f r = rw whole (subst (λ i. node_at (map f b ++ f l ∷ f r ∷ map f a) (i + 1) ≡ f r) long (second_at (map f b) (f l) (f r) (map f a))) in
+      let left : node_at (map f (b ++ l ∷ r ∷ a)) (length b) ≡ f l =
+      rw whole
+      (subst (λ i. node_at (map f b ++ f l ∷ f r ∷ map f a) i ≡ f l) long
+      (get_or-append_seam (map f b) (f l) (f r ∷ map f a) [])) in
+      let right : node_at (map f (b ++ l ∷ r ∷ a)) (length b + 1) ≡ f r =
+      rw whole
+      (subst (λ i. node_at (map f b ++ f l ∷ f r ∷ map f a) (i + 1) ≡ f r) long
+      (second_at (map f b) (f l) (f r) (map f a))) in
       let placed : set (b ++ l ∷ r ∷ a) (length b) first ≡ b ++ first ∷ r ∷ a = set-append_seam b l (r ∷ a) first in
       let gone : remove (set (b ++ l ∷ r ∷ a) (length b) first) (length b + 1) ≡ b ++ first ∷ a = rw placed (remove_second b first r a) in
-      let made : (one : N) → map f (set (remove (set (b ++ l ∷ r ∷ a) (length b) first) (length b + 1)) (length b) one) ≡ map f b ++ f one ∷ map f a = λ one. rw (gone, set-append_seam b first a one) (map-append f b (one ∷ a)) in
+      let made : (one : N)
+      → map f (set (remove (set (b ++ l ∷ r ∷ a) (length b) first) (length b + 1)) (length b) one)
+      ≡ map f b ++ f one ∷ map f a =
+      λ one. rw (gone, set-append_seam b first a one) (map-append f b (one ∷ a)) in
       record {
         next_is = λ n is. rw right (ap f (is ∙ rw placed (get_second b first r a n)));
         first_is = λ n is. is ∙ rw gone (get_or-append_seam b first a n);
@@ -161,7 +182,9 @@ module _ {T N : Type 0} (f : N → List T) (first : N) where
       items j inside
     where
       remove_second : (b : List N) (l r : N) (a : List N) → remove (b ++ l ∷ r ∷ a) (length b + 1) ≡ b ++ l ∷ a
-      remove_second b l r a = subst (λ q. remove q (length b + 1) ≡ b ++ l ∷ a) (append_assoc b (l ∷ []) (r ∷ a)) (rw (← length-append b (l ∷ []), remove_at (b ++ l ∷ []) r a) (append_assoc b (l ∷ []) a))
+      remove_second b l r a =
+          subst (λ q. remove q (length b + 1) ≡ b ++ l ∷ a) (append_assoc b (l ∷ []) (r ∷ a))
+          (rw (← length-append b (l ∷ []), remove_at (b ++ l ∷ []) r a) (append_assoc b (l ∷ []) a))
 
       get_second : (b : List N) (l r : N) (a : List N) (d : N) → get_or (b ++ l ∷ r ∷ a) (length b + 1) d ≡ r
       get_second b l r a d = subst (λ q. get_or q (length b + 1) d ≡ r) (append_assoc b (l ∷ []) (r ∷ a)) (rw (← length-append b (l ∷ [])) (get_or-append_seam (b ++ l ∷ []) r a d))

@@ -19,7 +19,9 @@ before_last y [] t d = refl
 before_last y (z ∷ l) t d = before_last z l t d
 
 module _ {T : Type 0} (cmp : T → T → Ordering) (o : IsTotalOrder cmp) (v : T) where
-  replace_as : (l : List T) (x : T) (r : List T) → rank cmp (l ++ x ∷ r) v ≡ length l → 1 ≤ length l + length r → replace_events cmp (l ++ x ∷ r) v ≡ RemoveAt (last_of (l ++ x ∷ r) v) x (length l) ∷ InsertAt (last_of (l ++ r) v) v (length l) ∷ []
+  replace_as : (l : List T) (x : T) (r : List T) → rank cmp (l ++ x ∷ r) v ≡ length l → 1 ≤ length l + length r
+      → replace_events cmp (l ++ x ∷ r) v
+      ≡ RemoveAt (last_of (l ++ x ∷ r) v) x (length l) ∷ InsertAt (last_of (l ++ r) v) v (length l) ∷ []
   unfolding replace_events
   replace_as l x (z ∷ r) place some =
       let size = length-append l (x ∷ z ∷ r) in
@@ -32,7 +34,9 @@ module _ {T : Type 0} (cmp : T → T → Ordering) (o : IsTotalOrder cmp) (v : T
       let size = length-append (y ∷ l) (x ∷ []) in
       let more : eqb (length ((y ∷ l) ++ x ∷ [])) 1 ≡ false = ne_eqb _ _ (λ e. omega (arith, size)) in
       let inner : eqb (length (y ∷ l) + 1) (length ((y ∷ l) ++ x ∷ [])) ≡ true = eq-eqb _ _ (omega (arith, size)) in
-      let name : get_or ((y ∷ l) ++ x ∷ []) (length (y ∷ l) - 1) v ≡ last_of ((y ∷ l) ++ []) v = subst (λ k. get_or ((y ∷ l) ++ x ∷ []) k v ≡ last_of ((y ∷ l) ++ []) v) {x = length l} {y = length (y ∷ l) - 1} (omega arith) (before_last y l (x ∷ []) v ∙ rw (append-nil l) refl) in
+      let name : get_or ((y ∷ l) ++ x ∷ []) (length (y ∷ l) - 1) v ≡ last_of ((y ∷ l) ++ []) v =
+      subst (λ k. get_or ((y ∷ l) ++ x ∷ []) k v ≡ last_of ((y ∷ l) ++ []) v) {x = length l}
+      {y = length (y ∷ l) - 1} (omega arith) (before_last y l (x ∷ []) v ∙ rw (append-nil l) refl) in
       rw (place, get_or-append_seam (y ∷ l) x [] v, more, inner) (ap (λ m. RemoveAt (last_of ((y ∷ l) ++ x ∷ []) v) x (length (y ∷ l)) ∷ InsertAt m v (length (y ∷ l)) ∷ []) name)
 
   module _ (l r : List T) (low : Each (λ x. cmp x v ≡ Less) l) (high : Each (λ x. cmp v x ≡ Less) r) where
@@ -72,7 +76,8 @@ module _ {T : Type 0} (cmp : T → T → Ordering) (o : IsTotalOrder cmp) (v : T
         let made = insert_step cmp o b a l r v v at (each-append _ (concat b) l below low) (each-append _ r (concat a) high above) in
         rw (parts-put cmp o l [] r v low tt high, absent_events l r low high) (made.0, rw made.1 refl)
 
-    puts_two : (l : List T) (x : T) (r : List T) → Each (λ x. cmp x v ≡ Less) l → cmp x v ≡ Equal → Each (λ x. cmp v x ≡ Less) r → 1 ≤ length l + length r → is_filled (l ++ r) ≡ true → Puts (l ++ x ∷ r)
+    puts_two : (l : List T) (x : T) (r : List T) → Each (λ x. cmp x v ≡ Less) l → cmp x v ≡ Equal
+        → Each (λ x. cmp v x ≡ Less) r → 1 ≤ length l + length r → is_filled (l ++ r) ≡ true → Puts (l ++ x ∷ r)
     puts_two l x r low same high some full at =
         let gone = remove_step cmp o b a l x r v at full in
         let made = insert_step cmp o b a l r v v gone.0 (each-append _ (concat b) l below low) (each-append _ r (concat a) high above) in

@@ -1,5 +1,7 @@
 -- Nodes that follow one another.
-use Rattle.std.proofs.Common.{◌≡◌, ℕ, ◌<◌, ◌≤◌, ◌-◌, ◌+◌, Bool, true, false, not, ◌&&◌, nat_lt, if◌then◌else◌, List, [], ◌∷◌, ◌++◌, length, map, drop, get_or, slice_get, Option, Some, None, Ordering, refl, ap, sym, ◌∙◌, subst, arith}
+use Rattle.std.proofs.Common.{◌≡◌, ℕ, ◌<◌, ◌≤◌, ◌-◌, ◌+◌, Bool, true, false, not, ◌&&◌, nat_lt}
+use Rattle.std.proofs.Common.{if◌then◌else◌, List, [], ◌∷◌, ◌++◌, length, map, drop, get_or, slice_get}
+use Rattle.std.proofs.Common.{Option, Some, None, Ordering, refl, ap, sym, ◌∙◌, subst, arith}
 use Rattle.std.specs.declared.cmp.Ordering.TheVariants.{Less}
 use Rattle.std.specs.List.{list_all}
 use Rattle.std.specs.Option.{option_map_or, option_or}
@@ -14,7 +16,9 @@ use Rattle.indexset_core.specs.Nodes.{concat, IsNodeList, IsLawful}
 use Rattle.indexset_core.proofs.CallerLemmas.{less_from}
 use Rattle.indexset_events.specs.Attach.{lies_below, lies_apart, attach_refusal, follow_refusal, refusal_after, nodes_refusal}
 use Rattle.indexset_events.specs.Nodes.{last_of, is_filled, is_ascending}
-use Rattle.indexset_events.proofs.AscendingListLemmas.{Each, all_from_each, each-left, each-map, each_last, true_up, Up, up-between, up-left, up-right, up_true, upto_last, lawful_bounded, lawful_from, lawful_ruled, nodes_ruled}
+use Rattle.indexset_events.proofs.AscendingListLemmas.{Each, all_from_each, each-left, each-map, each_last, true_up}
+use Rattle.indexset_events.proofs.AscendingListLemmas.{Up, up-between, up-left, up-right, up_true, upto_last}
+use Rattle.indexset_events.proofs.AscendingListLemmas.{lawful_bounded, lawful_from, lawful_ruled, nodes_ruled}
 use Rattle.indexset_events.proofs.AttachLemmas.{false_unless, up_join, below_each, each_below, both, good, not_refused}
 
 last_there : {T : Type 0} (x : T) (xs : List T) → slice_get (x ∷ xs) (length xs) ≡ Some (last_of xs x)
@@ -26,19 +30,35 @@ last_some x xs = subst (λ k. slice_get (x ∷ xs) k ≡ Some (last_of xs x)) {x
 
 module _ {T : Type 0} (cmp : T → T → Ordering) (o : IsTotalOrder cmp) where
   -- a list lies below another if its last item is below the first item of the other
-  pub below_by_ends : (m n : List T) (f : T) → is_ascending cmp m ≡ true → is_ascending cmp n ≡ true → slice_get n 0 ≡ Some f → lies_below cmp m n ≡ option_map_or (λ x. is_lt (cmp x f)) (slice_get m (length m - 1)) true
+  pub below_by_ends : (m n : List T) (f : T) → is_ascending cmp m ≡ true → is_ascending cmp n ≡ true
+      → slice_get n 0 ≡ Some f
+      → lies_below cmp m n ≡ option_map_or (λ x. is_lt (cmp x f)) (slice_get m (length m - 1)) true
   below_by_ends [] n f um un e = refl
   below_by_ends (x ∷ xs) [] f um un e = let none : (let n : Option T = None in n) ≡ Some f = e in cc
   below_by_ends (x ∷ xs) (h ∷ t) f um un e =
       let same : h ≡ f = cc in
-      subst (λ z. lies_below cmp (x ∷ xs) (h ∷ t) ≡ option_map_or (λ x. is_lt (cmp x z)) (slice_get (x ∷ xs) (length (x ∷ xs) - 1)) true) same (rw (last_some x xs) (decide (is_lt (cmp (last_of xs x) h)) refl))
+      subst
+      (λ z. lies_below cmp (x ∷ xs) (h ∷ t)
+      ≡ option_map_or (λ x. is_lt (cmp x z)) (slice_get (x ∷ xs) (length (x ∷ xs) - 1)) true)
+      same (rw (last_some x xs) (decide (is_lt (cmp (last_of xs x) h)) refl))
     where
       up : Up cmp (h ∷ t)
       up = true_up cmp (h ∷ t) un
 
       decide : (b : Bool) → is_lt (cmp (last_of xs x) h) ≡ b → lies_below cmp (x ∷ xs) (h ∷ t) ≡ b
-      decide true k = each_below cmp (x ∷ xs) (h ∷ t) (each-map _ _ (λ y (l : cmp y h ≡ Less). (l, each-map _ _ (λ z (r : cmp h z ≡ Less). o.trans y h z l r) t up.0)) (x ∷ xs) (upto_last cmp o (x ∷ xs) x h (true_up cmp (x ∷ xs) um) (less_from _ k)))
-      decide false k = false_unless _ (λ b. false≢true (sym k ∙ ap is_lt (each_last (λ y. cmp y h ≡ Less) (x ∷ xs) x refl (each-map _ _ (λ y (u : Each (λ z. cmp y z ≡ Less) (h ∷ t)). u.0) (x ∷ xs) (below_each cmp (x ∷ xs) (h ∷ t) b)))))
+      decide true k =
+          each_below cmp (x ∷ xs) (h ∷ t)
+          (each-map _ _
+          (λ y (l : cmp y h ≡ Less). (l, each-map _ _ (λ z (r : cmp h z ≡ Less). o.trans y h z l r) t up.0)) (x ∷ xs)
+          (upto_last cmp o (x ∷ xs) x h (true_up cmp (x ∷ xs) um) (less_from _ k)))
+      decide false k =
+          false_unless _ (λ b.
+          false≢true
+          (sym k
+          ∙ ap is_lt
+          (each_last (λ y. cmp y h ≡ Less) (x ∷ xs) x refl
+          (each-map _ _ (λ y (u : Each (λ z. cmp y z ≡ Less) (h ∷ t)). u.0) (x ∷ xs)
+          (below_each cmp (x ∷ xs) (h ∷ t) b)))))
 
   -- the nodes that follow m
   record Follow (size : ℕ) (m : List T) (ns : List (List T)) : Type 0 where
@@ -79,7 +99,12 @@ module _ {T : Type 0} (cmp : T → T → Ordering) (o : IsTotalOrder cmp) where
         filled = (refl, rest.filled);
         small = (within, rest.small);
         up = up_join cmp (f ∷ t) (concat ns) (true_up cmp (f ∷ t) k.up) rest.up rest.above;
-        above = both cmp (f ∷ t) (concat ns) m under (each-map _ _ (λ x (u : Each (λ y. cmp x y ≡ Less) (f ∷ t)). each-map _ _ (λ z (r : cmp f z ≡ Less). o.trans x f z u.0 r) (concat ns) rest.above.0) m under);
+        above =
+            both cmp (f ∷ t) (concat ns) m under
+            (each-map _ _
+            (λ x (u : Each (λ y. cmp x y ≡ Less) (f ∷ t)). each-map _ _ (λ z (r : cmp f z ≡ Less). o.trans x f z u.0 r)
+            (concat ns) rest.above.0)
+            m under);
       }
 
   pub follow_lawful : (size : ℕ) (ns : List (List T)) → nodes_refusal cmp size ns ≡ None → IsLawful cmp size ns
@@ -91,7 +116,10 @@ module _ {T : Type 0} (cmp : T → T → Ordering) (o : IsTotalOrder cmp) where
   alone size n full fits up = not_refused cmp size [] n full fits up refl
 
   -- the error of a node that follows another, if it has none by itself
-  pub follow_told : (size : ℕ) (m n : List T) (f : T) (b : Bool) → is_filled n ≡ true → length n ≤ size → is_ascending cmp m ≡ true → is_ascending cmp n ≡ true → slice_get n 0 ≡ Some f → b ≡ option_map_or (λ x. is_lt (cmp x f)) (slice_get m (length m - 1)) true → follow_refusal cmp size m n ≡ (if b then None else Some Overlaps)
+  pub follow_told : (size : ℕ) (m n : List T) (f : T) (b : Bool) → is_filled n ≡ true → length n ≤ size
+      → is_ascending cmp m ≡ true → is_ascending cmp n ≡ true → slice_get n 0 ≡ Some f
+      → b ≡ option_map_or (λ x. is_lt (cmp x f)) (slice_get m (length m - 1)) true
+      → follow_refusal cmp size m n ≡ (if b then None else Some Overlaps)
   follow_told size m n f b full fits um un first e =
       let apart : lies_below cmp m n ≡ b = below_by_ends m n f um un first ∙ sym e in
       rw (alone size n full fits un, apart) refl
@@ -116,7 +144,9 @@ module _ {T : Type 0} (cmp : T → T → Ordering) (size : ℕ) where
   sizes_alone m [] full up = refl
   sizes_alone m (n ∷ ns) full up =
       rw (size_alone m n (concat ns) full.0 up, sizes_alone n ns full.1 (up-right cmp m (n ++ concat ns) up))
-      (elim (fits n) as (λ b. option_or (if b then None else Some TooLarge) (if list_all fits ns then None else Some TooLarge) ≡ (if b && list_all fits ns then None else Some TooLarge)) [ true ↦ refl | false ↦ refl ])
+      (elim (fits n)
+      as (λ b. option_or (if b then None else Some TooLarge) (if list_all fits ns then None else Some TooLarge)
+      ≡ (if b && list_all fits ns then None else Some TooLarge)) [ true ↦ refl | false ↦ refl ])
 
   within_fits : (n : List T) → length n ≤ size → fits n ≡ true
   within_fits n h = let small : nat_lt size (length n) ≡ false = grind (arith, nat_tests) in rw small refl
@@ -137,7 +167,9 @@ module _ {T : Type 0} (cmp : T → T → Ordering) (size : ℕ) where
 
 module _ {T N : Type 0} (cmp : T → T → Ordering) (f : N → List T) (ns : List N) (i size : ℕ) (m : List T) where
   -- the nodes from an index on
-  pub follow_step : (v : N) (l : List T) → i < length ns → v ≡ get_or ns i v → l ≡ f v → refusal_after cmp size m (map f (drop i ns)) ≡ option_or (follow_refusal cmp size m l) (refusal_after cmp size l (map f (drop (i + 1) ns)))
+  pub follow_step : (v : N) (l : List T) → i < length ns → v ≡ get_or ns i v → l ≡ f v
+      → refusal_after cmp size m (map f (drop i ns))
+      ≡ option_or (follow_refusal cmp size m l) (refusal_after cmp size l (map f (drop (i + 1) ns)))
   follow_step v l lt is e = rw e (ap (λ q. refusal_after cmp size m (map f q)) (drop_more ns i v lt ∙ ap (λ w. w ∷ drop (i + 1) ns) (sym is)))
 
   pub follow_end : length ns ≤ i → refusal_after cmp size m (map f (drop i ns)) ≡ None

@@ -18,14 +18,18 @@ use Rattle.indexset_core.proofs.CallerLemmas.{equal_read, get_in_node, places_or
 use Rattle.indexset_core.specs.Places.{items_before, located}
 
 -- two items with equally many items before them are the same
-module _ {T : Type 0} (ns : List (List T)) (p q : ℕ × ℕ) (p_node : p.0 < length ns) (p_in : p.1 < length (node_at ns p.0)) (q_node : q.0 < length ns) (q_in : q.1 < length (node_at ns q.0)) (same : items_before ns p ≡ items_before ns q) where
+module _ {T : Type 0} (ns : List (List T)) (p q : ℕ × ℕ) (p_node : p.0 < length ns)
+    (p_in : p.1 < length (node_at ns p.0)) (q_node : q.0 < length ns) (q_in : q.1 < length (node_at ns q.0))
+    (same : items_before ns p ≡ items_before ns q) where
   same_node : q.0 ≡ p.0
   same_node = omega (arith, places_order ns p.0 p.1 q.0 (q.1 + 1) q_node (omega arith) (omega arith), places_order ns q.0 q.1 p.0 (p.1 + 1) p_node (omega arith) (omega arith))
 
   same_offset : q.1 ≡ p.1
   same_offset = omega (arith, ap (λ k. items_before ns (k, 0)) same_node)
 
-module _ {T : Type 0} (cmp : T → T → Ordering) (o : IsTotalOrder cmp) (size : ℕ) (ns : List (List T)) (law : IsLawful cmp size ns) (p : ℕ × ℕ) (node_in : p.0 < length ns) (x : T) (here : slice_get (node_at ns p.0) p.1 ≡ Some x) where
+module _ {T : Type 0} (cmp : T → T → Ordering) (o : IsTotalOrder cmp) (size : ℕ) (ns : List (List T))
+    (law : IsLawful cmp size ns) (p : ℕ × ℕ) (node_in : p.0 < length ns) (x : T)
+    (here : slice_get (node_at ns p.0) p.1 ≡ Some x) where
   abbrev answer : T → Ordering
   answer y = cmp y x
 
@@ -50,7 +54,8 @@ module _ {T : Type 0} (cmp : T → T → Ordering) (o : IsTotalOrder cmp) (size 
             let q_node = end_node answer ns filled parted (Ok q) e q refl in
             let q_in = end_offset answer ns filled parted (Ok q) e q refl in
             let same : items_before ns p ≡ items_before ns q = sym before_it ∙ sym at.before in
-            subst (λ i. IsFoundIn cmp ns x p.0 i) (same_offset ns p q node_in offset_in q_node q_in same) (subst (λ k. IsFoundIn cmp ns x k q.1) (same_node ns p q node_in offset_in q_node q_in same) found)
+            subst (λ i. IsFoundIn cmp ns x p.0 i) (same_offset ns p q node_in offset_in q_node q_in same)
+            (subst (λ k. IsFoundIn cmp ns x k q.1) (same_node ns p q node_in offset_in q_node q_in same) found)
         | Err q ↦ λ e.
             let at = end_gap answer ns filled parted (Err q) e q refl in
             absurd (false≢true (sym at.equal ∙ (equal_read answer (concat ns) _ x (rw before_it in_all) ∙ rw (tied_itself o x) refl)))

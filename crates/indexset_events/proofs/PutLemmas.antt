@@ -1,5 +1,7 @@
 -- Lawful nodes after a put.
-use Rattle.std.proofs.Common.{◌≡◌, ℕ, zero, suc, ◌+◌, ◌-◌, ◌/◌, ◌<◌, ◌≤◌, Bool, true, false, cond, if◌then◌else◌, ◌&&◌, List, [], ◌∷◌, ◌++◌, length, map, get_or, set, insert, take, drop, slice_get, Option, Some, None, Ordering, refl, ap, sym, ◌∙◌, subst, arith, append_assoc, length-append}
+use Rattle.std.proofs.Common.{◌≡◌, ℕ, zero, suc, ◌+◌, ◌-◌, ◌/◌, ◌<◌, ◌≤◌, Bool, true, false, cond, if◌then◌else◌, ◌&&◌}
+use Rattle.std.proofs.Common.{List, [], ◌∷◌, ◌++◌, length, map, get_or, set, insert, take, drop, slice_get, Option}
+use Rattle.std.proofs.Common.{Some, None, Ordering, refl, ap, sym, ◌∙◌, subst, arith, append_assoc, length-append}
 use Rattle.std.specs.Cmp.{IsTotalOrder}
 use Rattle.std.specs.List.{find, splice}
 use Rattle.std.specs.Option.{option_or}
@@ -29,7 +31,10 @@ halved_seam : {X : Type 0} (b : List X) (n : X) (a : List X) (l r : X) → inser
 halved_seam b n a l r =
     let made : insert ((b ++ l ∷ []) ++ a) (length (b ++ l ∷ [])) r ≡ (b ++ l ∷ []) ++ r ∷ a = insert_at (b ++ l ∷ []) a r in
     let long : length (b ++ l ∷ []) ≡ length b + 1 = length-append b (l ∷ []) in
-    rw (set-append_seam b n a l) (subst (λ k. insert (b ++ l ∷ a) k r ≡ b ++ l ∷ r ∷ a) long (subst (λ q. insert q (length (b ++ l ∷ [])) r ≡ b ++ l ∷ r ∷ a) (append_assoc b (l ∷ []) a) (made ∙ append_assoc b (l ∷ []) (r ∷ a))))
+    rw (set-append_seam b n a l)
+    (subst (λ k. insert (b ++ l ∷ a) k r ≡ b ++ l ∷ r ∷ a) long
+    (subst (λ q. insert q (length (b ++ l ∷ [])) r ≡ b ++ l ∷ r ∷ a) (append_assoc b (l ∷ []) a)
+    (made ∙ append_assoc b (l ∷ []) (r ∷ a))))
 
 pub halved_view : {X Y : Type 0} (f : X → Y) (xs : List X) (k : ℕ) (n l r : X) → slice_get xs k ≡ Some n → map f (insert (set xs k l) (k + 1) r) ≡ splice (map f xs) k (k + 1) (f l ∷ f r ∷ [])
 halved_view f xs k n l r at = at_place (λ q j n. map f (insert (set q j l) (j + 1) r) ≡ splice (map f q) j (j + 1) (f l ∷ f r ∷ []))
@@ -83,7 +88,12 @@ module _ {T : Type 0} (cmp : T → T → Ordering) (o : IsTotalOrder cmp) (v : T
   pub put_length_is : (l : List T) → Up cmp l → length (put cmp l v) ≡ length l + cond (has_equal cmp l v) 0 1
   put_length_is = around cmp o v (λ n. length (put cmp n v) ≡ length n + cond (has_equal cmp n v) 0 1)
       (λ l r low high. rw (parts-put cmp o l [] r v low tt high, parts-has_equal cmp o l [] r v low tt high) (omega (arith, length-append l (v ∷ r), length-append l r)))
-      (λ l x r low same high. rw (parts-put cmp o l (x ∷ []) r v low (same, tt) high, parts-has_equal cmp o l (x ∷ []) r v low (same, tt) high) (omega (arith, length-append l (v ∷ r), length-append l (x ∷ r))))
+      (λ l x r low same high.
+      rw (
+        parts-put cmp o l (x ∷ []) r v low (same, tt) high,
+        parts-has_equal cmp o l (x ∷ []) r v low (same, tt) high,
+      )
+      (omega (arith, length-append l (v ∷ r), length-append l (x ∷ r))))
 
   find_no : (l : List T) → Each (λ x. is_eq (cmp x v) ≡ false) l → find (λ x. is_eq (cmp x v)) l ≡ None
   find_no [] h = refl

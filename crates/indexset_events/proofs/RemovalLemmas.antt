@@ -1,5 +1,8 @@
 -- Lawful nodes after a removal.
-use Rattle.std.proofs.Common.{◌≡◌, ℕ, zero, suc, ◌+◌, ◌-◌, ◌/◌, ◌<◌, ◌≤◌, ◌||◌, Bool, true, false, not, if◌then◌else◌, List, [], ◌∷◌, ◌++◌, length, get_or, set, remove, filter, slice_get, eqb, Option, Some, None, is_some, Ordering, refl, ap, sym, ◌∙◌, subst, arith, append_assoc, length-append, map}
+use Rattle.std.proofs.Common.{◌≡◌, ℕ, zero, suc, ◌+◌, ◌-◌, ◌/◌, ◌<◌, ◌≤◌, ◌||◌, Bool, true, false}
+use Rattle.std.proofs.Common.{not, if◌then◌else◌, List, [], ◌∷◌, ◌++◌, length, get_or, set, remove}
+use Rattle.std.proofs.Common.{filter, slice_get, eqb, Option, Some, None, is_some, Ordering, refl}
+use Rattle.std.proofs.Common.{ap, sym, ◌∙◌, subst, arith, append_assoc, length-append, map}
 use Rattle.std.specs.Cmp.{IsTotalOrder}
 use Rattle.std.specs.List.{list_any}
 use Rattle.std.specs.Option.{option_map_or}
@@ -25,7 +28,10 @@ use Rattle.indexset_events.specs.Nodes.{is_filled, last_of}
 use Rattle.indexset_events.specs.Replay.{replay, replay_plain, step_plain, numbered_from}
 use Rattle.indexset_events.specs.Table.{count_with, merge_event, target, place_removal_count, removal_event, place_removal_events, removal_by, removal_events}
 use Rattle.indexset_events.proofs.MergeLemmas.{JoinedAfter, JoinedPair, after_from, joins, pair_up}
-use Rattle.indexset_events.proofs.AscendingListLemmas.{last_any, last_answer, last-append, Each, each-append, each-left, each-right, each-map, Up, up-right, up-between, Ruled, parts-without, length_filled, ascends, lawful_from, lawful_ruled, lawful_bounded}
+use Rattle.indexset_events.proofs.AscendingListLemmas.{last_any, last_answer, last-append, Each, each-append}
+use Rattle.indexset_events.proofs.AscendingListLemmas.{each-left, each-right, each-map, Up, up-right}
+use Rattle.indexset_events.proofs.AscendingListLemmas.{up-between, Ruled, parts-without, length_filled}
+use Rattle.indexset_events.proofs.AscendingListLemmas.{ascends, lawful_from, lawful_ruled, lawful_bounded}
 use Rattle.indexset_events.proofs.StepLemmas.{At, at_ruled, ruled_at, remove_step, remove_node_step, remove_at}
 use Rattle.indexset_events.proofs.ReplayTheorem.{numbered_replay, up_node}
 
@@ -90,7 +96,9 @@ module _ {T : Type 0} (cmp : T → T → Ordering) (o : IsTotalOrder cmp) (size 
     pub was : concat ns ≡ front ++ x ∷ back
     pub left : concat (if eqb (length n) 1 then remove ns k else set ns k (remove n i)) ≡ front ++ back
 
-  taken_at : (b : List (List T)) (l : List T) (x : T) (r : List T) (a : List (List T)) → Ruled cmp (b ++ (l ++ x ∷ r) ∷ a) → Each (λ n. length n ≤ size) (b ++ (l ++ x ∷ r) ∷ a) → Taken (b ++ (l ++ x ∷ r) ∷ a) (length b) (l ++ x ∷ r) (length l) x
+  taken_at : (b : List (List T)) (l : List T) (x : T) (r : List T) (a : List (List T))
+      → Ruled cmp (b ++ (l ++ x ∷ r) ∷ a) → Each (λ n. length n ≤ size) (b ++ (l ++ x ∷ r) ∷ a)
+      → Taken (b ++ (l ++ x ∷ r) ∷ a) (length b) (l ++ x ∷ r) (length l) x
   taken_at b l x r a ruled small =
       let at = ruled_at cmp o b (l ++ x ∷ r) a ruled in
       let before = each-left _ b ((l ++ x ∷ r) ∷ a) small in
@@ -146,7 +154,9 @@ module _ {T : Type 0} {cmp : T → T → Ordering} {size : ℕ} {ns : List (List
 
     -- the replay of the events gives lawful nodes, by the two nodes that are merged, if any
     pub record Out (join : Option ℕ) : Type 0 where
-      pub replayed : replay_plain cmp ns (removal_event (node_at ns k) i x ∷ option_map_or (λ j. merge_event (item_removed ns k i) x j ∷ []) join []) ≡ Some (option_map_or (with_merged (item_removed ns k i)) join (item_removed ns k i))
+      pub replayed : replay_plain cmp ns
+          (removal_event (node_at ns k) i x ∷ option_map_or (λ j. merge_event (item_removed ns k i) x j ∷ []) join [])
+          ≡ Some (option_map_or (with_merged (item_removed ns k i)) join (item_removed ns k i))
       pub ruled : Ruled cmp (option_map_or (with_merged (item_removed ns k i)) join (item_removed ns k i))
       pub small : Each (λ n. length n ≤ size) (option_map_or (with_merged (item_removed ns k i)) join (item_removed ns k i))
       pub same : concat (option_map_or (with_merged (item_removed ns k i)) join (item_removed ns k i)) ≡ concat (item_removed ns k i)

@@ -12,7 +12,9 @@ use Rattle.indexset_core.proofs.CallerLemmas.{concat-append, less_from}
 use Rattle.indexset_events.specs.Nodes.{last_of, is_filled}
 use Rattle.indexset_events.specs.Replay.{reaches, replay_plain}
 use Rattle.indexset_events.specs.Table.{target, node_events, is_after_last}
-use Rattle.indexset_events.proofs.AscendingListLemmas.{Each, each-append, each-left, each-right, each-map, each_last, ends_by, Up, up-left, up-right, up-between, Ruled, lesser, equal_below, upto_last, around, parts-put, put-within}
+use Rattle.indexset_events.proofs.AscendingListLemmas.{Each, each-append, each-left, each-right, each-map, each_last}
+use Rattle.indexset_events.proofs.AscendingListLemmas.{ends_by, Up, up-left, up-right, up-between, Ruled, lesser}
+use Rattle.indexset_events.proofs.AscendingListLemmas.{equal_below, upto_last, around, parts-put, put-within}
 use Rattle.indexset_events.proofs.StepLemmas.{At, at_ruled, ruled_at, place_at, unreached}
 use Rattle.indexset_events.proofs.NodeEventLemmas.{puts}
 
@@ -73,10 +75,14 @@ module _ {T : Type 0} (cmp : T → T → Ordering) (o : IsTotalOrder cmp) (v : T
         | true ↦ λ e. hit [] n (m ∷ ns) tt (over_rest n (concat (m ∷ ns)) filled.0 ruled.up (reaching n filled.0 e)) (inl e)
         | false ↦ λ e.
             let low = upto_last cmp o n v v (up-left cmp n (concat (m ∷ ns)) ruled.up) (not_reaching n filled.0 e) in
-            aim (λ q. P (n ∷ q)) (λ b c a below above stop. hit (n ∷ b) c a (each-append _ n (concat b) low below) above stop) m ns (record { filled = filled.1; up = up-right cmp n (concat (m ∷ ns)) ruled.up })
+            aim (λ q. P (n ∷ q))
+            (λ b c a below above stop. hit (n ∷ b) c a (each-append _ n (concat b) low below) above stop) m ns
+            (record { filled = filled.1; up = up-right cmp n (concat (m ∷ ns)) ruled.up })
       ] refl
 
-  pub target_at : (b : List (List T)) (n : List T) (a : List (List T)) → At cmp o b n a → Each (λ x. cmp x v ≡ Less) (concat b) → (reaches cmp v n ≡ true) ⊎ (a ≡ []) → target cmp (b ++ n ∷ a) v ≡ length b
+  pub target_at : (b : List (List T)) (n : List T) (a : List (List T)) → At cmp o b n a
+      → Each (λ x. cmp x v ≡ Less) (concat b) → (reaches cmp v n ≡ true) ⊎ (a ≡ [])
+      → target cmp (b ++ n ∷ a) v ≡ length b
   target_at b n a at low stop =
       let before = unreached cmp o v b at.before low in
       let size = length-append b (n ∷ a) in

@@ -1,5 +1,7 @@
 -- The replay of the table's numbered events, from any lawful nodes.
-use Rattle.std.proofs.Common.{◌≡◌, ℕ, zero, suc, ◌+◌, ◌≤◌, true, false, if◌then◌else◌, List, [], ◌∷◌, ◌++◌, length, get_or, Option, Some, None, Ordering, option_and_then, ◌||◌, refl, ap, sym, ◌∙◌, subst, inl, inr, arith, length-append, ◌-◌, set, map, Result, Ok, Err, OnOk}
+use Rattle.std.proofs.Common.{◌≡◌, ℕ, zero, suc, ◌+◌, ◌≤◌, true, false, if◌then◌else◌, List, [], ◌∷◌, ◌++◌}
+use Rattle.std.proofs.Common.{length, get_or, Option, Some, None, Ordering, option_and_then, ◌||◌, refl, ap, sym}
+use Rattle.std.proofs.Common.{◌∙◌, subst, inl, inr, arith, length-append, ◌-◌, set, map, Result, Ok, Err, OnOk}
 use Rattle.std.proofs.lemmas.List.{get_or_append_left, map-set}
 use Rattle.std.proofs.lemmas.Bool.{cases_lt, false≢true}
 use Rattle.std.proofs.Math.Seq.{get_or-append_right}
@@ -31,7 +33,11 @@ number_on s (RemoveNode m) = refl
 number_on s (SplitNode m k) = refl
 number_on s (MergeNodes m w) = refl
 
-numbered_rest : {T : Type 0} (cmp : T → T → Ordering) (s : ℕ) (es : List (ChangeEventUnassigned T)) (r : Option (List (List T))) → ((ns : List (List T)) → replay cmp ns (numbered_from (s + 1) es) ≡ replay_plain cmp ns es) → option_and_then (λ ns. replay cmp ns (numbered_from (s + 1) es)) r ≡ option_and_then (λ ns. replay_plain cmp ns es) r
+numbered_rest : {T : Type 0} (cmp : T → T → Ordering) (s : ℕ) (es : List (ChangeEventUnassigned T))
+    (r : Option (List (List T)))
+    → ((ns : List (List T)) → replay cmp ns (numbered_from (s + 1) es) ≡ replay_plain cmp ns es)
+    → option_and_then (λ ns. replay cmp ns (numbered_from (s + 1) es)) r
+    ≡ option_and_then (λ ns. replay_plain cmp ns es) r
 numbered_rest cmp s es None h = refl
 numbered_rest cmp s es (Some ns) h = h ns
 
@@ -99,7 +105,10 @@ no_last [] full h = false≢true full
 no_last (x ∷ xs) full h = let some = slice_get-get_or (x ∷ xs) (length (x ∷ xs) - 1) x (omega arith) in cc
 
 -- events in two parts
-replay_rest : {T : Type 0} (cmp : T → T → Ordering) (a b : List (ChangeEvent T)) (o : Option (List (List T))) → ((ns : List (List T)) → replay cmp ns (a ++ b) ≡ option_and_then (λ r. replay cmp r b) (replay cmp ns a)) → option_and_then (λ r. replay cmp r (a ++ b)) o ≡ option_and_then (λ r. replay cmp r b) (option_and_then (λ r. replay cmp r a) o)
+replay_rest : {T : Type 0} (cmp : T → T → Ordering) (a b : List (ChangeEvent T)) (o : Option (List (List T)))
+    → ((ns : List (List T)) → replay cmp ns (a ++ b) ≡ option_and_then (λ r. replay cmp r b) (replay cmp ns a))
+    → option_and_then (λ r. replay cmp r (a ++ b)) o
+    ≡ option_and_then (λ r. replay cmp r b) (option_and_then (λ r. replay cmp r a) o)
 replay_rest cmp a b None h = refl
 replay_rest cmp a b (Some ns) h = h ns
 
@@ -108,14 +117,19 @@ replay-append cmp ns [] b = refl
 replay-append cmp ns (e ∷ a) b = replay_rest cmp a b (step cmp ns e) (λ r. replay-append cmp r a b)
 
 -- a list without merges
-without_merges_rest : {T : Type 0} (cmp : T → T → Ordering) (es : List (ChangeEvent T)) (o : Option (List (List T))) → ((ns : List (List T)) → replay_without_merges cmp ns es ≡ replay cmp ns es) → option_and_then (λ r. replay_without_merges cmp r es) o ≡ option_and_then (λ r. replay cmp r es) o
+without_merges_rest : {T : Type 0} (cmp : T → T → Ordering) (es : List (ChangeEvent T)) (o : Option (List (List T)))
+    → ((ns : List (List T)) → replay_without_merges cmp ns es ≡ replay cmp ns es)
+    → option_and_then (λ r. replay_without_merges cmp r es) o ≡ option_and_then (λ r. replay cmp r es) o
 without_merges_rest cmp es None h = refl
 without_merges_rest cmp es (Some ns) h = h ns
 
 pub without_merges_same : {T : Type 0} (cmp : T → T → Ordering) (ns : List (List T)) (es : List (ChangeEvent T)) → list_any is_merge es ≡ false → replay_without_merges cmp ns es ≡ replay cmp ns es
 without_merges_same cmp ns [] none = refl
 without_merges_same cmp ns (e ∷ es) none =
-    elim (is_merge e) as (λ b. is_merge e ≡ b → (b || list_any is_merge es) ≡ false → option_and_then (λ r. replay_without_merges cmp r es) (if b then None else step cmp ns e) ≡ option_and_then (λ r. replay cmp r es) (step cmp ns e)) [
+    elim (is_merge e)
+    as (λ b. is_merge e ≡ b → (b || list_any is_merge es) ≡ false
+    → option_and_then (λ r. replay_without_merges cmp r es) (if b then None else step cmp ns e)
+    ≡ option_and_then (λ r. replay cmp r es) (step cmp ns e)) [
       | true ↦ λ is h. absurd (false≢true (sym h))
       | false ↦ λ is h. without_merges_rest cmp es (step cmp ns e) (λ r. without_merges_same cmp r es h)
     ] refl none

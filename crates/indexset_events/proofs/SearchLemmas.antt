@@ -16,7 +16,8 @@ use Rattle.indexset_core.specs.Parted.{IsParted}
 use Rattle.indexset_core.specs.LookupKey.{OrdersAsItem, acts_as_itself}
 
 -- as the code returns it
-module _ {T Q : Type 0} {cmp : T → T → Ordering} {order : T → Q → Ordering} {among : Q → Q → Ordering} (acts : OrdersAsItem cmp order among) (v : Q) (size : ℕ) (ns : List (List T)) (law : IsLawful cmp size ns) where
+module _ {T Q : Type 0} {cmp : T → T → Ordering} {order : T → Q → Ordering} {among : Q → Q → Ordering}
+    (acts : OrdersAsItem cmp order among) (v : Q) (size : ℕ) (ns : List (List T)) (law : IsLawful cmp size ns) where
   abbrev answer : T → Ordering
   answer x = order x v
 
@@ -40,10 +41,14 @@ module _ {T Q : Type 0} {cmp : T → T → Ordering} {order : T → Q → Orderi
   sought_told (Err p) e = gap_found answer ns (lawful_filled cmp size ns law) parted (Err p) e p refl
 
 -- the same for an item
-pub found_at : {T : Type 0} (cmp : T → T → Ordering) → IsTotalOrder cmp → (v : T) (size : ℕ) (ns : List (List T)) → IsLawful cmp size ns → (r : Result (ℕ × ℕ) (ℕ × ℕ)) → r ≡ located (λ x. cmp x v) ns → (p : ℕ × ℕ) → r ≡ Ok p → IsFoundIn cmp ns v p.0 p.1
+pub found_at : {T : Type 0} (cmp : T → T → Ordering) → IsTotalOrder cmp → (v : T) (size : ℕ) (ns : List (List T))
+    → IsLawful cmp size ns → (r : Result (ℕ × ℕ) (ℕ × ℕ)) → r ≡ located (λ x. cmp x v) ns → (p : ℕ × ℕ) → r ≡ Ok p
+    → IsFoundIn cmp ns v p.0 p.1
 found_at cmp o v size ns law = sought_at (acts_as_itself o) v size ns law
 
-pub found_is : {T Q : Type 0} (cmp : T → Q → Ordering) (v : Q) (ns : List (List T)) (s : Option (ℕ × ℕ)) → MatchOption s (equal_element cmp (concat ns) v ≡ None) (λ p. IsFoundIn cmp ns v p.0 p.1) → is_some s ≡ has_equal cmp (concat ns) v
+pub found_is : {T Q : Type 0} (cmp : T → Q → Ordering) (v : Q) (ns : List (List T)) (s : Option (ℕ × ℕ))
+    → MatchOption s (equal_element cmp (concat ns) v ≡ None) (λ p. IsFoundIn cmp ns v p.0 p.1)
+    → is_some s ≡ has_equal cmp (concat ns) v
 found_is cmp v ns None h = ap is_some (sym h) ∙ is_some-find (λ x. is_eq (cmp x v)) (concat ns)
 found_is cmp v ns (Some p) h = ap is_some (sym (some_read (node_at ns p.0) p.1 h.here.inside).1 ∙ h.item) ∙ is_some-find (λ x. is_eq (cmp x v)) (concat ns)
 

@@ -1,5 +1,7 @@
 -- The effect of one event on one node.
-use Rattle.std.proofs.Common.{◌≡◌, suc, ◌+◌, ◌≤◌, Bool, true, false, if◌then◌else◌, List, [], ◌∷◌, ◌++◌, ◌&&◌, length, get_or, take, drop, set, insert, remove, ltb, leb, Option, Some, None, Ordering, refl, ap, sym, ◌∙◌, subst, arith, append_assoc, length-append}
+use Rattle.std.proofs.Common.{◌≡◌, suc, ◌+◌, ◌≤◌, Bool, true, false, if◌then◌else◌, List, [], ◌∷◌, ◌++◌}
+use Rattle.std.proofs.Common.{◌&&◌, length, get_or, take, drop, set, insert, remove, ltb, leb, Option, Some}
+use Rattle.std.proofs.Common.{None, Ordering, refl, ap, sym, ◌∙◌, subst, arith, append_assoc, length-append}
 use Rattle.std.specs.declared.cmp.Ordering.TheVariants.{Less}
 use Rattle.std.specs.List.{position, position_or_len, splice}
 use Rattle.std.specs.Ordering.{is_eq}
@@ -15,7 +17,10 @@ use Rattle.indexset_core.proofs.CallerLemmas.{concat-append}
 use Rattle.indexset_events.specs.Merging.{with_merged}
 use Rattle.indexset_events.specs.Nodes.{last_of, is_filled}
 use Rattle.indexset_events.specs.Replay.{has_name, node_named, at_named, reaches, edit, step_plain}
-use Rattle.indexset_events.proofs.AscendingListLemmas.{Each, each-append, each-left, each-right, each-map, each_last, ends_by, last_any, filled-append, Up, up-between, up_drop, up_cross, up_put, Ruled, greater, filled_length, length_filled, ruled_tested}
+use Rattle.indexset_events.proofs.AscendingListLemmas.{Each, each-append, each-left, each-right, each-map}
+use Rattle.indexset_events.proofs.AscendingListLemmas.{each_last, ends_by, last_any, filled-append, Up}
+use Rattle.indexset_events.proofs.AscendingListLemmas.{up-between, up_drop, up_cross, up_put, Ruled}
+use Rattle.indexset_events.proofs.AscendingListLemmas.{greater, filled_length, length_filled, ruled_tested}
 
 -- the first index that passes, by the parts around it
 pub place_at : {X : Type 0} (p : X → Bool) (b : List X) (n : X) (a : List X) → Each (λ x. p x ≡ false) b → p n ≡ true → position_or_len p (b ++ n ∷ a) ≡ length b
@@ -106,11 +111,15 @@ module _ {T : Type 0} (cmp : T → T → Ordering) (o : IsTotalOrder cmp) where
   pub named_at : (b : List (List T)) (n : List T) (a : List (List T)) (d : T) → At b n a → node_named cmp (b ++ n ∷ a) (last_of n d) ≡ Some (length b)
   named_at b n a d h =
       let m = last_of n d in
-      let low : Each (λ x. cmp x m ≡ Less) (concat b) = each-map _ _ (λ x k. each_last (λ y. cmp x y ≡ Less) n d h.here (each-left _ n (concat a) k)) (concat b) (up-between cmp (concat b) (n ++ concat a) h.up) in
+      let low : Each (λ x. cmp x m ≡ Less) (concat b) =
+      each-map _ _ (λ x k. each_last (λ y. cmp x y ≡ Less) n d h.here (each-left _ n (concat a) k)) (concat b)
+      (up-between cmp (concat b) (n ++ concat a) h.up) in
       let own : has_name cmp m n ≡ true = rw (h.here, last_any n m d h.here, tied_itself o m) refl in
       position_at (has_name cmp m) b n a (unnamed m b h.before low) own
 
-  pub named_parts : (b : List (List T)) (n : List T) (a : List (List T)) (d : T) (f : List T → Option (List (List T))) (parts : List (List T)) → At b n a → f n ≡ Some parts → at_named cmp (b ++ n ∷ a) (last_of n d) f ≡ Some (b ++ (parts ++ a))
+  pub named_parts : (b : List (List T)) (n : List T) (a : List (List T)) (d : T)
+      (f : List T → Option (List (List T))) (parts : List (List T))
+      → At b n a → f n ≡ Some parts → at_named cmp (b ++ n ∷ a) (last_of n d) f ≡ Some (b ++ (parts ++ a))
   named_parts b n a d f parts h e = rw (named_at b n a d h, get_or-append_seam b n a [], e, splice_at b n a parts) refl
 
   -- an edit that gives a node list is a step
@@ -131,7 +140,9 @@ module _ {T : Type 0} (cmp : T → T → Ordering) (o : IsTotalOrder cmp) where
         } in
         (now, edit_step _ _ _ (named_parts b n a d (λ n. Some []) [] h refl) now)
 
-    pub create_step : (v : T) → Ruled cmp (b ++ a) → Each (λ x. cmp x v ≡ Less) (concat b) → Each (λ x. cmp v x ≡ Less) (concat a) → At b (v ∷ []) a × (step_plain cmp (b ++ a) (CreateNode v) ≡ Some (b ++ (v ∷ []) ∷ a))
+    pub create_step : (v : T) → Ruled cmp (b ++ a) → Each (λ x. cmp x v ≡ Less) (concat b)
+        → Each (λ x. cmp v x ≡ Less) (concat a)
+        → At b (v ∷ []) a × (step_plain cmp (b ++ a) (CreateNode v) ≡ Some (b ++ (v ∷ []) ∷ a))
     create_step v h low high =
         let before = each-left _ b a h.filled in
         let after = each-right _ b a h.filled in
@@ -144,7 +155,11 @@ module _ {T : Type 0} (cmp : T → T → Ordering) (o : IsTotalOrder cmp) where
         let place : position_or_len (reaches cmp v) (b ++ a) ≡ length b = place_seam (reaches cmp v) b a (unreached v b before low) (reached v a after high) in
         (now, edit_step _ _ _ (rw place (ap Some (insert_at b a (v ∷ [])))) (at_ruled b (v ∷ []) a now))
 
-    pub insert_step : (l r : List T) (v d : T) → At b (l ++ r) a → Each (λ x. cmp x v ≡ Less) (concat b ++ l) → Each (λ x. cmp v x ≡ Less) (r ++ concat a) → At b (l ++ v ∷ r) a × (step_plain cmp (b ++ (l ++ r) ∷ a) (InsertAt (last_of (l ++ r) d) v (length l)) ≡ Some (b ++ (l ++ v ∷ r) ∷ a))
+    pub insert_step : (l r : List T) (v d : T) → At b (l ++ r) a → Each (λ x. cmp x v ≡ Less) (concat b ++ l)
+        → Each (λ x. cmp v x ≡ Less) (r ++ concat a)
+        → At b (l ++ v ∷ r) a
+        × (step_plain cmp (b ++ (l ++ r) ∷ a) (InsertAt (last_of (l ++ r) d) v (length l))
+        ≡ Some (b ++ (l ++ v ∷ r) ∷ a))
     insert_step l r v d h low high =
         let now : At b (l ++ v ∷ r) a = record {
           before = h.before;
@@ -152,10 +167,19 @@ module _ {T : Type 0} (cmp : T → T → Ordering) (o : IsTotalOrder cmp) where
           after = h.after;
           up = rw (regroup l (v ∷ r)) (up_put cmp (concat b ++ l) v (r ++ concat a) low high (subst (Up cmp) (regroup l r) h.up));
         } in
-        let fits : leb (length l) (length (l ++ r)) ≡ true = le-leb _ _ (rw (length-append l r) (omega arith)) in
-        (now, edit_step _ _ _ (named_parts b (l ++ r) a d (λ n. if leb (length l) (length n) then Some (insert n (length l) v ∷ []) else None) ((l ++ v ∷ r) ∷ []) h (rw (fits, insert_at l r v) refl)) (at_ruled b (l ++ v ∷ r) a now))
+        let fits : leb (length l) (length (l ++ r)) ≡ true = le-leb _ _ (rw (length-append l r) (omega arith)) in (
+          now,
+          edit_step _ _ _
+              (named_parts b (l ++ r) a d
+              (λ n. if leb (length l) (length n) then Some (insert n (length l) v ∷ []) else None) ((l ++ v ∷ r) ∷ []) h
+              (rw (fits, insert_at l r v) refl))
+              (at_ruled b (l ++ v ∷ r) a now),
+        )
 
-    pub remove_step : (l : List T) (x : T) (r : List T) (d : T) → At b (l ++ x ∷ r) a → is_filled (l ++ r) ≡ true → At b (l ++ r) a × (step_plain cmp (b ++ (l ++ x ∷ r) ∷ a) (RemoveAt (last_of (l ++ x ∷ r) d) x (length l)) ≡ Some (b ++ (l ++ r) ∷ a))
+    pub remove_step : (l : List T) (x : T) (r : List T) (d : T) → At b (l ++ x ∷ r) a → is_filled (l ++ r) ≡ true
+        → At b (l ++ r) a
+        × (step_plain cmp (b ++ (l ++ x ∷ r) ∷ a) (RemoveAt (last_of (l ++ x ∷ r) d) x (length l))
+        ≡ Some (b ++ (l ++ r) ∷ a))
     remove_step l x r d h full =
         let now : At b (l ++ r) a = record {
           before = h.before;
@@ -165,10 +189,19 @@ module _ {T : Type 0} (cmp : T → T → Ordering) (o : IsTotalOrder cmp) where
         } in
         let some : 1 ≤ length l + length r = omega (arith, filled_length (l ++ r) full, length-append l r) in
         let long : leb 2 (length (l ++ x ∷ r)) ≡ true = le-leb _ _ (rw (length-append l (x ∷ r)) (omega arith)) in
-        let inside : ltb (length l) (length (l ++ x ∷ r)) ≡ true = lt-ltb _ _ (rw (length-append l (x ∷ r)) (omega arith)) in
-        (now, edit_step _ _ _ (named_parts b (l ++ x ∷ r) a d (λ n. if (leb 2 (length n) && ltb (length l) (length n)) && is_eq (cmp (get_or n (length l) x) x) then Some (remove n (length l) ∷ []) else None) ((l ++ r) ∷ []) h (rw (long, inside, get_or-append_seam l x r x, tied_itself o x, remove_at l x r) refl)) (at_ruled b (l ++ r) a now))
+        let inside : ltb (length l) (length (l ++ x ∷ r)) ≡ true = lt-ltb _ _ (rw (length-append l (x ∷ r)) (omega arith)) in (
+          now,
+          edit_step _ _ _
+              (named_parts b (l ++ x ∷ r) a d
+              (λ n. if (leb 2 (length n) && ltb (length l) (length n)) && is_eq (cmp (get_or n (length l) x) x)
+              then Some (remove n (length l) ∷ []) else None)
+              ((l ++ r) ∷ []) h (rw (long, inside, get_or-append_seam l x r x, tied_itself o x, remove_at l x r) refl))
+              (at_ruled b (l ++ r) a now),
+        )
 
-    pub split_step : (l r : List T) (d : T) → At b (l ++ r) a → is_filled l ≡ true → is_filled r ≡ true → Ruled cmp (b ++ l ∷ r ∷ a) × (step_plain cmp (b ++ (l ++ r) ∷ a) (SplitNode (last_of (l ++ r) d) (length l)) ≡ Some (b ++ l ∷ r ∷ a))
+    pub split_step : (l r : List T) (d : T) → At b (l ++ r) a → is_filled l ≡ true → is_filled r ≡ true
+        → Ruled cmp (b ++ l ∷ r ∷ a)
+        × (step_plain cmp (b ++ (l ++ r) ∷ a) (SplitNode (last_of (l ++ r) d) (length l)) ≡ Some (b ++ l ∷ r ∷ a))
     split_step l r d h left right =
         let now : Ruled cmp (b ++ l ∷ r ∷ a) = record {
           filled = each-append _ b (l ∷ r ∷ a) h.before (left, (right, h.after));
@@ -177,8 +210,15 @@ module _ {T : Type 0} (cmp : T → T → Ordering) (o : IsTotalOrder cmp) where
         let some : 1 ≤ length l = filled_length l left in
         let more : 1 ≤ length r = filled_length r right in
         let low : ltb 0 (length l) ≡ true = lt-ltb _ _ (omega arith) in
-        let high : ltb (length l) (length (l ++ r)) ≡ true = lt-ltb _ _ (rw (length-append l r) (omega arith)) in
-        (now, edit_step _ _ _ (named_parts b (l ++ r) a d (λ n. if ltb 0 (length l) && ltb (length l) (length n) then Some (take (length l) n ∷ drop (length l) n ∷ []) else None) (l ∷ r ∷ []) h (rw (low, high, take-append_seam l r, drop-append_seam l r) refl)) now)
+        let high : ltb (length l) (length (l ++ r)) ≡ true = lt-ltb _ _ (rw (length-append l r) (omega arith)) in (
+          now,
+          edit_step _ _ _
+              (named_parts b (l ++ r) a d
+              (λ n. if ltb 0 (length l) && ltb (length l) (length n)
+              then Some (take (length l) n ∷ drop (length l) n ∷ []) else None)
+              (l ∷ r ∷ []) h (rw (low, high, take-append_seam l r, drop-append_seam l r) refl))
+              now,
+        )
 
     -- the merge of a node with the next one
     pub merge_step : (l r : List T) (d e : T) → Ruled cmp (b ++ l ∷ r ∷ a) → At b (l ++ r) a × (step_plain cmp (b ++ l ∷ r ∷ a) (MergeNodes (last_of l d) (last_of r e)) ≡ Some (b ++ (l ++ r) ∷ a))
@@ -193,5 +233,7 @@ module _ {T : Type 0} (cmp : T → T → Ordering) (o : IsTotalOrder cmp) where
         } in
         let regrouped : (b ++ l ∷ []) ++ r ∷ a ≡ b ++ l ∷ r ∷ a = append_assoc b (l ∷ []) (r ∷ a) in
         let second = ruled_at (b ++ l ∷ []) r a (subst (Ruled cmp) (sym regrouped) h) in
-        let next : node_named cmp (b ++ l ∷ r ∷ a) (last_of r e) ≡ Some (length b + 1) = subst (λ q. node_named cmp q (last_of r e) ≡ Some (length b + 1)) regrouped (named_at (b ++ l ∷ []) r a e second ∙ ap Some (length-append b (l ∷ []))) in
+        let next : node_named cmp (b ++ l ∷ r ∷ a) (last_of r e) ≡ Some (length b + 1) =
+        subst (λ q. node_named cmp q (last_of r e) ≡ Some (length b + 1)) regrouped
+        (named_at (b ++ l ∷ []) r a e second ∙ ap Some (length-append b (l ∷ []))) in
         (now, edit_step _ _ _ (rw (named_at b l (r ∷ a) d first, next, eq-eqb (length b + 1) (length b + 1) refl, joined_seam b l r a) refl) (at_ruled b (l ++ r) a now))

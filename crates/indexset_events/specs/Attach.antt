@@ -1,11 +1,13 @@
 -- Insertion of whole nodes.
-use Rattle.std.specs.Prelude.{ℕ, Bool, not, ◌||◌, List, [], ◌∷◌, length, insert, if◌then◌else◌, nat_lt, Option, Some, None, count_by}
+use Rattle.std.specs.Prelude.{ℕ, Bool, not, ◌||◌, List, [], ◌∷◌, length, insert}
+use Rattle.std.specs.Prelude.{if◌then◌else◌, nat_lt, Option, Some, None, count_by}
 use Rattle.std.specs.List.{list_all}
 use Rattle.std.specs.Option.{option_or}
 use Rattle.std.specs.Ordering.{is_lt}
 use Rattle.std.specs.declared.cmp.Ordering.{Ordering}
 use Rattle.indexset_core.specs.declared.refusal.Refusal.{Refusal}
-use Rattle.indexset_core.specs.declared.refusal.Refusal.TheVariants.{Empty, TooLarge, Unsorted, Overlaps}
+use Rattle.indexset_core.specs.declared.refusal.Refusal.TheVariants.{Empty, TooLarge}
+use Rattle.indexset_core.specs.declared.refusal.Refusal.TheVariants.{Unsorted, Overlaps}
 use Rattle.indexset_events.specs.Nodes.{is_filled, is_ascending}
 
 module _ {T : Type 0} (cmp : T → T → Ordering) where
@@ -36,7 +38,8 @@ module _ {T : Type 0} (cmp : T → T → Ordering) where
 
   -- the error of n as the node after m: the first that applies, if any
   abbrev pub follow_refusal : ℕ → List T → List T → Option Refusal
-  follow_refusal size m n = option_or (attach_refusal size [] n) (if lies_below m n then None else Some Overlaps)
+  follow_refusal size m n =
+      option_or (attach_refusal size [] n) (if lies_below m n then None else Some Overlaps)
 
   -- the error of the nodes after m: that of the first node that has one, if any
   abbrev pub refusal_after : ℕ → List T → List (List T) → Option Refusal

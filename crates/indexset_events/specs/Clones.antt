@@ -29,5 +29,6 @@ abbrev pub IsEventClone : {T : Type 0} → (T → T → Type 0) → ChangeEvent 
 IsEventClone C e f = (event_shape f ≡ event_shape e) × AllZip C (event_items e) (event_items f)
 
 -- the events are those of the table, numbered from s, with clones in the place of their items
-abbrev pub AreTableEvents : {T : Type 0} → (T → T → Type 0) → ℕ → List (ChangeEventUnassigned T) → List (ChangeEvent T) → Type 0
+abbrev pub AreTableEvents : {T : Type 0} → (T → T → Type 0) → ℕ → List (ChangeEventUnassigned T)
+    → List (ChangeEvent T) → Type 0
 AreTableEvents C s table events = AllZip (IsEventClone C) (numbered_from s table) events

@@ -15,5 +15,7 @@ module _ {T : Type 0} where
     pub before : items_before ns p ≡ i
 
   -- the events of the removal of the item at position i, if any
-  unfoldable pub removal_events_at : (T → T → Ordering) → ℕ → List (List T) → ℕ → List (ChangeEventUnassigned T)
-  removal_events_at cmp size ns i = option_map_or (λ x. removal_events cmp size ns x) (slice_get (concat ns) i) []
+  unfoldable pub removal_events_at : (T → T → Ordering) → ℕ → List (List T) → ℕ
+      → List (ChangeEventUnassigned T)
+  removal_events_at cmp size ns i =
+      option_map_or (λ x. removal_events cmp size ns x) (slice_get (concat ns) i) []

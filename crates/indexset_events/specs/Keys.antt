@@ -7,7 +7,8 @@ use Rattle.indexset_events.specs.Table.{removal_events}
 
 module _ {K V : Type 0} where
   -- the events of the removal of the pair of the key, if any
-  abbrev pub key_removal_events : {Q : Type 0} → (K → Q → Ordering) → ℕ → List (List (Pair K V)) → Q → List (ChangeEventUnassigned (Pair K V))
+  abbrev pub key_removal_events : {Q : Type 0} → (K → Q → Ordering) → ℕ → List (List (Pair K V))
+      → Q → List (ChangeEventUnassigned (Pair K V))
   key_removal_events cmp size ns k = removal_events (λ p q. cmp p.key q) size ns k
 
   -- q is p with clones of its key and its value

@@ -27,4 +27,5 @@ are_nodes cmp ns = list_all is_filled ns && is_ascending cmp (concat ns)
 
 -- the total is the sum of the capacities of nodes with these items, at most MAX
 abbrev pub AddsUp : {N T : Type 0} → (N → List T) → (N → ℕ) → List (List T) → ℕ → Type 0
-AddsUp {N} list room lists total = (ns : List N) × (map list ns ≡ lists) × (total ≡ min MAX (sum_by room ns))
+AddsUp {N} list room lists total =
+    (ns : List N) × (map list ns ≡ lists) × (total ≡ min MAX (sum_by room ns))

@@ -1,7 +1,8 @@
 //! Laws of the definitions that the contracts of this crate cite. Each function does nothing; its
 //! contract is the law, which holds for all values, and so for the calls that cite the same
 //! definitions.
-ghost use Rattle.std.specs.Prelude.{◌≡◌, ℕ, ◌+◌, ◌-◌, ◌*◌, ◌/◌, ◌<◌, ◌≤◌, true, false, List, [], ◌∷◌, ◌++◌, length, map, Some, None};
+ghost use Rattle.std.specs.Prelude.{◌≡◌, ℕ, ◌+◌, ◌-◌, ◌*◌, ◌/◌, ◌<◌, ◌≤◌, true, false};
+ghost use Rattle.std.specs.Prelude.{List, [], ◌∷◌, ◌++◌, length, map, Some, None};
 ghost use Rattle.std.specs.List.{All, list_any};
 ghost use Rattle.std.specs.Option.{option_and_then};
 ghost use Rattle.std.specs.Ordering.{nat_cmp};
@@ -13,14 +14,25 @@ ghost use Rattle.indexset_events.specs.EventText.{EventInRange, event_reading, e
 ghost use Rattle.indexset_events.specs.Merging.{IsDense, merge_after};
 ghost use Rattle.indexset_events.specs.Keys.{key_removal_events};
 ghost use Rattle.indexset_events.specs.Nodes.{are_nodes};
-ghost use Rattle.indexset_events.specs.Replay.{step, step_plain, replay, numbered_from, unassigned, IsNumberedFrom};
+ghost use Rattle.indexset_events.specs.Replay.{step, step_plain, replay, numbered_from};
+ghost use Rattle.indexset_events.specs.Replay.{unassigned, IsNumberedFrom};
 ghost use Rattle.indexset_events.specs.Spelling.{lacks};
-ghost use Rattle.indexset_events.specs.Table.{checked_put_events, put_events, removal_events, place_removal_count};
+ghost use Rattle.indexset_events.specs.Table.{checked_put_events, put_events};
+ghost use Rattle.indexset_events.specs.Table.{removal_events, place_removal_count};
 ghost use Rattle.indexset_events.specs.Text.{event_shown};
 ghost use Rattle.indexset_events.specs.WithoutMerges.{is_merge, replay_without_merges};
 ghost use Rattle.indexset_events.specs.declared.change.ChangeEvent.{ChangeEvent};
-ghost use Rattle.indexset_events.specs.declared.change.ChangeEventUnassigned.{ChangeEventUnassigned};
-ghost use Rattle.indexset_events.specs.declared.change.ChangeEventUnassigned.TheVariants.{InsertAt, RemoveAt, CreateNode, RemoveNode, SplitNode, MergeNodes};
+ghost use Rattle.indexset_events.specs.declared.change.ChangeEventUnassigned.{
+  ChangeEventUnassigned,
+};
+ghost use Rattle.indexset_events.specs.declared.change.ChangeEventUnassigned.TheVariants.{
+  InsertAt,
+  RemoveAt,
+  CreateNode,
+  RemoveNode,
+  SplitNode,
+  MergeNodes,
+};
 
 use crate::spelling::Spelled;
 
@@ -156,7 +168,8 @@ pub fn three_events<T: Ord>()
         length (removal_events T.cmp size ns v) ≤ 3 }
     ensures removal_at { (size : ℕ) (ns : List (List T)) (i : ℕ) →
         length (removal_events_at T.cmp size ns i) ≤ 3 }
-    ensures taking { (size : ℕ) (ns : List (List T)) (k i : ℕ) → place_removal_count size ns k i ≤ 3 }
+    ensures taking { (size : ℕ) (ns : List (List T)) (k i : ℕ)
+        → place_removal_count size ns k i ≤ 3 }
 {}
 
 /// A removal by key emits at most three events.

@@ -1,5 +1,6 @@
 //! Tests of whole nodes.
-ghost use Rattle.std.specs.Prelude.{◌≡◌, ◌<◌, true, length, map, slice_get, ◌-◌, None, Some, IsOk, OnOk, IfErr};
+ghost use Rattle.std.specs.Prelude.{◌≡◌, ◌<◌, true, length, map, slice_get};
+ghost use Rattle.std.specs.Prelude.{◌-◌, None, Some, IsOk, OnOk, IfErr};
 ghost use Rattle.std.specs.Option.{option_map_or};
 ghost use Rattle.std.specs.Ordering.{is_lt};
 ghost use Rattle.indexset_core.specs.Nodes.{IsLawful};

@@ -26,7 +26,9 @@ use Rattle.indexset_log.proofs.map.BTreeMap.TheLaws as logged
 use Rattle.indexset_multi.proofs.multimap.BTreeMultiMap.TheLaws as multi
 use Rattle.indexset_replica.proofs.Replica.TheLaws as replica
 use Rattle.indexset_ffi.proofs.text_log.TextLog.TheLaws as text_log
-use Rattle.indexset_ffi.specs.Slots.{log_row, map_row, multi_pair_row, multi_row, node_row, nodes, pair_row, pairs_cloned, pairs_compare, pairs_equal, pairs_partial, replica_row, set_row, text_log_row}
+use Rattle.indexset_ffi.specs.Slots.{log_row, map_row, multi_pair_row, multi_row, node_row}
+use Rattle.indexset_ffi.specs.Slots.{nodes, pair_row, pairs_cloned, pairs_compare, pairs_equal}
+use Rattle.indexset_ffi.specs.Slots.{pairs_partial, replica_row, set_row, text_log_row}
 
 number_laws : Laws u64
 number_laws = of_field u64-field u64-laws refl (copy_shared u64-field u64-copy)

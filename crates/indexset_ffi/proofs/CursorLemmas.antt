@@ -51,7 +51,8 @@ module _ {X : Type 0} (ns : List (List X)) (c : Cursor) where
   few count h = omega (arith, h, within, length-drop (cursor_position lengths c) (concat ns))
 
 -- a cursor in a node that was read, with the offset o
-module _ {X Z : Type 0} (vs : List (Vec X Z)) (c : Cursor) (v : Vec X Z) (len o : ℕ) (inside : c.node < length vs) (read : v ≡ get_or vs c.node v) (long : len ≡ length v.items) (least : o ≡ min c.offset len) where
+module _ {X Z : Type 0} (vs : List (Vec X Z)) (c : Cursor) (v : Vec X Z) (len o : ℕ) (inside : c.node < length vs)
+    (read : v ≡ get_or vs c.node v) (long : len ≡ length v.items) (least : o ≡ min c.offset len) where
   abbrev ns : List (List X)
   ns = vec_items vs
 

@@ -23,7 +23,8 @@ same_tree : {T : Type 0} (a b : Tree T) → a.nodes ≡ b.nodes → a.size ≡ b
 same_tree a b nodes size next = λ i. record { nodes = nodes i; size = size i; next = next i }
 
 -- the map is unchanged
-pub kept_tree : {K V Q : Type 0} (cmp : K → K → Ordering) (order : K → Q → Ordering) (t u : Tree (Pair K V)) (k : Q) → pair_of order (concat t.nodes) k ≡ None → Changed (by_key cmp) t u (key_removal order t k) → u ≡ t
+pub kept_tree : {K V Q : Type 0} (cmp : K → K → Ordering) (order : K → Q → Ordering) (t u : Tree (Pair K V)) (k : Q)
+    → pair_of order (concat t.nodes) k ≡ None → Changed (by_key cmp) t u (key_removal order t k) → u ≡ t
 kept_tree cmp order t u k none changed =
     let empty = none_told order t.size t.nodes k none in let zero : length (key_removal_events order t.size t.nodes k) ≡ 0 = ap (λ l. length l) empty in
     let nodes : Some t.nodes ≡ Some u.nodes = sym (ap (λ l. replay (by_key cmp) t.nodes (numbered_from t.next l)) empty) ∙ changed.table in

@@ -87,5 +87,6 @@ more_at r [] n e h = grind arith
 more_at r (x ∷ es) zero e h = ap (applied r) (sym (same_Some x e h)) ∙ sym (and_some (applied r x))
 more_at r (x ∷ es) (suc n) e h = then_more (applied r x) es n e (λ s. more_at s es n e h)
 
-pub applied_more : (r held new : State) (es : List Event) (n : ℕ) (e : Event) → slice_get es n ≡ Some e → applied_all r (take n es) ≡ Some held → applied held e ≡ Some new → applied_all r (take (n + 1) es) ≡ Some new
+pub applied_more : (r held new : State) (es : List Event) (n : ℕ) (e : Event) → slice_get es n ≡ Some e
+    → applied_all r (take n es) ≡ Some held → applied held e ≡ Some new → applied_all r (take (n + 1) es) ≡ Some new
 applied_more r held new es n e h so now = ap (λ m. applied_all r (take m es)) (add-one n) ∙ sym (more_at r es n e h) ∙ ap (λ o. option_and_then (λ s. applied s e) o) so ∙ now

@@ -1,6 +1,7 @@
 -- What the proofs on parts share: common names, and parts by value.
 --     ptr_typed                   a pointer's machine value has its type
---     parts_word, parts_typed     the machine value of parts at a pointer and a handle, and its type
+--     parts_word, parts_typed     the machine value of parts at a pointer and a handle, and its
+--                                 type
 --     parts_out, parts_in         parts by value are [the handle; their contents]
 pub use Rattle.std.proofs.raw_atomic.Walks.{proved_at}
 pub use Rattle.std.proofs.alloc.Calls.{α, token, Fits, handle_tells}
@@ -17,7 +18,8 @@ pub use denote.RawPtr.{Ptr, RawPtr, null_ptr, block_ptr, ptr_val, in_a_block}
 pub use types.ByLocal.{alloc_all, pass_all, free_all, look_at, get, get_in, sets, lands_as, env}
 pub use types.Run.{enter, stop, fld, lit, of_opd, and_then, no_more, first, blocks, exec, returns}
 pub use types.Part.{whole, sub, agg}
-pub use types.Kit.{Item, ‵, raw, ◌⊛◌, some, later, prop, at_ret, ◌$◌, ◌∵◌, !, qed, move, drop, use1, split, split3, join, pick, rewrite, regoal, fsplit, fjoin, fpick, fpack, feq_l, feq_i, suffices, await, done}
+pub use types.Kit.{Item, ‵, raw, ◌⊛◌, some, later, prop, at_ret, ◌$◌, ◌∵◌, !, qed, move, drop, use1, split, split3}
+pub use types.Kit.{join, pick, rewrite, regoal, fsplit, fjoin, fpick, fpack, feq_l, feq_i, suffices, await, done}
 use types.Kit.{Goal, Seq, Step, step}
 use mathlib.Core.Path.{◌≡◌, refl, ◌∙◌}
 use mathlib.Core.List.{List, [], ◌∷◌, ◌++◌}

@@ -1,5 +1,7 @@
 -- The slice of a caller after a loop, and the remaining items of an iterator.
-use Rattle.std.proofs.Common.{◌≡◌, ℕ, zero, suc, ◌+◌, ◌<◌, ◌≤◌, List, [], ◌∷◌, length, map, drop, replicate, slice_set, slice_get, slice_index_or, get_or, take, ◌++◌, ◌-◌, length-append, append-nil, Some, None, refl, sym, ap, ◌∙◌, arith, subst, add-one}
+use Rattle.std.proofs.Common.{◌≡◌, ℕ, zero, suc, ◌+◌, ◌<◌, ◌≤◌, List, [], ◌∷◌, length, map, drop, replicate}
+use Rattle.std.proofs.Common.{slice_set, slice_get, slice_index_or, get_or, take, ◌++◌, ◌-◌, length-append}
+use Rattle.std.proofs.Common.{append-nil, Some, None, refl, sym, ap, ◌∙◌, arith, subst, add-one}
 use Rattle.std.proofs.lemmas.Bool.{cases_lt}
 use Rattle.std.proofs.lemmas.List.{drop-drop, drop-map, drop_all, get_or_default, length-drop, length-map, length-take-le, map-append, take-append-drop, take-append-le, take_all}
 use Rattle.std.proofs.lemmas.Slice.{drop-put_mid, take-put_mid}
@@ -57,7 +59,8 @@ none_past (y ∷ ys) zero h = grind arith
 none_past (y ∷ ys) (suc i) h = let r = none_past ys i h in omega (arith, r)
 
 -- another position that has an element
-pub within_more : (xs : List ℕ) (m n : ℕ) → ((k d : ℕ) → 0 ≤ k → k < n → slice_index_or xs k d < m) → n < length xs → slice_index_or xs n 0 < m → (k d : ℕ) → 0 ≤ k → k < n + 1 → slice_index_or xs k d < m
+pub within_more : (xs : List ℕ) (m n : ℕ) → ((k d : ℕ) → 0 ≤ k → k < n → slice_index_or xs k d < m) → n < length xs
+    → slice_index_or xs n 0 < m → (k d : ℕ) → 0 ≤ k → k < n + 1 → slice_index_or xs k d < m
 within_more xs m n before inside now k d low high = elim (cases_lt k n) [
   | inl under ↦ before k d low under
   | inr over ↦ subst (λ (i : ℕ). slice_index_or xs i d < m) (omega (arith, over, high)) (subst (λ (v : ℕ). v < m) (get_or_default xs n 0 d inside) now)
@@ -82,7 +85,10 @@ back_is n l = take_all (length l - n) (drop n l) (omega (arith, length-drop n l)
 pub length-back : {X : Type 0} (n : ℕ) (l : List X) → length (take (length l - n) (drop n l)) ≡ length l - n
 length-back n l = ap (λ t. length t) (back_is n l) ∙ length-drop n l
 
-more_of : {X : Type 0} (answers before run rest : List X) (n m : ℕ) → drop n answers ≡ run ++ rest → n ≤ length answers → n ≤ length before → m ≤ length run → take n (written n answers before) ++ written m run (drop n (written n answers before)) ≡ written (n + m) answers before
+more_of : {X : Type 0} (answers before run rest : List X) (n m : ℕ) → drop n answers ≡ run ++ rest
+    → n ≤ length answers → n ≤ length before → m ≤ length run
+    → take n (written n answers before) ++ written m run (drop n (written n answers before))
+    ≡ written (n + m) answers before
 more_of answers before run rest zero m h inside room few = let e : 0 + m ≡ m = omega arith in rw e (ap (λ l. l ++ drop m before) (sym (ap (take m) h ∙ take-append-le m run rest few)))
 more_of [] before run rest (suc n) m h inside room few = let no : ⊥ = omega (arith, inside) in absurd no
 more_of (y ∷ ys) [] run rest (suc n) m h inside room few = let no : ⊥ = omega (arith, room) in absurd no
@@ -107,16 +113,26 @@ run_is l n run rest inside h =
       left = λ m e. sym (drop-append_seam run rest) ∙ (ap (drop (length run)) (sym h) ∙ (drop-drop (length run) n l ∙ ap (λ k. drop (n + k) l) (sym e)));
     }
 
-pub written_run : {X Y : Type 0} (f : X → Y) (l : List X) (out before after : List Y) (n m : ℕ) (run rest : List X) → out ≡ written n (map f l) before → length out ≡ length before → IsRun l n run rest → n ≤ length before → m ≤ length run → n + m ≤ length out → after ≡ written m (map f run) (take (length out - n) (drop n out)) → put_mid n (length out - n) out after ≡ written (n + m) (map f l) before
+pub written_run : {X Y : Type 0} (f : X → Y) (l : List X) (out before after : List Y) (n m : ℕ) (run rest : List X)
+    → out ≡ written n (map f l) before → length out ≡ length before → IsRun l n run rest → n ≤ length before
+    → m ≤ length run → n + m ≤ length out → after ≡ written m (map f run) (take (length out - n) (drop n out))
+    → put_mid n (length out - n) out after ≡ written (n + m) (map f l) before
 written_run f l out before after n m run rest is long there room few fits told =
     let inside = there.inside in let made : after ≡ written m (map f run) (drop n out) = told ∙ ap (written m (map f run)) (back_is n out) in
     let mapped : drop n (map f l) ≡ map f run ++ map f rest = drop-map f n l ∙ (ap (map f) there.there ∙ map-append f run rest) in
-    let wide : length after ≡ length out - n = ap (λ t. length t) made ∙ (length-written m (map f run) (drop n out) (omega (arith, few, length-map run f)) (omega (arith, fits, length-drop n out)) ∙ length-drop n out) in
+    let wide : length after ≡ length out - n =
+    ap (λ t. length t) made
+    ∙ (length-written m (map f run) (drop n out) (omega (arith, few, length-map run f))
+    (omega (arith, fits, length-drop n out))
+    ∙ length-drop n out) in
     put_back n out after (omega (arith, room, long)) wide ∙ (ap (λ t. take n out ++ t) made ∙ (ap (λ t. take n t ++ written m (map f run) (drop n t)) is
     ∙ more_of (map f l) before (map f run) (map f rest) n m mapped (omega (arith, inside, length-map l f)) room (omega (arith, few, length-map run f))))
 
 -- the same for the items themselves
-pub written_items : {X : Type 0} (l out before after : List X) (n m : ℕ) (run rest : List X) → out ≡ written n l before → length out ≡ length before → IsRun l n run rest → n ≤ length before → m ≤ length run → n + m ≤ length out → after ≡ written m run (take (length out - n) (drop n out)) → put_mid n (length out - n) out after ≡ written (n + m) l before
+pub written_items : {X : Type 0} (l out before after : List X) (n m : ℕ) (run rest : List X)
+    → out ≡ written n l before → length out ≡ length before → IsRun l n run rest → n ≤ length before → m ≤ length run
+    → n + m ≤ length out → after ≡ written m run (take (length out - n) (drop n out))
+    → put_mid n (length out - n) out after ≡ written (n + m) l before
 written_items l out before after n m run rest is long there room few fits told =
     let inside = there.inside in let made : after ≡ written m run (drop n out) = told ∙ ap (written m run) (back_is n out) in
     let wide : length after ≡ length out - n = ap (λ t. length t) made ∙ (length-written m run (drop n out) few (omega (arith, fits, length-drop n out)) ∙ length-drop n out) in

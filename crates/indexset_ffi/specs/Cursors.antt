@@ -9,7 +9,8 @@ use Rattle.indexset_log.specs.Tree.{Tree}
 use Rattle.indexset_multi.specs.Tree.{MultiTree}
 use Rattle.indexset_replica.specs.Replica.{ReplicaState}
 use Rattle.indexset_ffi.specs.declared.cursor.Cursor.{Cursor}
-use Rattle.indexset_ffi.specs.Elements.{elements, logged_nodes, logged_pairs, map_lengths, multi_lengths, numbered_pairs, pairs, set_lengths}
+use Rattle.indexset_ffi.specs.Elements.{elements, logged_nodes, logged_pairs, map_lengths}
+use Rattle.indexset_ffi.specs.Elements.{multi_lengths, numbered_pairs, pairs, set_lengths}
 use Rattle.indexset_ffi.specs.Replicas.{copied_nodes, copied_pairs}
 use Rattle.indexset_ffi.specs.Text.{text_lengths, text_pairs}
 use Rattle.indexset_ffi.specs.TextLogs.{TextPair, ToldTree, logged_lengths, logged_texts}

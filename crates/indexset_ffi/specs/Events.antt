@@ -4,18 +4,34 @@ use Rattle.std.specs.Option.{option_map}
 use Rattle.indexset_core.specs.declared.pair.Pair.{Pair}
 use Rattle.indexset_core.specs.Pairs.{pair}
 use Rattle.indexset_events.specs.declared.change.ChangeEvent.{ChangeEvent}
-use Rattle.indexset_events.specs.declared.change.ChangeEvent.TheVariants.{InsertAt, RemoveAt, CreateNode, RemoveNode, SplitNode, MergeNodes}
+use Rattle.indexset_events.specs.declared.change.ChangeEvent.TheVariants.{
+  InsertAt,
+  RemoveAt,
+  CreateNode,
+  RemoveNode,
+  SplitNode,
+  MergeNodes,
+}
 use Rattle.indexset_events.specs.declared.change.ChangeEventUnassigned.{ChangeEventUnassigned}
 use Rattle.indexset_events.specs.declared.change.ChangeEventUnassigned.TheVariants as plain
 use Rattle.indexset_events.specs.Replay.{assigned, numbered_from}
 use Rattle.indexset_log.specs.Tree.{Tree}
 use Rattle.indexset_ffi.specs.declared.event.Event.{Event}
 use Rattle.indexset_ffi.specs.Elements.{written}
-use Rattle.indexset_ffi.specs.declared.event.TheConstants.{INSERT, REMOVE, CREATE, DROP, SPLIT, MERGE}
+use Rattle.indexset_ffi.specs.declared.event.TheConstants.{INSERT, REMOVE, CREATE}
+use Rattle.indexset_ffi.specs.declared.event.TheConstants.{DROP, SPLIT, MERGE}
 
 -- the record of this kind
 abbrev pub record_with : ℕ → ℕ → Pair ℕ ℕ → Pair ℕ ℕ → ℕ → Event
-record_with number kind node p index = record { number = number; node_key = node.key; node_value = node.value; key = p.key; value = p.value; index = index; kind = kind }
+record_with number kind node p index = record {
+  number = number;
+  node_key = node.key;
+  node_value = node.value;
+  key = p.key;
+  value = p.value;
+  index = index;
+  kind = kind;
+}
 
 -- the record of an event
 abbrev pub record_of : ChangeEvent (Pair ℕ ℕ) → Event
@@ -44,6 +60,7 @@ event_of r = option_map (assigned r.number) (unnumbered r)
 
 -- the events of a change of the map m were written to the first elements of a slice, and their
 -- number is right
-pub record IsWritten (m : Tree (Pair ℕ ℕ)) (made : List (ChangeEventUnassigned (Pair ℕ ℕ))) (count : ℕ) (before after : List Event) : Type 0 where
+pub record IsWritten (m : Tree (Pair ℕ ℕ)) (made : List (ChangeEventUnassigned (Pair ℕ ℕ)))
+    (count : ℕ) (before after : List Event) : Type 0 where
   pub told : count ≡ length made
   pub events : after ≡ written count (map record_of (numbered_from m.next made)) before

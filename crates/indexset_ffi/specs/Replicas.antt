@@ -48,11 +48,18 @@ status_of refusals.NotNeighbours = number_of refusals.NotNeighbours
 -- the status of a record that a replica does not apply; none if it applies it, unless memory runs
 -- out
 unfoldable pub refused : ReplicaState (Pair ℕ ℕ) → Event → Option ℕ
-refused r e = option_map_or (λ c. if nat_lt (event_number c) r.next then Some NO else option_map status_of (apply_refusal (by_key nat_cmp) r.nodes r.next c)) (event_of e) (Some UNFIT)
+refused r e =
+    option_map_or
+    (λ c. if nat_lt (event_number c) r.next then Some NO
+    else option_map status_of (apply_refusal (by_key nat_cmp) r.nodes r.next c))
+    (event_of e) (Some UNFIT)
 
 -- the replica after a record: unchanged if the event came before, and none if it is refused
 unfoldable pub applied : ReplicaState (Pair ℕ ℕ) → Event → Option (ReplicaState (Pair ℕ ℕ))
-applied r e = option_and_then (λ c. if nat_lt r.next (event_number c) then None else delivered (by_key nat_cmp) r c) (event_of e)
+applied r e =
+    option_and_then
+    (λ c. if nat_lt r.next (event_number c) then None else delivered (by_key nat_cmp) r c)
+    (event_of e)
 
 -- the replica after the records, in order
 abbrev pub applied_all : ReplicaState (Pair ℕ ℕ) → List Event → Option (ReplicaState (Pair ℕ ℕ))

@@ -18,7 +18,8 @@ use Rattle.std.specs.contracts.prelude.U64Clone.TheImpl.{ghosts as clone, dict a
 use Rattle.std.specs.contracts.prelude.U64Ord.TheImpl.{ghosts as ord, dict as ord_dict}
 use Rattle.std.specs.contracts.prelude.U64Eq.TheImpl.{ghosts as eq, dict as eq_dict}
 use Rattle.std.specs.contracts.prelude.U64PartialEq.TheImpl.{ghosts as equal, dict as equal_dict}
-use Rattle.std.specs.contracts.prelude.U64PartialOrd.TheImpl.{ghosts as partial, dict as partial_dict}
+use Rattle.std.specs.contracts.prelude.U64PartialOrd.TheImpl.{ghosts as partial}
+use Rattle.std.specs.contracts.prelude.U64PartialOrd.TheImpl.{dict as partial_dict}
 use Rattle.std.specs.contracts.vec.Vec as vec
 use Rattle.indexset_core.specs.contracts.multipair.MultiPair as multi_pair
 use Rattle.indexset_core.specs.contracts.pair.Pair as pair
@@ -59,7 +60,8 @@ abbrev pub pair_row : RattleType
 pair_row = pair.the_row u64 u64
 
 abbrev pub log_row : RattleType
-log_row = Logged.the_row u64 u64 (node_row pair_row) ord eq equal partial clone clone (nodes pair_row)
+log_row =
+    Logged.the_row u64 u64 (node_row pair_row) ord eq equal partial clone clone (nodes pair_row)
 
 abbrev pub holds_log : Global → Ptr → Option log_row.Denot → Fml
 holds_log alloc = holds (frees.dealloc_token alloc) log_row
@@ -68,14 +70,17 @@ abbrev pub multi_pair_row : RattleType
 multi_pair_row = multi_pair.the_row u64 u64
 
 abbrev pub multi_row : RattleType
-multi_row = Multi.the_row u64 u64 (node_row multi_pair_row) ord eq equal partial clone equal clone (nodes multi_pair_row)
+multi_row =
+    Multi.the_row u64 u64 (node_row multi_pair_row) ord eq equal partial clone equal clone
+    (nodes multi_pair_row)
 
 abbrev pub holds_multi : Global → Ptr → Option multi_row.Denot → Fml
 holds_multi alloc = holds (frees.dealloc_token alloc) multi_row
 
 -- the ghost members of the order of pairs of numbers
 abbrev pub pairs_compare : Ord.Ghosts pair_row.Denot
-pairs_compare = pair_ord.ghosts u64 u64 ord ord_dict eq eq_dict equal equal_dict partial partial_dict
+pairs_compare =
+    pair_ord.ghosts u64 u64 ord ord_dict eq eq_dict equal equal_dict partial partial_dict
 
 abbrev pub pairs_equal : PartialEq.Ghosts pair_row.Denot
 pairs_equal = pair_equal.ghosts u64 u64 equal equal_dict
@@ -84,7 +89,9 @@ abbrev pub pairs_partial : PartialOrd.Ghosts pair_row.Denot
 pairs_partial = pair_partial.ghosts u64 u64 partial partial_dict equal equal_dict
 
 abbrev pub pairs_cloned : Clone.Ghosts pair_row.Denot
-pairs_cloned = pair_clone.ghosts u64 u64 clone clone_dict clone clone_dict (impl [] tnil dnil) (impl [] tnil dnil)
+pairs_cloned =
+    pair_clone.ghosts u64 u64 clone clone_dict clone clone_dict (impl [] tnil dnil)
+    (impl [] tnil dnil)
 
 abbrev pub replica_row : RattleType
 replica_row = Replica.the_row pair_row pairs_compare pairs_equal pairs_partial pairs_cloned

@@ -4,11 +4,19 @@ use Rattle.std.specs.Option.{option_map, option_map_or}
 use Rattle.indexset_core.specs.declared.pair.Pair.{Pair}
 use Rattle.indexset_core.specs.Nodes.{concat, node_lengths}
 use Rattle.indexset_events.specs.declared.change.ChangeEvent.{ChangeEvent}
-use Rattle.indexset_events.specs.declared.change.ChangeEvent.TheVariants.{InsertAt, RemoveAt, CreateNode, RemoveNode, SplitNode, MergeNodes}
+use Rattle.indexset_events.specs.declared.change.ChangeEvent.TheVariants.{
+  InsertAt,
+  RemoveAt,
+  CreateNode,
+  RemoveNode,
+  SplitNode,
+  MergeNodes,
+}
 use Rattle.indexset_events.specs.Replay.{event_number, numbered_from}
 use Rattle.indexset_log.specs.Changed.{Change}
 use Rattle.indexset_log.specs.Tree.{Tree}
-use Rattle.indexset_ffi.specs.declared.event.TheConstants.{INSERT, REMOVE, CREATE, DROP, SPLIT, MERGE}
+use Rattle.indexset_ffi.specs.declared.event.TheConstants.{INSERT, REMOVE, CREATE}
+use Rattle.indexset_ffi.specs.declared.event.TheConstants.{DROP, SPLIT, MERGE}
 use Rattle.indexset_ffi.specs.declared.text_event.TextEvent.{TextEvent}
 
 -- a pair of a byte string and a number

@@ -1,8 +1,10 @@
 //! Bodies of the calls of a logged map.
-ghost use Rattle.std.specs.Prelude.{◌≡◌, ◌+◌, ◌<◌, ◌≤◌, length, map, IfOk, OnOk, IfErr, OnErr, IsOk, None, Some, min};
+ghost use Rattle.std.specs.Prelude.{◌≡◌, ◌+◌, ◌<◌, ◌≤◌, length, map, IfOk};
+ghost use Rattle.std.specs.Prelude.{OnOk, IfErr, OnErr, IsOk, None, Some, min};
 ghost use Rattle.std.specs.Ordering.{nat_cmp};
 ghost use Rattle.indexset_core.specs.Nodes.{concat, node_lengths, vec_items};
-ghost use Rattle.indexset_core.specs.Pairs.{by_key, key_rank, pair, value_of, pair_keys, pair_values};
+ghost use Rattle.indexset_core.specs.Pairs.{by_key, key_rank, pair, value_of};
+ghost use Rattle.indexset_core.specs.Pairs.{pair_keys, pair_values};
 ghost use Rattle.indexset_log.specs.Changed.{Changed, key_removal};
 ghost use Rattle.indexset_events.specs.Edits.{with_put};
 ghost use Rattle.indexset_events.specs.Keys.{key_removal_events};

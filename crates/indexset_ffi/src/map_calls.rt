@@ -3,9 +3,11 @@ ghost use Rattle.std.specs.Prelude.{◌≡◌, ◌<◌, ◌≤◌, None, length,
 ghost use Rattle.std.specs.Option.{option_map};
 ghost use Rattle.std.specs.Ordering.{nat_cmp};
 ghost use Rattle.std.specs.declared.ops.Bound.TheVariants.{Included, Excluded, Unbounded};
-ghost use Rattle.indexset_core.specs.Pairs.{entry_of, key_rank, pair_keys, pair_values, pairs_within};
+ghost use Rattle.indexset_core.specs.Pairs.{entry_of, key_rank, pair_keys};
+ghost use Rattle.indexset_core.specs.Pairs.{pair_values, pairs_within};
 ghost use Rattle.indexset_ffi.specs.Cursors.{cursor_position};
-ghost use Rattle.indexset_ffi.specs.Elements.{entry_at, key_count_up_to, put_in_turn, value_or, written};
+ghost use Rattle.indexset_ffi.specs.Elements.{entry_at, key_count_up_to};
+ghost use Rattle.indexset_ffi.specs.Elements.{put_in_turn, value_or, written};
 
 use crate::cursor::{self, Cursor};
 use indexset_core::probe::ByKey;

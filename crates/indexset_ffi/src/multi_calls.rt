@@ -1,5 +1,6 @@
 //! Bodies of the calls of a multimap.
-ghost use Rattle.std.specs.Prelude.{◌≡◌, is_some, length, min, nat_eq, ◌∷◌, ◌++◌, [], ℕ, false, IfErr, OnErr, OnOk, None};
+ghost use Rattle.std.specs.Prelude.{◌≡◌, is_some, length, min, nat_eq, ◌∷◌, ◌++◌};
+ghost use Rattle.std.specs.Prelude.{[], ℕ, false, IfErr, OnErr, OnOk, None};
 ghost use Rattle.std.specs.List.{count_by, list_any};
 ghost use Rattle.std.specs.Ordering.{nat_cmp, is_eq, is_lt};
 ghost use Rattle.indexset_core.specs.Nodes.{concat, node_lengths, vec_items};

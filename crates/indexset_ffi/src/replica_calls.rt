@@ -1,5 +1,6 @@
 //! Bodies of the calls of a replica.
-ghost use Rattle.std.specs.Prelude.{◌≡◌, ◌≢◌, ◌<◌, ◌≤◌, length, take, unwrap_or, IfSome, None, Some, slice_get, IfOk, min};
+ghost use Rattle.std.specs.Prelude.{◌≡◌, ◌≢◌, ◌<◌, ◌≤◌, length, take, unwrap_or};
+ghost use Rattle.std.specs.Prelude.{IfSome, None, Some, slice_get, IfOk, min};
 ghost use Rattle.indexset_ffi.specs.Replicas.{applied, applied_all, refused, replica_of};
 ghost use Rattle.std.specs.Ordering.{nat_cmp};
 ghost use Rattle.indexset_core.specs.Nodes.{concat, vec_items, node_lengths};

@@ -2,7 +2,8 @@
 ghost use Rattle.std.specs.Prelude.{◌≡◌};
 ghost use Rattle.std.specs.Option.{option_copied};
 ghost use Rattle.indexset_ffi.specs.Text.{written_over};
-ghost use Rattle.indexset_ffi.specs.TextLogs.{event_index, kind_of, node_key, event_node, pair_key, event_pair, text_record};
+ghost use Rattle.indexset_ffi.specs.TextLogs.{event_index, kind_of, node_key, event_node};
+ghost use Rattle.indexset_ffi.specs.TextLogs.{pair_key, event_pair, text_record};
 
 use crate::event::{CREATE, DROP, INSERT, MERGE, REMOVE, SPLIT};
 use crate::text_log::TextChange;

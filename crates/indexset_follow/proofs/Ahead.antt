@@ -52,7 +52,14 @@ module _ {T : Type 0} where
   put_behind : (p : Pair ℕ (Event T)) (early : EarlyEvents T) (m : ℕ) (e : Event T) → p.key < m → put_value nat_cmp (p ∷ early) m e ≡ p ∷ put_value nat_cmp early m e
   unfolding put_value set_found put
   put_behind p early m e lt =
-      rw (is_less p.key m lt) (elim (has_key nat_cmp early m) as (λ b. cond b (p ∷ set_value nat_cmp early m e) (p ∷ (below (by_key nat_cmp) early (pair m e) ++ pair m e ∷ above (by_key nat_cmp) early (pair m e))) ≡ p ∷ cond b (set_value nat_cmp early m e) (below (by_key nat_cmp) early (pair m e) ++ pair m e ∷ above (by_key nat_cmp) early (pair m e))) [
+      rw (is_less p.key m lt)
+      (elim (has_key nat_cmp early m)
+      as (λ b.
+      cond b (p ∷ set_value nat_cmp early m e)
+      (p ∷ (below (by_key nat_cmp) early (pair m e) ++ pair m e ∷ above (by_key nat_cmp) early (pair m e)))
+      ≡ p
+      ∷ cond b (set_value nat_cmp early m e)
+      (below (by_key nat_cmp) early (pair m e) ++ pair m e ∷ above (by_key nat_cmp) early (pair m e))) [
         | true ↦ refl
         | false ↦ refl
       ])

@@ -25,7 +25,10 @@ module _ {T : Type 0} (cmp : T → T → Ordering) (texts : Texts T) where
     bare = map without_return (lines_of whole)
 
     pub all_held : store_after cmp texts size w leads whole ≡ held_after cmp texts first bare
-    all_held = ap (store_after cmp texts size w leads) (sym (append-nil whole)) ∙ ap (λ ls. held_after cmp texts first (map without_return ls)) (whole_lines-append [] (All-nil (λ x. x ≢ 10)) whole is_whole)
+    all_held =
+        ap (store_after cmp texts size w leads) (sym (append-nil whole))
+        ∙ ap (λ ls. held_after cmp texts first (map without_return ls))
+        (whole_lines-append [] (All-nil (λ x. x ≢ 10)) whole is_whole)
 
     module _ (rest : List ℕ) (none : HasNoEnd rest) where
       pub held_whole : store_after cmp texts size w leads (whole ++ rest) ≡ store_after cmp texts size w leads whole
@@ -35,7 +38,11 @@ module _ {T : Type 0} (cmp : T → T → Ordering) (texts : Texts T) where
       abbrev replies : List ℕ
       replies = replies_to (input_reply cmp texts v) (after_input cmp texts) first (lines_of whole)
 
-      answered : (rest : List ℕ) → HasNoEnd rest → store_text cmp texts v size w leads (whole ++ rest) ≡ replies ++ rest_reply (input_reply cmp texts v) (after_input cmp texts) (held_cut cmp texts v) (left_by (after_input cmp texts) first (lines_of whole)) rest
+      answered : (rest : List ℕ) → HasNoEnd rest
+          → store_text cmp texts v size w leads (whole ++ rest)
+          ≡ replies
+          ++ rest_reply (input_reply cmp texts v) (after_input cmp texts) (held_cut cmp texts v)
+          (left_by (after_input cmp texts) first (lines_of whole)) rest
       answered rest none = rw (whole_lines-append rest none whole is_whole, rest_of-append rest none whole is_whole) refl
 
       whole_answered : store_text cmp texts v size w leads whole ≡ replies
@@ -44,6 +51,9 @@ module _ {T : Type 0} (cmp : T → T → Ordering) (texts : Texts T) where
       is_held : store_after cmp texts size w leads whole ≡ left_by (after_input cmp texts) first (lines_of whole)
       is_held = all_held ∙ sym (lines_held first (lines_of whole))
 
-      pub cut_answered : (rest : List ℕ) → HasNoEnd rest → 0 < length rest → store_text cmp texts v size w leads (whole ++ rest) ≡ store_text cmp texts v size w leads whole ++ held_cut cmp texts v (store_after cmp texts size w leads whole) rest
+      pub cut_answered : (rest : List ℕ) → HasNoEnd rest → 0 < length rest
+          → store_text cmp texts v size w leads (whole ++ rest)
+          ≡ store_text cmp texts v size w leads whole
+          ++ held_cut cmp texts v (store_after cmp texts size w leads whole) rest
       cut_answered [] none some = absurd (omega (arith, some))
       cut_answered (x ∷ xs) none some = answered (x ∷ xs) none ∙ sym (λ i. whole_answered i ++ held_cut cmp texts v (is_held i) (x ∷ xs))

@@ -90,7 +90,10 @@ unfolding left_by
 only_told r [] h = refl
 only_told r (l ∷ ls) h = at (event_of number_texts l) (λ none. h.0 none r) (only_told r ls h.1) (only_told (after_line nat_cmp number_texts r l) ls h.1)
   where
-    at : (o : Option (Event ℕ)) → (o ≡ None → after_line nat_cmp number_texts r l ≡ r) → state_after nat_cmp number_texts r ls ≡ state_after nat_cmp number_texts r (event_lines ls) → state_after nat_cmp number_texts (after_line nat_cmp number_texts r l) ls ≡ state_after nat_cmp number_texts (after_line nat_cmp number_texts r l) (event_lines ls)
+    at : (o : Option (Event ℕ)) → (o ≡ None → after_line nat_cmp number_texts r l ≡ r)
+        → state_after nat_cmp number_texts r ls ≡ state_after nat_cmp number_texts r (event_lines ls)
+        → state_after nat_cmp number_texts (after_line nat_cmp number_texts r l) ls
+        ≡ state_after nat_cmp number_texts (after_line nat_cmp number_texts r l) (event_lines ls)
         → state_after nat_cmp number_texts (after_line nat_cmp number_texts r l) ls ≡ state_after nat_cmp number_texts r (cond (is_some o) (l ∷ event_lines ls) (event_lines ls))
     at None still same made = ap (λ q. state_after nat_cmp number_texts q ls) (still refl) ∙ same
     at (Some e) still same made = made
@@ -100,7 +103,10 @@ only_within : (r : State ℕ) (ls : List (List ℕ)) → Each Known ls → AreWi
 only_within r [] h within = tt
 only_within r (l ∷ ls) h within = at (event_of number_texts l) (λ none. h.0 none r) (only_within r ls h.1) (within.0, only_within (after_line nat_cmp number_texts r l) ls h.1 within.1)
   where
-    at : (o : Option (Event ℕ)) → (o ≡ None → after_line nat_cmp number_texts r l ≡ r) → (AreWithin nat_cmp number_texts r ls → AreWithin nat_cmp number_texts r (event_lines ls)) → AreWithin nat_cmp number_texts r (l ∷ event_lines ls) → AreWithin nat_cmp number_texts r (cond (is_some o) (l ∷ event_lines ls) (event_lines ls))
+    at : (o : Option (Event ℕ)) → (o ≡ None → after_line nat_cmp number_texts r l ≡ r)
+        → (AreWithin nat_cmp number_texts r ls → AreWithin nat_cmp number_texts r (event_lines ls))
+        → AreWithin nat_cmp number_texts r (l ∷ event_lines ls)
+        → AreWithin nat_cmp number_texts r (cond (is_some o) (l ∷ event_lines ls) (event_lines ls))
     at None still same made = same (subst (λ q. AreWithin nat_cmp number_texts q ls) (still refl) within.1)
     at (Some e) still same made = made
 
@@ -117,7 +123,10 @@ module _ (lines : List (List ℕ)) (many : length lines < 2 ^ 64) (less : (store
         record { place = found.0; event = e; at = subst (λ es. slice_get es found.0 ≡ Some e) (output_tells lines many less) found.1; text = (event_sound number_texts number_words line e told).0 }
 
     drawn : All (IsDrawn number_texts (events_of_lines lines)) (event_lines delivered)
-    drawn = each_all (IsDrawn number_texts (events_of_lines lines)) (event_lines delivered) (each_told (IsDrawn number_texts (events_of_lines lines)) delivered (all_each _ delivered (λ k d lt. one_drawn (get_or delivered k d) (among k d lt))))
+    drawn =
+        each_all (IsDrawn number_texts (events_of_lines lines)) (event_lines delivered)
+        (each_told (IsDrawn number_texts (events_of_lines lines)) delivered
+        (all_each _ delivered (λ k d lt. one_drawn (get_or delivered k d) (among k d lt))))
 
     all_known : Each Known delivered
     all_known = all_each Known delivered (λ k d lt. let a = among k d lt in each_read Known (output_lines lines) a.place (get_or delivered k d) a.at (output_known lines many less))
@@ -130,18 +139,30 @@ module _ (lines : List (List ℕ)) (many : length lines < 2 ^ 64) (less : (store
         let held = follower_begins lines less w (event_lines delivered) drawn in
         (held.0, subst (HoldsFirst nat_cmp 0 [] (events_of_lines lines) held.0) (sym told_alone) held.1)
 
-    pub delivered_same : (n : ℕ) → (state_after nat_cmp number_texts (start_state w) delivered).held.next ≡ (stores_of no_stores (take n lines)).pairs.next → (state_after nat_cmp number_texts (start_state w) delivered).held.nodes ≡ (stores_of no_stores (take n lines)).pairs.nodes
+    pub delivered_same : (n : ℕ)
+        → (state_after nat_cmp number_texts (start_state w) delivered).held.next
+        ≡ (stores_of no_stores (take n lines)).pairs.next
+        → (state_after nat_cmp number_texts (start_state w) delivered).held.nodes
+        ≡ (stores_of no_stores (take n lines)).pairs.nodes
     delivered_same n same = ap (λ r. r.held.nodes) told_alone ∙ same_nodes lines less w (event_lines delivered) drawn n (sym (ap (λ r. r.held.next) told_alone) ∙ same)
 
-    pub delivered_whole : IsSubsequence (event_lines (output_lines lines)) (event_lines delivered) → (state_after nat_cmp number_texts (start_state w) delivered).held ≡ copy (stores_of no_stores lines).pairs.nodes (stores_of no_stores lines).pairs.next
+    pub delivered_whole : IsSubsequence (event_lines (output_lines lines)) (event_lines delivered)
+        → (state_after nat_cmp number_texts (start_state w) delivered).held
+        ≡ copy (stores_of no_stores lines).pairs.nodes (stores_of no_stores lines).pairs.next
     delivered_whole came = ap (λ r. r.held) told_alone ∙ follower_ends lines less w (event_lines delivered) drawn (subst (λ ls. IsSubsequence ls (event_lines delivered)) output_texts came)
 
-    pub delivered_within : AreWithin nat_cmp number_texts (start_state w) delivered → All (IsAmong delivered) (event_lines (output_lines lines)) → (state_after nat_cmp number_texts (start_state w) delivered).held ≡ copy (stores_of no_stores lines).pairs.nodes (stores_of no_stores lines).pairs.next
+    pub delivered_within : AreWithin nat_cmp number_texts (start_state w) delivered
+        → All (IsAmong delivered) (event_lines (output_lines lines))
+        → (state_after nat_cmp number_texts (start_state w) delivered).held
+        ≡ copy (stores_of no_stores lines).pairs.nodes (stores_of no_stores lines).pairs.next
     delivered_within within came = ap (λ r. r.held) told_alone ∙ follower_holds lines less w (event_lines delivered) drawn (only_within (start_state w) delivered all_known within) there
       where
         there : (p : ℕ) (e : Event ℕ) → 0 ≤ p → slice_get (events_of_lines lines) p ≡ Some e → IsAmong (event_lines delivered) (event_text number_texts e)
         there p e le at =
-            let told : event_of number_texts (event_text number_texts e) ≡ Some e = event_told number_texts number_words e (each_read (EventFits number_texts) (events_of_lines lines) p e at (all_each (EventFits number_texts) (events_of_lines lines) (told_fit lines less))) in
+            let told : event_of number_texts (event_text number_texts e) ≡ Some e =
+            event_told number_texts number_words e
+            (each_read (EventFits number_texts) (events_of_lines lines) p
+            e at (all_each (EventFits number_texts) (events_of_lines lines) (told_fit lines less))) in
             let text : slice_get (event_lines (output_lines lines)) p ≡ Some (event_text number_texts e) = ap (λ ls. slice_get ls p) output_texts ∙ text_at (events_of_lines lines) p e at in
             let among = each_read (IsAmong delivered) (event_lines (output_lines lines)) p (event_text number_texts e) text (all_each (IsAmong delivered) (event_lines (output_lines lines)) came) in
             among_told delivered among.place (event_text number_texts e) e among.at told

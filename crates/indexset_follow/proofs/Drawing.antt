@@ -1,5 +1,7 @@
 -- A follower of lines that are texts of events has the nodes after a prefix of the events.
-use Rattle.std.proofs.Common.{◌≡◌, ◌==◌, inl, inr, ℕ, zero, suc, ◌+◌, ◌-◌, ◌<◌, ◌≤◌, Bool, true, false, if◌then◌else◌, List, [], ◌∷◌, length, map, get_or, slice_get, drop, Some, refl, ap, sym, ◌∙◌, subst, arith}
+use Rattle.std.proofs.Common.{◌≡◌, ◌==◌, inl, inr, ℕ, zero, suc, ◌+◌, ◌-◌, ◌<◌, ◌≤◌, Bool}
+use Rattle.std.proofs.Common.{true, false, if◌then◌else◌, List, [], ◌∷◌, length, map, get_or}
+use Rattle.std.proofs.Common.{slice_get, drop, Some, refl, ap, sym, ◌∙◌, subst, arith}
 use Rattle.std.proofs.lemmas.Bool.{eqb-false, eqb-true, ltb-false, ltb-true}
 use Rattle.std.specs.Prelude.{nat_lt}
 use Rattle.std.proofs.lemmas.List.{drop_more, length-drop}
@@ -62,7 +64,9 @@ module _ {T : Type 0} (cmp : T → T → Ordering) (texts : Texts T) (spelled : 
     pub one : (k : ℕ) (r : State T) (line : List ℕ) (d : IsDrawn texts es line) → HoldsFirst cmp s ns es k r → HoldsAhead s es r → Onward cmp s ns es feed k d.place r (after_line cmp texts r line)
     one k r line d at h = subst (Onward cmp s ns es feed k d.place r) (sym (line_is r line d)) (onward cmp s ns es feed k d.place r d.event at h d.at)
 
-    pub beginning : (j : ℕ) (r : State T) (ls : List (List ℕ)) → HoldsFirst cmp s ns es j r → HoldsAhead s es r → All (IsDrawn texts es) ls → (k : ℕ) × HoldsFirst cmp s ns es k (state_after cmp texts r ls) × HoldsAhead s es (state_after cmp texts r ls)
+    pub beginning : (j : ℕ) (r : State T) (ls : List (List ℕ)) → HoldsFirst cmp s ns es j r → HoldsAhead s es r
+        → All (IsDrawn texts es) ls
+        → (k : ℕ) × HoldsFirst cmp s ns es k (state_after cmp texts r ls) × HoldsAhead s es (state_after cmp texts r ls)
     unfolding left_by
     beginning j r [] at h drawn = (j, at, h)
     beginning j r (l ∷ ls) at h drawn =
@@ -81,7 +85,9 @@ module _ {T : Type 0} (cmp : T → T → Ordering) (texts : Texts T) (spelled : 
         omega (arith, number_at cmp s ns es feed p e first, number_at cmp s ns es feed j f second, ap event_number same)
 
     -- the texts that are still to come after a line that came
-    came_on : (j p : ℕ) (e : Event T) (ls : List (List ℕ)) → slice_get es p ≡ Some e → IsSubsequence (texts_from j) (event_text texts e ∷ ls) → (b : Bool) → (p == j) ≡ b → IsSubsequence (texts_from (if b then j + 1 else j)) ls
+    came_on : (j p : ℕ) (e : Event T) (ls : List (List ℕ)) → slice_get es p ≡ Some e
+        → IsSubsequence (texts_from j) (event_text texts e ∷ ls) → (b : Bool) → (p == j) ≡ b
+        → IsSubsequence (texts_from (if b then j + 1 else j)) ls
     came_on j p e ls told came b here = at (nat_lt j (length es)) refl b here
       where
         first_text : nat_lt j (length es) ≡ true → texts_from j ≡ event_text texts (get_or es j e) ∷ texts_from (j + 1)
@@ -105,7 +111,10 @@ module _ {T : Type 0} (cmp : T → T → Ordering) (texts : Texts T) (spelled : 
     next_came j e ls came = at (nat_lt j (length es)) refl
       where
         at : (t : Bool) → nat_lt j (length es) ≡ t → IsSubsequence (texts_from (j + 1)) ls
-        at true lt = subsequence_tail (event_text texts (get_or es j e)) (texts_from (j + 1)) ls (subst (λ l. IsSubsequence l ls) (ap (map (event_text texts)) (drop_more es j e (ltb-true j (length es) lt))) came)
+        at true lt =
+            subsequence_tail (event_text texts (get_or es j e)) (texts_from (j + 1)) ls
+            (subst (λ l. IsSubsequence l ls)
+            (ap (map (event_text texts)) (drop_more es j e (ltb-true j (length es) lt))) came)
         at false past = empty_came (texts_from (j + 1)) ls (omega (arith, length_map (event_text texts) (drop (j + 1) es), length-drop (j + 1) es, ltb-false j (length es) past))
 
     later_came : (n j : ℕ) (e : Event T) (ls : List (List ℕ)) → IsSubsequence (texts_from j) ls → IsSubsequence (texts_from (j + n)) ls
@@ -118,7 +127,9 @@ module _ {T : Type 0} (cmp : T → T → Ordering) (texts : Texts T) (spelled : 
     came_from j k e ls le came = let same : j + (k - j) ≡ k = omega (arith, le) in subst (λ i. IsSubsequence (texts_from i) ls) same (later_came (k - j) j e ls came)
 
     -- the texts that are still to come after an event that was applied or is held early
-    on_came : (j : ℕ) (r : State T) (l : List ℕ) (ls : List (List ℕ)) (d : IsDrawn texts es l) (on : Onward cmp s ns es feed j d.place r (after_line cmp texts r l)) → IsSubsequence (texts_from j) (l ∷ ls) → IsSubsequence (texts_from on.place) ls
+    on_came : (j : ℕ) (r : State T) (l : List ℕ) (ls : List (List ℕ)) (d : IsDrawn texts es l)
+        (on : Onward cmp s ns es feed j d.place r (after_line cmp texts r l))
+        → IsSubsequence (texts_from j) (l ∷ ls) → IsSubsequence (texts_from on.place) ls
     on_came j r l ls d on came = by (d.place == j) refl
       where
         by : (b : Bool) → (d.place == j) ≡ b → IsSubsequence (texts_from on.place) ls
@@ -128,7 +139,9 @@ module _ {T : Type 0} (cmp : T → T → Ordering) (texts : Texts T) (spelled : 
             at true here more = came_from (j + 1) on.place d.event ls (let lt = on.grown (eqb-true d.place j here) in omega (arith, lt)) more
             at false other more = came_from j on.place d.event ls on.from more
 
-    pub whole : (j : ℕ) (r : State T) (ls : List (List ℕ)) → HoldsFirst cmp s ns es j r → HoldsAhead s es r → All (IsDrawn texts es) ls → IsSubsequence (texts_from j) ls → HoldsFirst cmp s ns es (length es) (state_after cmp texts r ls)
+    pub whole : (j : ℕ) (r : State T) (ls : List (List ℕ)) → HoldsFirst cmp s ns es j r → HoldsAhead s es r
+        → All (IsDrawn texts es) ls → IsSubsequence (texts_from j) ls
+        → HoldsFirst cmp s ns es (length es) (state_after cmp texts r ls)
     unfolding left_by
     whole j r [] at h drawn came =
         let all : j ≡ length es = omega (arith, none_of_none (texts_from j) came, length_map (event_text texts) (drop j es), length-drop j es, at.within) in

@@ -90,17 +90,27 @@ module _ {T : Type 0} (texts : Texts T) (spelled : AreWords texts) where
       let cut : cut_at 32 (named texts p (decimal i)) ≡ Some (pair_text texts p, decimal i) = cut_told 32 (pair_text texts p) (decimal i) (pair_lacks texts 32 (space_apart texts spelled) p fit) in
       rw (cut, pair_told texts spelled p fit, number_told i less) refl
 
-  insert_told : (id : Id) → id.0 < 2 ^ 64 → (max p : Pair T T) (i : ℕ) → PairFits texts max → PairFits texts p → i < 2 ^ 64 → word_event texts id (codes "insert") (named texts max (named texts p (decimal i))) ≡ Some (InsertAt id max p i)
+  insert_told : (id : Id) → id.0 < 2 ^ 64 → (max p : Pair T T) (i : ℕ) → PairFits texts max → PairFits texts p
+      → i < 2 ^ 64
+      → word_event texts id (codes "insert") (named texts max (named texts p (decimal i))) ≡ Some (InsertAt id max p i)
   insert_told id small max p i fit fits less =
       name_cut id small max fit (λ rest m. named_event texts id (codes "insert") m rest) (named texts p (decimal i)) ∙ placed_cut (placed_event texts id (codes "insert") max) p i fits less
 
-  remove_told : (id : Id) → id.0 < 2 ^ 64 → (max p : Pair T T) (i : ℕ) → PairFits texts max → PairFits texts p → i < 2 ^ 64 → word_event texts id (codes "remove") (named texts max (named texts p (decimal i))) ≡ Some (RemoveAt id max p i)
+  remove_told : (id : Id) → id.0 < 2 ^ 64 → (max p : Pair T T) (i : ℕ) → PairFits texts max → PairFits texts p
+      → i < 2 ^ 64
+      → word_event texts id (codes "remove") (named texts max (named texts p (decimal i))) ≡ Some (RemoveAt id max p i)
   remove_told id small max p i fit fits less =
       name_cut id small max fit (λ rest m. named_event texts id (codes "remove") m rest) (named texts p (decimal i)) ∙ placed_cut (placed_event texts id (codes "remove") max) p i fits less
 
   pub event_told : (e : Event T) → EventFits texts e → event_of texts (event_text texts e) ≡ Some e
-  event_told (CreateNode id max) h = ap (event_of texts) (create_line texts id max) ∙ line_told id h.0 (codes "create") (pair_text texts max) (lacks_tested 32 (codes "create") refl) ∙ create_told id h.0 max h.1
-  event_told (RemoveNode id max) h = ap (event_of texts) (drop_line texts id max) ∙ line_told id h.0 (codes "drop") (pair_text texts max) (lacks_tested 32 (codes "drop") refl) ∙ drop_told id h.0 max h.1
+  event_told (CreateNode id max) h =
+      ap (event_of texts) (create_line texts id max)
+      ∙ line_told id h.0 (codes "create") (pair_text texts max) (lacks_tested 32 (codes "create") refl)
+      ∙ create_told id h.0 max h.1
+  event_told (RemoveNode id max) h =
+      ap (event_of texts) (drop_line texts id max)
+      ∙ line_told id h.0 (codes "drop") (pair_text texts max) (lacks_tested 32 (codes "drop") refl)
+      ∙ drop_told id h.0 max h.1
   event_told (InsertAt id max p i) h =
       ap (event_of texts) (insert_line texts id max p i) ∙ line_told id h.0 (codes "insert") (named texts max (named texts p (decimal i))) (lacks_tested 32 (codes "insert") refl)
       ∙ insert_told id h.0 max p i h.1 h.2 h.3
@@ -110,7 +120,10 @@ module _ {T : Type 0} (texts : Texts T) (spelled : AreWords texts) where
   event_told (SplitNode id max k) h =
       ap (event_of texts) (split_line texts id max k) ∙ line_told id h.0 (codes "split") (named texts max (decimal k)) (lacks_tested 32 (codes "split") refl) ∙ split_told id h.0 max h.1 k h.2
   event_told (MergeNodes id max next) h =
-      ap (event_of texts) (merge_line texts id max next) ∙ line_told id h.0 (codes "merge") (named texts max (pair_text texts next)) (lacks_tested 32 (codes "merge") refl) ∙ merge_told id h.0 max h.1 next h.2
+      ap (event_of texts) (merge_line texts id max next)
+      ∙ line_told id h.0 (codes "merge") (named texts max (pair_text texts next))
+      (lacks_tested 32 (codes "merge") refl)
+      ∙ merge_told id h.0 max h.1 next h.2
 
 module _ {T : Type 0} (texts : Texts T) where
   -- ---- the text of an event that was read
@@ -131,7 +144,9 @@ module _ {T : Type 0} (texts : Texts T) (spelled : AreWords texts) where
     abbrev name_event : List ℕ × List ℕ → Option (Event T)
     name_event cut = option_and_then (λ max. named_event texts id word max cut.1) (pair_of texts cut.0)
 
-    placed_sound : (max p : Pair T T) (i : ℕ) (e : Event T) → PairFits texts max → PairFits texts p → i < 2 ^ 64 → placed_event texts id word max p i ≡ Some e → Spells texts (line_of id word (named texts max (named texts p (decimal i)))) e
+    placed_sound : (max p : Pair T T) (i : ℕ) (e : Event T) → PairFits texts max → PairFits texts p → i < 2 ^ 64
+        → placed_event texts id word max p i ≡ Some e
+        → Spells texts (line_of id word (named texts max (named texts p (decimal i)))) e
     placed_sound max p i e fit fits less h = at (bytes_eq word (codes "insert")) (bytes_eq word (codes "remove")) refl refl h
       where
         at : (a b : Bool) → bytes_eq word (codes "insert") ≡ a → bytes_eq word (codes "remove") ≡ b → cond a (Some (InsertAt id max p i)) (cond b (Some (RemoveAt id max p i)) None) ≡ Some e

@@ -1,6 +1,8 @@
 -- The numbers in the events of a put and of a removal have at most 64 bits if those of the map
 -- have.
-use Rattle.std.proofs.Common.{Option, None, Some, ◌≡◌, ℕ, zero, suc, ◌+◌, ◌-◌, ◌/◌, ◌==◌, ◌<◌, ◌≤◌, ◌^◌, Bool, true, false, cond, List, [], ◌∷◌, length, get_or, set, remove, take, drop, Ordering, sym, ap, ◌∙◌, subst, arith, length-append}
+use Rattle.std.proofs.Common.{Option, None, Some, ◌≡◌, ℕ, zero, suc, ◌+◌, ◌-◌, ◌/◌, ◌==◌, ◌<◌, ◌≤◌}
+use Rattle.std.proofs.Common.{◌^◌, Bool, true, false, cond, List, [], ◌∷◌, length, get_or, set}
+use Rattle.std.proofs.Common.{remove, take, drop, Ordering, sym, ap, ◌∙◌, subst, arith, length-append}
 use Rattle.std.proofs.lemmas.List.{take-append-drop}
 use Rattle.std.proofs.lemmas.List.Sums.{count_by-le-length}
 use Rattle.std.specs.List.{find}
@@ -106,10 +108,20 @@ module _ {T : Type 0} (cmp : T → T → Ordering) (texts : Texts T) where
         i : ℕ
         i = rank (order cmp) n v
 
-        at : (a b : Bool) → Each (PlainFits texts) (cond a (RemoveNode (get_or n i v) ∷ CreateNode v ∷ []) (cond b (RemoveAt (last_of n v) (get_or n i v) i ∷ InsertAt (get_or n (i - 1) v) v i ∷ []) (RemoveAt (last_of n v) (get_or n i v) i ∷ InsertAt (last_of n v) v i ∷ [])))
+        at : (a b : Bool)
+            → Each (PlainFits texts)
+            (cond a (RemoveNode (get_or n i v) ∷ CreateNode v ∷ [])
+            (cond b (RemoveAt (last_of n v) (get_or n i v) i ∷ InsertAt (get_or n (i - 1) v) v i ∷ [])
+            (RemoveAt (last_of n v) (get_or n i v) i ∷ InsertAt (last_of n v) v i ∷ [])))
         at true b = (each_got (PairFits texts) n i v fit.1 new, (new, tt))
-        at false true = ((each_last_or (PairFits texts) n v fit.1 new, each_got (PairFits texts) n i v fit.1 new, rank_small n v fit), ((each_got (PairFits texts) n (i - 1) v fit.1 new, new, rank_small n v fit), tt))
-        at false false = ((each_last_or (PairFits texts) n v fit.1 new, each_got (PairFits texts) n i v fit.1 new, rank_small n v fit), ((each_last_or (PairFits texts) n v fit.1 new, new, rank_small n v fit), tt))
+        at false true = (
+          (each_last_or (PairFits texts) n v fit.1 new, each_got (PairFits texts) n i v fit.1 new, rank_small n v fit),
+          ((each_got (PairFits texts) n (i - 1) v fit.1 new, new, rank_small n v fit), tt),
+        )
+        at false false = (
+          (each_last_or (PairFits texts) n v fit.1 new, each_got (PairFits texts) n i v fit.1 new, rank_small n v fit),
+          ((each_last_or (PairFits texts) n v fit.1 new, new, rank_small n v fit), tt),
+        )
 
     node_fit : (n : List (Pair T T)) → Fit texts n → Each (PlainFits texts) (node_events (order cmp) n v)
     unfolding node_events
@@ -129,7 +141,10 @@ module _ {T : Type 0} (cmp : T → T → Ordering) (texts : Texts T) where
     target_fit : (size : ℕ) (n : List (Pair T T)) → Fit texts n → Each (PlainFits texts) (target_events (order cmp) size n v)
     unfolding target_events
     target_fit size n fit =
-        let part : Fit texts (part_for (order cmp) size n v) = (omega (arith, fit.0, half_length (length n == size) (is_after_last (order cmp) (take (length n / 2) n) v) n), each_half (PairFits texts) (length n == size) (is_after_last (order cmp) (take (length n / 2) n) v) n fit.1) in
+        let part : Fit texts (part_for (order cmp) size n v) = (
+          omega (arith, fit.0, half_length (length n == size) (is_after_last (order cmp) (take (length n / 2) n) v) n),
+          each_half (PairFits texts) (length n == size) (is_after_last (order cmp) (take (length n / 2) n) v) n fit.1,
+        ) in
         each-append (PlainFits texts) (halving_events size n v) (node_events (order cmp) (part_for (order cmp) size n v) v) (halving_fit size n fit) (node_fit (part_for (order cmp) size n v) part)
 
   -- ---- nodes

@@ -93,7 +93,9 @@ module _ {T : Type 0} (cmp : T → T → Ordering) (texts : Texts T) where
         taken d n told true missing = known
         taken d n told false near = greater s d n told (ltb-false s.held.next n near) known
 
-        at : (e : Option (Event T)) (n : Option (List (Pair T T))) (m : Option Mark) → ((count : ℕ) (sum : Option ℕ) → m ≢ Some (End count sum)) → ((d n : ℕ) → m ≡ Some (Done d n) → (k : ℕ) × IsDoneBy cmp texts size lines k d n)
+        at : (e : Option (Event T)) (n : Option (List (Pair T T))) (m : Option Mark)
+            → ((count : ℕ) (sum : Option ℕ) → m ≢ Some (End count sum))
+            → ((d n : ℕ) → m ≡ Some (Done d n) → (k : ℕ) × IsDoneBy cmp texts size lines k d n)
             → Knows (option_map_or {U = State T} (after_event cmp s) e (option_map_or (after_node cmp s) n (option_map_or (after_mark texts s) m s)))
         at (Some e) n m no_end told = further s (after_event cmp s e) refl (awaits_on cmp s e) known
         at None (Some n) m no_end told = further s (after_node cmp s n) refl (omega arith) known
@@ -106,7 +108,9 @@ module _ {T : Type 0} (cmp : T → T → Ordering) (texts : Texts T) where
     unfolding left_by
     lines_known s [] tell known = known
     lines_known s (line ∷ delivered) tell known =
-        lines_known (after_line cmp texts s line) delivered (All-tail (TellsDone cmp texts size lines) line delivered tell) (line_known s line (All-head (TellsDone cmp texts size lines) line delivered tell) known)
+        lines_known (after_line cmp texts s line) delivered
+        (All-tail (TellsDone cmp texts size lines) line delivered tell)
+        (line_known s line (All-head (TellsDone cmp texts size lines) line delivered tell) known)
 
     pub none_known : (w : ℕ) → Knows (start_state w)
     unfolding left_by

@@ -44,7 +44,11 @@ module _ {T : Type 0} (cmp : T → T → Ordering) (texts : Texts T) (total : Is
   leading_onward t g line = at (query_of texts line) (command_of texts line) (command_fits texts spelled line)
     where
       at : (q : Option (Query T)) (o : Option (Command T)) → ((c : Command T) → o ≡ Some c → CommandFits texts c.change)
-          → Onward cmp texts t (option_map_or {U = PairTree T} (λ q. t) q (option_map_or {U = PairTree T} (λ c. pairs_after cmp t c.change) o t)) (option_map_or {U = List (Event T)} (λ q. []) q (option_map_or {U = List (Event T)} (λ c. told_events cmp t c.change) o []))
+          → Onward cmp texts t
+          (option_map_or {U = PairTree T} (λ q. t) q
+          (option_map_or {U = PairTree T} (λ c. pairs_after cmp t c.change) o t))
+          (option_map_or {U = List (Event T)} (λ q. []) q
+          (option_map_or {U = List (Event T)} (λ c. told_events cmp t c.change) o []))
       at (Some q) o fit = still cmp texts t g
       at None None fit = still cmp texts t g
       at None (Some c) fit = command_onward cmp texts total t g c.change (fit c refl)
@@ -54,7 +58,10 @@ module _ {T : Type 0} (cmp : T → T → Ordering) (texts : Texts T) (total : Is
   lines_led t g [] = still cmp texts t g
   lines_led t g (line ∷ lines) =
       let first = leading_onward t g line in
-      both_onward cmp texts t (after_leading cmp texts t line) (tree_of cmp texts (after_leading cmp texts t line) lines) (leading_events cmp texts t line) (events_led cmp texts (after_leading cmp texts t line) lines) first (lines_led (after_leading cmp texts t line) first.good lines)
+      both_onward cmp texts t (after_leading cmp texts t line)
+      (tree_of cmp texts (after_leading cmp texts t line) lines) (leading_events cmp texts t line)
+      (events_led cmp texts (after_leading cmp texts t line) lines) first
+      (lines_led (after_leading cmp texts t line) first.good lines)
 
 module _ {T : Type 0} (cmp : T → T → Ordering) (texts : Texts T) where
   -- a line does not change the node size
@@ -96,13 +103,20 @@ module _ {T : Type 0} (cmp : T → T → Ordering) (texts : Texts T) where
   leader_line size w l line stay = at (is_lead line) (starts line) (is_follow line) (not (is_filled l.pairs.nodes)) refl stay
     where
       at : (b c d e : Bool) → is_lead line ≡ b → (c || d) ≡ false
-          → held size w (cond b (role.Leading l) (cond d (role.Following (holding w (copy l.pairs.nodes l.pairs.next) l.done)) (after_in_role cmp texts (cond (c && e) (role.Following (holding w (copy [] l.pairs.next) l.done)) (role.Leading l)) line))) ≡ held size w (role.Leading (leader_after cmp texts l line))
+          → held size w
+          (cond b (role.Leading l)
+          (cond d (role.Following (holding w (copy l.pairs.nodes l.pairs.next) l.done))
+          (after_in_role cmp texts
+          (cond (c && e) (role.Following (holding w (copy [] l.pairs.next) l.done)) (role.Leading l)) line)))
+          ≡ held size w (role.Leading (leader_after cmp texts l line))
       at true c d e is none = ap (λ r. held size w (role.Leading r)) (word_still cmp texts l line ((bytes_eq-Decides line (codes "lead")).0 is))
       at false false false e is none = refl
       at false true d e is none = absurd (cc)
       at false false true e is none = absurd (cc)
 
-  pub leader_lines : (size w : ℕ) (l : Leader T) (lines : List (List ℕ)) → All stays lines → held_after cmp texts (held size w (role.Leading l)) lines ≡ held size w (role.Leading (leader_of (tree_of cmp texts l.pairs lines) (done_of texts l.done lines)))
+  pub leader_lines : (size w : ℕ) (l : Leader T) (lines : List (List ℕ)) → All stays lines
+      → held_after cmp texts (held size w (role.Leading l)) lines
+      ≡ held size w (role.Leading (leader_of (tree_of cmp texts l.pairs lines) (done_of texts l.done lines)))
   unfolding left_by
   leader_lines size w l [] none = refl
   leader_lines size w l (line ∷ lines) none =
@@ -116,7 +130,10 @@ module _ {T : Type 0} (cmp : T → T → Ordering) (texts : Texts T) where
     pub told_so : lead_reply cmp size (role.Following s) ≡ reply_ended (reply.Next s.held.next)
     told_so = rw fits refl
 
-    pub answers_on : (v : Voice) (lines : List (List ℕ)) → held_replies cmp texts v (held size w (role.Following s)) (codes "lead" ∷ lines) ≡ reply_ended (reply.Next s.held.next) ++ held_replies cmp texts v (held size w (role.Leading (leader_of (promoted size s.held) s.done))) lines
+    pub answers_on : (v : Voice) (lines : List (List ℕ))
+        → held_replies cmp texts v (held size w (role.Following s)) (codes "lead" ∷ lines)
+        ≡ reply_ended (reply.Next s.held.next)
+        ++ held_replies cmp texts v (held size w (role.Leading (leader_of (promoted size s.held) s.done))) lines
     unfolding replies_to
     answers_on v lines = λ i. told_so i ++ held_replies cmp texts v (takes_over i) lines
 
@@ -131,12 +148,20 @@ module _ {T : Type 0} (cmp : T → T → Ordering) (texts : Texts T) where
     pub leads_as : after_held cmp texts (held l.pairs.size w (role.Following s)) (codes "lead") ≡ held l.pairs.size w (role.Leading l)
     leads_as = takes_over l.pairs.size w s fit_held ∙ ap (λ l'. held l.pairs.size w (role.Leading l')) same_leader
 
-    pub answers_as : (v : Voice) (lines : List (List ℕ)) → held_replies cmp texts v (held l.pairs.size w (role.Following s)) (codes "lead" ∷ lines) ≡ reply_ended (reply.Next l.pairs.next) ++ held_replies cmp texts v (held l.pairs.size w (role.Leading l)) lines
-    answers_as v lines = answers_on l.pairs.size w s fit_held v lines ∙ (λ i. reply_ended (reply.Next (holds i).next) ++ held_replies cmp texts v (held l.pairs.size w (role.Leading (same_leader i))) lines)
+    pub answers_as : (v : Voice) (lines : List (List ℕ))
+        → held_replies cmp texts v (held l.pairs.size w (role.Following s)) (codes "lead" ∷ lines)
+        ≡ reply_ended (reply.Next l.pairs.next) ++ held_replies cmp texts v (held l.pairs.size w (role.Leading l)) lines
+    answers_as v lines =
+        answers_on l.pairs.size w s fit_held v lines
+        ∙ (λ i. reply_ended (reply.Next (holds i).next)
+        ++ held_replies cmp texts v (held l.pairs.size w (role.Leading (same_leader i))) lines)
 
 module _ {T : Type 0} (cmp : T → T → Ordering) (texts : Texts T) (total : IsTotalOrder cmp) (spelled : AreWords texts) where
   -- a follower that applied all events of a leader and has its greatest command number
-  module _ (size : ℕ) (two : 2 ≤ size) (few : size < 2 ^ 64) (lines : List (List ℕ)) (s : State T) (holds : HoldsFirst cmp 0 [] (events_led cmp texts (fresh size) lines) (length (events_led cmp texts (fresh size) lines)) s) (knows : s.done ≡ done_of texts 0 lines) where
+  module _ (size : ℕ) (two : 2 ≤ size) (few : size < 2 ^ 64) (lines : List (List ℕ)) (s : State T)
+      (holds : HoldsFirst cmp 0 [] (events_led cmp texts (fresh size) lines)
+      (length (events_led cmp texts (fresh size) lines)) s)
+      (knows : s.done ≡ done_of texts 0 lines) where
     abbrev tree : PairTree T
     tree = tree_of cmp texts (fresh size) lines
 
@@ -156,7 +181,10 @@ module _ {T : Type 0} (cmp : T → T → Ordering) (texts : Texts T) (total : Is
     same_size = sizes_kept cmp texts (fresh size) lines
 
     can : nodes_refusal (by_key cmp) size s.held.nodes ≡ None
-    can = subst (λ ns. nodes_refusal (by_key cmp) size ns ≡ None) (sym same_nodes) (subst (λ n. nodes_refusal (by_key cmp) n tree.nodes ≡ None) same_size (lawful_taken (order cmp) tree.size tree.nodes ward.good.lawful))
+    can =
+        subst (λ ns. nodes_refusal (by_key cmp) size ns ≡ None) (sym same_nodes)
+        (subst (λ n. nodes_refusal (by_key cmp) n tree.nodes ≡ None) same_size
+        (lawful_taken (order cmp) tree.size tree.nodes ward.good.lawful))
 
     same_tree : promoted size s.held ≡ tree
     same_tree = λ i. record { nodes = same_nodes i; size = sym same_size i; next = same_next i }
@@ -167,5 +195,8 @@ module _ {T : Type 0} (cmp : T → T → Ordering) (texts : Texts T) (total : Is
     pub goes_on : (w : ℕ) → after_held cmp texts (held size w (role.Following s)) (codes "lead") ≡ held size w (role.Leading (leader_of tree (done_of texts 0 lines)))
     goes_on w = takes_over cmp texts size w s can ∙ ap (λ l. held size w (role.Leading l)) same_lead
 
-    pub goes_on_answering : (w : ℕ) (v : Voice) (more : List (List ℕ)) → held_replies cmp texts v (held size w (role.Following s)) (codes "lead" ∷ more) ≡ reply_ended (reply.Next s.held.next) ++ held_replies cmp texts v (held size w (role.Leading (leader_of tree (done_of texts 0 lines)))) more
+    pub goes_on_answering : (w : ℕ) (v : Voice) (more : List (List ℕ))
+        → held_replies cmp texts v (held size w (role.Following s)) (codes "lead" ∷ more)
+        ≡ reply_ended (reply.Next s.held.next)
+        ++ held_replies cmp texts v (held size w (role.Leading (leader_of tree (done_of texts 0 lines)))) more
     goes_on_answering w v more = answers_on cmp texts size w s can v more ∙ ap (λ l. reply_ended (reply.Next s.held.next) ++ held_replies cmp texts v (held size w (role.Leading l)) more) same_lead

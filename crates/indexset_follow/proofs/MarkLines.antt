@@ -90,7 +90,10 @@ end_sound text m h = at (number_of text) refl (two_numbers text) refl h
 word_sound : (word rest : List ℕ) (m : Mark) → word_mark word rest ≡ Some m → Spells (word ++ 32 ∷ rest) m
 word_sound word rest m h = at (bytes_eq word (codes "start")) (bytes_eq word (codes "end")) (bytes_eq word (codes "done")) refl refl refl h
   where
-    two : (text : List ℕ) (make : ℕ × ℕ → Mark) → ((p : ℕ × ℕ) → mark_line (make p) ≡ text ++ 32 ∷ (decimal p.0 ++ 32 ∷ decimal p.1)) → ((p : ℕ × ℕ) → p.0 < 2 ^ 64 → p.1 < 2 ^ 64 → MarkFits (make p)) → bytes_eq word text ≡ true → option_map make (two_numbers rest) ≡ Some m → Spells (word ++ 32 ∷ rest) m
+    two : (text : List ℕ) (make : ℕ × ℕ → Mark)
+        → ((p : ℕ × ℕ) → mark_line (make p) ≡ text ++ 32 ∷ (decimal p.0 ++ 32 ∷ decimal p.1))
+        → ((p : ℕ × ℕ) → p.0 < 2 ^ 64 → p.1 < 2 ^ 64 → MarkFits (make p)) → bytes_eq word text ≡ true
+        → option_map make (two_numbers rest) ≡ Some m → Spells (word ++ 32 ∷ rest) m
     two text make line fits is h =
         let made = map_some (two_numbers rest) make m h in
         let read = two_sound rest made.0 made.1 in

@@ -69,7 +69,12 @@ module _ {T : Type 0} (cmp : T → T → Ordering) where
       (λ same. caught_between m (copy_after cmp c p.value) early (ascend_weaker (λ q. q.key ≤ m) (p.key + 1) (copy_after cmp c p.value).next early (omega (arith, same, after.1)) h.2))
     where
       by : (b : Bool) → (p.key == c.next) ≡ b → (o : Option Refusal) → (p.key ≡ c.next → Behind (copy_after cmp c p.value).next m (caught_up cmp (copy_after cmp c p.value) early))
-          → Behind c.next m (if b then option_map_or (λ cause. taken c early (reply.Unfit c.next (Refused cause))) o (caught_up cmp (copy_after cmp c p.value) early) else taken c (p ∷ early) (reply.Next c.next))
+          → Behind c.next m
+          (if b
+          then
+          option_map_or (λ cause. taken c early (reply.Unfit c.next (Refused cause))) o
+          (caught_up cmp (copy_after cmp c p.value) early)
+          else taken c (p ∷ early) (reply.Next c.next))
       by true is None more = let rest = more (eqb-true p.key c.next is) in record { on = omega (arith, rest.on, (next_after cmp c p.value).0); between = rest.between }
       by true is (Some cause) more = record { on = omega arith; between = ascend_weaker (λ q. q.key ≤ m) (p.key + 1) (c.next + 1) early (omega (arith, eqb-true p.key c.next is)) h.2 }
       by false other o more = record { on = omega arith; between = (let ne = eqb-false p.key c.next other in omega (arith, h.0, ne), h.1, h.2) }
@@ -81,7 +86,12 @@ module _ {T : Type 0} (cmp : T → T → Ordering) where
   caught_on c (p ∷ early) = by (p.key == c.next) (apply_refusal (by_key cmp) c.nodes c.next p.value) (caught_on (copy_after cmp c p.value) early)
     where
       by : (b : Bool) (o : Option Refusal) → (copy_after cmp c p.value).next ≤ (caught_up cmp (copy_after cmp c p.value) early).held.next
-          → c.next ≤ (if b then option_map_or (λ cause. taken c early (reply.Unfit c.next (Refused cause))) o (caught_up cmp (copy_after cmp c p.value) early) else taken c (p ∷ early) (reply.Next c.next)).held.next
+          → c.next
+          ≤ (if b
+          then
+          option_map_or (λ cause. taken c early (reply.Unfit c.next (Refused cause))) o
+          (caught_up cmp (copy_after cmp c p.value) early)
+          else taken c (p ∷ early) (reply.Next c.next)).held.next
       by true None more = omega (arith, (next_after cmp c p.value).0, more)
       by true (Some cause) more = omega arith
       by false o more = omega arith
@@ -90,7 +100,13 @@ module _ {T : Type 0} (cmp : T → T → Ordering) where
   awaits_on s e = at (event_number e == s.held.next) (nat_lt (event_number e) s.held.next) (nat_le (event_number e) (s.held.next + s.window))
     where
       at : (a b d : Bool)
-          → s.held.next ≤ (if a then caught_up cmp s.held (pair (event_number e) e ∷ s.early) else if b then taken s.held s.early (reply.Had s.held.next) else if d then taken s.held (with_early s.early e) (reply.Missing s.held.next (first_number (with_early s.early e) (event_number e))) else taken s.held s.early (reply.Gap s.held.next)).held.next
+          → s.held.next
+          ≤ (if a then caught_up cmp s.held (pair (event_number e) e ∷ s.early) else if b
+          then taken s.held s.early (reply.Had s.held.next) else if d
+          then
+          taken s.held (with_early s.early e)
+          (reply.Missing s.held.next (first_number (with_early s.early e) (event_number e)))
+          else taken s.held s.early (reply.Gap s.held.next)).held.next
       at true b d = caught_on s.held (pair (event_number e) e ∷ s.early)
       at false true d = omega arith
       at false false true = omega arith
@@ -105,17 +121,36 @@ module _ {T : Type 0} (cmp : T → T → Ordering) (texts : Texts T) where
     behind = at (event_number e == s.held.next) refl (nat_lt (event_number e) s.held.next) refl (nat_le (event_number e) (s.held.next + s.window)) refl
       where
         at : (a : Bool) → (event_number e == s.held.next) ≡ a → (b : Bool) → nat_lt (event_number e) s.held.next ≡ b → (d : Bool) → nat_le (event_number e) (s.held.next + s.window) ≡ d
-            → Behind s.held.next (s.held.next + s.window) (if a then caught_up cmp s.held (pair (event_number e) e ∷ s.early) else if b then taken s.held s.early (reply.Had s.held.next) else if d then taken s.held (with_early s.early e) (reply.Missing s.held.next (first_number (with_early s.early e) (event_number e))) else taken s.held s.early (reply.Gap s.held.next))
-        at true is b less d near = caught_between cmp (s.held.next + s.window) s.held (pair (event_number e) e ∷ s.early) (let same = eqb-true (event_number e) s.held.next is in (omega (arith, same), omega (arith, same), subst (λ n. Between (n + 1) (s.held.next + s.window) s.early) (sym same) h))
+            → Behind s.held.next (s.held.next + s.window)
+            (if a then caught_up cmp s.held (pair (event_number e) e ∷ s.early) else if b
+            then taken s.held s.early (reply.Had s.held.next) else if d
+            then
+            taken s.held (with_early s.early e)
+            (reply.Missing s.held.next (first_number (with_early s.early e) (event_number e)))
+            else taken s.held s.early (reply.Gap s.held.next))
+        at true is b less d near =
+            caught_between cmp (s.held.next + s.window) s.held (pair (event_number e) e ∷ s.early)
+            (let same = eqb-true (event_number e) s.held.next is in (
+              omega (arith, same),
+              omega (arith, same),
+              subst (λ n. Between (n + 1) (s.held.next + s.window) s.early) (sym same) h,
+            ))
         at false other true less d near = same_behind (reply.Had s.held.next)
         at false other false more true near = record {
           on = omega arith;
-          between = put_ahead (λ q. q.key ≤ s.held.next + s.window) (s.held.next + 1) (event_number e) e s.early (let ne = eqb-false (event_number e) s.held.next other in omega (arith, ne, ltb-false (event_number e) s.held.next more)) (leb-true (event_number e) (s.held.next + s.window) near) h;
+          between =
+              put_ahead (λ q. q.key ≤ s.held.next + s.window) (s.held.next + 1) (event_number e) e s.early
+              (let ne = eqb-false (event_number e) s.held.next other in
+              omega (arith, ne, ltb-false (event_number e) s.held.next more))
+              (leb-true (event_number e) (s.held.next + s.window) near) h;
         }
         at false other false more false far = same_behind (reply.Gap s.held.next)
 
     pub near_after : HoldsNear (after_event cmp s e)
-    near_after = between_more ((event_taken cmp s e).held.next + 1) (s.held.next + s.window) ((event_taken cmp s e).held.next + s.window) (event_taken cmp s e).early (omega (arith, behind.on)) behind.between
+    near_after =
+        between_more ((event_taken cmp s e).held.next + 1) (s.held.next + s.window)
+        ((event_taken cmp s e).held.next + s.window) (event_taken cmp s e).early (omega (arith, behind.on))
+        behind.between
 
   -- ---- lines
 

@@ -1,5 +1,7 @@
 -- A line is a node if and only if it is the text of that node.
-use Rattle.std.proofs.Common.{Option, None, Some, ◌≡◌, ◌≢◌, ℕ, ◌+◌, ◌<◌, Bool, true, false, cond, if◌then◌else◌, eqb, take, drop, get_or, List, [], ◌∷◌, ◌++◌, length, map, refl, sym, ap, subst, ◌∙◌, arith, append_assoc}
+use Rattle.std.proofs.Common.{Option, None, Some, ◌≡◌, ◌≢◌, ℕ, ◌+◌, ◌<◌, Bool, true, false}
+use Rattle.std.proofs.Common.{cond, if◌then◌else◌, eqb, take, drop, get_or, List, [], ◌∷◌, ◌++◌}
+use Rattle.std.proofs.Common.{length, map, refl, sym, ap, subst, ◌∙◌, arith, append_assoc}
 use lib.Chars.{codes}
 use Rattle.std.specs.Prelude.{nat_lt}
 use Rattle.std.proofs.lemmas.Bool.{eqb-false, ltb-true, ne_eqb}
@@ -29,7 +31,10 @@ spot text = position_or_len (λ x. eqb x 32) text
 pub cut_words : (text a b : List ℕ) → cut_at 32 text ≡ Some (a, b) → words text ≡ a ∷ words b
 cut_words text a b e = at (nat_lt (spot text) (length text)) refl e
   where
-    at : (t : Bool) → nat_lt (spot text) (length text) ≡ t → option_map {U = List ℕ × List ℕ} (λ i. (take i text, drop (i + 1) text)) (cond t (Some (spot text)) None) ≡ Some (a, b) → words text ≡ a ∷ words b
+    at : (t : Bool) → nat_lt (spot text) (length text) ≡ t
+        → option_map {U = List ℕ × List ℕ} (λ i. (take i text, drop (i + 1) text)) (cond t (Some (spot text)) None)
+        ≡ Some (a, b)
+        → words text ≡ a ∷ words b
     at true is e =
         slice_split_first (λ x. eqb x 32) text 0 (ltb-true (spot text) (length text) is)
         ∙ ap (λ p. p.0 ∷ words p.1) (some_inj (take (spot text) text, drop (spot text + 1) text) (a, b) e)
@@ -115,7 +120,9 @@ module _ {T : Type 0} (texts : Texts T) (spelled : AreWords texts) where
       let rest = sym (join_with_byte-slice_split 32 cut.0.1) ∙ ap (join_with_byte 32) read.1 in
       (text ∙ (λ i. read.0 i ++ 32 ∷ rest i), (omega (arith, some, ap length read.1, length_map n), read.2))
     where
-      at : (word rest : List ℕ) (b : Bool) → bytes_eq word (codes "node") ≡ b → cond b (pairs_of texts (words rest)) None ≡ Some n → (word ≡ codes "node") × (words rest ≡ map (pair_text texts) n) × All (PairFits texts) n
+      at : (word rest : List ℕ) (b : Bool) → bytes_eq word (codes "node") ≡ b
+          → cond b (pairs_of texts (words rest)) None ≡ Some n
+          → (word ≡ codes "node") × (words rest ≡ map (pair_text texts) n) × All (PairFits texts) n
       at word rest true is e = let read = all_pairs_sound (words rest) n e in ((bytes_eq-Decides word (codes "node")).0 is, read.0, read.1)
       at word rest false is e = none_some n e
 

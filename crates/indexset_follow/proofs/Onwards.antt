@@ -56,7 +56,9 @@ module _ {T : Type 0} (cmp : T → T → Ordering) (texts : Texts T) where
     pub numbered : IsNumberedFrom t.next es
     pub fits : after.next ≤ MAX → Each (EventFits texts) es
 
-  tree_onward : (t : PairTree T) → Good t → (es : List (ChangeEventUnassigned (Pair T T))) → Leads (order cmp) (PairFits texts) t.size t.next t.nodes es → Each (PlainFits texts) es → Onward t (tree_after (order cmp) t es) (numbered_from t.next es)
+  tree_onward : (t : PairTree T) → Good t → (es : List (ChangeEventUnassigned (Pair T T)))
+      → Leads (order cmp) (PairFits texts) t.size t.next t.nodes es → Each (PlainFits texts) es
+      → Onward t (tree_after (order cmp) t es) (numbered_from t.next es)
   tree_onward t g es l plain =
       let made : nodes_after (order cmp) t.nodes t.next es ≡ l.after = ap (λ o. unwrap_or o t.nodes) l.replayed in
       record {
@@ -72,10 +74,14 @@ module _ {T : Type 0} (cmp : T → T → Ordering) (texts : Texts T) (total : Is
   command_onward t g (Put k v) fit =
       let ordered = pairs_total cmp total in
       let small = nodes_each (λ n. n ≤ t.size) t.nodes g.lawful.bounded in
-      tree_onward cmp texts t g (pair_events cmp t (Put k v)) (put_leads (order cmp) ordered (PairFits texts) t.size t.next g.two t.nodes g.lawful g.held (pair k v) fit) (put_fit cmp texts t.size g.few t.nodes small g.held (pair k v) fit)
+      tree_onward cmp texts t g (pair_events cmp t (Put k v))
+      (put_leads (order cmp) ordered (PairFits texts) t.size t.next g.two t.nodes g.lawful g.held (pair k v) fit)
+      (put_fit cmp texts t.size g.few t.nodes small g.held (pair k v) fit)
   command_onward t g (Cut k) fit =
       let small = nodes_each (λ n. n ≤ t.size) t.nodes g.lawful.bounded in
-      tree_onward cmp texts t g (pair_events cmp t (Cut k)) (key_removal_leads cmp total (PairFits texts) t.size t.next g.two t.nodes g.lawful g.held k) (key_removal_fit cmp texts t.size g.few t.nodes small g.held k)
+      tree_onward cmp texts t g (pair_events cmp t (Cut k))
+      (key_removal_leads cmp total (PairFits texts) t.size t.next g.two t.nodes g.lawful g.held k)
+      (key_removal_fit cmp texts t.size g.few t.nodes small g.held k)
   command_onward t g Nodes fit =
       tree_onward cmp texts t g [] (nothing_leads (order cmp) (pairs_total cmp total) (PairFits texts) t.size t.next g.two t.nodes g.lawful g.held) tt
 

@@ -1,5 +1,7 @@
 -- The lines of the first program's output that are events are the events of its commands.
-use Rattle.std.proofs.Common.{Option, None, Some, ◌≡◌, ℕ, zero, suc, ◌+◌, ◌<◌, ◌≤◌, ◌^◌, Bool, true, false, cond, not, List, [], ◌∷◌, ◌++◌, length, filter, slice_get, Ordering, refl, ap, sym, ◌∙◌, subst, arith, append_assoc, append-nil, length-append}
+use Rattle.std.proofs.Common.{Option, None, Some, ◌≡◌, ℕ, zero, suc, ◌+◌, ◌<◌, ◌≤◌, ◌^◌, Bool, true}
+use Rattle.std.proofs.Common.{false, cond, not, List, [], ◌∷◌, ◌++◌, length, filter, slice_get, Ordering}
+use Rattle.std.proofs.Common.{refl, ap, sym, ◌∙◌, subst, arith, append_assoc, append-nil, length-append}
 use Rattle.std.below.core.specs.declared.int.u64.TheConstants.{MAX}
 use Rattle.std.proofs.lemmas.List.Sums.{count_by-le-length}
 use Rattle.std.specs.Option.{option_map_or}
@@ -80,16 +82,31 @@ tells_events (e ∷ es) fit = tells_both (ended (event_text number_texts e)) (li
 
 tells_nodes : (ns : List (List (Pair ℕ ℕ))) → Each (Each (PairFits number_texts)) ns → Tells (lines_for (node_text number_texts) ns) []
 tells_nodes [] fit = tells_none
-tells_nodes (n ∷ ns) fit = tells_both (ended (node_text number_texts n)) (lines_for (node_text number_texts) ns) [] [] (tells_nothing (node_text number_texts n) (row_lacks number_texts number_words n (each_all (PairFits number_texts) n fit.0)) (node_alone number_texts number_words n fit.0) (node_passed nat_cmp number_texts number_words n fit.0)) (tells_nodes ns fit.1)
+tells_nodes (n ∷ ns) fit =
+    tells_both (ended (node_text number_texts n)) (lines_for (node_text number_texts) ns) [] []
+    (tells_nothing (node_text number_texts n)
+    (row_lacks number_texts number_words n (each_all (PairFits number_texts) n fit.0))
+    (node_alone number_texts number_words n fit.0) (node_passed nat_cmp number_texts number_words n fit.0))
+    (tells_nodes ns fit.1)
 
 tells_reply : (r : Reply ℕ) → ReplyFits number_texts r → Tells (reply_ended number_texts r) []
 tells_reply r fit = tells_nothing (reply_text number_texts r) (reply_whole number_texts number_words r fit) (reply_alone number_texts number_words r fit) (reply_passed r fit)
 
 -- ---- a command to the map
 
-command_tells : (t : PairTree ℕ) → Good nat_cmp number_texts t → (c : PairCommand ℕ) → Each (EventFits number_texts) (told_events nat_cmp t c) → Tells (pair_reply nat_cmp number_texts t c) (told_events nat_cmp t c)
-command_tells t g (Put k v) fits = tells_both (reply_ended number_texts (change_reply nat_cmp t (Put k v))) (lines_for (event_text number_texts) (told_events nat_cmp t (Put k v))) [] (told_events nat_cmp t (Put k v)) (tells_reply (change_reply nat_cmp t (Put k v)) (change_fits nat_cmp number_texts t g (Put k v))) (tells_events (told_events nat_cmp t (Put k v)) fits)
-command_tells t g (Cut k) fits = tells_both (reply_ended number_texts (change_reply nat_cmp t (Cut k))) (lines_for (event_text number_texts) (told_events nat_cmp t (Cut k))) [] (told_events nat_cmp t (Cut k)) (tells_reply (change_reply nat_cmp t (Cut k)) (change_fits nat_cmp number_texts t g (Cut k))) (tells_events (told_events nat_cmp t (Cut k)) fits)
+command_tells : (t : PairTree ℕ) → Good nat_cmp number_texts t → (c : PairCommand ℕ)
+    → Each (EventFits number_texts) (told_events nat_cmp t c)
+    → Tells (pair_reply nat_cmp number_texts t c) (told_events nat_cmp t c)
+command_tells t g (Put k v) fits =
+    tells_both (reply_ended number_texts (change_reply nat_cmp t (Put k v)))
+    (lines_for (event_text number_texts) (told_events nat_cmp t (Put k v))) [] (told_events nat_cmp t (Put k v))
+    (tells_reply (change_reply nat_cmp t (Put k v)) (change_fits nat_cmp number_texts t g (Put k v)))
+    (tells_events (told_events nat_cmp t (Put k v)) fits)
+command_tells t g (Cut k) fits =
+    tells_both (reply_ended number_texts (change_reply nat_cmp t (Cut k)))
+    (lines_for (event_text number_texts) (told_events nat_cmp t (Cut k))) [] (told_events nat_cmp t (Cut k))
+    (tells_reply (change_reply nat_cmp t (Cut k)) (change_fits nat_cmp number_texts t g (Cut k)))
+    (tells_events (told_events nat_cmp t (Cut k)) fits)
 command_tells t g Nodes fits = at (is_filled t.nodes)
   where
     at : (b : Bool) → Tells (cond b (lines_for (node_text number_texts) t.nodes) (reply_ended number_texts Empty)) []
@@ -185,18 +202,30 @@ set_fits count less s h (Some Len) = omega (arith, less, h.many)
 line_few : (count : ℕ) (s : Stores) → Few count s.numbers → (line : List ℕ) → Few (count + 1) (stores_after s line).numbers
 line_few count s h line = at (pair_meaning number_texts line)
   where
-    at : (o : Option (PairCommand ℕ)) → Few (count + 1) (option_map_or {U = Stores} (λ c. stores s.numbers (pairs_after nat_cmp s.pairs c)) o (stores (contents_after s.numbers (meaning line)) s.pairs)).numbers
+    at : (o : Option (PairCommand ℕ))
+        → Few (count + 1)
+        (option_map_or {U = Stores} (λ c. stores s.numbers (pairs_after nat_cmp s.pairs c)) o
+        (stores (contents_after s.numbers (meaning line)) s.pairs)).numbers
     at None = after_few count s.numbers h (meaning line) (λ c e. (sound line c e).1)
     at (Some c) = more_few count s.numbers h
 
-line_tells : (count : ℕ) → count < 2 ^ 64 → (s : Stores) → Good nat_cmp number_texts s.pairs → Few count s.numbers → (line : List ℕ) → Each (EventFits number_texts) (line_events s line) → Tells (reply_line s line) (line_events s line)
+line_tells : (count : ℕ) → count < 2 ^ 64 → (s : Stores) → Good nat_cmp number_texts s.pairs → Few count s.numbers
+    → (line : List ℕ) → Each (EventFits number_texts) (line_events s line)
+    → Tells (reply_line s line) (line_events s line)
 line_tells count less s g h line = at (pair_meaning number_texts line)
   where
-    at : (o : Option (PairCommand ℕ)) → Each (EventFits number_texts) (option_map_or {U = List (Event ℕ)} (told_events nat_cmp s.pairs) o []) → Tells (option_map_or (pair_reply nat_cmp number_texts s.pairs) o (reply_ended number_texts (reply_to s.numbers (meaning line)))) (option_map_or {U = List (Event ℕ)} (told_events nat_cmp s.pairs) o [])
+    at : (o : Option (PairCommand ℕ))
+        → Each (EventFits number_texts) (option_map_or {U = List (Event ℕ)} (told_events nat_cmp s.pairs) o [])
+        → Tells
+        (option_map_or (pair_reply nat_cmp number_texts s.pairs) o
+        (reply_ended number_texts (reply_to s.numbers (meaning line))))
+        (option_map_or {U = List (Event ℕ)} (told_events nat_cmp s.pairs) o [])
     at None fits = tells_reply (reply_to s.numbers (meaning line)) (set_fits count less s.numbers h (meaning line))
     at (Some c) fits = command_tells s.pairs g c fits
 
-lines_tell : (count : ℕ) (s : Stores) → Good nat_cmp number_texts s.pairs → Few count s.numbers → (lines : List (List ℕ)) → count + length lines < 2 ^ 64 → (stores_of s lines).pairs.next ≤ MAX → Tells (replies_of s lines) (events_from s lines)
+lines_tell : (count : ℕ) (s : Stores) → Good nat_cmp number_texts s.pairs → Few count s.numbers
+    → (lines : List (List ℕ)) → count + length lines < 2 ^ 64 → (stores_of s lines).pairs.next ≤ MAX
+    → Tells (replies_of s lines) (events_from s lines)
 unfolding replies_to left_by events_from
 lines_tell count s g h [] many less = tells_none
 lines_tell count s g h (line ∷ lines) many less =

@@ -122,7 +122,9 @@ module _ {T : Type 0} (texts : Texts T) (spelled : AreWords texts) where
   node_alone [] fit = refl
   node_alone (p ∷ []) fit = (let one = uncut 32 (pair_text texts p) (pair_lacks texts 32 (space_apart texts spelled) p fit.0) in rw one refl)
   node_alone (p ∷ q ∷ ps) fit =
-      let cut : cut_at 32 (node_text texts (p ∷ q ∷ ps)) ≡ Some (pair_text texts p, node_text texts (q ∷ ps)) = cut_told 32 (pair_text texts p) (node_text texts (q ∷ ps)) (pair_lacks texts 32 (space_apart texts spelled) p fit.0) in
+      let cut : cut_at 32 (node_text texts (p ∷ q ∷ ps)) ≡ Some (pair_text texts p, node_text texts (q ∷ ps)) =
+      cut_told 32 (pair_text texts p) (node_text texts (q ∷ ps))
+      (pair_lacks texts 32 (space_apart texts spelled) p fit.0) in
       rw (cut, pair_no_number texts p) refl
 
 module _ {T : Type 0} (cmp : T → T → Ordering) (texts : Texts T) (spelled : AreWords texts) where
@@ -140,7 +142,9 @@ module _ {T : Type 0} (cmp : T → T → Ordering) (texts : Texts T) (spelled : 
       let next : bytes_eq (pair_text texts p) (codes "next") ≡ false = pair_no_word texts p (codes "next") refl in
       says_nothing cmp texts (pair_text texts p) (rw one refl) (rw one refl) (rw one refl) (rw (one, len, first, last, nodes, next, snapshot, sum, compact) refl)
   node_passed (p ∷ q ∷ ps) fit =
-      let cut : cut_at 32 (node_text texts (p ∷ q ∷ ps)) ≡ Some (pair_text texts p, node_text texts (q ∷ ps)) = cut_told 32 (pair_text texts p) (node_text texts (q ∷ ps)) (pair_lacks texts 32 (space_apart texts spelled) p fit.0) in
+      let cut : cut_at 32 (node_text texts (p ∷ q ∷ ps)) ≡ Some (pair_text texts p, node_text texts (q ∷ ps)) =
+      cut_told 32 (pair_text texts p) (node_text texts (q ∷ ps))
+      (pair_lacks texts 32 (space_apart texts spelled) p fit.0) in
       let node : bytes_eq (pair_text texts p) (codes "node") ≡ false = pair_no_word texts p (codes "node") refl in
       let start : bytes_eq (pair_text texts p) (codes "start") ≡ false = pair_no_word texts p (codes "start") refl in
       let end : bytes_eq (pair_text texts p) (codes "end") ≡ false = pair_no_word texts p (codes "end") refl in
@@ -151,4 +155,5 @@ module _ {T : Type 0} (cmp : T → T → Ordering) (texts : Texts T) (spelled : 
       let head : bytes_eq (pair_text texts p) (codes "head") ≡ false = pair_no_word texts p (codes "head") refl in
       let range : bytes_eq (pair_text texts p) (codes "range") ≡ false = pair_no_word texts p (codes "range") refl in
       let page : bytes_eq (pair_text texts p) (codes "page") ≡ false = pair_no_word texts p (codes "page") refl in
-      says_nothing cmp texts (node_text texts (p ∷ q ∷ ps)) (node_alone texts spelled (p ∷ q ∷ ps) fit) (rw (cut, node) refl) (rw (cut, start, end, done) refl) (rw (cut, get, rank, at, head, range, page) refl)
+      says_nothing cmp texts (node_text texts (p ∷ q ∷ ps)) (node_alone texts spelled (p ∷ q ∷ ps) fit)
+      (rw (cut, node) refl) (rw (cut, start, end, done) refl) (rw (cut, get, rank, at, head, range, page) refl)

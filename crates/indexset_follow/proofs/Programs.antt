@@ -37,7 +37,10 @@ pub line_onward : (s : Stores) → Good nat_cmp number_texts s.pairs → (line :
 line_onward s g line = at (pair_meaning number_texts line) (λ c told. (pair_sound number_texts number_words line c told).1)
   where
     at : (o : Option (PairCommand ℕ)) → ((c : PairCommand ℕ) → o ≡ Some c → CommandFits number_texts c)
-        → Onward nat_cmp number_texts s.pairs (option_map_or {U = Stores} (λ c. stores s.numbers (pairs_after nat_cmp s.pairs c)) o (stores (contents_after s.numbers (meaning line)) s.pairs)).pairs (option_map_or {U = List (Event ℕ)} (told_events nat_cmp s.pairs) o [])
+        → Onward nat_cmp number_texts s.pairs
+        (option_map_or {U = Stores} (λ c. stores s.numbers (pairs_after nat_cmp s.pairs c)) o
+        (stores (contents_after s.numbers (meaning line)) s.pairs)).pairs
+        (option_map_or {U = List (Event ℕ)} (told_events nat_cmp s.pairs) o [])
     at None fit = still nat_cmp number_texts s.pairs g
     at (Some c) fit = command_onward nat_cmp number_texts nat_cmp_total s.pairs g c (fit c refl)
 
@@ -46,7 +49,9 @@ unfolding left_by events_from
 lines_onward s g [] = still nat_cmp number_texts s.pairs g
 lines_onward s g (line ∷ lines) =
     let first = line_onward s g line in
-    both_onward nat_cmp number_texts s.pairs (stores_after s line).pairs (stores_of (stores_after s line) lines).pairs (line_events s line) (events_from (stores_after s line) lines) first (lines_onward (stores_after s line) first.good lines)
+    both_onward nat_cmp number_texts s.pairs (stores_after s line).pairs
+    (stores_of (stores_after s line) lines).pairs (line_events s line) (events_from (stores_after s line) lines)
+    first (lines_onward (stores_after s line) first.good lines)
 
 -- the events of a prefix of the lines are a prefix of the events
 pub events_part : (s : Stores) (front back : List (List ℕ)) → events_from s (front ++ back) ≡ events_from s front ++ events_from (stores_of s front) back
@@ -82,7 +87,9 @@ module _ (lines : List (List ℕ)) where
 
   pub told_first : (n : ℕ) → take (length (events_of_lines (take n lines))) (events_of_lines lines) ≡ events_of_lines (take n lines)
   told_first n =
-      let parts : events_of_lines lines ≡ events_of_lines (take n lines) ++ events_from (stores_of no_stores (take n lines)) (drop n lines) = ap events_of_lines (sym (take-append-drop n lines)) ∙ events_part no_stores (take n lines) (drop n lines) in
+      let parts : events_of_lines lines
+      ≡ events_of_lines (take n lines) ++ events_from (stores_of no_stores (take n lines)) (drop n lines) =
+      ap events_of_lines (sym (take-append-drop n lines)) ∙ events_part no_stores (take n lines) (drop n lines) in
       ap (take (length (events_of_lines (take n lines)))) parts ∙ take-append_seam (events_of_lines (take n lines)) (events_from (stores_of no_stores (take n lines)) (drop n lines))
 
   module _ (less : (stores_of no_stores lines).pairs.next < 2 ^ 64) where
@@ -100,7 +107,11 @@ module _ (lines : List (List ℕ)) where
       follower_begins = let held = beginning nat_cmp number_texts number_words 0 [] (events_of_lines lines) told_feed told_fit 0 (start_state w) delivered (start w) tt drawn in (held.0, held.1)
 
       -- a follower that applied k events, and the program after lines that emitted as many
-      pub same_nodes : (n : ℕ) → (state_after nat_cmp number_texts (start_state w) delivered).held.next ≡ (stores_of no_stores (take n lines)).pairs.next → (state_after nat_cmp number_texts (start_state w) delivered).held.nodes ≡ (stores_of no_stores (take n lines)).pairs.nodes
+      pub same_nodes : (n : ℕ)
+          → (state_after nat_cmp number_texts (start_state w) delivered).held.next
+          ≡ (stores_of no_stores (take n lines)).pairs.next
+          → (state_after nat_cmp number_texts (start_state w) delivered).held.nodes
+          ≡ (stores_of no_stores (take n lines)).pairs.nodes
       same_nodes n same =
           let at = follower_begins in
           let front = lines_onward no_stores no_good (take n lines) in
@@ -109,14 +120,29 @@ module _ (lines : List (List ℕ)) where
           some_inj _ _ (sym at.1.nodes ∙ ap (replay (by_key nat_cmp) []) first ∙ front.replayed)
 
       -- a follower that applied all events has the program's nodes
-      at_end : HoldsFirst nat_cmp 0 [] (events_of_lines lines) (length (events_of_lines lines)) (state_after nat_cmp number_texts (start_state w) delivered) → (state_after nat_cmp number_texts (start_state w) delivered).held ≡ copy (stores_of no_stores lines).pairs.nodes (stores_of no_stores lines).pairs.next
+      at_end : HoldsFirst nat_cmp 0 [] (events_of_lines lines) (length (events_of_lines lines))
+          (state_after nat_cmp number_texts (start_state w) delivered)
+          → (state_after nat_cmp number_texts (start_state w) delivered).held
+          ≡ copy (stores_of no_stores lines).pairs.nodes (stores_of no_stores lines).pairs.next
       at_end at =
-          let nodes : (state_after nat_cmp number_texts (start_state w) delivered).held.nodes ≡ (stores_of no_stores lines).pairs.nodes = some_inj _ _ (sym at.nodes ∙ ap (replay (by_key nat_cmp) []) (take_all (length (events_of_lines lines)) (events_of_lines lines) (omega arith)) ∙ told.replayed) in
+          let nodes : (state_after nat_cmp number_texts (start_state w) delivered).held.nodes
+          ≡ (stores_of no_stores lines).pairs.nodes =
+          some_inj _ _
+          (sym at.nodes
+          ∙ ap (replay (by_key nat_cmp) [])
+          (take_all (length (events_of_lines lines)) (events_of_lines lines) (omega arith))
+          ∙ told.replayed) in
           let next : (state_after nat_cmp number_texts (start_state w) delivered).held.next ≡ (stores_of no_stores lines).pairs.next = omega (arith, at.next, told_count) in
           λ i. copy (nodes i) (next i)
 
-      pub follower_ends : IsSubsequence (map (event_text number_texts) (events_of_lines lines)) delivered → (state_after nat_cmp number_texts (start_state w) delivered).held ≡ copy (stores_of no_stores lines).pairs.nodes (stores_of no_stores lines).pairs.next
+      pub follower_ends : IsSubsequence (map (event_text number_texts) (events_of_lines lines)) delivered
+          → (state_after nat_cmp number_texts (start_state w) delivered).held
+          ≡ copy (stores_of no_stores lines).pairs.nodes (stores_of no_stores lines).pairs.next
       follower_ends came = at_end (whole nat_cmp number_texts number_words 0 [] (events_of_lines lines) told_feed told_fit 0 (start_state w) delivered (start w) tt drawn came)
 
-      pub follower_holds : AreWithin nat_cmp number_texts (start_state w) delivered → ((p : ℕ) (e : Event ℕ) → 0 ≤ p → slice_get (events_of_lines lines) p ≡ Some e → IsAmong delivered (event_text number_texts e)) → (state_after nat_cmp number_texts (start_state w) delivered).held ≡ copy (stores_of no_stores lines).pairs.nodes (stores_of no_stores lines).pairs.next
+      pub follower_holds : AreWithin nat_cmp number_texts (start_state w) delivered
+          → ((p : ℕ) (e : Event ℕ) → 0 ≤ p → slice_get (events_of_lines lines) p ≡ Some e
+          → IsAmong delivered (event_text number_texts e))
+          → (state_after nat_cmp number_texts (start_state w) delivered).held
+          ≡ copy (stores_of no_stores lines).pairs.nodes (stores_of no_stores lines).pairs.next
       follower_holds within came = at_end (all_held nat_cmp number_texts number_words 0 [] (events_of_lines lines) told_feed told_fit 0 (start_state w) delivered refl (start w) drawn within came)

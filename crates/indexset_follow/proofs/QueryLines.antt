@@ -94,14 +94,26 @@ module _ {T : Type 0} (texts : Texts T) where
     -- ---- the text of a read that was read
 
     word_sound : (word : List ℕ) (q : Query T) → word_query {T = T} word ≡ Some q → Spells word q
-    word_sound word q h = at (bytes_eq word (codes "len")) (bytes_eq word (codes "first")) (bytes_eq word (codes "last")) (bytes_eq word (codes "nodes")) (bytes_eq word (codes "next")) (bytes_eq word (codes "snapshot")) (bytes_eq word (codes "sum")) (bytes_eq word (codes "compact")) refl refl refl refl refl refl refl refl h
+    word_sound word q h =
+        at (bytes_eq word (codes "len")) (bytes_eq word (codes "first")) (bytes_eq word (codes "last"))
+        (bytes_eq word (codes "nodes")) (bytes_eq word (codes "next")) (bytes_eq word (codes "snapshot"))
+        (bytes_eq word (codes "sum")) (bytes_eq word (codes "compact")) refl refl refl refl refl refl refl refl h
       where
         -- the word is that of this read
         is_word : (s : Query T) → QueryFits texts s → word ≡ query_line texts s → Some s ≡ Some q → Spells word q
         is_word s fit text e = subst (Spells word) (some_inj s q e) (text, fit)
 
-        at : (a b c d e f g i : Bool) → bytes_eq word (codes "len") ≡ a → bytes_eq word (codes "first") ≡ b → bytes_eq word (codes "last") ≡ c → bytes_eq word (codes "nodes") ≡ d → bytes_eq word (codes "next") ≡ e → bytes_eq word (codes "snapshot") ≡ f → bytes_eq word (codes "sum") ≡ g → bytes_eq word (codes "compact") ≡ i
-            → cond a (Some Len) (cond b (Some First) (cond c (Some Last) (cond d (Some Nodes) (cond e (Some Next) (cond f (Some Snapshot) (cond g (Some Sum) (cond i (Some Compact) None))))))) ≡ Some q → Spells word q
+        at : (a b c d e f g i : Bool) → bytes_eq word (codes "len") ≡ a → bytes_eq word (codes "first") ≡ b
+            → bytes_eq word (codes "last") ≡ c → bytes_eq word (codes "nodes") ≡ d → bytes_eq word (codes "next") ≡ e
+            → bytes_eq word (codes "snapshot") ≡ f → bytes_eq word (codes "sum") ≡ g
+            → bytes_eq word (codes "compact") ≡ i
+            → cond a (Some Len)
+            (cond b (Some First)
+            (cond c (Some Last)
+            (cond d (Some Nodes)
+            (cond e (Some Next) (cond f (Some Snapshot) (cond g (Some Sum) (cond i (Some Compact) None)))))))
+            ≡ Some q
+            → Spells word q
         at true b c d e f g i is _ _ _ _ _ _ _ h = is_word Len tt (same word (codes "len") is) h
         at false true c d e f g i _ is _ _ _ _ _ _ h = is_word First tt (same word (codes "first") is) h
         at false false true d e f g i _ _ is _ _ _ _ _ h = is_word Last tt (same word (codes "last") is) h
@@ -116,14 +128,20 @@ module _ {T : Type 0} (texts : Texts T) where
     numbered_sound word rest q h = at (bytes_eq word (codes "at")) (bytes_eq word (codes "head")) (bytes_eq word (codes "page")) refl refl refl h
       where
         -- a word and a number
-        one : (text : List ℕ) (make : ℕ → Query T) → ((n : ℕ) → query_line texts (make n) ≡ text ++ 32 ∷ decimal n) → ((n : ℕ) → n < 2 ^ 64 → QueryFits texts (make n)) → bytes_eq word text ≡ true → option_map make (number_of rest) ≡ Some q → Spells (word ++ 32 ∷ rest) q
+        one : (text : List ℕ) (make : ℕ → Query T) → ((n : ℕ) → query_line texts (make n) ≡ text ++ 32 ∷ decimal n)
+            → ((n : ℕ) → n < 2 ^ 64 → QueryFits texts (make n)) → bytes_eq word text ≡ true
+            → option_map make (number_of rest) ≡ Some q → Spells (word ++ 32 ∷ rest) q
         one text make line fits is h =
             let made = map_some (number_of rest) make q h in
             let read = number_sound rest made.0 made.1 in
             subst (Spells (word ++ 32 ∷ rest)) made.2 ((λ i. same word text is i ++ 32 ∷ read.0 i) ∙ sym (line made.0), fits made.0 read.1)
 
         at : (a b c : Bool) → bytes_eq word (codes "at") ≡ a → bytes_eq word (codes "head") ≡ b → bytes_eq word (codes "page") ≡ c
-            → cond a (option_map At (number_of rest)) (cond b (option_map Head (number_of rest)) (cond c (option_map (λ p. Page p.0 p.1) (two_numbers rest)) None)) ≡ Some q → Spells (word ++ 32 ∷ rest) q
+            → cond a (option_map At (number_of rest))
+            (cond b (option_map Head (number_of rest))
+            (cond c (option_map (λ p. Page p.0 p.1) (two_numbers rest)) None))
+            ≡ Some q
+            → Spells (word ++ 32 ∷ rest) q
         at true b c is _ _ h = one (codes "at") At (λ n. refl) (λ n fit. fit) is h
         at false true c _ is _ h = one (codes "head") Head (λ n. refl) (λ n fit. fit) is h
         at false false true _ _ is h =
@@ -136,14 +154,21 @@ module _ {T : Type 0} (texts : Texts T) where
     keyed_sound word rest q h = at (bytes_eq word (codes "get")) (bytes_eq word (codes "rank")) (bytes_eq word (codes "range")) refl refl refl h
       where
         -- a word and a key
-        one : (text : List ℕ) (make : T → Query T) → ((k : T) → query_line texts (make k) ≡ text ++ 32 ∷ texts.spelling k) → ((k : T) → texts.InRange k → QueryFits texts (make k)) → bytes_eq word text ≡ true → option_map make (texts.reading rest) ≡ Some q → Spells (word ++ 32 ∷ rest) q
+        one : (text : List ℕ) (make : T → Query T)
+            → ((k : T) → query_line texts (make k) ≡ text ++ 32 ∷ texts.spelling k)
+            → ((k : T) → texts.InRange k → QueryFits texts (make k)) → bytes_eq word text ≡ true
+            → option_map make (texts.reading rest) ≡ Some q → Spells (word ++ 32 ∷ rest) q
         one text make line fits is h =
             let made = map_some (texts.reading rest) make q h in
             let read = words.sound rest made.0 made.1 in
             subst (Spells (word ++ 32 ∷ rest)) made.2 ((λ i. same word text is i ++ 32 ∷ read.0 i) ∙ sym (line made.0), fits made.0 read.1)
 
         at : (a b c : Bool) → bytes_eq word (codes "get") ≡ a → bytes_eq word (codes "rank") ≡ b → bytes_eq word (codes "range") ≡ c
-            → cond a (option_map Get (texts.reading rest)) (cond b (option_map Rank (texts.reading rest)) (cond c (option_map (λ p. Range p.0 p.1) (two_keys texts rest)) (numbered_query word rest))) ≡ Some q → Spells (word ++ 32 ∷ rest) q
+            → cond a (option_map Get (texts.reading rest))
+            (cond b (option_map Rank (texts.reading rest))
+            (cond c (option_map (λ p. Range p.0 p.1) (two_keys texts rest)) (numbered_query word rest)))
+            ≡ Some q
+            → Spells (word ++ 32 ∷ rest) q
         at true b c is _ _ h = one (codes "get") Get (λ k. refl) (λ k fit. fit) is h
         at false true c _ is _ h = one (codes "rank") Rank (λ k. refl) (λ k fit. fit) is h
         at false false true _ _ is h =

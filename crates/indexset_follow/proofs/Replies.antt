@@ -56,12 +56,24 @@ module _ {T : Type 0} (texts : Texts T) (spelled : AreWords texts) where
   event_whole (change.RemoveNode id max) h = head_whole texts spelled id (codes " drop ") max h.0 (lacks_tested 10 (codes " drop ") refl) h.1
   event_whole (change.InsertAt id max p i) h =
       let word = codes " insert " in
-      more_whole (event_head texts id word max ++ codes " " ++ pair_text texts p) (decimal i) (more_whole (event_head texts id word max) (pair_text texts p) (head_whole texts spelled id word max h.0 (lacks_tested 10 word refl) h.1) (pair_whole texts spelled p h.2)) (number_whole i h.3)
+      more_whole (event_head texts id word max ++ codes " " ++ pair_text texts p) (decimal i)
+      (more_whole (event_head texts id word max) (pair_text texts p)
+      (head_whole texts spelled id word max h.0 (lacks_tested 10 word refl) h.1) (pair_whole texts spelled p h.2))
+      (number_whole i h.3)
   event_whole (change.RemoveAt id max p i) h =
       let word = codes " remove " in
-      more_whole (event_head texts id word max ++ codes " " ++ pair_text texts p) (decimal i) (more_whole (event_head texts id word max) (pair_text texts p) (head_whole texts spelled id word max h.0 (lacks_tested 10 word refl) h.1) (pair_whole texts spelled p h.2)) (number_whole i h.3)
-  event_whole (change.SplitNode id max k) h = more_whole (event_head texts id (codes " split ") max) (decimal k) (head_whole texts spelled id (codes " split ") max h.0 (lacks_tested 10 (codes " split ") refl) h.1) (number_whole k h.2)
-  event_whole (change.MergeNodes id max next) h = more_whole (event_head texts id (codes " merge ") max) (pair_text texts next) (head_whole texts spelled id (codes " merge ") max h.0 (lacks_tested 10 (codes " merge ") refl) h.1) (pair_whole texts spelled next h.2)
+      more_whole (event_head texts id word max ++ codes " " ++ pair_text texts p) (decimal i)
+      (more_whole (event_head texts id word max) (pair_text texts p)
+      (head_whole texts spelled id word max h.0 (lacks_tested 10 word refl) h.1) (pair_whole texts spelled p h.2))
+      (number_whole i h.3)
+  event_whole (change.SplitNode id max k) h =
+      more_whole (event_head texts id (codes " split ") max) (decimal k)
+      (head_whole texts spelled id (codes " split ") max h.0 (lacks_tested 10 (codes " split ") refl) h.1)
+      (number_whole k h.2)
+  event_whole (change.MergeNodes id max next) h =
+      more_whole (event_head texts id (codes " merge ") max) (pair_text texts next)
+      (head_whole texts spelled id (codes " merge ") max h.0 (lacks_tested 10 (codes " merge ") refl) h.1)
+      (pair_whole texts spelled next h.2)
 
   pub reply_whole : (r : Reply T) → ReplyFits texts r → HasNoEnd (reply_text texts r)
   reply_whole New fit = lacks_tested 10 (codes "new") refl

@@ -25,7 +25,9 @@ unfolding put_events removal_by digits
 commands = (refl, refl)
 
 -- the same with a command number, which is or is not the greatest
-numbered : (command_text nat_cmp number_texts (leader_of (fresh 4) 0) (command (Some 17) (Put 3 30)) ≡ ended (codes "#17 new") ++ ended (codes "0 create 3:30") ++ ended (codes "done 17 1") ++ ended (codes "next 1"))
+numbered :
+    (command_text nat_cmp number_texts (leader_of (fresh 4) 0) (command (Some 17) (Put 3 30))
+    ≡ ended (codes "#17 new") ++ ended (codes "0 create 3:30") ++ ended (codes "done 17 1") ++ ended (codes "next 1"))
     × (command_text nat_cmp number_texts (leader_of (fresh 4) 20) (command (Some 17) (Cut 3)) ≡ ended (codes "#17 none") ++ ended (codes "done 20 0") ++ ended (codes "next 0"))
 unfolding put_events removal_by digits
 numbered = (refl, refl)

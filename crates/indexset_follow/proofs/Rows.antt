@@ -23,7 +23,9 @@ module _ {X : Type 0} (text : X → List ℕ) where
   line_push front done x = append_assoc front (lines_for text done) (ended (text x)) ∙ ap (λ l. front ++ l) (sym (lines_more done x))
 
   -- another line was written
-  pub line_behind : (front : List ℕ) (done : List X) (x : X) (w w1 w2 : Option (List ℕ)) → Appends w w1 (front ++ lines_for text done) → Appends w1 w2 (ended (text x)) → Appends w w2 (front ++ lines_for text (done ++ x ∷ []))
+  pub line_behind : (front : List ℕ) (done : List X) (x : X) (w w1 w2 : Option (List ℕ))
+      → Appends w w1 (front ++ lines_for text done) → Appends w1 w2 (ended (text x))
+      → Appends w w2 (front ++ lines_for text (done ++ x ∷ []))
   line_behind front done x w w1 w2 far told = subst (Appends w w2) (line_push front done x) (Appends-trans w w1 w2 (front ++ lines_for text done) (ended (text x)) far told)
 
 pub walked_on : {X : Type 0} (done : List X) (x : X) (left rest all : List X) → done ++ left ≡ all → left ≡ x ∷ rest → (done ++ x ∷ []) ++ rest ≡ all
@@ -37,7 +39,8 @@ module _ {R X : Type 0} (text : X → List ℕ) (read : R → X) where
   join_push (y ∷ z ∷ xs) x = ap (λ l. text y ++ (32 ∷ l)) (join_push (z ∷ xs) x) ∙ sym (append_assoc (text y) (32 ∷ join_with_byte 32 (map text (z ∷ xs))) (32 ∷ text x))
 
   module _ (done : List R) (y : R) where
-    pub one_joined : (lead : List ℕ) (w w1 w2 : Option (List ℕ)) → lead ≡ lead_after (map read done) → Appends w w1 (join_with_byte 32 (map text (map read done))) → Appends w1 w2 (lead ++ text (read y))
+    pub one_joined : (lead : List ℕ) (w w1 w2 : Option (List ℕ)) → lead ≡ lead_after (map read done)
+        → Appends w w1 (join_with_byte 32 (map text (map read done))) → Appends w1 w2 (lead ++ text (read y))
         → Appends w w2 (join_with_byte 32 (map text (map read (done ++ y ∷ []))))
     one_joined lead w w1 w2 led far told =
         let now = subst (λ l. Appends w1 w2 (l ++ text (read y))) led told in
@@ -62,4 +65,6 @@ module _ {T : Type 0} (texts : Texts T) where
 
   -- the word of a node's line, and then the node
   pub node_written : (n : List (Pair T T)) (w w1 w2 : Option (List ℕ)) → Appends w w1 (codes "node ") → Appends w1 w2 (ended (node_text texts n)) → Appends w w2 (ended (node_line texts n))
-  node_written n w w1 w2 word told = subst (Appends w w2) (sym (append_assoc (codes "node ") (node_text texts n) (10 ∷ []))) (Appends-trans w w1 w2 (codes "node ") (ended (node_text texts n)) word told)
+  node_written n w w1 w2 word told =
+      subst (Appends w w2) (sym (append_assoc (codes "node ") (node_text texts n) (10 ∷ [])))
+      (Appends-trans w w1 w2 (codes "node ") (ended (node_text texts n)) word told)

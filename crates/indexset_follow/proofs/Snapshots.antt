@@ -1,7 +1,9 @@
 -- A follower that reads a snapshot has its state.
 use Rattle.std.specs.Option.{option_map_or}
 use Rattle.std.specs.Prelude.{nat_lt}
-use Rattle.std.proofs.Common.{◌≡◌, ◌≢◌, ◌⊎◌, ◌==◌, inl, inr, Option, Bool, false, None, Some, IfSome, IsSomeAnd, ℕ, ◌<◌, ◌^◌, true, if◌then◌else◌, List, [], ◌∷◌, ◌++◌, length, map, insert, Ordering, refl, sym, ap, subst, ◌∙◌, arith, append_assoc, append-nil}
+use Rattle.std.proofs.Common.{◌≡◌, ◌≢◌, ◌⊎◌, ◌==◌, inl, inr, Option, Bool, false, None, Some, IfSome}
+use Rattle.std.proofs.Common.{IsSomeAnd, ℕ, ◌<◌, ◌^◌, true, if◌then◌else◌, List, [], ◌∷◌, ◌++◌, length, map}
+use Rattle.std.proofs.Common.{insert, Ordering, refl, sym, ap, subst, ◌∙◌, arith, append_assoc, append-nil}
 use lib.Chars.{codes}
 use Rattle.std.specs.declared.cmp.Ordering.TheVariants.{Less}
 use Rattle.std.proofs.lemmas.List.Edits.{insert_end}
@@ -119,12 +121,16 @@ module _ {T : Type 0} (cmp : T → T → Ordering) (texts : Texts T) (spelled : 
       rw (event, node_told texts spelled n fit) refl
 
   -- the nodes, one line after the other
-  filled_up : (s : State T) (next d : ℕ) (done rest : List (List (Pair T T))) → Ruled (by_key cmp) (done ++ rest) → All (NodeFits texts) rest → state_after cmp texts (coming s (copy done next) d) (map (node_line texts) rest) ≡ coming s (copy (done ++ rest) next) d
+  filled_up : (s : State T) (next d : ℕ) (done rest : List (List (Pair T T))) → Ruled (by_key cmp) (done ++ rest)
+      → All (NodeFits texts) rest
+      → state_after cmp texts (coming s (copy done next) d) (map (node_line texts) rest)
+      ≡ coming s (copy (done ++ rest) next) d
   unfolding left_by
   filled_up s next d done [] rule fit = ap (λ ns. coming s (copy ns next) d) (sym (append-nil done))
   filled_up s next d done (n ∷ rest) rule fit =
       let one = node_line_told (coming s (copy done next) d) n (All-head (NodeFits texts) n rest fit) in
-      let held : after_node cmp (coming s (copy done next) d) n ≡ coming s (copy (done ++ n ∷ []) next) d = rw (fits_behind (by_key cmp) done rest n rule, goes_behind (by_key cmp) done rest n rule) refl in
+      let held : after_node cmp (coming s (copy done next) d) n ≡ coming s (copy (done ++ n ∷ []) next) d =
+      rw (fits_behind (by_key cmp) done rest n rule, goes_behind (by_key cmp) done rest n rule) refl in
       let more : (done ++ n ∷ []) ++ rest ≡ done ++ n ∷ rest = append_assoc done (n ∷ []) rest in
       ap (λ r. state_after cmp texts r (map (node_line texts) rest)) (one ∙ held)
       ∙ filled_up s next d (done ++ n ∷ []) rest (subst (Ruled (by_key cmp)) (sym more) rule) (All-tail (NodeFits texts) n rest fit)
@@ -183,9 +189,12 @@ module _ {T : Type 0} (cmp : T → T → Ordering) (texts : Texts T) (spelled : 
           ap lines_of (append_assoc (ended (mark_line (Start c.next d))) (lines_for (node_line texts) c.nodes) (ended (end_line c sum)))
           ∙ first_line (mark_line (Start c.next d)) (lines_for (node_line texts) c.nodes ++ ended (end_line c sum)) (mark_lacks (Start c.next d) (small, less))
           ∙ ap (λ ls. mark_line (Start c.next d) ∷ ls)
-          (node_lines texts spelled c.nodes (ended (end_line c sum)) fit ∙ ap (λ ls. map (node_line texts) c.nodes ++ ls) (lines_of-line (end_line c sum) [] (mark_lacks (End (length c.nodes) sum) (few, fits))))
+          (node_lines texts spelled c.nodes (ended (end_line c sum)) fit
+          ∙ ap (λ ls. map (node_line texts) c.nodes ++ ls)
+          (lines_of-line (end_line c sum) [] (mark_lacks (End (length c.nodes) sum) (few, fits))))
 
-      it_is_taken : has_sum texts sum c d ≡ true → (t : State T) → IsNodeList (by_key cmp) c.nodes → state_after cmp texts t (lines_of (body_text texts c d ++ ended (end_line c sum))) ≡ holding t.window c d
+      it_is_taken : has_sum texts sum c d ≡ true → (t : State T) → IsNodeList (by_key cmp) c.nodes
+          → state_after cmp texts t (lines_of (body_text texts c d ++ ended (end_line c sum))) ≡ holding t.window c d
       unfolding left_by
       it_is_taken has t lawful =
           ap (state_after cmp texts t) its_lines
@@ -230,7 +239,9 @@ module _ {T : Type 0} (texts : Texts T) where
   not_its_sum None came d apart same = apart
   not_its_sum (Some told) came d apart same = apart (eqb-true (sum_of texts came d) told same)
 
-  pub wrong_end : (s : State T) (came : Copy T) (count : ℕ) (sum : Option ℕ) → s.coming ≡ Some came → (length came.nodes ≢ count) ⊎ IsSomeAnd sum (λ told. sum_of texts came s.coming_done ≢ told) → after_mark texts s (End count sum) ≡ with_coming s None 0
+  pub wrong_end : (s : State T) (came : Copy T) (count : ℕ) (sum : Option ℕ) → s.coming ≡ Some came
+      → (length came.nodes ≢ count) ⊎ IsSomeAnd sum (λ told. sum_of texts came s.coming_done ≢ told)
+      → after_mark texts s (End count sum) ≡ with_coming s None 0
   wrong_end s came count sum is other = rw is (at (length came.nodes == count) refl (has_sum texts sum came s.coming_done) refl)
     where
       at : (a : Bool) → (length came.nodes == count) ≡ a → (b : Bool) → has_sum texts sum came s.coming_done ≡ b → put_in_place texts count sum s came ≡ with_coming s None 0

@@ -49,8 +49,16 @@ module _ {T : Type 0} (texts : Texts T) where
 
 -- ---- the first bytes of the digest
 
-pub first_eight : (d : List ℕ) → from_be_bytes w64 (get_or d 0 0 ∷ get_or d 1 0 ∷ get_or d 2 0 ∷ get_or d 3 0 ∷ get_or d 4 0 ∷ get_or d 5 0 ∷ get_or d 6 0 ∷ get_or d 7 0 ∷ []) ≡ from_be_bytes w64 (take 8 d)
-first_eight d = λ i. from_be_bytes w64 (at 0 (omega arith) i ∷ at 1 (omega arith) i ∷ at 2 (omega arith) i ∷ at 3 (omega arith) i ∷ at 4 (omega arith) i ∷ at 5 (omega arith) i ∷ at 6 (omega arith) i ∷ at 7 (omega arith) i ∷ [])
+pub first_eight : (d : List ℕ)
+    → from_be_bytes w64
+    (get_or d 0 0 ∷ get_or d 1 0 ∷ get_or d 2 0 ∷ get_or d 3 0 ∷ get_or d 4 0 ∷ get_or d 5 0 ∷ get_or d 6 0
+    ∷ get_or d 7 0 ∷ [])
+    ≡ from_be_bytes w64 (take 8 d)
+first_eight d =
+    λ i.
+    from_be_bytes w64
+    (at 0 (omega arith) i ∷ at 1 (omega arith) i ∷ at 2 (omega arith) i ∷ at 3 (omega arith) i ∷ at 4 (omega arith) i
+    ∷ at 5 (omega arith) i ∷ at 6 (omega arith) i ∷ at 7 (omega arith) i ∷ [])
   where
     at : (k : ℕ) → k < 8 → get_or d k 0 ≡ get_or (take 8 d) k 0
     at k lt = sym (get_or-take 8 d k 0 lt)

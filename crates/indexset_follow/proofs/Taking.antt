@@ -1,5 +1,7 @@
 -- The effect of an event on a follower, and ranges whose bounds are out of order.
-use Rattle.std.proofs.Common.{Result, Ok, Err, OnOk, IfOk, Option, None, Some, ◌≡◌, ◌≢◌, ◌==◌, ℕ, ◌+◌, ◌&&◌, Bool, true, false, if◌then◌else◌, nat_lt, List, [], ◌∷◌, slice_get, unwrap_or, refl, sym, ap, ◌∙◌, true≢false}
+use Rattle.std.proofs.Common.{Result, Ok, Err, OnOk, IfOk, Option, None, Some, ◌≡◌, ◌≢◌, ◌==◌}
+use Rattle.std.proofs.Common.{ℕ, ◌+◌, ◌&&◌, Bool, true, false, if◌then◌else◌, nat_lt, List}
+use Rattle.std.proofs.Common.{[], ◌∷◌, slice_get, unwrap_or, refl, sym, ap, ◌∙◌, true≢false}
 use Rattle.std.below.core.specs.declared.int.u64.TheConstants.{MAX}
 use Rattle.std.proofs.lemmas.Bool.{eq-eqb, eqb-true, ne_eqb, not-false}
 use Rattle.std.specs.Option.{option_map}
@@ -60,7 +62,8 @@ else_none true x o e = absurd (cc)
 else_none false x o e = (refl, e)
 
 module _ {T : Type 0} (cmp : T → T → Ordering) where
-  delivered_new : (r new : Copy T) (e : Event T) → apply_refusal (by_key cmp) r.nodes r.next e ≡ None → step (by_key cmp) r.nodes e ≡ Some new.nodes → new.next ≡ r.next + 1 → delivered (by_key cmp) r e ≡ Some new
+  delivered_new : (r new : Copy T) (e : Event T) → apply_refusal (by_key cmp) r.nodes r.next e ≡ None
+      → step (by_key cmp) r.nodes e ≡ Some new.nodes → new.next ≡ r.next + 1 → delivered (by_key cmp) r e ≡ Some new
   unfolding delivered apply_refusal
   delivered_new r new e fits made next =
       let number = else_none _ Gap (if r.next == MAX then Some Numbers else misfit (by_key cmp) r.nodes (unassigned e)) fits in
@@ -69,14 +72,17 @@ module _ {T : Type 0} (cmp : T → T → Ordering) where
 
   module _ (r : Copy T) (e : Event T) (early : EarlyEvents T) where
     -- one that applies is followed by the early events after it
-    pub one_taken : (new : Copy T) → apply_refusal (by_key cmp) r.nodes r.next e ≡ None → step (by_key cmp) r.nodes e ≡ Some new.nodes → new.next ≡ r.next + 1 → caught_up cmp r (pair r.next e ∷ early) ≡ caught_up cmp new early
+    pub one_taken : (new : Copy T) → apply_refusal (by_key cmp) r.nodes r.next e ≡ None
+        → step (by_key cmp) r.nodes e ≡ Some new.nodes → new.next ≡ r.next + 1
+        → caught_up cmp r (pair r.next e ∷ early) ≡ caught_up cmp new early
     unfolding caught_up
     one_taken new fits made next =
         let held : copy_after cmp r e ≡ new = ap (λ o. unwrap_or o r) (delivered_new r new e fits made next) in
         rw (eq-eqb r.next r.next refl, fits, held) refl
 
     -- one that does not apply is dropped
-    pub one_refused : (cause : Refusal) → cause ≡ unwrap_or (apply_refusal (by_key cmp) r.nodes r.next e) Memory → cause ≢ Memory → caught_up cmp r (pair r.next e ∷ early) ≡ taken r early (reply.Unfit r.next (Refused cause))
+    pub one_refused : (cause : Refusal) → cause ≡ unwrap_or (apply_refusal (by_key cmp) r.nodes r.next e) Memory
+        → cause ≢ Memory → caught_up cmp r (pair r.next e ∷ early) ≡ taken r early (reply.Unfit r.next (Refused cause))
     unfolding caught_up
     one_refused cause refused other = rw (eq-eqb r.next r.next refl, some_cause (apply_refusal (by_key cmp) r.nodes r.next e) refused) refl
       where
@@ -85,8 +91,14 @@ module _ {T : Type 0} (cmp : T → T → Ordering) where
         some_cause (Some c) is = sym (ap Some is)
 
     -- the reply to one that does not apply
-    pub refused_reply : (t : Taken T) → t ≡ caught_up cmp r (pair r.next e ∷ early) → (cause : Refusal) → cause ≡ unwrap_or (apply_refusal (by_key cmp) r.nodes r.next e) Memory → (o : Result Reply RunFault) (next : ℕ) → next ≡ r.next → OnOk o (cause ≢ Memory) → IfOk o (λ x. x ≡ reply.Unfit next (Refused cause)) → (new : Copy T) → new ≡ r → IfOk o (λ x. t ≡ taken new early x)
-    refused_reply t from cause refused (Ok x) next same other is new still = from ∙ one_refused cause refused other ∙ (λ i. taken (sym still i) early ((ap (λ n. reply.Unfit n (Refused cause)) (sym same) ∙ sym is) i))
+    pub refused_reply : (t : Taken T) → t ≡ caught_up cmp r (pair r.next e ∷ early) → (cause : Refusal)
+        → cause ≡ unwrap_or (apply_refusal (by_key cmp) r.nodes r.next e) Memory
+        → (o : Result Reply RunFault) (next : ℕ) → next ≡ r.next → OnOk o (cause ≢ Memory)
+        → IfOk o (λ x. x ≡ reply.Unfit next (Refused cause)) → (new : Copy T) → new ≡ r
+        → IfOk o (λ x. t ≡ taken new early x)
+    refused_reply t from cause refused (Ok x) next same other is new still =
+        from ∙ one_refused cause refused other
+        ∙ (λ i. taken (sym still i) early ((ap (λ n. reply.Unfit n (Refused cause)) (sym same) ∙ sym is) i))
     refused_reply t from cause refused (Err fault) next same other is new still = tt
 
   -- the same for the first early event, if it is awaited

@@ -1,5 +1,7 @@
 -- The effect of one of a leader's events on a follower: its nodes, and its early events.
-use Rattle.std.proofs.Common.{◌≡◌, ◌≢◌, ◌⊎◌, inl, inr, ℕ, zero, suc, ◌+◌, ◌-◌, ◌<◌, ◌≤◌, ◌==◌, Bool, true, false, if◌then◌else◌, List, [], ◌∷◌, ◌++◌, length, get_or, slice_get, take, drop, Option, Some, None, option_and_then, refl, ap, sym, ◌∙◌, subst, arith}
+use Rattle.std.proofs.Common.{◌≡◌, ◌≢◌, ◌⊎◌, inl, inr, ℕ, zero, suc, ◌+◌, ◌-◌, ◌<◌, ◌≤◌, ◌==◌, Bool, true}
+use Rattle.std.proofs.Common.{false, if◌then◌else◌, List, [], ◌∷◌, ◌++◌, length, get_or, slice_get, take}
+use Rattle.std.proofs.Common.{drop, Option, Some, None, option_and_then, refl, ap, sym, ◌∙◌, subst, arith}
 use Rattle.std.below.core.specs.declared.int.u64.TheConstants.{MAX}
 use Rattle.std.proofs.lemmas.Bool.{eq-eqb, eqb-false, eqb-true, le-ltb, leb-false, lt-ltb, ne_eqb}
 use Rattle.std.proofs.lemmas.List.{take-append-drop, take_more}
@@ -55,7 +57,9 @@ module _ {T : Type 0} (cmp : T → T → Ordering) where
     step_made j r e at told =
         let all = some_held (replay (by_key cmp) ns es) feed.defined in
         let parts = ap (replay (by_key cmp) ns) (take-append-drop (j + 1) es) ∙ all.1 in
-        let halves = then_some (replay (by_key cmp) ns (take (j + 1) es)) (λ m. replay (by_key cmp) m (drop (j + 1) es)) all.0 (sym (replay-append (by_key cmp) ns (take (j + 1) es) (drop (j + 1) es)) ∙ parts) in
+        let halves =
+        then_some (replay (by_key cmp) ns (take (j + 1) es)) (λ m. replay (by_key cmp) m (drop (j + 1) es)) all.0
+        (sym (replay-append (by_key cmp) ns (take (j + 1) es) (drop (j + 1) es)) ∙ parts) in
         (halves.0, sym (step_at j r e at told) ∙ halves.1)
 
     pub number_at : (p : ℕ) (e : Event T) → slice_get es p ≡ Some e → event_number e ≡ s + p
@@ -143,9 +147,18 @@ module _ {T : Type 0} (cmp : T → T → Ordering) where
             subst (λ n. AscendFrom (IsOneOf s es) n early) number h.2
 
         by : (b : Bool) → (q.key == c.next) ≡ b → ((q.key == c.next) ≡ true → Caught (k + 1) early (caught_up cmp (copy_after cmp c q.value) early))
-            → Caught k (q ∷ early) (if b then option_map_or (λ cause. taken c early (reply.Unfit c.next (Refused cause))) (apply_refusal (by_key cmp) c.nodes c.next q.value) (caught_up cmp (copy_after cmp c q.value) early) else taken c (q ∷ early) (reply.Next c.next))
+            → Caught k (q ∷ early)
+            (if b
+            then
+            option_map_or (λ cause. taken c early (reply.Unfit c.next (Refused cause)))
+            (apply_refusal (by_key cmp) c.nodes c.next q.value) (caught_up cmp (copy_after cmp c q.value) early)
+            else taken c (q ∷ early) (reply.Next c.next))
         by true is more =
-            subst (λ o. Caught k (q ∷ early) (option_map_or (λ cause. taken c early (reply.Unfit c.next (Refused cause))) o (caught_up cmp (copy_after cmp c q.value) early))) (sym (step_fit k c q.value at (told is)))
+            subst (λ o.
+            Caught k (q ∷ early)
+            (option_map_or (λ cause. taken c early (reply.Unfit c.next (Refused cause))) o
+            (caught_up cmp (copy_after cmp c q.value) early)))
+            (sym (step_fit k c q.value at (told is)))
             (one_caught k q early (caught_up cmp (copy_after cmp c q.value) early) (here is) (more is))
         by false other more = none_caught k c (q ∷ early) (reply.Next c.next) at (let ne = eqb-false q.key c.next other in omega (arith, h.0, ne), h.1, h.2)
 
@@ -167,7 +180,9 @@ module _ {T : Type 0} (cmp : T → T → Ordering) where
       | inr there ↦ absurd (no_earlier (IsOneOf s es) (c.next + 1) (s + p) early (omega (arith, at.next, le)) h there)
     ]
 
-    passed : (k q : ℕ) (r : State T) (answer : Reply) → At k r.held → HoldsAhead s es r → q ≢ k → (s + q ≤ r.held.next + r.window → Knows k r.early q) → Onward k q r (with_taken r (taken r.held r.early answer))
+    passed : (k q : ℕ) (r : State T) (answer : Reply) → At k r.held → HoldsAhead s es r → q ≢ k
+        → (s + q ≤ r.held.next + r.window → Knows k r.early q)
+        → Onward k q r (with_taken r (taken r.held r.early answer))
     passed k q r answer at h other known = record {
       place = k;
       from = omega arith;
@@ -244,7 +259,13 @@ module _ {T : Type 0} (cmp : T → T → Ordering) where
           ]
 
           by : (b : Bool) → nat_le (event_number e) (r.held.next + r.window) ≡ b
-              → Onward k q r (with_taken r (if b then taken r.held (with_early r.early e) (reply.Missing r.held.next (first_number (with_early r.early e) (event_number e))) else taken r.held r.early (reply.Gap r.held.next)))
+              → Onward k q r
+              (with_taken r
+              (if b
+              then
+              taken r.held (with_early r.early e)
+              (reply.Missing r.held.next (first_number (with_early r.early e) (event_number e)))
+              else taken r.held r.early (reply.Gap r.held.next)))
           by true near = record {
             place = k;
             from = omega arith;
@@ -255,7 +276,10 @@ module _ {T : Type 0} (cmp : T → T → Ordering) where
             came = λ within. to q (inl refl);
             grown = λ same. absurd (omega (arith, lt, same));
           }
-          by false far = passed k q r (reply.Gap r.held.next) at h (λ same. omega (arith, lt, same)) (λ within. let lt = leb-false (event_number e) (r.held.next + r.window) far in absurd (omega (arith, lt, within, number)))
+          by false far =
+              passed k q r (reply.Gap r.held.next) at h (λ same. omega (arith, lt, same))
+              (λ within. let lt = leb-false (event_number e) (r.held.next + r.window) far in
+              absurd (omega (arith, lt, within, number)))
 
       pub onward : Onward k q r (after_event cmp r e)
       onward =
@@ -263,7 +287,12 @@ module _ {T : Type 0} (cmp : T → T → Ordering) where
             | equals eq ↦ is_next eq
             | lower lt ↦
                 let other : event_number e ≢ r.held.next = λ eq. omega (arith, number, at.next, lt, eq) in
-                let chosen : event_taken cmp r e ≡ taken r.held r.early (reply.Had r.held.next) = rw (ne_eqb (event_number e) r.held.next other, lt-ltb (event_number e) r.held.next (omega (arith, number, at.next, lt))) refl in
+                let chosen : event_taken cmp r e ≡ taken r.held r.early (reply.Had r.held.next) =
+                rw (
+                  ne_eqb (event_number e) r.held.next other,
+                  lt-ltb (event_number e) r.held.next (omega (arith, number, at.next, lt)),
+                )
+                refl in
                 subst (λ t. Onward k q r (with_taken r t)) (sym chosen) (passed k q r (reply.Had r.held.next) at h (λ eq. omega (arith, lt, eq)) (λ within. inl lt))
             | higher gt ↦
                 let other : event_number e ≢ r.held.next = λ eq. omega (arith, number, at.next, gt, eq) in

@@ -44,7 +44,10 @@ module _ {T : Type 0} (cmp : T → T → Ordering) (texts : Texts T) (spelled : 
         omega (arith, within d.event told, number_at cmp s ns es feed d.place d.event d.at)
 
     -- the same after another line
-    module _ (k : ℕ) (r : State T) (l : List ℕ) (ls : List (List ℕ)) (after : State T) (d : IsDrawn texts es l) (on : Onward cmp s ns es feed k d.place r (after_line cmp texts r l)) (within : s + d.place ≤ r.held.next + r.window) (more : Known on.place (after_line cmp texts r l) ls after) where
+    module _ (k : ℕ) (r : State T) (l : List ℕ) (ls : List (List ℕ)) (after : State T) (d : IsDrawn texts es l)
+        (on : Onward cmp s ns es feed k d.place r (after_line cmp texts r l))
+        (within : s + d.place ≤ r.held.next + r.window)
+        (more : Known on.place (after_line cmp texts r l) ls after) where
       come : (p : ℕ) (e : Event T) → slice_get es p ≡ Some e → (i : ℕ) → slice_get (l ∷ ls) i ≡ Some (event_text texts e) → Knows cmp s ns es feed more.place after.early p
       come p e told zero is =
           let one_place : d.place ≡ p = same_place cmp texts spelled s ns es feed fit d.place p d.event e d.at told (sym (some_inj l (event_text texts e) is) ∙ d.text) in
@@ -76,7 +79,8 @@ module _ {T : Type 0} (cmp : T → T → Ordering) (texts : Texts T) (spelled : 
         only = only;
       }
 
-    known : (k : ℕ) (r : State T) (ls : List (List ℕ)) → HoldsFirst cmp s ns es k r → HoldsAhead s es r → All (IsDrawn texts es) ls → AreWithin cmp texts r ls → Known k r ls (state_after cmp texts r ls)
+    known : (k : ℕ) (r : State T) (ls : List (List ℕ)) → HoldsFirst cmp s ns es k r → HoldsAhead s es r
+        → All (IsDrawn texts es) ls → AreWithin cmp texts r ls → Known k r ls (state_after cmp texts r ls)
     unfolding left_by
     known k r [] at h drawn within = record {
       place = k;
@@ -90,7 +94,9 @@ module _ {T : Type 0} (cmp : T → T → Ordering) (texts : Texts T) (spelled : 
     known k r (l ∷ ls) at h drawn within =
         let d = All-head (IsDrawn texts es) l ls drawn in
         let on = one cmp texts spelled s ns es feed fit k r l d at h in
-        one_known k r l ls (state_after cmp texts (after_line cmp texts r l) ls) d on (near k r l d within.0) (known on.place (after_line cmp texts r l) ls on.at on.ahead (All-tail (IsDrawn texts es) l ls drawn) within.1)
+        one_known k r l ls (state_after cmp texts (after_line cmp texts r l) ls) d on (near k r l d within.0)
+        (known on.place (after_line cmp texts r l) ls on.at on.ahead (All-tail (IsDrawn texts es) l ls drawn)
+        within.1)
 
     module _ (j : ℕ) (r : State T) (ls : List (List ℕ)) (none : r.early ≡ []) (at : HoldsFirst cmp s ns es j r) (drawn : All (IsDrawn texts es) ls) (within : AreWithin cmp texts r ls) where
       all_known : Known j r ls (state_after cmp texts r ls)
@@ -106,7 +112,12 @@ module _ {T : Type 0} (cmp : T → T → Ordering) (texts : Texts T) (spelled : 
         record {
           from = all_known.from;
           came = λ p e le lt told. elim (all_known.only p e told (inl lt)) [ inl was ↦ absurd (none_known p le was) | inr among ↦ among ];
-          missing = λ e told among. let lt = is_taken cmp s ns es feed all_known.place all_known.place _ _ all_known.at all_known.ahead (omega arith) (all_known.came all_known.place e told among) in omega (arith, lt);
+          missing =
+              λ e told among.
+              let lt =
+              is_taken cmp s ns es feed all_known.place all_known.place _ _ all_known.at all_known.ahead (omega arith)
+              (all_known.came all_known.place e told among) in
+              omega (arith, lt);
         },
       )
 
@@ -114,7 +125,10 @@ module _ {T : Type 0} (cmp : T → T → Ordering) (texts : Texts T) (spelled : 
       all_held came = by (nat_lt first_missing.0 (length es)) refl
         where
           by : (b : Bool) → nat_lt first_missing.0 (length es) ≡ b → HoldsFirst cmp s ns es (length es) (state_after cmp texts r ls)
-          by false past = let all : first_missing.0 ≡ length es = omega (arith, ltb-false first_missing.0 (length es) past, first_missing.1.within) in subst (λ k. HoldsFirst cmp s ns es k (state_after cmp texts r ls)) all first_missing.1
+          by false past =
+              let all : first_missing.0 ≡ length es =
+              omega (arith, ltb-false first_missing.0 (length es) past, first_missing.1.within) in
+              subst (λ k. HoldsFirst cmp s ns es k (state_after cmp texts r ls)) all first_missing.1
           by true more =
               let e = some_at es first_missing.0 (ltb-true first_missing.0 (length es) more) in
               absurd (first_missing.2.missing e.0 e.1 (came first_missing.0 e.0 first_missing.2.from e.1))

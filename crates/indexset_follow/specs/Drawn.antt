@@ -42,11 +42,15 @@ module _ {T : Type 0} (cmp : T → T → Ordering) (texts : Texts T) where
   -- when the line of an event comes, the event is ahead of the awaited one by at most the window
   abbrev pub AreWithin : State T → List (List ℕ) → Type 0
   AreWithin r [] = Unit {0}
-  AreWithin r (line ∷ lines) = ((e : Event T) → event_of texts line ≡ Some e → event_number e ≤ r.held.next + r.window) × AreWithin (after_line cmp texts r line) lines
+  AreWithin r (line ∷ lines) =
+      ((e : Event T) → event_of texts line ≡ Some e → event_number e ≤ r.held.next + r.window)
+      × AreWithin (after_line cmp texts r line) lines
 
 module _ {T : Type 0} (texts : Texts T) where
   -- k is the first place from j on whose event is not among the lines
-  pub record IsFirstMissing (es : List (Event T)) (j : ℕ) (lines : List (List ℕ)) (k : ℕ) : Type 0 where
+  pub record IsFirstMissing (es : List (Event T)) (j : ℕ) (lines : List (List ℕ))
+      (k : ℕ) : Type 0 where
     pub from : j ≤ k
-    pub came : (p : ℕ) (e : Event T) → j ≤ p → p < k → slice_get es p ≡ Some e → IsAmong lines (event_text texts e)
+    pub came : (p : ℕ) (e : Event T) → j ≤ p → p < k → slice_get es p ≡ Some e
+        → IsAmong lines (event_text texts e)
     pub missing : (e : Event T) → slice_get es k ≡ Some e → IsAmong lines (event_text texts e) → ⊥

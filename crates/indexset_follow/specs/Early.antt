@@ -54,7 +54,9 @@ module _ {T : Type 0} (cmp : T → T → Ordering) where
   caught_up c [] = taken c [] (reply.Next c.next)
   caught_up c (p ∷ early) =
       if p.key == c.next
-      then option_map_or (λ cause. taken c early (reply.Unfit c.next (Refused cause))) (apply_refusal (by_key cmp) c.nodes c.next p.value) (caught_up (copy_after cmp c p.value) early)
+      then option_map_or (λ cause. taken c early (reply.Unfit c.next (Refused cause)))
+      (apply_refusal (by_key cmp) c.nodes c.next p.value)
+      (caught_up (copy_after cmp c p.value) early)
       else taken c (p ∷ early) (reply.Next c.next)
 
 module _ {T : Type 0} where

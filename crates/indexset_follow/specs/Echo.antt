@@ -28,8 +28,12 @@ module _ {T : Type 0} (texts : Texts T) where
 
   -- the command of a line that begins with a command number and a space
   abbrev pub echoed_of : List ℕ → Option (Command T)
-  echoed_of line = option_and_then (λ cut. option_and_then (λ n. option_map (command (Some n)) (change_of cut.1)) (echo_of cut.0)) (cut_at 32 line)
+  echoed_of line =
+      option_and_then (λ cut.
+      option_and_then (λ n. option_map (command (Some n)) (change_of cut.1)) (echo_of cut.0))
+      (cut_at 32 line)
 
   -- the command of a line, with or without a command number
   abbrev pub command_of : List ℕ → Option (Command T)
-  command_of line = option_map_or (λ c. Some (command None c)) (pair_meaning texts line) (echoed_of line)
+  command_of line =
+      option_map_or (λ c. Some (command None c)) (pair_meaning texts line) (echoed_of line)

@@ -1,5 +1,6 @@
 -- The effect of a line on a follower, and the reply to it.
-use Rattle.std.specs.Prelude.{ℕ, Bool, true, ◌+◌, ◌≤◌, ◌==◌, is_none, not, if◌then◌else◌, nat_le, nat_lt, List, [], ◌∷◌, length, max, Option, Some, None}
+use Rattle.std.specs.Prelude.{ℕ, Bool, true, ◌+◌, ◌≤◌, ◌==◌, is_none, not, if◌then◌else◌}
+use Rattle.std.specs.Prelude.{nat_le, nat_lt, List, [], ◌∷◌, length, max, Option, Some, None}
 use Rattle.std.specs.Option.{option_map, option_map_or}
 use Rattle.indexset_lines.specs.Run.{left_by}
 use Rattle.indexset_core.specs.Pairs.{by_key, pair}
@@ -7,7 +8,8 @@ use Rattle.indexset_core.specs.declared.pair.Pair.{Pair}
 use Rattle.indexset_events.specs.Attach.{attach_refusal, attached}
 use Rattle.indexset_events.specs.Replay.{event_number}
 use Rattle.indexset_follow.specs.Copy.{Copy, copy, sum_of}
-use Rattle.indexset_follow.specs.Early.{AscendFrom, Taken, caught_up, first_number, taken, with_early}
+use Rattle.indexset_follow.specs.Early.{AscendFrom, Taken, caught_up}
+use Rattle.indexset_follow.specs.Early.{first_number, taken, with_early}
 use Rattle.indexset_follow.specs.EventLine.{Event, event_of}
 use Rattle.indexset_follow.specs.Mark.{mark_of}
 use Rattle.indexset_follow.specs.NodeLine.{node_of}
@@ -33,15 +35,36 @@ module _ {T : Type 0} where
   -- a follower with this state, greatest command number and window, without early events or a
   -- snapshot that has begun
   abbrev pub holding : ℕ → Copy T → ℕ → State T
-  holding window c d = record { held = c; done = d; coming = None; coming_done = 0; window = window; early = [] }
+  holding window c d = record {
+    held = c;
+    done = d;
+    coming = None;
+    coming_done = 0;
+    window = window;
+    early = [];
+  }
 
   -- the follower with another snapshot that has begun, or none
   abbrev pub with_coming : State T → Option (Copy T) → ℕ → State T
-  with_coming s c d = record { held = s.held; done = s.done; coming = c; coming_done = d; window = s.window; early = s.early }
+  with_coming s c d = record {
+    held = s.held;
+    done = s.done;
+    coming = c;
+    coming_done = d;
+    window = s.window;
+    early = s.early;
+  }
 
   -- the follower with a command number, if it is the greatest
   abbrev pub with_done : State T → ℕ → State T
-  with_done s d = record { held = s.held; done = max s.done d; coming = s.coming; coming_done = s.coming_done; window = s.window; early = s.early }
+  with_done s d = record {
+    held = s.held;
+    done = max s.done d;
+    coming = s.coming;
+    coming_done = s.coming_done;
+    window = s.window;
+    early = s.early;
+  }
 
   -- ---- an event
 
@@ -49,7 +72,8 @@ module _ {T : Type 0} where
   abbrev pub ahead_taken : State T → Event T → Taken T
   ahead_taken s e =
       if nat_le (event_number e) (s.held.next + s.window)
-      then taken s.held (with_early s.early e) (reply.Missing s.held.next (first_number (with_early s.early e) (event_number e)))
+      then taken s.held (with_early s.early e)
+      (reply.Missing s.held.next (first_number (with_early s.early e) (event_number e)))
       else taken s.held s.early (reply.Gap s.held.next)
 
 module _ {T : Type 0} (cmp : T → T → Ordering) where
@@ -63,7 +87,14 @@ module _ {T : Type 0} (cmp : T → T → Ordering) where
 module _ {T : Type 0} where
   -- the follower with the result of an event
   abbrev pub with_taken : State T → Taken T → State T
-  with_taken s t = record { held = t.held; done = s.done; coming = s.coming; coming_done = s.coming_done; window = s.window; early = t.early }
+  with_taken s t = record {
+    held = t.held;
+    done = s.done;
+    coming = s.coming;
+    coming_done = s.coming_done;
+    window = s.window;
+    early = t.early;
+  }
 
 module _ {T : Type 0} (cmp : T → T → Ordering) where
   abbrev pub after_event : State T → Event T → State T
@@ -80,13 +111,18 @@ module _ {T : Type 0} (cmp : T → T → Ordering) where
 
   -- the node is inserted if it fits
   abbrev pub with_node : List (Pair T T) → Copy T → Copy T
-  with_node n c = if is_none (node_refusal c n) then copy (attached (by_key cmp) c.nodes n) c.next else c
+  with_node n c =
+      if is_none (node_refusal c n) then copy (attached (by_key cmp) c.nodes n) c.next else c
 
   abbrev pub after_node : State T → List (Pair T T) → State T
   after_node s n = with_coming s (option_map (with_node n) s.coming) s.coming_done
 
   abbrev pub node_reply : State T → List (Pair T T) → Reply
-  node_reply s n = option_map_or (λ c. option_map_or (λ cause. reply.Unfit s.held.next (Refused cause)) (node_refusal c n) reply.Held) s.coming (reply.Unfit s.held.next NotBegun)
+  node_reply s n =
+      option_map_or (λ c.
+      option_map_or (λ cause. reply.Unfit s.held.next (Refused cause)) (node_refusal c n)
+      reply.Held)
+      s.coming (reply.Unfit s.held.next NotBegun)
 
 module _ {T : Type 0} (texts : Texts T) where
   -- ---- the start and the end of a snapshot, and `done` lines
@@ -104,7 +140,9 @@ module _ {T : Type 0} (texts : Texts T) where
 
   -- a complete snapshot replaces the whole state
   abbrev pub put_in_place : ℕ → Option ℕ → State T → Copy T → State T
-  put_in_place count sum s c = if is_none (end_reason count sum c s.coming_done) then holding s.window c s.coming_done else with_coming s None 0
+  put_in_place count sum s c =
+      if is_none (end_reason count sum c s.coming_done) then holding s.window c s.coming_done
+      else with_coming s None 0
 
   abbrev pub after_mark : State T → Mark → State T
   after_mark s (Start n d) = with_coming s (Some (copy [] n)) d
@@ -114,20 +152,27 @@ module _ {T : Type 0} (texts : Texts T) where
   abbrev pub mark_reply : State T → Mark → Reply
   mark_reply s (Start n d) = reply.Held
   mark_reply s (End count sum) =
-      option_map_or (λ c. option_map_or (reply.Unfit s.held.next) (end_reason count sum c s.coming_done) (reply.Next c.next)) s.coming (reply.Unfit s.held.next NotBegun)
+      option_map_or (λ c.
+      option_map_or (reply.Unfit s.held.next) (end_reason count sum c s.coming_done)
+      (reply.Next c.next))
+      s.coming (reply.Unfit s.held.next NotBegun)
   mark_reply s (Done d n) = head_reply s.held.next n
 
 module _ {T : Type 0} (cmp : T → T → Ordering) (texts : Texts T) where
   -- ---- a line
 
   abbrev pub after_line : State T → List ℕ → State T
-  after_line s line = option_map_or (after_event cmp s) (event_of texts line) (option_map_or (after_node cmp s) (node_of texts line) (option_map_or (after_mark texts s) (mark_of line) s))
+  after_line s line =
+      option_map_or (after_event cmp s) (event_of texts line)
+      (option_map_or (after_node cmp s) (node_of texts line)
+      (option_map_or (after_mark texts s) (mark_of line) s))
 
   abbrev pub reply_line : Voice → State T → List ℕ → List ℕ
   reply_line v s line =
       option_map_or (λ e. voiced v (event_reply cmp s e)) (event_of texts line)
       (option_map_or (λ n. voiced v (node_reply cmp s n)) (node_of texts line)
-      (option_map_or (λ m. voiced v (mark_reply texts s m)) (mark_of line) (read_reply cmp texts (follower_others v) s.held.nodes s.held.next s.done line)))
+      (option_map_or (λ m. voiced v (mark_reply texts s m)) (mark_of line)
+      (read_reply cmp texts (follower_others v) s.held.nodes s.held.next s.done line)))
 
   -- the state after the lines
   abbrev pub state_after : State T → List (List ℕ) → State T

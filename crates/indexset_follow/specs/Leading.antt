@@ -36,12 +36,15 @@ module _ {T : Type 0} (cmp : T → T → Ordering) (texts : Texts T) where
 module _ {T : Type 0} (texts : Texts T) where
   -- the greatest command number after a line; a read has none
   abbrev pub done_after : ℕ → List ℕ → ℕ
-  done_after d line = option_map_or (λ q. d) (query_of texts line) (option_map_or (done_by d) (command_of texts line) d)
+  done_after d line =
+      option_map_or (λ q. d) (query_of texts line)
+      (option_map_or (done_by d) (command_of texts line) d)
 
 module _ {T : Type 0} (cmp : T → T → Ordering) (texts : Texts T) where
   -- the leader after a line
   abbrev pub leader_after : Leader T → List ℕ → Leader T
-  leader_after l line = leader_of (after_leading cmp texts l.pairs line) (done_after texts l.done line)
+  leader_after l line =
+      leader_of (after_leading cmp texts l.pairs line) (done_after texts l.done line)
 
 -- the `done` line, if the command has a number
 abbrev pub done_text : Option ℕ → ℕ → ℕ → List ℕ
@@ -54,14 +57,17 @@ module _ {T : Type 0} (cmp : T → T → Ordering) (texts : Texts T) where
   abbrev pub command_text : Leader T → Command T → List ℕ
   command_text l c =
       let next = (pairs_after cmp l.pairs c.change).next in
-      (echo_text c.echo ++ pair_reply cmp texts l.pairs c.change) ++ (done_text c.echo (done_by l.done c) next ++ reply_ended (reply.Next next))
+      (echo_text c.echo ++ pair_reply cmp texts l.pairs c.change)
+      ++ (done_text c.echo (done_by l.done c) next ++ reply_ended (reply.Next next))
 
   -- the answer to a line that is not a read: that to its command
   abbrev pub command_reply : Others → Leader T → List ℕ → List ℕ
   command_reply o l line = option_map_or (command_text l) (command_of texts line) (others_text o)
 
   abbrev pub leading_reply : Others → Leader T → List ℕ → List ℕ
-  leading_reply o l line = option_map_or (query_text cmp texts l.pairs.nodes l.pairs.next l.done) (query_of texts line) (command_reply o l line)
+  leading_reply o l line =
+      option_map_or (query_text cmp texts l.pairs.nodes l.pairs.next l.done) (query_of texts line)
+      (command_reply o l line)
 
 module _ {T : Type 0} where
   -- the number of events is above the greatest event number
@@ -83,9 +89,12 @@ module _ {T : Type 0} (texts : Texts T) where
 module _ {T : Type 0} (cmp : T → T → Ordering) (texts : Texts T) where
   -- the events in the answer to a line
   abbrev pub leading_events : PairTree T → List ℕ → List (Event T)
-  leading_events t line = option_map_or (λ q. []) (query_of texts line) (option_map_or (λ c. told_events cmp t c.change) (command_of texts line) [])
+  leading_events t line =
+      option_map_or (λ q. []) (query_of texts line)
+      (option_map_or (λ c. told_events cmp t c.change) (command_of texts line) [])
 
   -- the events in the answers to the lines, in order
   unfoldable pub events_led : PairTree T → List (List ℕ) → List (Event T)
   events_led t [] = []
-  events_led t (line ∷ lines) = leading_events t line ++ events_led (after_leading cmp texts t line) lines
+  events_led t (line ∷ lines) =
+      leading_events t line ++ events_led (after_leading cmp texts t line) lines

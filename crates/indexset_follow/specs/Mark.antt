@@ -1,6 +1,7 @@
 -- The first and the last line of a snapshot, and the `done` line, which has the greatest command
 -- number.
-use Rattle.std.specs.Prelude.{◌≡◌, ◌≢◌, ℕ, ◌<◌, ◌^◌, ◌==◌, if◌then◌else◌, List, [], ◌∷◌, ◌++◌, Option, None, Some, IfSome, codes}
+use Rattle.std.specs.Prelude.{◌≡◌, ◌≢◌, ℕ, ◌<◌, ◌^◌, ◌==◌, if◌then◌else◌, List}
+use Rattle.std.specs.Prelude.{[], ◌∷◌, ◌++◌, Option, None, Some, IfSome, codes}
 use Rattle.std.specs.Fmt.{decimal}
 use Rattle.std.specs.Option.{option_map, option_map_or, option_and_then}
 use Rattle.std.specs.Str.{bytes_eq}
@@ -54,4 +55,6 @@ mark_of line = option_and_then (λ cut. word_mark cut.0 cut.1) (cut_at 32 line)
 
 -- the line is not an event, and does not end a snapshot
 abbrev pub LacksEnd : {T : Type 0} → Texts T → List ℕ → Type 0
-LacksEnd texts line = (event_of texts line ≡ None) × ((count : ℕ) (sum : Option ℕ) → mark_of line ≢ Some (End count sum))
+LacksEnd texts line =
+    (event_of texts line ≡ None)
+    × ((count : ℕ) (sum : Option ℕ) → mark_of line ≢ Some (End count sum))

@@ -1,5 +1,6 @@
 -- The line of a node of a snapshot.
-use Rattle.std.specs.Prelude.{ℕ, ◌<◌, ◌==◌, length, if◌then◌else◌, List, [], ◌∷◌, ◌++◌, Option, None, Some, codes}
+use Rattle.std.specs.Prelude.{ℕ, ◌<◌, ◌==◌, length, if◌then◌else◌, List}
+use Rattle.std.specs.Prelude.{[], ◌∷◌, ◌++◌, Option, None, Some, codes}
 use Rattle.std.specs.List.{All, slice_split}
 use Rattle.std.specs.Option.{option_map, option_and_then}
 use Rattle.std.specs.Str.{bytes_eq}
@@ -24,8 +25,12 @@ module _ {T : Type 0} (texts : Texts T) where
   -- the pairs of the words, if each word is a pair
   unfoldable pub pairs_of : List (List ℕ) → Option (List (Pair T T))
   pairs_of [] = Some []
-  pairs_of (word ∷ rest) = option_and_then (λ p. option_map (λ ps. p ∷ ps) (pairs_of rest)) (pair_of texts word)
+  pairs_of (word ∷ rest) =
+      option_and_then (λ p. option_map (λ ps. p ∷ ps) (pairs_of rest)) (pair_of texts word)
 
   -- the node of a line
   abbrev pub node_of : List ℕ → Option (List (Pair T T))
-  node_of line = option_and_then (λ cut. if bytes_eq cut.0 (codes "node") then pairs_of (words cut.1) else None) (cut_at 32 line)
+  node_of line =
+      option_and_then
+      (λ cut. if bytes_eq cut.0 (codes "node") then pairs_of (words cut.1) else None)
+      (cut_at 32 line)

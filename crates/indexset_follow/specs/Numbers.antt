@@ -6,7 +6,10 @@ use Rattle.indexset_events.specs.Spelling.{cut_at, number_of}
 
 -- the two numbers of a text that separates them with a space
 abbrev pub two_numbers : List ℕ → Option (ℕ × ℕ)
-two_numbers text = option_and_then (λ cut. option_and_then (λ a. option_map (λ b. (a, b)) (number_of cut.1)) (number_of cut.0)) (cut_at 32 text)
+two_numbers text =
+    option_and_then
+    (λ cut. option_and_then (λ a. option_map (λ b. (a, b)) (number_of cut.1)) (number_of cut.0))
+    (cut_at 32 text)
 
 -- a last number, which is omitted if it is 0
 abbrev pub tail_text : ℕ → List ℕ

@@ -3,7 +3,9 @@ use Rattle.std.specs.Prelude.{◌≡◌, Bool, ℕ, ◌^◌, ◌<◌, List, []}
 use Rattle.std.specs.declared.cmp.Ordering.{Ordering}
 use Rattle.indexset_bench.specs.Texts.{Texts}
 use Rattle.indexset_bench.specs.declared.reply.Reply.{Reply}
-use Rattle.indexset_bench.specs.declared.reply.Reply.TheVariants.{New, Old, OldValue, Gone, GoneValue, Yes, No, Count, Item, Nothing, Empty, Bad}
+use Rattle.indexset_bench.specs.declared.reply.Reply.TheVariants.{New, Old, OldValue, Gone}
+use Rattle.indexset_bench.specs.declared.reply.Reply.TheVariants.{GoneValue, Yes, No, Count}
+use Rattle.indexset_bench.specs.declared.reply.Reply.TheVariants.{Item, Nothing, Empty, Bad}
 use Rattle.indexset_follow.specs.Follow.{State, after_line, reply_line}
 use Rattle.indexset_follow.specs.declared.others.Others.TheVariants.{Pass}
 
@@ -26,4 +28,8 @@ module _ {T : Type 0} (texts : Texts T) where
 module _ {T : Type 0} (cmp : T → T → Ordering) (texts : Texts T) where
   -- a follower that passes over other lines writes nothing for the line, and does not change
   abbrev pub IsPassedOver : List ℕ → Type 0
-  IsPassedOver line = (s : State T) → (after_line cmp texts s line ≡ s) × ((quiet : Bool) → reply_line cmp texts (record { others = Pass; is_quiet = quiet }) s line ≡ [])
+  IsPassedOver line =
+      (s : State T)
+      → (after_line cmp texts s line ≡ s)
+      × ((quiet : Bool)
+      → reply_line cmp texts (record { others = Pass; is_quiet = quiet }) s line ≡ [])

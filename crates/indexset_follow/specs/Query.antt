@@ -1,5 +1,6 @@
 -- Reads of a map, and their lines.
-use Rattle.std.specs.Prelude.{ℕ, ◌<◌, ◌^◌, if◌then◌else◌, List, ◌∷◌, ◌++◌, Option, None, Some, codes}
+use Rattle.std.specs.Prelude.{ℕ, ◌<◌, ◌^◌, if◌then◌else◌, List}
+use Rattle.std.specs.Prelude.{◌∷◌, ◌++◌, Option, None, Some, codes}
 use Rattle.std.specs.Fmt.{decimal}
 use Rattle.std.specs.Option.{option_map, option_map_or}
 use Rattle.std.specs.Str.{bytes_eq}
@@ -7,7 +8,22 @@ use Rattle.indexset_bench.specs.Texts.{Texts, two_keys}
 use Rattle.indexset_events.specs.Spelling.{cut_at, number_of}
 use Rattle.indexset_follow.specs.Numbers.{two_numbers}
 use Rattle.indexset_follow.specs.declared.reads.query.Query.{Query}
-use Rattle.indexset_follow.specs.declared.reads.query.Query.TheVariants.{Get, Len, First, Last, Range, Rank, At, Page, Nodes, Next, Head, Snapshot, Sum, Compact}
+use Rattle.indexset_follow.specs.declared.reads.query.Query.TheVariants.{
+  Get,
+  Len,
+  First,
+  Last,
+  Range,
+  Rank,
+  At,
+  Page,
+  Nodes,
+  Next,
+  Head,
+  Snapshot,
+  Sum,
+  Compact,
+}
 
 -- the read of one word
 abbrev pub word_query : {T : Type 0} → List ℕ → Option (Query T)
@@ -70,7 +86,8 @@ module _ {T : Type 0} (texts : Texts T) where
   keyed_query word rest =
       if bytes_eq word (codes "get") then option_map Get (texts.reading rest)
       else if bytes_eq word (codes "rank") then option_map Rank (texts.reading rest)
-      else if bytes_eq word (codes "range") then option_map (λ p. Range p.0 p.1) (two_keys texts rest)
+      else if bytes_eq word (codes "range")
+      then option_map (λ p. Range p.0 p.1) (two_keys texts rest)
       else numbered_query word rest
 
   -- the read of a line

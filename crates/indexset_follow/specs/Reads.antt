@@ -1,5 +1,6 @@
 -- The answers to reads, defined on the nodes of a map and on the list of its pairs.
-use Rattle.std.specs.Prelude.{ℕ, nat_lt, if◌then◌else◌, List, ◌++◌, Option, drop, length, slice_get, take}
+use Rattle.std.specs.Prelude.{ℕ, nat_lt, if◌then◌else◌, List, ◌++◌}
+use Rattle.std.specs.Prelude.{Option, drop, length, slice_get, take}
 use Rattle.std.specs.Option.{option_map, option_map_or}
 use Rattle.std.specs.declared.cmp.Ordering.{Ordering}
 use Rattle.std.specs.declared.ops.Bound.TheVariants.{Included}
@@ -15,7 +16,22 @@ use Rattle.indexset_follow.specs.Query.{query_of}
 use Rattle.indexset_follow.specs.Reply.{others_text, reply_ended}
 use Rattle.indexset_follow.specs.declared.others.Others.{Others}
 use Rattle.indexset_follow.specs.declared.reads.query.Query.{Query}
-use Rattle.indexset_follow.specs.declared.reads.query.Query.TheVariants.{Get, Len, First, Last, Range, Rank, At, Page, Nodes, Next, Head, Snapshot, Sum, Compact}
+use Rattle.indexset_follow.specs.declared.reads.query.Query.TheVariants.{
+  Get,
+  Len,
+  First,
+  Last,
+  Range,
+  Rank,
+  At,
+  Page,
+  Nodes,
+  Next,
+  Head,
+  Snapshot,
+  Sum,
+  Compact,
+}
 use Rattle.indexset_follow.specs.declared.reply.Reply.{Reply}
 use Rattle.indexset_follow.specs.declared.reply.Reply.TheVariants as reply
 
@@ -38,7 +54,8 @@ head_reply next m = if nat_lt next m then reply.Gap next else reply.Next next
 module _ {T : Type 0} (texts : Texts T) where
   -- a key and its value as a line, or `none`
   abbrev pub entry_text : Option (T × T) → List ℕ
-  entry_text o = option_map_or (λ e. ended (pair_text texts (pair e.0 e.1))) o (reply_ended reply.Nothing)
+  entry_text o =
+      option_map_or (λ e. ended (pair_text texts (pair e.0 e.1))) o (reply_ended reply.Nothing)
 
   -- a pair as a line, or `none`
   abbrev pub item_text : Option (Pair T T) → List ℕ
@@ -67,9 +84,11 @@ module _ {T : Type 0} (cmp : T → T → Ordering) (texts : Texts T) where
   query_text ns next d Next = reply_ended (reply.Next next)
   query_text ns next d (Head m) = reply_ended (head_reply next m)
   query_text ns next d Snapshot = snapshot_text texts (copy ns next) d
-  query_text ns next d Sum = reply_ended (reply.Sum next (length ns) (sum_of texts (copy ns next) d) d)
+  query_text ns next d Sum =
+      reply_ended (reply.Sum next (length ns) (sum_of texts (copy ns next) d) d)
   query_text ns next d Compact = reply_ended (reply.Next next)
 
   -- the answer to a line that is a read, or not one of the grammar
   abbrev pub read_reply : Others → PairNodes T → ℕ → ℕ → List ℕ → List ℕ
-  read_reply o ns next d line = option_map_or (query_text ns next d) (query_of texts line) (others_text o)
+  read_reply o ns next d line =
+      option_map_or (query_text ns next d) (query_of texts line) (others_text o)

@@ -8,7 +8,8 @@ use Rattle.indexset_follow.specs.declared.others.Others.{Others}
 use Rattle.indexset_follow.specs.declared.others.Others.TheVariants.{Tell, Pass}
 use Rattle.indexset_follow.specs.declared.others.Voice.{Voice}
 use Rattle.indexset_follow.specs.declared.reply.Reply.{Reply}
-use Rattle.indexset_follow.specs.declared.reply.Reply.TheVariants.{Next, Had, Gap, Missing, Unfit, Held, Sum, Count, Nothing, Bad}
+use Rattle.indexset_follow.specs.declared.reply.Reply.TheVariants.{Next, Had, Gap, Missing, Unfit}
+use Rattle.indexset_follow.specs.declared.reply.Reply.TheVariants.{Held, Sum, Count, Nothing, Bad}
 
 abbrev pub reply_text : Reply → List ℕ
 reply_text (Next n) = codes "next " ++ decimal n
@@ -17,7 +18,9 @@ reply_text (Gap n) = codes "gap " ++ decimal n
 reply_text (Missing n first) = codes "gap " ++ decimal n ++ codes " " ++ decimal first
 reply_text (Unfit n reason) = codes "unfit " ++ decimal n ++ codes " " ++ word_of reason
 reply_text Held = codes "held"
-reply_text (Sum n count sum d) = codes "sum " ++ decimal n ++ codes " " ++ decimal count ++ codes " " ++ decimal sum ++ tail_text d
+reply_text (Sum n count sum d) =
+    codes "sum " ++ decimal n ++ codes " " ++ decimal count ++ codes " " ++ decimal sum
+    ++ tail_text d
 reply_text (Count n) = decimal n
 reply_text Nothing = codes "none"
 reply_text Bad = codes "bad"

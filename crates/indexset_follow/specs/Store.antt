@@ -1,5 +1,6 @@
 -- The effect of a line on a map in either role, and the answer to it.
-use Rattle.std.specs.Prelude.{ℕ, ◌&&◌, is_none, not, if◌then◌else◌, Bool, true, false, List, [], codes, Option, None, Some}
+use Rattle.std.specs.Prelude.{ℕ, ◌&&◌, is_none, not, if◌then◌else◌, Bool, true}
+use Rattle.std.specs.Prelude.{false, List, [], codes, Option, None, Some}
 use Rattle.std.specs.Io.BufRead.{strip_last}
 use Rattle.std.specs.Str.{bytes_eq}
 use Rattle.indexset_bench.specs.Pairs.{PairTree}
@@ -46,11 +47,16 @@ module _ {T : Type 0} (cmp : T → T → Ordering) where
   can_lead size c = is_none (nodes_refusal (by_key cmp) size c.nodes)
 
   abbrev pub after_lead : ℕ → Role T → Role T
-  after_lead size (Following s) = if can_lead size s.held then Leading (leader_of (promoted size s.held) s.done) else Following s
+  after_lead size (Following s) =
+      if can_lead size s.held then Leading (leader_of (promoted size s.held) s.done)
+      else Following s
   after_lead size (Leading l) = Leading l
 
   abbrev pub lead_reply : ℕ → Role T → List ℕ
-  lead_reply size (Following s) = reply_ended (if can_lead size s.held then reply.Next s.held.next else reply.Unfit s.held.next (Refused TooLarge))
+  lead_reply size (Following s) =
+      reply_ended
+      (if can_lead size s.held then reply.Next s.held.next
+      else reply.Unfit s.held.next (Refused TooLarge))
   lead_reply size (Leading l) = reply_ended (reply.Next l.pairs.next)
 
 module _ {T : Type 0} where
@@ -59,7 +65,8 @@ module _ {T : Type 0} where
   -- a follower of the leader's nodes that awaits the leader's next event
   abbrev pub after_follow : ℕ → Role T → Role T
   after_follow window (Following s) = Following s
-  after_follow window (Leading l) = Following (holding window (copy l.pairs.nodes l.pairs.next) l.done)
+  after_follow window (Leading l) =
+      Following (holding window (copy l.pairs.nodes l.pairs.next) l.done)
 
   abbrev pub follow_reply : Role T → List ℕ
   follow_reply (Following s) = reply_ended (reply.Next s.held.next)
@@ -81,7 +88,9 @@ module _ {T : Type 0} where
   -- a leader without nodes becomes a follower at the start of a snapshot
   abbrev pub begun : ℕ → Role T → List ℕ → Role T
   begun window (Following s) line = Following s
-  begun window (Leading l) line = if starts line && not (is_filled l.pairs.nodes) then Following (holding window (copy [] l.pairs.next) l.done) else Leading l
+  begun window (Leading l) line =
+      if starts line && not (is_filled l.pairs.nodes)
+      then Following (holding window (copy [] l.pairs.next) l.done) else Leading l
 
 -- ---- a line, in either role
 
@@ -117,8 +126,10 @@ module _ {T : Type 0} (cmp : T → T → Ordering) (texts : Texts T) where
 
   -- a last line without a line end is answered if it is a read, and changes nothing
   abbrev pub cut_in_role : Voice → Role T → List ℕ → List ℕ
-  cut_in_role v (Following s) line = read_reply cmp texts (follower_others v) s.held.nodes s.held.next s.done line
-  cut_in_role v (Leading l) line = read_reply cmp texts v.others l.pairs.nodes l.pairs.next l.done line
+  cut_in_role v (Following s) line =
+      read_reply cmp texts (follower_others v) s.held.nodes s.held.next s.done line
+  cut_in_role v (Leading l) line =
+      read_reply cmp texts v.others l.pairs.nodes l.pairs.next l.done line
 
   abbrev pub held_cut : Voice → Held T → List ℕ → List ℕ
   held_cut v h line = cut_in_role v h.role line
@@ -159,4 +170,7 @@ module _ {T : Type 0} (cmp : T → T → Ordering) (texts : Texts T) where
 module _ {T : Type 0} where
   -- the initial map: no nodes, and 0 as the number of the next event
   abbrev pub first_held : ℕ → ℕ → Bool → Held T
-  first_held size window leads = held size window (if leads then Leading (leader_of (record { nodes = []; size = size; next = 0 }) 0) else Following (start_state window))
+  first_held size window leads =
+      held size window
+      (if leads then Leading (leader_of (record { nodes = []; size = size; next = 0 }) 0)
+      else Following (start_state window))

@@ -3,7 +3,8 @@
 ghost use Rattle.std.specs.Prelude.{◌≡◌, ◌≢◌, IfOk, OnOk, IfErr, OnErr, Err};
 ghost use Rattle.std.specs.Io.KnownBytes.{Appends, Keeps};
 ghost use Rattle.indexset_follow.specs.Early.{caught_up, taken};
-ghost use Rattle.indexset_follow.specs.Follow.{after_event, after_line, ahead_taken, event_reply, reply_line, with_taken};
+ghost use Rattle.indexset_follow.specs.Follow.{after_event, after_line, ahead_taken};
+ghost use Rattle.indexset_follow.specs.Follow.{event_reply, reply_line, with_taken};
 
 use crate::early::Early;
 use crate::event::{Event, read_event};

@@ -1,6 +1,7 @@
 //! Early events: those that came before the awaited one.
 
-ghost use Rattle.std.specs.Prelude.{◌≡◌, ◌≢◌, ◌∷◌, [], IfErr, IfOk, IfSome, None, OnErr, OnOk, Some, map, slice_get};
+ghost use Rattle.std.specs.Prelude.{◌≡◌, ◌≢◌, ◌∷◌, [], IfErr, IfOk, IfSome};
+ghost use Rattle.std.specs.Prelude.{None, OnErr, OnOk, Some, map, slice_get};
 ghost use Rattle.std.specs.Option.{option_map, option_map_or};
 ghost use Rattle.indexset_bench.specs.PairText.{event_text};
 ghost use Rattle.indexset_core.specs.Pairs.{pair};

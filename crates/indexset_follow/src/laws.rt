@@ -1,6 +1,8 @@
 //! Theorems on the definitions of lines and replies.
 
-ghost use Rattle.std.specs.Prelude.{◌≡◌, ◌≢◌, ◌⊎◌, ◌↔◌, ◌<◌, ◌≤◌, ◌^◌, ◌++◌, ℕ, List, [], codes, length, map, drop, slice_get, take, None, Option, Some, IsSomeAnd};
+ghost use Rattle.std.specs.Prelude.{◌≡◌, ◌≢◌, ◌⊎◌, ◌↔◌, ◌<◌, ◌≤◌, ◌^◌, ◌++◌, ℕ};
+ghost use Rattle.std.specs.Prelude.{List, [], codes, length, map, drop, slice_get};
+ghost use Rattle.std.specs.Prelude.{take, None, Option, Some, IsSomeAnd};
 ghost use Rattle.std.specs.Fmt.{decimal};
 ghost use Rattle.std.specs.List.{All};
 ghost use Rattle.std.specs.Ordering.{nat_cmp};
@@ -15,11 +17,14 @@ ghost use Rattle.indexset_bench.specs.declared.reply.Reply.{Reply};
 ghost use Rattle.indexset_core.specs.Nodes.{IsNodeList};
 ghost use Rattle.indexset_core.specs.Pairs.{by_key};
 ghost use Rattle.indexset_core.specs.declared.pair.Pair.{Pair};
-ghost use Rattle.indexset_follow.specs.Drawn.{AreWithin, HoldsAhead, HoldsFirst, IsDrawn, IsFeedOfPairs, IsFirstMissing};
+ghost use Rattle.indexset_follow.specs.Drawn.{AreWithin, HoldsAhead, HoldsFirst};
+ghost use Rattle.indexset_follow.specs.Drawn.{IsDrawn, IsFeedOfPairs, IsFirstMissing};
 ghost use Rattle.indexset_follow.specs.Early.{copy_after};
 ghost use Rattle.indexset_follow.specs.EventLine.{Event, EventFits, event_of};
 ghost use Rattle.indexset_follow.specs.Copy.{Copy, copy, snapshot_text, sum_of, unsummed_text};
-ghost use Rattle.indexset_follow.specs.Follow.{HoldsNear, State, after_event, after_mark, event_reply, holding, start_state, state_after, with_coming};
+ghost use Rattle.indexset_follow.specs.Follow.{HoldsNear, State, after_event};
+ghost use Rattle.indexset_follow.specs.Follow.{after_mark, event_reply, holding};
+ghost use Rattle.indexset_follow.specs.Follow.{start_state, state_after, with_coming};
 ghost use Rattle.indexset_follow.specs.Mark.{LacksEnd, MarkFits, mark_line, mark_of};
 ghost use Rattle.indexset_follow.specs.NodeLine.{NodeFits, node_line, node_of};
 ghost use Rattle.indexset_follow.specs.Passed.{IsPassedOver, ReplyFits};
@@ -123,8 +128,8 @@ pub fn early_events_are_few<T: Key>()
 
 /// A follower without a window holds no early event.
 ///
-/// The awaited event is applied or refused. Any other event changes nothing. The reply to one that is
-/// ahead is `Gap` with the awaited number.
+/// The awaited event is applied or refused. Any other event changes nothing. The reply to one that
+/// is ahead is `Gap` with the awaited number.
 pub fn without_a_window_only_the_awaited_event_is_taken<T: Key>()
     ensures early { (r : State T) (e : Event T) → r.window ≡ 0 → r.early ≡ []
         → (after_event T.cmp r e).early ≡ [] }

@@ -4,7 +4,8 @@ ghost use Rattle.std.specs.Prelude.{◌≡◌, ◌≢◌, Err, IfErr, OnOk};
 ghost use Rattle.std.specs.Io.KnownBytes.{Appends, Keeps};
 ghost use Rattle.indexset_bench.specs.Pairs.{pairs_after};
 ghost use Rattle.indexset_follow.specs.Echo.{done_by};
-ghost use Rattle.indexset_follow.specs.Leading.{command_text, done_text, lacks, leader_of, leader_after, leading_reply};
+ghost use Rattle.indexset_follow.specs.Leading.{command_text, done_text, lacks};
+ghost use Rattle.indexset_follow.specs.Leading.{leader_of, leader_after, leading_reply};
 
 use crate::echo::{Command, read_command};
 use crate::leader::Leader;

@@ -12,7 +12,8 @@ ghost use Rattle.std.specs.Ordering.{is_le};
 ghost use Rattle.indexset_core.specs.Nodes.{concat};
 ghost use Rattle.indexset_core.specs.Pairs.{entry_of, key_rank, pair_of};
 ghost use Rattle.indexset_follow.specs.Copy.{body_text, copy, snapshot_text, sum_of, unsummed_text};
-ghost use Rattle.indexset_follow.specs.Reads.{PairNodes, entry_text, head_reply, keys_from, nodes_text, page, query_text, read_reply, row_text};
+ghost use Rattle.indexset_follow.specs.Reads.{PairNodes, entry_text, head_reply, keys_from};
+ghost use Rattle.indexset_follow.specs.Reads.{nodes_text, page, query_text, read_reply, row_text};
 ghost use Rattle.indexset_follow.specs.Reply.{others_text, reply_ended};
 
 mod logged;

@@ -3,7 +3,8 @@
 ghost use Rattle.std.specs.Prelude.{◌≡◌, ◌≤◌, [], Some, Err, OnOk, IfSome, OnSome};
 ghost use Rattle.std.specs.Io.KnownBytes.{Appends};
 ghost use Rattle.indexset_lines.specs.Lines.{HasNoEnd, IsLinePart};
-ghost use Rattle.indexset_follow.specs.StoreRun.{AnswersAll, AnswersWholeLines, LacksNumbers, store_text};
+ghost use Rattle.indexset_follow.specs.StoreRun.{AnswersAll, AnswersWholeLines};
+ghost use Rattle.indexset_follow.specs.StoreRun.{LacksNumbers, store_text};
 
 use crate::others::Voice;
 use crate::store::Store;

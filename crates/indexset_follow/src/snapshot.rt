@@ -1,7 +1,8 @@
 //! The effect of snapshot lines and `done` lines on a follower, and the replies to them.
 
 ghost use Rattle.std.specs.Prelude.{◌≡◌, OnOk, OnErr, IfOk, IfErr};
-ghost use Rattle.indexset_follow.specs.Follow.{after_mark, after_node, end_reason, mark_reply, node_reply};
+ghost use Rattle.indexset_follow.specs.Follow.{after_mark, after_node, end_reason};
+ghost use Rattle.indexset_follow.specs.Follow.{mark_reply, node_reply};
 
 use crate::answer::reply_unless_memory;
 use crate::early::Early;
@@ -74,7 +75,8 @@ fn take_end<T: Key>(
     count: u64,
     sum: Option<u64>,
 ) -> Result<Reply, RunFault>
-    ensures held { OnOk result (follower.new ≡ after_mark T.texts follower.old (Mark.End count sum)) }
+    ensures held { OnOk result
+        (follower.new ≡ after_mark T.texts follower.old (Mark.End count sum)) }
     ensures reply { IfOk result (λ reply. reply
         ≡ mark_reply T.texts follower.old (Mark.End count sum)) }
     ensures fault { IfErr result (λ fault. fault ≡ RunFault.Memory) }

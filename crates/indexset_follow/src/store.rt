@@ -1,9 +1,13 @@
 //! A map in either role.
 
-ghost use Rattle.std.specs.Prelude.{◌≡◌, ◌≢◌, ◌≤◌, if◌then◌else◌, Err, IfOk, IfErr, None, OnOk, Some};
+ghost use Rattle.std.specs.Prelude.{◌≡◌, ◌≢◌, ◌≤◌, if◌then◌else◌, Err};
+ghost use Rattle.std.specs.Prelude.{IfOk, IfErr, None, OnOk, Some};
 ghost use Rattle.std.specs.Io.KnownBytes.{Appends, Keeps};
 ghost use Rattle.indexset_follow.specs.Follow.{holding};
-ghost use Rattle.indexset_follow.specs.Store.{after_follow, after_in_role, after_lead, begun, can_lead, cut_in_role, first_held, follow_reply, held, lead_reply, promoted, reply_in_role, role_lacks, starts, without_return};
+ghost use Rattle.indexset_follow.specs.Store.{after_follow, after_in_role, after_lead, begun};
+ghost use Rattle.indexset_follow.specs.Store.{can_lead, cut_in_role, first_held, follow_reply};
+ghost use Rattle.indexset_follow.specs.Store.{held, lead_reply, promoted, reply_in_role};
+ghost use Rattle.indexset_follow.specs.Store.{role_lacks, starts, without_return};
 
 use crate::answer::answer_line;
 use crate::early::Early;
@@ -269,7 +273,8 @@ pub fn without_return(line: &[u8]) -> &[u8]
 }
 
 impl<T: Key> Answers for Store<T> {
-    ghost use Rattle.indexset_follow.specs.Store.{Held, after_input, held, held_cut, held_lacks, input_reply};
+    ghost use Rattle.indexset_follow.specs.Store.{Held, after_input, held, held_cut};
+    ghost use Rattle.indexset_follow.specs.Store.{held_lacks, input_reply};
 
     ghost State = { Held T };
 

@@ -1,6 +1,7 @@
 //! Theorems on a follower that takes over, on reads in both roles, and on an incomplete last line.
 
-ghost use Rattle.std.specs.Prelude.{◌≡◌, ◌<◌, ◌≤◌, ◌^◌, ◌++◌, ◌∷◌, ◌||◌, Bool, ℕ, List, [], codes, false, length, map, None, Some};
+ghost use Rattle.std.specs.Prelude.{◌≡◌, ◌<◌, ◌≤◌, ◌^◌, ◌++◌, ◌∷◌, ◌||◌, Bool, ℕ};
+ghost use Rattle.std.specs.Prelude.{List, [], codes, false, length, map, None, Some};
 ghost use Rattle.std.specs.Io.BufRead.{ends_with_byte};
 ghost use Rattle.std.specs.List.{All};
 ghost use Rattle.std.specs.Ordering.{nat_cmp};
@@ -17,7 +18,9 @@ ghost use Rattle.indexset_follow.specs.Leading.{done_of, events_led, leader_of, 
 ghost use Rattle.indexset_follow.specs.Query.{QueryFits, query_line, query_of};
 ghost use Rattle.indexset_follow.specs.Reads.{query_text};
 ghost use Rattle.indexset_follow.specs.Reply.{reply_ended};
-ghost use Rattle.indexset_follow.specs.Store.{Held, after_held, after_input, first_held, held, held_after, held_cut, held_replies, held_reply, input_reply, is_follow, starts, without_return};
+ghost use Rattle.indexset_follow.specs.Store.{Held, after_held, after_input, first_held, held};
+ghost use Rattle.indexset_follow.specs.Store.{held_after, held_cut, held_replies, held_reply};
+ghost use Rattle.indexset_follow.specs.Store.{input_reply, is_follow, starts, without_return};
 ghost use Rattle.indexset_follow.specs.StoreRun.{store_after, store_text};
 ghost use Rattle.indexset_follow.specs.declared.leader.Leader.{Leader};
 ghost use Rattle.indexset_follow.specs.declared.others.Others.{Others};

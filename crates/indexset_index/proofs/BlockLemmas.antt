@@ -1,5 +1,7 @@
 -- Sums of blocks of 32 lengths, and how they change if a length is set, removed or inserted.
-use Rattle.std.proofs.Common.{◌≡◌, ℕ, zero, suc, ◌+◌, ◌-◌, ◌*◌, ◌/◌, ◌<◌, ◌≤◌, List, [], ◌∷◌, ◌++◌, length, map, min, sum, take, set, get_or, insert, remove, refl, ap, ◌∙◌, inl, inr, eq-zero-or-pos, add-one, length-append, arith}
+use Rattle.std.proofs.Common.{◌≡◌, ℕ, zero, suc, ◌+◌, ◌-◌, ◌*◌, ◌/◌, ◌<◌, ◌≤◌, List, [], ◌∷◌, ◌++◌}
+use Rattle.std.proofs.Common.{length, map, min, sum, take, set, get_or, insert, remove, refl, ap}
+use Rattle.std.proofs.Common.{◌∙◌, inl, inr, eq-zero-or-pos, add-one, length-append, arith}
 use Rattle.std.specs.Int.{div_ceil}
 use Rattle.std.specs.List.{between, range_with_len}
 use Rattle.std.proofs.lemmas.List.{length-set, length-take-le, take-append-le, take-take, get_or_past}
@@ -87,7 +89,13 @@ module _ (ls : List ℕ) (k : ℕ) (here : k < length ls) where
   block-inside = omega (arith, count-blocks ls)
 
   pub length-le-block : get_or ls k 0 ≤ get_or (block_sums ls) (k / 32) 0
-  length-le-block = omega (arith, block-read ls (k / 32) (omega (arith, block-inside, count-blocks ls)), prefix-next ls k, prefix-mono ls (32 * (k / 32)) k (omega arith), prefix-mono ls (k + 1) (32 * (k / 32 + 1)) (omega arith))
+  length-le-block = omega (
+    arith,
+    block-read ls (k / 32) (omega (arith, block-inside, count-blocks ls)),
+    prefix-next ls k,
+    prefix-mono ls (32 * (k / 32)) k (omega arith),
+    prefix-mono ls (k + 1) (32 * (k / 32 + 1)) (omega arith),
+  )
 
   -- a length that changes, and its block with it
   block-set : (v w : ℕ) → w + get_or ls k 0 ≡ get_or (block_sums ls) (k / 32) 0 + v → set (block_sums ls) (k / 32) w ≡ block_sums (set ls k v)
@@ -150,7 +158,9 @@ module _ (xs ls : List ℕ) (k count : ℕ) (here : k < length ls) (long : count
   pub raised-high : (i : ℕ) → k < 32 * i → i ≤ count → prefix_sum (block_sums ls) i + get_or ls (32 * i) 0 ≡ prefix_sum xs i + get_or ls k 0
   raised-high i high within = omega (arith, prefix-blocks ls i (omega (arith, long)), before i within, removed-above ls k here (32 * i) high)
 
-  pub raised-cell : (i gained : ℕ) → k < 32 * i → i ≤ count → (32 * (i - lowbit i) ≤ k → gained ≡ get_or ls k 0) → (k < 32 * (i - lowbit i) → gained ≡ get_or ls (32 * (i - lowbit i)) 0) → cell_of (block_sums ls) i + get_or ls (32 * i) 0 ≡ cell_of xs i + gained
+  pub raised-cell : (i gained : ℕ) → k < 32 * i → i ≤ count → (32 * (i - lowbit i) ≤ k → gained ≡ get_or ls k 0)
+      → (k < 32 * (i - lowbit i) → gained ≡ get_or ls (32 * (i - lowbit i)) 0)
+      → cell_of (block_sums ls) i + get_or ls (32 * i) 0 ≡ cell_of xs i + gained
   raised-cell i gained high within first past =
       let cells = prefix-cell (block_sums ls) i in
       let sums = prefix-cell xs i in
@@ -171,7 +181,9 @@ module _ (xs ls : List ℕ) (k n count : ℕ) (here : k ≤ length ls) (long : c
   pub lowered-high : (i : ℕ) → k < 32 * i → i ≤ count → prefix_sum xs i + get_or ls (32 * i - 1) 0 ≡ prefix_sum (block_sums ls) i + n
   lowered-high i high within = omega (arith, prefix-blocks ls i (omega (arith, long)), before i within, inserted-above ls k n here (32 * i) high)
 
-  pub lowered-cell : (i lost : ℕ) → k < 32 * i → i ≤ count → (32 * (i - lowbit i) ≤ k → lost ≡ n) → (k < 32 * (i - lowbit i) → lost ≡ get_or ls (32 * (i - lowbit i) - 1) 0) → cell_of xs i + get_or ls (32 * i - 1) 0 ≡ cell_of (block_sums ls) i + lost
+  pub lowered-cell : (i lost : ℕ) → k < 32 * i → i ≤ count → (32 * (i - lowbit i) ≤ k → lost ≡ n)
+      → (k < 32 * (i - lowbit i) → lost ≡ get_or ls (32 * (i - lowbit i) - 1) 0)
+      → cell_of xs i + get_or ls (32 * i - 1) 0 ≡ cell_of (block_sums ls) i + lost
   lowered-cell i lost high within first past =
       let cells = prefix-cell (block_sums ls) i in
       let sums = prefix-cell xs i in

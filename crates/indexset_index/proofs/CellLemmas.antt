@@ -1,5 +1,7 @@
 -- Cells when lengths change.
-use Rattle.std.proofs.Common.{◌≡◌, ℕ, zero, suc, ◌+◌, ◌-◌, ◌%◌, ◌<◌, ◌≤◌, ◌^◌, ◌≢◌, List, [], ◌∷◌, ◌++◌, length, sum, take, set, get_or, refl, ap, sym, ◌∙◌, inl, inr, eq-zero-or-pos, drop, length-append, append_assoc, arith}
+use Rattle.std.proofs.Common.{◌≡◌, ℕ, zero, suc, ◌+◌, ◌-◌, ◌%◌, ◌<◌, ◌≤◌, ◌^◌, ◌≢◌, List, []}
+use Rattle.std.proofs.Common.{◌∷◌, ◌++◌, length, sum, take, set, get_or, refl, ap, sym, ◌∙◌, inl}
+use Rattle.std.proofs.Common.{inr, eq-zero-or-pos, drop, length-append, append_assoc, arith}
 use Rattle.std.proofs.lemmas.List.FromFn.{fill_by_all}
 use Rattle.std.proofs.lemmas.List.Sums.{sum_by-append, sum_by-set, sum_by-take-drop}
 use Rattle.std.proofs.lemmas.List.{length-take, take-append-le, take-take, get_or_append_left, get_or-take, drop-set-lt, take-set-le, get_or-set_same, get_or-set_other, length-set}
@@ -21,7 +23,13 @@ pub told : (cells ls : List ℕ) → IsFenwickOf (cell_in cells) (length cells) 
 unfolding lengths_of
 told cells ls is =
     sym (fill_by_all (λ i. cell_sum cells (i + 1) - cell_sum cells i) ls (length cells) 0 (sym is.count_is)
-    (λ k h. omega (arith, is.count_is, cell_sum-is cells ls is (k + 1) (k + 1) (omega arith) (omega (arith, is.count_is)), cell_sum-is cells ls is k k (omega arith) (omega (arith, is.count_is)), prefix-more ls k (omega (arith, is.count_is)))))
+    (λ k h. omega (
+      arith,
+      is.count_is,
+      cell_sum-is cells ls is (k + 1) (k + 1) (omega arith) (omega (arith, is.count_is)),
+      cell_sum-is cells ls is k k (omega arith) (omega (arith, is.count_is)),
+      prefix-more ls k (omega (arith, is.count_is)),
+    )))
 
 pub is_fenwick : (cells ls : List ℕ) → IsFenwickOf (cell_in cells) (length cells) ls → IsFenwick cells
 is_fenwick cells ls is = rw (told cells ls is) is
@@ -49,7 +57,9 @@ last-cell ls c x n start is begins here =
     omega (arith, prefix-cell xs (n + 1), ap (prefix_sum xs) begins, kept-prefix ls x start low, prefix-all xs (n + 1) (omega arith), sum-last ls x)
 
 -- one length more, and its cell
-pub pushed : (cells ls : List ℕ) (c x start : ℕ) → IsFenwickOf (cell_in cells) (length cells) ls → start ≡ length cells + 1 - lowbit (length cells + 1) → c + prefix_sum ls start ≡ sum ls + x → sum ls + x < 2 ^ 64 → IsFenwickOf (cell_in (cells ++ c ∷ [])) (length (cells ++ c ∷ [])) (ls ++ x ∷ [])
+pub pushed : (cells ls : List ℕ) (c x start : ℕ) → IsFenwickOf (cell_in cells) (length cells) ls
+    → start ≡ length cells + 1 - lowbit (length cells + 1) → c + prefix_sum ls start ≡ sum ls + x → sum ls + x < 2 ^ 64
+    → IsFenwickOf (cell_in (cells ++ c ∷ [])) (length (cells ++ c ∷ [])) (ls ++ x ∷ [])
 pushed cells ls c x start is begins here fits = record {
   count_is = omega (arith, is.count_is, length-append cells (c ∷ []), length-append ls (x ∷ []));
   fits = omega (arith, sum-last ls x);
@@ -66,7 +76,8 @@ pushed cells ls c x start is begins here fits = record {
 }
 
 -- one length more, whose cell begins with it
-pushed_odd : (cells ls : List ℕ) (x : ℕ) → IsFenwickOf (cell_in cells) (length cells) ls → length cells % 2 ≡ 0 → sum ls + x < 2 ^ 64 → IsFenwickOf (cell_in (cells ++ x ∷ [])) (length (cells ++ x ∷ [])) (ls ++ x ∷ [])
+pushed_odd : (cells ls : List ℕ) (x : ℕ) → IsFenwickOf (cell_in cells) (length cells) ls → length cells % 2 ≡ 0
+    → sum ls + x < 2 ^ 64 → IsFenwickOf (cell_in (cells ++ x ∷ [])) (length (cells ++ x ∷ [])) (ls ++ x ∷ [])
 pushed_odd cells ls x is even fits =
     pushed cells ls x x (length cells) is
     (omega (arith, lowbit-of_odd (length cells + 1) (omega arith)))
@@ -74,7 +85,10 @@ pushed_odd cells ls x is even fits =
     fits
 
 -- two lengths more after a multiple of four, and their cells
-pushed_two : (cells ls : List ℕ) (x y : ℕ) → IsFenwickOf (cell_in cells) (length cells) ls → length cells % 4 ≡ 0 → sum ls + (x + y) < 2 ^ 64 → IsFenwickOf (cell_in ((cells ++ x ∷ []) ++ (x + y) ∷ [])) (length ((cells ++ x ∷ []) ++ (x + y) ∷ [])) ((ls ++ x ∷ []) ++ y ∷ [])
+pushed_two : (cells ls : List ℕ) (x y : ℕ) → IsFenwickOf (cell_in cells) (length cells) ls → length cells % 4 ≡ 0
+    → sum ls + (x + y) < 2 ^ 64
+    → IsFenwickOf (cell_in ((cells ++ x ∷ []) ++ (x + y) ∷ [])) (length ((cells ++ x ∷ []) ++ (x + y) ∷ []))
+    ((ls ++ x ∷ []) ++ y ∷ [])
 pushed_two cells ls x y is begin fits =
     let count = length-append cells (x ∷ []) in
     pushed (cells ++ x ∷ []) (ls ++ x ∷ []) (x + y) y (length cells)
@@ -83,7 +97,10 @@ pushed_two cells ls x y is begin fits =
     (omega (arith, is.count_is, kept-prefix ls x (length cells) (omega (arith, is.count_is)), prefix-all ls (length cells) (omega (arith, is.count_is)), sum-last ls x))
     (omega (arith, sum-last ls x))
 
-pushed_three : (cells ls : List ℕ) (x y z : ℕ) → IsFenwickOf (cell_in cells) (length cells) ls → length cells % 4 ≡ 0 → sum ls + (x + y + z) < 2 ^ 64 → IsFenwickOf (cell_in (((cells ++ x ∷ []) ++ (x + y) ∷ []) ++ z ∷ [])) (length (((cells ++ x ∷ []) ++ (x + y) ∷ []) ++ z ∷ [])) (((ls ++ x ∷ []) ++ y ∷ []) ++ z ∷ [])
+pushed_three : (cells ls : List ℕ) (x y z : ℕ) → IsFenwickOf (cell_in cells) (length cells) ls
+    → length cells % 4 ≡ 0 → sum ls + (x + y + z) < 2 ^ 64
+    → IsFenwickOf (cell_in (((cells ++ x ∷ []) ++ (x + y) ∷ []) ++ z ∷ []))
+    (length (((cells ++ x ∷ []) ++ (x + y) ∷ []) ++ z ∷ [])) (((ls ++ x ∷ []) ++ y ∷ []) ++ z ∷ [])
 pushed_three cells ls x y z is begin fits =
     let count = length-append cells (x ∷ []) in
     let counts = length-append (cells ++ x ∷ []) ((x + y) ∷ []) in
@@ -92,14 +109,24 @@ pushed_three cells ls x y z is begin fits =
     (omega arith)
     (omega (arith, sum-last ls x, sum-last (ls ++ x ∷ []) y))
 
--- four lengths more after a multiple of four, and their cells: only the last sums lengths before them
-pub pushed_four : (cells ls : List ℕ) (x y z v c : ℕ) → IsFenwickOf (cell_in cells) (length cells) ls → length cells % 4 ≡ 0 → sum ls + (x + y + z + v) < 2 ^ 64 → c + prefix_sum ls (length cells + 4 - lowbit (length cells + 4)) ≡ sum ls + (x + y + z + v) → IsFenwickOf (cell_in (cells ++ x ∷ (x + y) ∷ z ∷ c ∷ [])) (length (cells ++ x ∷ (x + y) ∷ z ∷ c ∷ [])) (ls ++ x ∷ y ∷ z ∷ v ∷ [])
+-- four lengths more after a multiple of four, and their cells:
+-- only the last sums lengths before them
+pub pushed_four : (cells ls : List ℕ) (x y z v c : ℕ) → IsFenwickOf (cell_in cells) (length cells) ls
+    → length cells % 4 ≡ 0 → sum ls + (x + y + z + v) < 2 ^ 64
+    → c + prefix_sum ls (length cells + 4 - lowbit (length cells + 4)) ≡ sum ls + (x + y + z + v)
+    → IsFenwickOf (cell_in (cells ++ x ∷ (x + y) ∷ z ∷ c ∷ [])) (length (cells ++ x ∷ (x + y) ∷ z ∷ c ∷ []))
+    (ls ++ x ∷ y ∷ z ∷ v ∷ [])
 pushed_four cells ls x y z v c is begin fits here =
     let three = ((cells ++ x ∷ []) ++ (x + y) ∷ []) ++ z ∷ [] in
     let lengths = ((ls ++ x ∷ []) ++ y ∷ []) ++ z ∷ [] in
     let start = length cells + 4 - lowbit (length cells + 4) in
     let low : start ≤ length ls = omega (arith, is.count_is, lowbit-of_four (length cells + 4) (omega arith) (omega arith)) in
-    let count : length three ≡ length cells + 3 = omega (arith, length-append cells (x ∷ []), length-append (cells ++ x ∷ []) ((x + y) ∷ []), length-append ((cells ++ x ∷ []) ++ (x + y) ∷ []) (z ∷ [])) in
+    let count : length three ≡ length cells + 3 = omega (
+      arith,
+      length-append cells (x ∷ []),
+      length-append (cells ++ x ∷ []) ((x + y) ∷ []),
+      length-append ((cells ++ x ∷ []) ++ (x + y) ∷ []) (z ∷ []),
+    ) in
     let end : length three + 1 ≡ length cells + 4 = omega arith in
     let begins : start ≡ length three + 1 - lowbit (length three + 1) = rw end refl in
     let one = length-append ls (x ∷ []) in
@@ -157,7 +184,8 @@ change_starts ls i v cells is = record {
   ahead = λ m p q. is.each m (omega arith) q;
 }
 
-pub change_goes_on : (ls : List ℕ) (i v : ℕ) (cells : List ℕ) (j w : ℕ) → i < length ls → IsChanged ls i v cells j → j ≤ length cells → w + get_or ls i 0 ≡ cell_in cells j + v → IsChanged ls i v (set cells (j - 1) w) (j + lowbit j)
+pub change_goes_on : (ls : List ℕ) (i v : ℕ) (cells : List ℕ) (j w : ℕ) → i < length ls → IsChanged ls i v cells j
+    → j ≤ length cells → w + get_or ls i 0 ≡ cell_in cells j + v → IsChanged ls i v (set cells (j - 1) w) (j + lowbit j)
 change_goes_on ls i v cells j w p at q is = record {
   count_is = omega (arith, at.count_is, length-set cells (j - 1) w);
   above = omega (arith, at.above);
@@ -208,7 +236,8 @@ pub record IsShifted (xs ys cells : List ℕ) (i : ℕ) : Type 0 where
   pub done : (m : ℕ) → 0 < m → m < i → m ≤ length cells → cell_in cells m ≡ cell_of ys m
   pub ahead : (m : ℕ) → i ≤ m → m ≤ length cells → cell_in cells m ≡ cell_of xs m
 
-pub shift_starts : (xs ys cells : List ℕ) (b : ℕ) → IsFenwickOf (cell_in cells) (length cells) xs → ((k : ℕ) → k ≤ b → k ≤ length cells → prefix_sum ys k ≡ prefix_sum xs k) → IsShifted xs ys cells (b + 1)
+pub shift_starts : (xs ys cells : List ℕ) (b : ℕ) → IsFenwickOf (cell_in cells) (length cells) xs
+    → ((k : ℕ) → k ≤ b → k ≤ length cells → prefix_sum ys k ≡ prefix_sum xs k) → IsShifted xs ys cells (b + 1)
 shift_starts xs ys cells b is low = record {
   count_is = is.count_is;
   some = omega arith;

@@ -28,14 +28,21 @@ module _ {X : Type 0} where
 
     pub lowered : (m : List X) (n : ℕ) → n ≤ length (node_at ns k) → length m ≡ length (node_at ns k) - n → set index (k / 32) (get_or index (k / 32) 0 - n) ≡ block_sums (node_lengths (set ns k m))
     lowered m n some less =
-        rw is (blocks-lowered (node_lengths ns) k there n (omega (arith, some, length-at ns k inside)) ∙ ap block_sums (ap (set (node_lengths ns) k) (omega (arith, less, length-at ns k inside)) ∙ sym (lengths_set ns k m)))
+        rw is
+        (blocks-lowered (node_lengths ns) k there n (omega (arith, some, length-at ns k inside))
+        ∙ ap block_sums
+        (ap (set (node_lengths ns) k) (omega (arith, less, length-at ns k inside)) ∙ sym (lengths_set ns k m)))
 
   -- a node more
-  pub inserted : {index : List ℕ} {ms : List (List X)} (ns : List (List X)) (k : ℕ) (n : List X) → ms ≡ insert ns k n → index ≡ block_sums (node_lengths ns) → k ≤ length ns → index ≡ block_sums (remove (node_lengths ms) k)
+  pub inserted : {index : List ℕ} {ms : List (List X)} (ns : List (List X)) (k : ℕ) (n : List X)
+      → ms ≡ insert ns k n → index ≡ block_sums (node_lengths ns) → k ≤ length ns
+      → index ≡ block_sums (remove (node_lengths ms) k)
   inserted ns k n made is inside = is ∙ ap block_sums (sym (without-inserted ns k n inside) ∙ ap (λ l. remove (node_lengths l) k) (sym made))
 
   -- a node less
-  pub emptied : {index : List ℕ} {ms : List (List X)} (ns : List (List X)) (k n : ℕ) → ms ≡ remove ns k → index ≡ block_sums (node_lengths ns) → k < length ns → n ≡ length (node_at ns k) → index ≡ block_sums (insert (node_lengths ms) k n)
+  pub emptied : {index : List ℕ} {ms : List (List X)} (ns : List (List X)) (k n : ℕ) → ms ≡ remove ns k
+      → index ≡ block_sums (node_lengths ns) → k < length ns → n ≡ length (node_at ns k)
+      → index ≡ block_sums (insert (node_lengths ms) k n)
   emptied ns k n made is inside long = is ∙ ap block_sums (sym (with-removed ns k inside) ∙ rw (long, made) refl)
 
   -- two neighbours
@@ -56,5 +63,14 @@ module _ {X : Type 0} where
     pub both_inside : j < length both
     both_inside = omega (arith, fewer, length-set (remove ns (j + 1)) j (node_at ns j ++ node_at ns (j + 1)))
 
-    pub gathered : {index : List ℕ} (more : ℕ) → index ≡ block_sums (node_lengths (remove ns (j + 1))) → more ≡ length (node_at ns (j + 1)) → set index (j / 32) (get_or index (j / 32) 0 + more) ≡ block_sums (node_lengths both)
-    gathered more is long = raised (remove ns (j + 1)) j is (omega (arith, fewer)) (node_at ns j ++ node_at ns (j + 1)) more (omega (arith, long, ap (λ (l : List X). length l) first_stays, length-append (node_at ns j) (node_at ns (j + 1))))
+    pub gathered : {index : List ℕ} (more : ℕ) → index ≡ block_sums (node_lengths (remove ns (j + 1)))
+        → more ≡ length (node_at ns (j + 1))
+        → set index (j / 32) (get_or index (j / 32) 0 + more) ≡ block_sums (node_lengths both)
+    gathered more is long =
+        raised (remove ns (j + 1)) j is (omega (arith, fewer)) (node_at ns j ++ node_at ns (j + 1)) more
+        (omega (
+          arith,
+          long,
+          ap (λ (l : List X). length l) first_stays,
+          length-append (node_at ns j) (node_at ns (j + 1)),
+        ))

@@ -115,7 +115,9 @@ ones-clears = halved (λ n. 0 < n → count_ones n ≡ count_ones (n - lowbit n)
 -- the bits of m, a one and l zeros
 pub lowbit-at : (m l : ℕ) → lowbit ((2 * m + 1) * 2 ^ l) ≡ 2 ^ l
 lowbit-at m zero = let e : (2 * m + 1) * 2 ^ 0 ≡ 2 * m + 1 = omega arith in rw (e, lowbit-odd m) refl
-lowbit-at m (suc l) = let e : (2 * m + 1) * 2 ^ suc l ≡ 2 * ((2 * m + 1) * 2 ^ l) = rw (pow-suc 2 l) (omega arith) in rw (e, lowbit-even ((2 * m + 1) * 2 ^ l), lowbit-at m l, pow-suc 2 l) (omega arith)
+lowbit-at m (suc l) =
+    let e : (2 * m + 1) * 2 ^ suc l ≡ 2 * ((2 * m + 1) * 2 ^ l) = rw (pow-suc 2 l) (omega arith) in
+    rw (e, lowbit-even ((2 * m + 1) * 2 ^ l), lowbit-at m l, pow-suc 2 l) (omega arith)
 
 -- What the cell after the next takes in
 

@@ -14,14 +14,20 @@ remove-insert xs k x h =
 insert-remove : {A : Type 0} (xs : List A) (k : ℕ) (d : A) → k < length xs → insert (remove xs k) k (get_or xs k d) ≡ xs
 insert-remove xs k d h =
     let zero-left : k - k ≡ 0 = omega arith in
-    insert-append_right (take k xs) (drop (suc k) xs) k k (get_or xs k d) (length-take-le k xs (omega arith)) (omega arith) ∙ (ap (λ i. take k xs ++ insert (drop (suc k) xs) i (get_or xs k d)) zero-left ∙ (ap (λ l. take k xs ++ l) (sym (drop-cons xs k d h)) ∙ take-append-drop k xs))
+    insert-append_right (take k xs) (drop (suc k) xs) k k (get_or xs k d) (length-take-le k xs (omega arith))
+    (omega arith)
+    ∙ (ap (λ i. take k xs ++ insert (drop (suc k) xs) i (get_or xs k d)) zero-left
+    ∙ (ap (λ l. take k xs ++ l) (sym (drop-cons xs k d h)) ∙ take-append-drop k xs))
 
 -- the list without the element after place k, where a and b replaced one element
 remove-second : {A : Type 0} (xs : List A) (k : ℕ) (a b : A) → k < length xs → remove (take k xs ++ a ∷ b ∷ drop (k + 1) xs) (k + 1) ≡ set xs k a
 remove-second xs k a b h =
     let one : k + 1 - k ≡ 1 = omega arith in
     let next : k + 1 ≡ suc k = omega arith in
-    remove-append_right (take k xs) (a ∷ b ∷ drop (k + 1) xs) k (k + 1) (length-take-le k xs (omega arith)) (omega arith) ∙ (ap (λ i. take k xs ++ remove (a ∷ b ∷ drop (k + 1) xs) i) one ∙ (ap (λ i. take k xs ++ a ∷ drop i xs) next ∙ sym (set_split xs k a h)))
+    remove-append_right (take k xs) (a ∷ b ∷ drop (k + 1) xs) k (k + 1) (length-take-le k xs (omega arith))
+    (omega arith)
+    ∙ (ap (λ i. take k xs ++ remove (a ∷ b ∷ drop (k + 1) xs) i) one
+    ∙ (ap (λ i. take k xs ++ a ∷ drop i xs) next ∙ sym (set_split xs k a h)))
 
 -- one in the place of two
 set-first : {A : Type 0} (xs : List A) (j : ℕ) (a : A) → j + 1 < length xs → set (remove xs (j + 1)) j a ≡ take j xs ++ a ∷ drop (j + 2) xs
@@ -50,14 +56,23 @@ module _ {X : Type 0} where
   without-inserted ns k n h = ap (λ l. remove l k) (lengths-insert ns k n) ∙ remove-insert (node_lengths ns) k (length n) (omega (arith, h, count-lengths ns))
 
   pub with-removed : (ns : List (List X)) (k : ℕ) → k < length ns → insert (node_lengths (remove ns k)) k (length (node_at ns k)) ≡ node_lengths ns
-  with-removed ns k h = ap (λ l. insert l k (length (node_at ns k))) (lengths-remove ns k) ∙ (ap (insert (remove (node_lengths ns) k) k) (sym (length-at ns k h)) ∙ insert-remove (node_lengths ns) k 0 (omega (arith, h, count-lengths ns)))
+  with-removed ns k h =
+      ap (λ l. insert l k (length (node_at ns k))) (lengths-remove ns k)
+      ∙ (ap (insert (remove (node_lengths ns) k) k) (sym (length-at ns k h))
+      ∙ insert-remove (node_lengths ns) k 0 (omega (arith, h, count-lengths ns)))
 
   -- a node split in two, without the second
   pub without-half : (ns : List (List X)) (k : ℕ) (a b : List X) → k < length ns → remove (node_lengths (take k ns ++ a ∷ b ∷ drop (k + 1) ns)) (k + 1) ≡ set (node_lengths ns) k (length a)
   without-half ns k a b h =
-      ap (λ l. remove l (k + 1)) (around ns (a ∷ b ∷ drop (k + 1) ns) k ∙ ap (λ l. take k (node_lengths ns) ++ length a ∷ length b ∷ l) (behind ns (k + 1))) ∙ remove-second (node_lengths ns) k (length a) (length b) (omega (arith, h, count-lengths ns))
+      ap (λ l. remove l (k + 1))
+      (around ns (a ∷ b ∷ drop (k + 1) ns) k
+      ∙ ap (λ l. take k (node_lengths ns) ++ length a ∷ length b ∷ l) (behind ns (k + 1)))
+      ∙ remove-second (node_lengths ns) k (length a) (length b) (omega (arith, h, count-lengths ns))
 
   -- a node merged from two
   pub made-of-two : (ns : List (List X)) (j : ℕ) (m : List X) → j + 1 < length ns → node_lengths (take j ns ++ m ∷ drop (j + 2) ns) ≡ set (node_lengths (remove ns (j + 1))) j (length m)
   made-of-two ns j m h =
-      around ns (m ∷ drop (j + 2) ns) j ∙ (ap (λ l. take j (node_lengths ns) ++ length m ∷ l) (behind ns (j + 2)) ∙ (sym (set-first (node_lengths ns) j (length m) (omega (arith, h, count-lengths ns))) ∙ ap (λ l. set l j (length m)) (sym (lengths-remove ns (j + 1)))))
+      around ns (m ∷ drop (j + 2) ns) j
+      ∙ (ap (λ l. take j (node_lengths ns) ++ length m ∷ l) (behind ns (j + 2))
+      ∙ (sym (set-first (node_lengths ns) j (length m) (omega (arith, h, count-lengths ns)))
+      ∙ ap (λ l. set l j (length m)) (sym (lengths-remove ns (j + 1)))))

@@ -32,7 +32,12 @@ module _ {X : Type 0} where
   place-fits (n ∷ ns) (k, o) h = omega (arith, offset-le (n ∷ ns) k o (node-in (n ∷ ns) k o h (omega arith)) h.offset_in, length-concat (n ∷ ns))
 
   -- the place that the lengths give for a position is that of its item
-  pub place-found : (ns : List (List X)) (i : ℕ) (r : Option (ℕ × ℕ)) → MatchOption r (sum (node_lengths ns) ≤ i) (λ p. (p.0 < length (node_lengths ns)) × (p.1 < get_or (node_lengths ns) p.0 0) × (prefix_sum (node_lengths ns) p.0 + p.1 ≡ i)) → MatchOption r (length (concat ns) ≤ i) (λ p. (p.0 < length ns) × (p.1 < length (node_at ns p.0)) × (items_before ns p ≡ i))
+  pub place-found : (ns : List (List X)) (i : ℕ) (r : Option (ℕ × ℕ))
+      → MatchOption r (sum (node_lengths ns) ≤ i)
+      (λ p. (p.0 < length (node_lengths ns)) × (p.1 < get_or (node_lengths ns) p.0 0)
+      × (prefix_sum (node_lengths ns) p.0 + p.1 ≡ i))
+      → MatchOption r (length (concat ns) ≤ i)
+      (λ p. (p.0 < length ns) × (p.1 < length (node_at ns p.0)) × (items_before ns p ≡ i))
   place-found ns i None h = omega (arith, h, length-concat ns)
   place-found ns i (Some p) h =
       let inside : p.0 < length ns = omega (arith, count-lengths ns, h.0) in

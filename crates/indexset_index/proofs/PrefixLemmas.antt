@@ -8,7 +8,12 @@ use Rattle.indexset_index.specs.Fenwick.{lowbit, prefix_sum, cell_of}
 
 pub prefix-between : (xs : List ℕ) (i j : ℕ) → i ≤ j → prefix_sum xs i + sum (between i j xs) ≡ prefix_sum xs j
 prefix-between xs i j h =
-    let whole : sum xs ≡ sum (take i xs) + (sum (between i j xs) + sum (drop j xs)) = rw (← (sum_by-append (λ x. x) (between i j xs) (drop j xs)), ← (sum_by-append (λ x. x) (take i xs) (between i j xs ++ drop j xs))) (ap sum (split_between xs i j h)) in
+    let whole : sum xs ≡ sum (take i xs) + (sum (between i j xs) + sum (drop j xs)) =
+    rw (
+      ← (sum_by-append (λ x. x) (between i j xs) (drop j xs)),
+      ← (sum_by-append (λ x. x) (take i xs) (between i j xs ++ drop j xs)),
+    )
+    (ap sum (split_between xs i j h)) in
     omega (arith, sum_by-take-drop (λ x. x) xs j)
 
 pub prefix-le : (xs : List ℕ) (k : ℕ) → prefix_sum xs k ≤ sum xs

@@ -1,5 +1,6 @@
 -- A Fenwick index: its cells, and the lengths that they sum.
-use Rattle.std.specs.Prelude.{◌≡◌, ℕ, zero, suc, ◌+◌, ◌-◌, ◌*◌, ◌/◌, ◌%◌, ◌^◌, ◌<◌, ◌≤◌, ◌==◌, List, length, sum, take, map, slice_index, if◌then◌else◌}
+use Rattle.std.specs.Prelude.{◌≡◌, ℕ, zero, suc, ◌+◌, ◌-◌, ◌*◌, ◌/◌, ◌%◌, ◌^◌, ◌<◌, ◌≤◌}
+use Rattle.std.specs.Prelude.{◌==◌, List, length, sum, take, map, slice_index, if◌then◌else◌}
 use Rattle.std.specs.List.{between, range_with_len}
 
 -- the model of an index in contracts: the lengths, and how many there is capacity for
@@ -38,7 +39,8 @@ cell_in cells i = slice_index cells (i - 1)
 abbrev pub cell_sum_within : ℕ → List ℕ → ℕ → ℕ
 cell_sum_within zero cells k = 0
 cell_sum_within (suc f) cells zero = 0
-cell_sum_within (suc f) cells (suc k) = cell_in cells (suc k) + cell_sum_within f cells (suc k - lowbit (suc k))
+cell_sum_within (suc f) cells (suc k) =
+    cell_in cells (suc k) + cell_sum_within f cells (suc k - lowbit (suc k))
 
 -- the sum of the first k lengths, as the cells add up to it
 abbrev pub cell_sum : List ℕ → ℕ → ℕ
@@ -46,7 +48,8 @@ cell_sum cells k = cell_sum_within k cells k
 
 -- the lengths that the cells sum
 unfoldable pub lengths_of : List ℕ → List ℕ
-lengths_of cells = map (λ i. cell_sum cells (i + 1) - cell_sum cells i) (range_with_len 0 (length cells))
+lengths_of cells =
+    map (λ i. cell_sum cells (i + 1) - cell_sum cells i) (range_with_len 0 (length cells))
 
 -- the cells are those of some lengths
 abbrev pub IsFenwick : List ℕ → Type 0

@@ -1,5 +1,7 @@
 //! The lengths of nodes, summed by blocks of neighbouring nodes.
-ghost use Rattle.std.specs.Prelude.{◌≡◌, ◌+◌, ◌-◌, ◌/◌, ◌^◌, ◌<◌, ◌≤◌, [], insert, length, map, remove, sum, slice_index, slice_set, IfOk, IfErr, MatchOption, OnOk};
+ghost use Rattle.std.specs.Prelude.{◌≡◌, ◌+◌, ◌-◌, ◌/◌, ◌^◌, ◌<◌, ◌≤◌, [], insert};
+ghost use Rattle.std.specs.Prelude.{length, map, remove, sum, slice_index};
+ghost use Rattle.std.specs.Prelude.{slice_set, IfOk, IfErr, MatchOption, OnOk};
 ghost use Rattle.indexset_core.specs.Nodes.{node_lengths};
 ghost use Rattle.indexset_index.specs.Blocks.{block_count, block_sums};
 ghost use Rattle.indexset_index.specs.Fenwick.{prefix_sum};

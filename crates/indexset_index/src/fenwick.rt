@@ -1,5 +1,6 @@
 //! A Fenwick tree of lengths: reads, searches and changes prefix sums in logarithmic time.
-ghost use Rattle.std.specs.Prelude.{◌≡◌, ◌+◌, ◌-◌, ◌<◌, ◌≤◌, ◌^◌, ◌%◌, [], ◌∷◌, ◌++◌, length, map, sum, take, slice_index, slice_set, IfOk, IfErr, OnOk};
+ghost use Rattle.std.specs.Prelude.{◌≡◌, ◌+◌, ◌-◌, ◌<◌, ◌≤◌, ◌^◌, ◌%◌, [], ◌∷◌, ◌++◌, length};
+ghost use Rattle.std.specs.Prelude.{map, sum, take, slice_index, slice_set, IfOk, IfErr, OnOk};
 ghost use Rattle.indexset_core.specs.Nodes.{node_lengths};
 
 pub mod cells;

@@ -60,4 +60,6 @@ module _ (next : ℕ) (lines : List (List ℕ)) (old mid : View) (rests : IsAtRe
   pub rests_appended : (new : View) → Stages old mid (old.trees 0 ++ rows_of next lines) → Commits mid new → IsAtRest (next + length lines) new
   rests_appended new stages =
       let same : old.committed 0 ≡ old.trees 0 = ap (λ (t : Trees). t 0) (sym rests.settled) in
-      rests_put next next (old.trees 0) lines old mid rests stages new (subst (AllByRecursion IsLine) same rests.holds.lines) (subst (AreBelow next) same rests.below) (rests.first ∙ ap next_number same)
+      rests_put next next (old.trees 0) lines old mid rests stages new
+      (subst (AllByRecursion IsLine) same rests.holds.lines) (subst (AreBelow next) same rests.below)
+      (rests.first ∙ ap next_number same)

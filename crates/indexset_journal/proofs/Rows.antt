@@ -1,5 +1,7 @@
 -- Rows with ascending numbers.
-use Rattle.std.proofs.Common.{◌≡◌, ℕ, suc, ◌+◌, ◌<◌, ◌≤◌, ◌^◌, max, pos, negsuc, ℤ, nat_abs, int_lt, false, true≢false, FitsSigned, w64, Less, List, [], ◌∷◌, ◌++◌, length, map, take, get_or, refl, sym, ap, subst, ◌∙◌, arith, append-nil, append_assoc, lt→ltb, length-take-le}
+use Rattle.std.proofs.Common.{◌≡◌, ℕ, suc, ◌+◌, ◌<◌, ◌≤◌, ◌^◌, max, pos, negsuc, ℤ, nat_abs, int_lt, false}
+use Rattle.std.proofs.Common.{true≢false, FitsSigned, w64, Less, List, [], ◌∷◌, ◌++◌, length, map, take, get_or}
+use Rattle.std.proofs.Common.{refl, sym, ap, subst, ◌∙◌, arith, append-nil, append_assoc, lt→ltb, length-take-le}
 use Rattle.std.specs.Prelude.{Vec}
 use Rattle.std.specs.declared.alloc.Global.{Global}
 use Rattle.std.specs.Cmp.{int_cmp_is}

@@ -1,11 +1,23 @@
 -- The causes of each error.
-use Rattle.std.specs.Prelude.{◌≡◌, ◌⊎◌, false, true, ℕ, ◌+◌, ◌<◌, ◌^◌, Bool, List, length, Any, Option, Some, IsTrue, Vec, ⊤}
+use Rattle.std.specs.Prelude.{◌≡◌, ◌⊎◌, false, true, ℕ, ◌+◌, ◌<◌, ◌^◌, Bool}
+use Rattle.std.specs.Prelude.{List, length, Any, Option, Some, IsTrue, Vec, ⊤}
 use Rattle.std.specs.declared.alloc.Global.{Global}
 use Rattle.sqlite_trees.specs.View.{View}
 use Rattle.sqlite_trees.specs.declared.error.StoreError.{StoreError}
 use Rattle.sqlite_trees.specs.declared.error.StoreError.TheVariants as store
 use Rattle.indexset_journal.specs.declared.error.JournalError.{JournalError}
-use Rattle.indexset_journal.specs.declared.error.JournalError.TheVariants.{OutOfMemory, Disk, Damaged, Full, Shut, TooLong, NotLines, Numbers, InUse, CannotOpen}
+use Rattle.indexset_journal.specs.declared.error.JournalError.TheVariants.{
+  OutOfMemory,
+  Disk,
+  Damaged,
+  Full,
+  Shut,
+  TooLong,
+  NotLines,
+  Numbers,
+  InUse,
+  CannotOpen,
+}
 use Rattle.indexset_journal.specs.Kept.{IsTooLong}
 use Rattle.indexset_journal.specs.State.{HoldsLines, IsAlone}
 
@@ -27,7 +39,8 @@ is_of_disk _ = false
 
 -- if the disk failed, the error is that for the store's last error, if the store records it
 abbrev pub TellsFault : Option StoreError → JournalError → Type 0
-TellsFault last error = (kind : StoreError) → last ≡ Some kind → IsTrue (is_of_disk error) → error ≡ named kind
+TellsFault last error =
+    (kind : StoreError) → last ≡ Some kind → IsTrue (is_of_disk error) → error ≡ named kind
 
 -- the cause of an error: the disk failed meanwhile, the store was shut, a line is too long, the
 -- numbers run out, or a row is not a line; lack of memory needs none
@@ -51,4 +64,5 @@ FailsToKeep old fault start lines =
 -- the causes of a failure to open
 abbrev pub FailsToOpen : View → Type 0 → JournalError → Type 0
 FailsToOpen old fault =
-    Explains fault ((old.is_open ≡ false) ⊎ fault) ⊥ ⊥ (¬ (HoldsLines old × IsAlone old.committed_shape))
+    Explains fault ((old.is_open ≡ false) ⊎ fault) ⊥ ⊥
+    (¬ (HoldsLines old × IsAlone old.committed_shape))

@@ -1,5 +1,6 @@
 -- Lines as the rows of a table.
-use Rattle.std.specs.Prelude.{◌≡◌, ℕ, suc, ◌+◌, ◌<◌, ◌^◌, max, pos, negsuc, List, [], ◌∷◌, length, map, fold, Vec}
+use Rattle.std.specs.Prelude.{◌≡◌, ℕ, suc, ◌+◌, ◌<◌, ◌^◌, max, pos, negsuc}
+use Rattle.std.specs.Prelude.{List, [], ◌∷◌, length, map, fold, Vec}
 use Rattle.std.specs.List.{AllByRecursion}
 use Rattle.std.specs.declared.alloc.Global.{Global}
 use Rattle.sqlite_value.specs.declared.value.Value.{Value}
@@ -46,7 +47,8 @@ next_number = fold (λ next row. max next (suc (number_in (rowid row)))) 0
 
 -- each row has a number less than `next`
 abbrev pub AreBelow : ℕ → List Row → Type 0
-AreBelow next = AllByRecursion (λ row. (number : ℕ) × (rowid row ≡ Int (pos number)) × (number < next))
+AreBelow next =
+    AllByRecursion (λ row. (number : ℕ) × (rowid row ≡ Int (pos number)) × (number < next))
 
 -- the row of the line would exceed SQLite's limit of a billion bytes, with 18 bytes for each of its
 -- three values

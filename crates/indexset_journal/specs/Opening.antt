@@ -4,7 +4,17 @@ use Rattle.sqlite.specs.declared.error.Error.TheVariants.{SqliteFailure}
 use Rattle.sqlite.specs.declared.error.ErrorCode.{ErrorCode}
 use Rattle.sqlite.specs.declared.error.ErrorCode.TheVariants as code
 use Rattle.indexset_journal.specs.declared.error.JournalError.{JournalError}
-use Rattle.indexset_journal.specs.declared.error.JournalError.TheVariants.{OutOfMemory, Disk, Damaged, Full, Shut, TooLong, NotLines, InUse, CannotOpen}
+use Rattle.indexset_journal.specs.declared.error.JournalError.TheVariants.{
+  OutOfMemory,
+  Disk,
+  Damaged,
+  Full,
+  Shut,
+  TooLong,
+  NotLines,
+  InUse,
+  CannotOpen,
+}
 
 abbrev pub by_code : ErrorCode → JournalError
 by_code code.OutOfMemory = OutOfMemory

@@ -59,8 +59,10 @@ pub record Reads (old new : View) (lines : List (List ℕ)) (next : ℕ) : Type 
   pub rest : new ≡ record old { cursors = new.cursors }
 
 -- the store stays clean only if it was, faults are not forgotten, and only a fault shuts it
-pub record IsSteady {S : Type 0} (view : S → View) (faults : S → ℕ) (Shielded : S → Type 0) (old new : S) : Type 0 where
+pub record IsSteady {S : Type 0} (view : S → View) (faults : S → ℕ) (Shielded : S → Type 0)
+    (old new : S) : Type 0 where
   pub clean : doubt (view old).is_clean ≤ doubt (view new).is_clean
-  pub closes : IsClean (view new) → IsTrue (view old).is_open → IsTrue (view new).is_open ⊎ MoreFaults (faults old) (faults new)
+  pub closes : IsClean (view new) → IsTrue (view old).is_open
+      → IsTrue (view new).is_open ⊎ MoreFaults (faults old) (faults new)
   pub shield : Shielded old → Shielded new
   pub counts : faults old ≤ faults new

@@ -1,11 +1,13 @@
 //! The journal.
-ghost use Rattle.std.specs.Prelude.{◌≡◌, ◌⊎◌, ◌+◌, ◌<◌, ◌≤◌, ◌^◌, ◌++◌, false, length, IsTrue, IfOk, IfErr, OnOk, OnErr};
+ghost use Rattle.std.specs.Prelude.{◌≡◌, ◌⊎◌, ◌+◌, ◌<◌, ◌≤◌, ◌^◌, ◌++◌, false};
+ghost use Rattle.std.specs.Prelude.{length, IsTrue, IfOk, IfErr, OnOk, OnErr};
 ghost use Rattle.sqlite_disk.specs.Disk.{MoreFaults};
 ghost use Rattle.sqlite_trees.specs.Tree.{Trees};
 ghost use Rattle.sqlite_trees.specs.View.{IsClean, IsQuiet};
 ghost use Rattle.indexset_journal.specs.Kept.{texts, lines_in, rows_of, next_number};
 ghost use Rattle.indexset_journal.specs.State.{HoldsLines, IsSteady};
-ghost use Rattle.indexset_journal.specs.Cause.{is_of_disk, Explains, FailsToKeep, FailsToOpen, TellsFault};
+ghost use Rattle.indexset_journal.specs.Cause.{is_of_disk, Explains, FailsToKeep};
+ghost use Rattle.indexset_journal.specs.Cause.{FailsToOpen, TellsFault};
 
 use crate::error::JournalError;
 use crate::read::find_lines;
@@ -134,8 +136,8 @@ impl<S: Store> Journal<S> {
     ///
     /// # Errors
     ///
-    /// See [`JournalError`]. While the store is open, the lines are as before the call. Only a failure
-    /// of the disk shuts the store.
+    /// See [`JournalError`]. While the store is open, the lines are as before the call. Only a
+    /// failure of the disk shuts the store.
     pub fn append(&mut self, lines: &[Vec<u8>]) -> Result<(), JournalError>
         // Contents.
         ensures kept { OnOk result (IsClean (S.view self.new) → IsTrue (S.view self.new).is_open
@@ -189,8 +191,8 @@ impl<S: Store> Journal<S> {
     ///
     /// # Errors
     ///
-    /// See [`JournalError`]. While the store is open, the lines are as before the call. Only a failure
-    /// of the disk shuts the store.
+    /// See [`JournalError`]. While the store is open, the lines are as before the call. Only a
+    /// failure of the disk shuts the store.
     pub fn replace(&mut self, lines: &[Vec<u8>]) -> Result<(), JournalError>
         // Contents.
         ensures kept { OnOk result (IsClean (S.view self.new) → IsTrue (S.view self.new).is_open

@@ -1,8 +1,10 @@
 //! Writes rows to the table of lines, and ends the transaction.
-ghost use Rattle.std.specs.Prelude.{◌≡◌, ◌⊎◌, ◌+◌, ◌≤◌, ◌<◌, ◌^◌, ◌++◌, [], false, length, Any, IsTrue, Ok, Err, IfErr, OnOk, OnErr};
+ghost use Rattle.std.specs.Prelude.{◌≡◌, ◌⊎◌, ◌+◌, ◌≤◌, ◌<◌, ◌^◌, ◌++◌, [], false};
+ghost use Rattle.std.specs.Prelude.{length, Any, IsTrue, Ok, Err, IfErr, OnOk, OnErr};
 ghost use Rattle.sqlite_disk.specs.Disk.{MoreFaults};
 ghost use Rattle.sqlite_trees.specs.Tree.{Trees};
-ghost use Rattle.sqlite_trees.specs.View.{IsClean, IsQuiet, HasCause, KeepsCommitted, Commits, IsRolledBack, Tells};
+ghost use Rattle.sqlite_trees.specs.View.{IsClean, IsQuiet, HasCause, KeepsCommitted};
+ghost use Rattle.sqlite_trees.specs.View.{Commits, IsRolledBack, Tells};
 ghost use Rattle.indexset_journal.specs.Kept.{texts, rows_of, AreBelow, IsTooLong};
 ghost use Rattle.indexset_journal.specs.State.{IsReady, IsSteady, Stages};
 

@@ -1,5 +1,7 @@
 -- Splitting a text into its lines.
-use Rattle.std.proofs.Common.{None, Some, ◌≡◌, ◌≢◌, ℕ, ◌+◌, ◌-◌, ◌<◌, Bool, true, false, cond, eqb, take, drop, get_or, List, [], ◌∷◌, ◌++◌, length, refl, sym, ap, subst, ◌∙◌, arith, append_assoc, length-append}
+use Rattle.std.proofs.Common.{None, Some, ◌≡◌, ◌≢◌, ℕ, ◌+◌, ◌-◌, ◌<◌, Bool, true, false}
+use Rattle.std.proofs.Common.{cond, eqb, take, drop, get_or, List, [], ◌∷◌, ◌++◌, length}
+use Rattle.std.proofs.Common.{refl, sym, ap, subst, ◌∙◌, arith, append_assoc, length-append}
 use Rattle.std.specs.Prelude.{nat_lt}
 use Rattle.std.proofs.lemmas.Bool.{eqb-false, ne_eqb}
 use borrow.Author.Tests.{ltb-false}
@@ -35,7 +37,10 @@ front_lacks text = All-from_get_or (λ x. x ≢ 10) (take (spot text) text) 0 (�
 pub cut_lines : (text a b : List ℕ) → cut_at 10 text ≡ Some (a, b) → whole_lines text ≡ a ∷ whole_lines b
 cut_lines text a b e = at (nat_lt (spot text) (length text)) refl e
   where
-    at : (t : Bool) → nat_lt (spot text) (length text) ≡ t → option_map {U = List ℕ × List ℕ} (λ i. (take i text, drop (i + 1) text)) (cond t (Some (spot text)) None) ≡ Some (a, b) → whole_lines text ≡ a ∷ whole_lines b
+    at : (t : Bool) → nat_lt (spot text) (length text) ≡ t
+        → option_map {U = List ℕ × List ℕ} (λ i. (take i text, drop (i + 1) text)) (cond t (Some (spot text)) None)
+        ≡ Some (a, b)
+        → whole_lines text ≡ a ∷ whole_lines b
     at true is made =
         let front : take (spot text) text ≡ a = ap (λ p. p.0) (some_inj (take (spot text) text, drop (spot text + 1) text) (a, b) made) in
         ap whole_lines (cut_sound 10 text a b e) ∙ whole_line a b (subst HasNoEnd front (front_lacks text))

@@ -1,6 +1,8 @@
 -- An event or an attached node whose numbers have at most 64 bits leaves lawful nodes with such
 -- numbers.
-use Rattle.std.proofs.Common.{Option, None, Some, IfSome, ◌≡◌, ℕ, zero, suc, ◌+◌, ◌==◌, Bool, true, false, if◌then◌else◌, List, [], ◌∷◌, ◌++◌, ◌&&◌, length, get_or, take, drop, insert, remove, ltb, leb, refl, sym, subst}
+use Rattle.std.proofs.Common.{Option, None, Some, IfSome, ◌≡◌, ℕ, zero, suc, ◌+◌, ◌==◌, Bool}
+use Rattle.std.proofs.Common.{true, false, if◌then◌else◌, List, [], ◌∷◌, ◌++◌, ◌&&◌, length}
+use Rattle.std.proofs.Common.{get_or, take, drop, insert, remove, ltb, leb, refl, sym, subst}
 use Rattle.std.proofs.lemmas.Bool.{false≢true}
 use Rattle.std.proofs.lemmas.List.{take-append-drop}
 use Rattle.std.specs.Cmp.{IsTotalOrder}
@@ -67,14 +69,18 @@ module _ {T : Type 0} (cmp : T → T → Ordering) (texts : Texts T) where
 
   module _ (ns : Nodes T) (h : NodesFit texts ns) where
     spliced_fit : (i j : ℕ) (parts : Nodes T) → NodesFit texts parts → NodesFit texts (splice ns i j parts)
-    spliced_fit i j parts new = each-append (Each (PairFits texts)) (take i ns) (parts ++ drop j ns) (each_front (Each (PairFits texts)) i ns h) (each-append (Each (PairFits texts)) parts (drop j ns) new (each_back (Each (PairFits texts)) j ns h))
+    spliced_fit i j parts new =
+        each-append (Each (PairFits texts)) (take i ns) (parts ++ drop j ns) (each_front (Each (PairFits texts)) i ns h)
+        (each-append (Each (PairFits texts)) parts (drop j ns) new (each_back (Each (PairFits texts)) j ns h))
 
     parts_fit : (p : ℕ) (parts : Option (Nodes T)) → IfSome parts (NodesFit texts) → IfSome (option_map (splice ns p (p + 1)) parts) (NodesFit texts)
     parts_fit p None new = tt
     parts_fit p (Some parts) new = spliced_fit p (p + 1) parts new
 
     -- replacing a node by the parts that f gives for it
-    named_fit : (place : Option ℕ) (f : List (Pair T T) → Option (Nodes T)) → ((n : List (Pair T T)) → Each (PairFits texts) n → IfSome (f n) (NodesFit texts)) → IfSome (option_and_then (λ p. option_map (splice ns p (p + 1)) (f (node_at ns p))) place) (NodesFit texts)
+    named_fit : (place : Option ℕ) (f : List (Pair T T) → Option (Nodes T))
+        → ((n : List (Pair T T)) → Each (PairFits texts) n → IfSome (f n) (NodesFit texts))
+        → IfSome (option_and_then (λ p. option_map (splice ns p (p + 1)) (f (node_at ns p))) place) (NodesFit texts)
     named_fit None f made = tt
     named_fit (Some p) f made = parts_fit p (f (node_at ns p)) (made (node_at ns p) (node_fits texts ns p h))
 
@@ -87,7 +93,9 @@ module _ {T : Type 0} (cmp : T → T → Ordering) (texts : Texts T) where
 
     edited_fit : (e : Event T) → EventFits texts e → IfSome (edit (order cmp) ns (unassigned e)) (NodesFit texts)
     edited_fit (InsertAt id m v i) fit =
-        named_fit (node_named (order cmp) ns m) (λ n. if leb i (length n) then Some (insert n i v ∷ []) else None) (λ n k. tested_fit texts (leb i (length n)) (insert n i v ∷ []) (each_more (PairFits texts) n i v k fit.2, tt))
+        named_fit (node_named (order cmp) ns m) (λ n. if leb i (length n) then Some (insert n i v ∷ []) else None)
+        (λ n k.
+        tested_fit texts (leb i (length n)) (insert n i v ∷ []) (each_more (PairFits texts) n i v k fit.2, tt))
     edited_fit (RemoveAt id m v i) fit =
         named_fit (node_named (order cmp) ns m) (λ n. if (leb 2 (length n) && ltb i (length n)) && is_eq (order cmp (get_or n i v) v) then Some (remove n i ∷ []) else None)
         (λ n k. tested_fit texts ((leb 2 (length n) && ltb i (length n)) && is_eq (order cmp (get_or n i v) v)) (remove n i ∷ []) (each_fewer (PairFits texts) n i k, tt))
@@ -132,7 +140,8 @@ module _ {T : Type 0} (cmp : T → T → Ordering) (total : IsTotalOrder cmp) wh
       ruled_nodes (order cmp) (attached (order cmp) ns (p ∷ n)) (made.rule it.apart)
 
 module _ {T : Type 0} (cmp : T → T → Ordering) (texts : Texts T) (total : IsTotalOrder cmp) where
-  pub attached_sound : (ns : Nodes T) → SoundNodes cmp texts ns → (n : List (Pair T T)) → Each (PairFits texts) n → attach_refusal (order cmp) (length n) ns n ≡ None → SoundNodes cmp texts (attached (order cmp) ns n)
+  pub attached_sound : (ns : Nodes T) → SoundNodes cmp texts ns → (n : List (Pair T T)) → Each (PairFits texts) n
+      → attach_refusal (order cmp) (length n) ns n ≡ None → SoundNodes cmp texts (attached (order cmp) ns n)
   attached_sound ns s n fit none = record {
     nodes = attached_nodes cmp total ns s.nodes n none;
     fit = each_more (Each (PairFits texts)) ns (attach_index (order cmp) ns n) n s.fit fit;

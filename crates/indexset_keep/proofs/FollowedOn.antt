@@ -1,5 +1,6 @@
 -- Replaying the lines that a follower keeps gives its state.
-use Rattle.std.proofs.Common.{Option, None, Some, ◌≡◌, ◌≢◌, ℕ, suc, ◌+◌, ◌-◌, ◌<◌, ◌≤◌, ◌^◌, ◌==◌, Bool, true, false, if◌then◌else◌, List, [], ◌∷◌, ◌++◌, length, map, take, refl, ap, sym, subst, ◌∙◌, arith}
+use Rattle.std.proofs.Common.{Option, None, Some, ◌≡◌, ◌≢◌, ℕ, suc, ◌+◌, ◌-◌, ◌<◌, ◌≤◌, ◌^◌, ◌==◌, Bool, true, false}
+use Rattle.std.proofs.Common.{if◌then◌else◌, List, [], ◌∷◌, ◌++◌, length, map, take, refl, ap, sym, subst, ◌∙◌, arith}
 use Rattle.std.below.core.specs.declared.int.u64.TheConstants.{MAX}
 use Rattle.std.proofs.lemmas.Bool.{eq-eqb, eqb-true, ne_eqb}
 use Rattle.std.proofs.lemmas.List.Elements.{All-cons, All-head, All-tail}
@@ -65,7 +66,9 @@ module _ {T : Type 0} (cmp : T → T → Ordering) where
 
 module _ {T : Type 0} (cmp : T → T → Ordering) (total : IsTotalOrder cmp) where
   -- an event for which no refusal is found is applied
-  stepped : (c : Copy T) (e : Event T) → Ruled (order cmp) c.nodes → apply_refusal (order cmp) c.nodes c.next e ≡ None → ((copy_after cmp c e).next ≡ c.next + 1) × Ruled (order cmp) (copy_after cmp c e).nodes
+  stepped : (c : Copy T) (e : Event T) → Ruled (order cmp) c.nodes
+      → apply_refusal (order cmp) c.nodes c.next e ≡ None
+      → ((copy_after cmp c e).next ≡ c.next + 1) × Ruled (order cmp) (copy_after cmp c e).nodes
   stepped c e rule fits =
       let law = (refusal_law (order cmp) c.nodes c.next e (pairs_total cmp total) rule).0 fits in
       let after = some_held (step (order cmp) c.nodes e) law.2 in
@@ -86,7 +89,9 @@ module _ {T : Type 0} (cmp : T → T → Ordering) (texts : Texts T) where
       (omega arith, subst (λ k. state_after cmp texts (holding 0 c d) (map (event_text texts) (take k es)) ≡ holding 0 c d) none refl)
 
 module _ {T : Type 0} (cmp : T → T → Ordering) (texts : Texts T) (spelled : AreWords texts) where
-  steps : (d : ℕ) (c t : Copy T) (e : Event T) (es : List (Event T)) → EventFits texts e → (copy_after cmp c e).next ≡ c.next + 1 → StepsTo cmp texts d (copy_after cmp c e) es t → StepsTo cmp texts d c (e ∷ es) t
+  steps : (d : ℕ) (c t : Copy T) (e : Event T) (es : List (Event T)) → EventFits texts e
+      → (copy_after cmp c e).next ≡ c.next + 1 → StepsTo cmp texts d (copy_after cmp c e) es t
+      → StepsTo cmp texts d c (e ∷ es) t
   unfolding left_by
   steps d c t e es fit next more =
       let first = more.0 in
@@ -98,7 +103,9 @@ module _ {T : Type 0} (cmp : T → T → Ordering) (texts : Texts T) (spelled : 
 
 module _ {T : Type 0} (cmp : T → T → Ordering) (texts : Texts T) (total : IsTotalOrder cmp) (spelled : AreWords texts) where
   -- the events that are applied one after another
-  caught : (d : ℕ) (c : Copy T) (early : EarlyEvents T) → Ruled (order cmp) c.nodes → All (λ p. EventFits texts p.value) early → StepsTo cmp texts d c (consecutive c.next early) (caught_up cmp c early).held
+  caught : (d : ℕ) (c : Copy T) (early : EarlyEvents T) → Ruled (order cmp) c.nodes
+      → All (λ p. EventFits texts p.value) early
+      → StepsTo cmp texts d c (consecutive c.next early) (caught_up cmp c early).held
   unfolding caught_up
   caught d c [] rule fit = stays cmp texts d c []
   caught d c (p ∷ early) rule fit =
@@ -106,7 +113,9 @@ module _ {T : Type 0} (cmp : T → T → Ordering) (texts : Texts T) (total : Is
       (λ fits. caught d (copy_after cmp c p.value) early (stepped cmp total c p.value rule fits).1 (All-tail (λ p. EventFits texts p.value) p early fit))
     where
       by : (b : Bool) (o : Option Refusal) → apply_refusal (order cmp) c.nodes c.next p.value ≡ o
-          → (apply_refusal (order cmp) c.nodes c.next p.value ≡ None → StepsTo cmp texts d (copy_after cmp c p.value) (consecutive (copy_after cmp c p.value).next early) (caught_up cmp (copy_after cmp c p.value) early).held)
+          → (apply_refusal (order cmp) c.nodes c.next p.value ≡ None
+          → StepsTo cmp texts d (copy_after cmp c p.value) (consecutive (copy_after cmp c p.value).next early)
+          (caught_up cmp (copy_after cmp c p.value) early).held)
           → StepsTo cmp texts d c (if b then p.value ∷ consecutive (c.next + 1) early else [])
           (if b then option_map_or (λ cause. taken c early (reply.Unfit c.next (Refused cause))) o (caught_up cmp (copy_after cmp c p.value) early) else taken c (p ∷ early) (reply.Next c.next)).held
       by true None fits more =
@@ -135,7 +144,12 @@ module _ {T : Type 0} (cmp : T → T → Ordering) (texts : Texts T) (total : Is
     unfolding left_by
     out_of_turn other =
         let kept : event_kept cmp texts s e ≡ [] = rw other refl in
-        let still : s.held ≡ (event_taken cmp s e).held = rw other (same (nat_lt (event_number e) s.held.next) (nat_le (event_number e) (s.held.next + s.window)) s.held s.early (with_early s.early e) (reply.Had s.held.next) (reply.Missing s.held.next (first_number (with_early s.early e) (event_number e))) (reply.Gap s.held.next)) in
+        let still : s.held ≡ (event_taken cmp s e).held =
+        rw other
+        (same (nat_lt (event_number e) s.held.next) (nat_le (event_number e) (s.held.next + s.window)) s.held
+        s.early (with_early s.early e) (reply.Had s.held.next)
+        (reply.Missing s.held.next (first_number (with_early s.early e) (event_number e)))
+        (reply.Gap s.held.next)) in
         ap (state_after cmp texts begun) kept ∙ ap (λ c. holding 0 c s.done) still
       where
         same : (a b : Bool) (c : Copy T) (x y : EarlyEvents T) (p q r : Reply) → c ≡ (if a then taken c x p else if b then taken c y q else taken c x r).held
@@ -178,7 +192,8 @@ module _ {T : Type 0} (cmp : T → T → Ordering) (texts : Texts T) (total : Is
     end_on count sum few (Some c) good = at (length c.nodes == count) refl (has_sum texts sum c s.coming_done)
       where
         at : (a : Bool) → (length c.nodes == count) ≡ a → (b : Bool)
-            → GoesTo (if is_none (reason_by a b) then whole_lines (unsummed_text texts c s.coming_done) else []) (if is_none (reason_by a b) then holding s.window c s.coming_done else with_coming s None 0)
+            → GoesTo (if is_none (reason_by a b) then whole_lines (unsummed_text texts c s.coming_done) else [])
+            (if is_none (reason_by a b) then holding s.window c s.coming_done else with_coming s None 0)
         at false other b = refl
         at true is false = refl
         at true is true = snapshot_leads cmp texts spelled (holding 0 s.held s.done) c s.coming_done good sound.coming_done (omega (arith, few, eqb-true (length c.nodes) count is))

@@ -1,6 +1,8 @@
 -- Of a leader's answer to a line that is not a read, the lines between the first and the last are
 -- kept.
-use Rattle.std.proofs.Common.{Option, None, Some, ◌≡◌, ◌≢◌, ℕ, ◌-◌, ◌<◌, ◌≤◌, ◌^◌, Bool, true, false, List, [], ◌∷◌, ◌++◌, length, take, map, refl, ap, sym, subst, ◌∙◌, arith, append_assoc, append-nil, length-append}
+use Rattle.std.proofs.Common.{Option, None, Some, ◌≡◌, ◌≢◌, ℕ, ◌-◌, ◌<◌, ◌≤◌, ◌^◌, Bool, true}
+use Rattle.std.proofs.Common.{false, List, [], ◌∷◌, ◌++◌, length, take, map, refl, ap, sym}
+use Rattle.std.proofs.Common.{subst, ◌∙◌, arith, append_assoc, append-nil, length-append}
 use lib.Chars.{codes}
 use Rattle.std.below.core.specs.declared.int.u64.TheConstants.{MAX}
 use Rattle.std.proofs.lemmas.List.{take-append-le, take_all}
@@ -61,16 +63,29 @@ cuts_line line none rest = first_line line rest none
 module _ {T : Type 0} (texts : Texts T) (spelled : AreWords texts) where
   cuts_events : (es : List (Event T)) → Each (EventFits texts) es → Cuts (lines_for (event_text texts) es) (map (event_text texts) es)
   cuts_events [] fit = λ rest. refl
-  cuts_events (e ∷ es) fit = cuts_both (ended (event_text texts e)) (lines_for (event_text texts) es) (event_text texts e ∷ []) (map (event_text texts) es) (cuts_line (event_text texts e) (event_whole texts spelled e fit.0)) (cuts_events es fit.1)
+  cuts_events (e ∷ es) fit =
+      cuts_both (ended (event_text texts e)) (lines_for (event_text texts) es) (event_text texts e ∷ [])
+      (map (event_text texts) es) (cuts_line (event_text texts e) (event_whole texts spelled e fit.0))
+      (cuts_events es fit.1)
 
-  cuts_change : (echo : Option ℕ) → EchoFits echo → (r : Reply T) → ReplyFits texts r → (es : List (Event T)) → Each (EventFits texts) es → Cuts (echo_text echo ++ (reply_ended texts r ++ lines_for (event_text texts) es)) ((echo_text echo ++ reply_text texts r) ∷ map (event_text texts) es)
-  cuts_change None small r fit es fits = cuts_both (reply_ended texts r) (lines_for (event_text texts) es) (reply_text texts r ∷ []) (map (event_text texts) es) (cuts_line (reply_text texts r) (reply_whole texts spelled r fit)) (cuts_events es fits)
+  cuts_change : (echo : Option ℕ) → EchoFits echo → (r : Reply T) → ReplyFits texts r → (es : List (Event T))
+      → Each (EventFits texts) es
+      → Cuts (echo_text echo ++ (reply_ended texts r ++ lines_for (event_text texts) es))
+      ((echo_text echo ++ reply_text texts r) ∷ map (event_text texts) es)
+  cuts_change None small r fit es fits =
+      cuts_both (reply_ended texts r) (lines_for (event_text texts) es) (reply_text texts r ∷ [])
+      (map (event_text texts) es) (cuts_line (reply_text texts r) (reply_whole texts spelled r fit))
+      (cuts_events es fits)
   cuts_change (Some n) small r fit es fits =
       let line = echo_text (Some n) ++ reply_text texts r in
       let whole = number_whole texts n small (reply_text texts r) (reply_whole texts spelled r fit) in
       let parts : ended line ++ lines_for (event_text texts) es ≡ echo_text (Some n) ++ (reply_ended texts r ++ lines_for (event_text texts) es)
-      = ap (λ t. t ++ lines_for (event_text texts) es) (append_assoc (echo_text (Some n)) (reply_text texts r) (10 ∷ [])) ∙ append_assoc (echo_text (Some n)) (reply_ended texts r) (lines_for (event_text texts) es) in
-      subst (λ t. Cuts t (line ∷ map (event_text texts) es)) parts (cuts_both (ended line) (lines_for (event_text texts) es) (line ∷ []) (map (event_text texts) es) (cuts_line line whole) (cuts_events es fits))
+      = ap (λ t. t ++ lines_for (event_text texts) es)
+      (append_assoc (echo_text (Some n)) (reply_text texts r) (10 ∷ []))
+      ∙ append_assoc (echo_text (Some n)) (reply_ended texts r) (lines_for (event_text texts) es) in
+      subst (λ t. Cuts t (line ∷ map (event_text texts) es)) parts
+      (cuts_both (ended line) (lines_for (event_text texts) es) (line ∷ []) (map (event_text texts) es)
+      (cuts_line line whole) (cuts_events es fits))
 
 cuts_done : (echo : Option ℕ) (d n : ℕ) → d < 2 ^ 64 → n < 2 ^ 64 → Cuts (done_text echo d n) (done_lines echo d n)
 cuts_done None d n small less = λ rest. refl
@@ -108,7 +123,9 @@ module _ {T : Type 0} (texts : Texts T) (spelled : AreWords texts) where
   command_change : (line : List ℕ) (c : Command T) → query_of texts line ≡ None → command_of texts line ≡ Some c → is_change c.change ≡ true
   command_change line c none h = at (pair_meaning texts line) refl h
     where
-      at : (o : Option (PairCommand T)) → pair_meaning texts line ≡ o → option_map_or {U = Option (Command T)} (λ c. Some (command None c)) o (echoed_of texts line) ≡ Some c → is_change c.change ≡ true
+      at : (o : Option (PairCommand T)) → pair_meaning texts line ≡ o
+          → option_map_or {U = Option (Command T)} (λ c. Some (command None c)) o (echoed_of texts line) ≡ Some c
+          → is_change c.change ≡ true
       at (Some p) is h = subst (λ c. is_change c.change ≡ true) (some_inj (command None p) c h) (meant_change line p none is)
       at None is h = echoed_change line c h
 
@@ -146,7 +163,9 @@ pub next_inner : (n : ℕ) → n < 2 ^ 64 → inner (whole_lines (ended (codes "
 next_inner n less = ap inner (cut_whole (ended (next_line n)) (next_line n ∷ []) (IsWhole-end (next_line n)) (cuts_line (next_line n) (next_whole n less)))
 
 module _ {T : Type 0} (cmp : T → T → Ordering) (texts : Texts T) (total : IsTotalOrder cmp) (spelled : AreWords texts) where
-  module _ (l : Leader T) (g : Good cmp texts l.pairs) (c : Command T) (fit : CommandFits texts c.change) (is : is_change c.change ≡ true) (small : EchoFits c.echo) (known : done_by l.done c < 2 ^ 64) (less : (pairs_after cmp l.pairs c.change).next ≤ MAX) where
+  module _ (l : Leader T) (g : Good cmp texts l.pairs) (c : Command T) (fit : CommandFits texts c.change)
+      (is : is_change c.change ≡ true) (small : EchoFits c.echo) (known : done_by l.done c < 2 ^ 64)
+      (less : (pairs_after cmp l.pairs c.change).next ≤ MAX) where
     abbrev next : ℕ
     next = (pairs_after cmp l.pairs c.change).next
 
@@ -178,7 +197,9 @@ module _ {T : Type 0} (cmp : T → T → Ordering) (texts : Texts T) (total : Is
     command_inner : inner (whole_lines (command_text cmp texts l c)) ≡ told_lines texts (whole_lines (command_text cmp texts l c))
     command_inner =
         let lines = cut_whole (command_text cmp texts l c) ((first ∷ events) ++ (done ++ next_line next ∷ [])) command_whole command_cuts in
-        let parts : (first ∷ events) ++ (done ++ next_line next ∷ []) ≡ first ∷ ((events ++ done) ++ next_line next ∷ []) = ap (λ ls. first ∷ ls) (sym (append_assoc events done (next_line next ∷ []))) in
+        let parts : (first ∷ events) ++ (done ++ next_line next ∷ [])
+        ≡ first ∷ ((events ++ done) ++ next_line next ∷ []) =
+        ap (λ ls. first ∷ ls) (sym (append_assoc events done (next_line next ∷ []))) in
         ap inner (lines ∙ parts) ∙ inner_between first (next_line next) (events ++ done) ∙ sym (command_keeps cmp texts total spelled l g c fit small known less)
 
 pub others_inner : (o : Others) → inner (whole_lines (others_text o)) ≡ []
@@ -193,11 +214,16 @@ module _ {T : Type 0} (cmp : T → T → Ordering) (texts : Texts T) (total : Is
     where
       at : (q : Option (Query T)) → q ≡ None → (m : Option (Command T)) → command_of texts line ≡ m
           → inner (whole_lines (option_map_or {U = List ℕ} (query_text cmp texts l.pairs.nodes l.pairs.next l.done) q (option_map_or {U = List ℕ} (command_text cmp texts l) m (others_text o))))
-          ≡ told_lines texts (whole_lines (option_map_or {U = List ℕ} (query_text cmp texts l.pairs.nodes l.pairs.next l.done) q (option_map_or {U = List ℕ} (command_text cmp texts l) m (others_text o))))
+          ≡ told_lines texts
+          (whole_lines
+          (option_map_or {U = List ℕ} (query_text cmp texts l.pairs.nodes l.pairs.next l.done) q
+          (option_map_or {U = List ℕ} (command_text cmp texts l) m (others_text o))))
       at (Some q) other m is = none_some q (sym other)
       at None other None is = others_inner o ∙ sym (others_keep texts o)
       at None other (Some c) is =
           let after : after_leading cmp texts l.pairs line ≡ pairs_after cmp l.pairs c.change = rw (none, is) refl in
           let small = number_fits texts line c is in
           let few : (pairs_after cmp l.pairs c.change).next < 2 ^ 64 = subst (λ u. u.next < 2 ^ 64) after less in
-          command_inner cmp texts total spelled l (good cmp texts l s) c (command_fits texts spelled line c is) (command_change texts spelled line c none is) small (number_kept l.done s.done c.echo small) (omega (arith, few))
+          command_inner cmp texts total spelled l (good cmp texts l s) c (command_fits texts spelled line c is)
+          (command_change texts spelled line c none is) small (number_kept l.done s.done c.echo small)
+          (omega (arith, few))

@@ -86,7 +86,8 @@ in_order [] = tt
 in_order (x ∷ xs) = inl (refl, in_order xs)
 
 module _ {T : Type 0} (texts : Texts T) where
-  text_at : (es : List (Event T)) (k : ℕ) (d : List ℕ) → k < length (map (event_text texts) es) → (e : Event T) × (slice_get es k ≡ Some e) × (get_or (map (event_text texts) es) k d ≡ event_text texts e)
+  text_at : (es : List (Event T)) (k : ℕ) (d : List ℕ) → k < length (map (event_text texts) es)
+      → (e : Event T) × (slice_get es k ≡ Some e) × (get_or (map (event_text texts) es) k d ≡ event_text texts e)
   text_at [] k d lt = absurd (omega (arith, lt))
   text_at (e ∷ es) zero d lt = (e, refl, refl)
   text_at (e ∷ es) (suc k) d lt = text_at es k d (omega (arith, lt))
@@ -102,12 +103,16 @@ module _ {T : Type 0} (cmp : T → T → Ordering) (texts : Texts T) (spelled : 
       let it = alone cmp (holding 0 c n) e refl refl in
       rw told (λ i. with_taken (holding 0 c n) (record { held = it.1 i; early = it.0 i; reply = (event_taken cmp (holding 0 c n) e).reply }))
 
-  nothing_besides : (c : Copy T) (n : ℕ) (es : List (Event T)) → Each (EventFits texts) es → state_after cmp texts (holding 0 c n) (map (event_text texts) es) ≡ holding 0 (state_after cmp texts (holding 0 c n) (map (event_text texts) es)).held n
+  nothing_besides : (c : Copy T) (n : ℕ) (es : List (Event T)) → Each (EventFits texts) es
+      → state_after cmp texts (holding 0 c n) (map (event_text texts) es)
+      ≡ holding 0 (state_after cmp texts (holding 0 c n) (map (event_text texts) es)).held n
   unfolding left_by
   nothing_besides c n [] fit = refl
   nothing_besides c n (e ∷ es) fit =
       let one = one_taken c n e fit.0 in
-      ap (λ r. state_after cmp texts r (map (event_text texts) es)) one ∙ nothing_besides (copy_after cmp c e) n es fit.1 ∙ ap (λ r. holding 0 (state_after cmp texts r (map (event_text texts) es)).held n) (sym one)
+      ap (λ r. state_after cmp texts r (map (event_text texts) es)) one
+      ∙ nothing_besides (copy_after cmp c e) n es fit.1
+      ∙ ap (λ r. holding 0 (state_after cmp texts r (map (event_text texts) es)).held n) (sym one)
 
 module _ {T : Type 0} where
   -- a follower's copy of a tree
@@ -128,8 +133,14 @@ module _ {T : Type 0} (cmp : T → T → Ordering) (texts : Texts T) (total : Is
         let fit : All (EventFits texts) events = each_all (EventFits texts) events (on.fits (omega (arith, less))) in
         let feed : IsFeedOfPairs cmp l.pairs.next l.pairs.nodes events = record { numbered = on.numbered; defined = ap is_some on.replayed; fits = omega (arith, on.next, less) } in
         let at : HoldsFirst cmp l.pairs.next l.pairs.nodes events 0 begun = record { within = omega arith; nodes = refl; next = omega arith } in
-        let done = whole cmp texts spelled l.pairs.next l.pairs.nodes events feed fit 0 begun (map (event_text texts) events) at tt (own_texts texts events) (in_order (map (event_text texts) events)) in
-        let nodes : (state_after cmp texts begun (map (event_text texts) events)).held.nodes ≡ (tree_of cmp texts l.pairs lines).nodes = some_inj _ _ (sym done.nodes ∙ ap (replay (order cmp) l.pairs.nodes) (take_all (length events) events (omega arith)) ∙ on.replayed) in
+        let done =
+        whole cmp texts spelled l.pairs.next l.pairs.nodes events feed fit 0 begun
+        (map (event_text texts) events) at tt (own_texts texts events) (in_order (map (event_text texts) events)) in
+        let nodes : (state_after cmp texts begun (map (event_text texts) events)).held.nodes
+        ≡ (tree_of cmp texts l.pairs lines).nodes =
+        some_inj _ _
+        (sym done.nodes ∙ ap (replay (order cmp) l.pairs.nodes) (take_all (length events) events (omega arith))
+        ∙ on.replayed) in
         let next : (state_after cmp texts begun (map (event_text texts) events)).held.next ≡ (tree_of cmp texts l.pairs lines).next = omega (arith, done.next, on.next) in
         λ i. copy (nodes i) (next i)
 
@@ -156,7 +167,10 @@ module _ {T : Type 0} where
 
 module _ {T : Type 0} (cmp : T → T → Ordering) (texts : Texts T) (total : IsTotalOrder cmp) (spelled : AreWords texts) where
   -- the events of a line
-  events_onward : (l : Leader T) → IsSound cmp texts l → (line : List ℕ) → (after_leading cmp texts l.pairs line).next < 2 ^ 64 → state_after cmp texts (followed l) (map (event_text texts) (leading_events cmp texts l.pairs line)) ≡ holding 0 (copied (after_leading cmp texts l.pairs line)) l.done
+  events_onward : (l : Leader T) → IsSound cmp texts l → (line : List ℕ)
+      → (after_leading cmp texts l.pairs line).next < 2 ^ 64
+      → state_after cmp texts (followed l) (map (event_text texts) (leading_events cmp texts l.pairs line))
+      ≡ holding 0 (copied (after_leading cmp texts l.pairs line)) l.done
   events_onward l s line less =
       let left = one_left cmp texts l line in
       ap (λ es. state_after cmp texts (followed l) (map (event_text texts) es)) (sym (one_led cmp texts l line))
@@ -186,26 +200,45 @@ module _ {T : Type 0} (cmp : T → T → Ordering) (texts : Texts T) (total : Is
   done_onward t d (Some n) fit small less = done_taken cmp texts t d n (max_fits d n small fit) less
 
   -- the answer to a command
-  command_leads : (l : Leader T) → IsSound cmp texts l → (line : List ℕ) (c : Command T) → CommandFits texts c.change → EchoFits c.echo → leading_events cmp texts l.pairs line ≡ told_events cmp l.pairs c.change → after_leading cmp texts l.pairs line ≡ pairs_after cmp l.pairs c.change
-      → (pairs_after cmp l.pairs c.change).next < 2 ^ 64 → state_after cmp texts (followed l) (told_lines texts (whole_lines (command_text cmp texts l c))) ≡ holding 0 (copied (pairs_after cmp l.pairs c.change)) (done_by l.done c)
+  command_leads : (l : Leader T) → IsSound cmp texts l → (line : List ℕ) (c : Command T)
+      → CommandFits texts c.change → EchoFits c.echo
+      → leading_events cmp texts l.pairs line ≡ told_events cmp l.pairs c.change
+      → after_leading cmp texts l.pairs line ≡ pairs_after cmp l.pairs c.change
+      → (pairs_after cmp l.pairs c.change).next < 2 ^ 64
+      → state_after cmp texts (followed l) (told_lines texts (whole_lines (command_text cmp texts l c)))
+      ≡ holding 0 (copied (pairs_after cmp l.pairs c.change)) (done_by l.done c)
   command_leads l s line c fit small told after less =
       let t = pairs_after cmp l.pairs c.change in
       let events = map (event_text texts) (told_events cmp l.pairs c.change) in
       let done = done_lines c.echo (done_by l.done c) t.next in
       let known = number_kept l.done s.done c.echo small in
       let on : state_after cmp texts (followed l) events ≡ holding 0 (copied t) l.done
-      = ap (λ es. state_after cmp texts (followed l) (map (event_text texts) es)) (sym told) ∙ events_onward cmp texts total spelled l s line (subst (λ u. u.next < 2 ^ 64) (sym after) less) ∙ ap (λ u. holding 0 (copied u) l.done) after in
+      = ap (λ es. state_after cmp texts (followed l) (map (event_text texts) es)) (sym told)
+      ∙ events_onward cmp texts total spelled l s line (subst (λ u. u.next < 2 ^ 64) (sym after) less)
+      ∙ ap (λ u. holding 0 (copied u) l.done) after in
       ap (state_after cmp texts (followed l)) (command_keeps cmp texts total spelled l (good cmp texts l s) c fit small known (omega (arith, less)))
       ∙ more_lines cmp texts (followed l) events done
       ∙ ap (λ r. state_after cmp texts r done) on
       ∙ done_onward t l.done c.echo small s.done less
 
-  pub line_leads : (o : Others) (l : Leader T) → IsSound cmp texts l → (line : List ℕ) → (after_leading cmp texts l.pairs line).next < 2 ^ 64 → state_after cmp texts (followed l) (answer_kept texts line (leading_reply cmp texts o l line)) ≡ followed (leader_after cmp texts l line)
+  pub line_leads : (o : Others) (l : Leader T) → IsSound cmp texts l → (line : List ℕ)
+      → (after_leading cmp texts l.pairs line).next < 2 ^ 64
+      → state_after cmp texts (followed l) (answer_kept texts line (leading_reply cmp texts o l line))
+      ≡ followed (leader_after cmp texts l line)
   line_leads o l s line less = at (query_of texts line) refl (command_of texts line) refl
     where
       at : (q : Option (Query T)) → query_of texts line ≡ q → (m : Option (Command T)) → command_of texts line ≡ m
-          → state_after cmp texts (followed l) (option_map_or {U = List (List ℕ)} (λ q. []) q (told_lines texts (whole_lines (option_map_or {U = List ℕ} (query_text cmp texts l.pairs.nodes l.pairs.next l.done) q (option_map_or {U = List ℕ} (command_text cmp texts l) m (others_text o))))))
-          ≡ holding 0 (copied (option_map_or {U = PairTree T} (λ q. l.pairs) q (option_map_or {U = PairTree T} (λ c. pairs_after cmp l.pairs c.change) m l.pairs))) (option_map_or (λ q. l.done) q (option_map_or (done_by l.done) m l.done))
+          → state_after cmp texts (followed l)
+          (option_map_or {U = List (List ℕ)} (λ q. []) q
+          (told_lines texts
+          (whole_lines
+          (option_map_or {U = List ℕ} (query_text cmp texts l.pairs.nodes l.pairs.next l.done) q
+          (option_map_or {U = List ℕ} (command_text cmp texts l) m (others_text o))))))
+          ≡ holding 0
+          (copied
+          (option_map_or {U = PairTree T} (λ q. l.pairs) q
+          (option_map_or {U = PairTree T} (λ c. pairs_after cmp l.pairs c.change) m l.pairs)))
+          (option_map_or (λ q. l.done) q (option_map_or (done_by l.done) m l.done))
       at (Some q) asked m is = nothing_after cmp texts (followed l)
       at None asked None is = ap (state_after cmp texts (followed l)) (others_keep texts o) ∙ nothing_after cmp texts (followed l)
       at None asked (Some c) is =

@@ -32,7 +32,9 @@ module _ {T : Type 0} (cmp : T → T → Ordering) (texts : Texts T) where
   events_part t [] back = refl
   events_part t (line ∷ front) back =
       ap (λ l. leading_events cmp texts t line ++ l) (events_part (after_leading cmp texts t line) front back)
-      ∙ sym (append_assoc (leading_events cmp texts t line) (events_led cmp texts (after_leading cmp texts t line) front) (events_led cmp texts (tree_of cmp texts (after_leading cmp texts t line) front) back))
+      ∙ sym
+      (append_assoc (leading_events cmp texts t line) (events_led cmp texts (after_leading cmp texts t line) front)
+      (events_led cmp texts (tree_of cmp texts (after_leading cmp texts t line) front) back))
 
 module _ {T : Type 0} (cmp : T → T → Ordering) (texts : Texts T) (total : IsTotalOrder cmp) (spelled : AreWords texts) where
   module _ (l : Leader T) (lines : List (List ℕ)) (sound : IsSound cmp texts l) where

@@ -16,10 +16,14 @@ use Rattle.indexset_bench.specs.Texts.{AreWords, Texts}
 use Rattle.std.specs.Cmp.{IsTotalOrder}
 
 module _ {T : Type 0} (cmp : T → T → Ordering) (texts : Texts T) (total : IsTotalOrder cmp) (spelled : AreWords texts) where
-  module _ (v u : Voice) (t : Held T) {S : Type 0} (view : S → View) (recovers : S → Trees → Type 0) (old : S) (r w : Option (List ℕ)) (from : State T) (now : S) (r' w' : Option (List ℕ)) (waiting : List ℕ) (told : List (List ℕ)) (held : Held T)
+  module _ (v u : Voice) (t : Held T) {S : Type 0} (view : S → View) (recovers : S → Trees → Type 0) (old : S)
+      (r w : Option (List ℕ)) (from : State T) (now : S) (r' w' : Option (List ℕ)) (waiting : List ℕ)
+      (told : List (List ℕ)) (held : Held T)
       (g : Going cmp texts (input_reply cmp texts v) (held_cut cmp texts v) t view recovers old r w from now r' w' waiting told held) (alike : input_reply cmp texts u ≡ input_reply cmp texts v) where
     pub read_on : (w2 r2 : Option (List ℕ)) (line passed waiting2 : List ℕ) (told2 : List (List ℕ)) (held2 : Held T) → Keeps w' w2 → HasNoEnd line → Consumes r' r2 (line ++ 10 ∷ []) → passed ≡ line
-        → waiting2 ≡ waiting ++ input_reply cmp texts u held passed → told2 ≡ told ++ kept_by cmp texts (input_reply cmp texts u) held passed → held2 ≡ after_input cmp texts held passed → (copy_held held2.role).next < 2 ^ 64
+        → waiting2 ≡ waiting ++ input_reply cmp texts u held passed
+        → told2 ≡ told ++ kept_by cmp texts (input_reply cmp texts u) held passed
+        → held2 ≡ after_input cmp texts held passed → (copy_held held2.role).next < 2 ^ 64
         → Going cmp texts (input_reply cmp texts v) (held_cut cmp texts v) t view recovers old r w from now r2 w2 waiting2 told2 held2
     read_on w2 r2 line passed waiting2 told2 held2 kept none read same reply tells after fits =
         let on : held2 ≡ after_input cmp texts held line = after ∙ ap (after_input cmp texts held) same in

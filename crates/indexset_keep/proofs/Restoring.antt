@@ -16,5 +16,7 @@ module _ {T : Type 0} (cmp : T → T → Ordering) (texts : Texts T) where
   unfolding left_by
   first_follower f c is new = is ∙ ap (λ c. holding 0 c 0) new
 
-  pub next_follower : (before after : List (List ℕ)) (line : List ℕ) (f f' : State T) → f ≡ state_after cmp texts (start_state 0) before → f' ≡ after_line cmp texts f line → after ≡ before ++ line ∷ [] → f' ≡ state_after cmp texts (start_state 0) after
+  pub next_follower : (before after : List (List ℕ)) (line : List ℕ) (f f' : State T)
+      → f ≡ state_after cmp texts (start_state 0) before → f' ≡ after_line cmp texts f line
+      → after ≡ before ++ line ∷ [] → f' ≡ state_after cmp texts (start_state 0) after
   next_follower before after line f f' was is more = is ∙ ap (λ s. after_line cmp texts s line) was ∙ sym (ap (state_after cmp texts (start_state 0)) more ∙ one_more (start_state 0) before line)

@@ -15,7 +15,9 @@ use Rattle.indexset_follow.specs.Mark.{mark_of}
 use Rattle.indexset_follow.specs.NodeLine.{node_of}
 use Rattle.indexset_follow.specs.Query.{query_of}
 use Rattle.indexset_follow.specs.Reply.{reply_ended, voiced}
-use Rattle.indexset_follow.specs.Store.{Held, after_input, after_in_role, after_lead, can_lead, held, held_reply, input_reply, is_follow, is_lead, is_start, promoted, reply_in_role, role_after, starts, without_return}
+use Rattle.indexset_follow.specs.Store.{Held, after_input, after_in_role, after_lead, can_lead}
+use Rattle.indexset_follow.specs.Store.{held, held_reply, input_reply, is_follow, is_lead, is_start}
+use Rattle.indexset_follow.specs.Store.{promoted, reply_in_role, role_after, starts, without_return}
 use Rattle.indexset_follow.specs.declared.leader.Leader.{Leader}
 use Rattle.indexset_follow.specs.declared.mark.Mark.{Mark}
 use Rattle.indexset_follow.specs.declared.mark.Mark.TheVariants.{Start, End, Done}
@@ -93,16 +95,23 @@ module _ {T : Type 0} (cmp : T → T → Ordering) (texts : Texts T) (total : Is
     follower_leads line = followed_on cmp texts total spelled s line sound (settled (Following s)) [] (nothing_after cmp texts (settled (Following s)))
 
     -- a word that is neither an event nor a line of a snapshot
-    word_leads : (line word : List ℕ) → line ≡ word → event_of texts word ≡ None → mark_of word ≡ None → state_after cmp texts (settled (Following s)) (line_kept cmp texts s line) ≡ settled (Following s)
+    word_leads : (line word : List ℕ) → line ≡ word → event_of texts word ≡ None → mark_of word ≡ None
+        → state_after cmp texts (settled (Following s)) (line_kept cmp texts s line) ≡ settled (Following s)
     word_leads line word is event mark =
         let none : line_kept cmp texts s word ≡ [] = rw (event, mark) refl in
         ap (λ l. state_after cmp texts (settled (Following s)) (line_kept cmp texts s l)) is ∙ ap (state_after cmp texts (settled (Following s))) none ∙ nothing_after cmp texts (settled (Following s))
 
-    following_on : (line : List ℕ) → state_after cmp texts (settled (Following s)) (kept_in cmp texts (Following s) line (held_reply cmp texts v (held size window (Following s)) line)) ≡ settled (role_after cmp texts (held size window (Following s)) line)
+    following_on : (line : List ℕ)
+        → state_after cmp texts (settled (Following s))
+        (kept_in cmp texts (Following s) line (held_reply cmp texts v (held size window (Following s)) line))
+        ≡ settled (role_after cmp texts (held size window (Following s)) line)
     following_on line = at (is_lead line) refl (is_follow line) refl
       where
         at : (a : Bool) → is_lead line ≡ a → (b : Bool) → is_follow line ≡ b
-            → state_after cmp texts (settled (Following s)) (line_kept cmp texts s line) ≡ settled (cond a (after_lead cmp size (Following s)) (cond b (Following s) (Following (after_line cmp texts s line))))
+            → state_after cmp texts (settled (Following s)) (line_kept cmp texts s line)
+            ≡ settled
+            (cond a (after_lead cmp size (Following s))
+            (cond b (Following s) (Following (after_line cmp texts s line))))
         at true is b _ = word_leads line (codes "lead") (same_word line (codes "lead") is) refl refl ∙ sym (after_lead_same cmp size s)
         at false _ true is = word_leads line (codes "follow") (same_word line (codes "follow") is) refl refl
         at false _ false _ = follower_leads line
@@ -122,7 +131,8 @@ module _ {T : Type 0} (cmp : T → T → Ordering) (texts : Texts T) (total : Is
 module _ {T : Type 0} (cmp : T → T → Ordering) (texts : Texts T) where
   -- in either role the map has the follower's state
   module _ (size window : ℕ) (s : State T) where
-    word_still : (line word : List ℕ) → line ≡ word → event_of texts word ≡ None → node_of texts word ≡ None → mark_of word ≡ None → settled (Following s) ≡ settled (Following (after_line cmp texts s line))
+    word_still : (line word : List ℕ) → line ≡ word → event_of texts word ≡ None → node_of texts word ≡ None
+        → mark_of word ≡ None → settled (Following s) ≡ settled (Following (after_line cmp texts s line))
     word_still line word is event node mark =
         let same : after_line cmp texts s word ≡ s = rw (event, node, mark) refl in
         ap (λ t. settled (Following t)) (sym same ∙ ap (after_line cmp texts s) (sym is))
@@ -154,7 +164,9 @@ module _ {T : Type 0} (cmp : T → T → Ordering) (texts : Texts T) where
         → lines_told texts tells (without_return line) (copy_held h.role).next h2.role ≡ kept_by cmp texts reply h line
     following_told h2 s tells is after told =
         let bare = without_return line in
-        let role : settled h2.role ≡ settled (Following (after_line cmp texts s bare)) = ap (λ u. settled u.role) after ∙ ap (λ r. settled (role_after cmp texts (held h.size h.window r) bare)) is ∙ following_same cmp texts h.size h.window s bare in
+        let role : settled h2.role ≡ settled (Following (after_line cmp texts s bare)) =
+        ap (λ u. settled u.role) after ∙ ap (λ r. settled (role_after cmp texts (held h.size h.window r) bare)) is
+        ∙ following_same cmp texts h.size h.window s bare in
         ap (λ r. lines_told texts tells bare (copy_held r).next h2.role) is
         ∙ tells_alike texts tells bare s.held.next h2.role (Following (after_line cmp texts s bare)) role
         ∙ told
@@ -209,7 +221,9 @@ module _ {T : Type 0} (cmp : T → T → Ordering) (texts : Texts T) (total : Is
     told_nothing : (line answer : List ℕ) → told_lines texts (whole_lines answer) ≡ [] → state_after cmp texts from (answer_kept texts line answer) ≡ from
     told_nothing line answer none = ap (state_after cmp texts from) (keeps_nothing texts line answer none) ∙ nothing_after cmp texts from
 
-    begins : (line : List ℕ) → starts line ≡ true → is_filled l.pairs.nodes ≡ false → state_after cmp texts from (answer_kept texts line (reply_line cmp texts v emptied line)) ≡ settled (Following (after_line cmp texts emptied line))
+    begins : (line : List ℕ) → starts line ≡ true → is_filled l.pairs.nodes ≡ false
+        → state_after cmp texts from (answer_kept texts line (reply_line cmp texts v emptied line))
+        ≡ settled (Following (after_line cmp texts emptied line))
     begins line is none =
         told_nothing line (reply_line cmp texts v emptied line) (ap (λ t. told_lines texts (whole_lines t)) (start_told cmp texts line is v emptied) ∙ held_told texts v)
         ∙ ap (λ ns. holding 0 (copy ns l.pairs.next) l.done) (none_filled l.pairs.nodes none)
@@ -217,13 +231,21 @@ module _ {T : Type 0} (cmp : T → T → Ordering) (texts : Texts T) (total : Is
 
     -- the role after a line, by the kind of the line
     abbrev next_role : (a b c d : Bool) → List ℕ → Role T
-    next_role a b c d line = cond a (Leading l) (cond b (Following (holding window (copy l.pairs.nodes l.pairs.next) l.done)) (after_in_role cmp texts (cond (c && not d) (Following emptied) (Leading l)) line))
+    next_role a b c d line =
+        cond a (Leading l)
+        (cond b (Following (holding window (copy l.pairs.nodes l.pairs.next) l.done))
+        (after_in_role cmp texts (cond (c && not d) (Following emptied) (Leading l)) line))
 
     abbrev next_reply : (a b c d : Bool) → List ℕ → List ℕ
-    next_reply a b c d line = cond a (reply_ended (reply.Next l.pairs.next)) (cond b (reply_ended (reply.Next l.pairs.next)) (reply_in_role cmp texts v (cond (c && not d) (Following emptied) (Leading l)) line))
+    next_reply a b c d line =
+        cond a (reply_ended (reply.Next l.pairs.next))
+        (cond b (reply_ended (reply.Next l.pairs.next))
+        (reply_in_role cmp texts v (cond (c && not d) (Following emptied) (Leading l)) line))
 
     leading_on : (line : List ℕ) → (copy_held (role_after cmp texts (held size window (Leading l)) line)).next < 2 ^ 64
-        → state_after cmp texts from (kept_in cmp texts (Leading l) line (held_reply cmp texts v (held size window (Leading l)) line)) ≡ settled (role_after cmp texts (held size window (Leading l)) line)
+        → state_after cmp texts from
+        (kept_in cmp texts (Leading l) line (held_reply cmp texts v (held size window (Leading l)) line))
+        ≡ settled (role_after cmp texts (held size window (Leading l)) line)
     leading_on line fits = at (is_lead line) (is_follow line) (starts line) refl (is_filled l.pairs.nodes) refl fits
       where
         at : (a b c : Bool) → starts line ≡ c → (d : Bool) → is_filled l.pairs.nodes ≡ d → (copy_held (next_role a b c d line)).next < 2 ^ 64
@@ -239,7 +261,8 @@ module _ {T : Type 0} (cmp : T → T → Ordering) (texts : Texts T) (total : Is
         → inner (whole_lines (held_reply cmp texts v (held size window (Leading l)) line)) ≡ told_lines texts (whole_lines (held_reply cmp texts v (held size window (Leading l)) line))
     leading_between line none fits = at (is_lead line) (is_follow line) (starts line) refl (is_filled l.pairs.nodes) fits
       where
-        at : (a b c : Bool) → starts line ≡ c → (d : Bool) → (copy_held (next_role a b c d line)).next < 2 ^ 64 → inner (whole_lines (next_reply a b c d line)) ≡ told_lines texts (whole_lines (next_reply a b c d line))
+        at : (a b c : Bool) → starts line ≡ c → (d : Bool) → (copy_held (next_role a b c d line)).next < 2 ^ 64
+            → inner (whole_lines (next_reply a b c d line)) ≡ told_lines texts (whole_lines (next_reply a b c d line))
         at true b c _ d fits = next_inner l.pairs.next less ∙ sym (next_keeps texts l.pairs.next less)
         at false true c _ d fits = next_inner l.pairs.next less ∙ sym (next_keeps texts l.pairs.next less)
         at false false true is false fits =
@@ -248,7 +271,9 @@ module _ {T : Type 0} (cmp : T → T → Ordering) (texts : Texts T) (total : Is
         at false false true is true fits = leading_inner cmp texts total spelled v.others l sound line none fits
         at false false false is d fits = leading_inner cmp texts total spelled v.others l sound line none fits
 
-    leading_sound : (line : List ℕ) → (copy_held (role_after cmp texts (held size window (Leading l)) line)).next < 2 ^ 64 → IsSoundRole cmp texts (role_after cmp texts (held size window (Leading l)) line)
+    leading_sound : (line : List ℕ)
+        → (copy_held (role_after cmp texts (held size window (Leading l)) line)).next < 2 ^ 64
+        → IsSoundRole cmp texts (role_after cmp texts (held size window (Leading l)) line)
     leading_sound line fits = at (is_lead line) (is_follow line) (starts line) (is_filled l.pairs.nodes) refl fits
       where
         copied : IsSoundCopy cmp texts (copy l.pairs.nodes l.pairs.next)
@@ -257,7 +282,11 @@ module _ {T : Type 0} (cmp : T → T → Ordering) (texts : Texts T) (total : Is
         at : (a b c d : Bool) → is_filled l.pairs.nodes ≡ d → (copy_held (next_role a b c d line)).next < 2 ^ 64 → IsSoundRole cmp texts (next_role a b c d line)
         at true b c d _ fits = (sound, less)
         at false true c d _ fits = holding_sound cmp texts window l.done (copy l.pairs.nodes l.pairs.next) copied sound.done
-        at false false true false none fits = follower_sound cmp texts total spelled emptied line (holding_sound cmp texts window l.done (copy [] l.pairs.next) (subst (λ ns. IsSoundCopy cmp texts (copy ns l.pairs.next)) (none_filled l.pairs.nodes none) copied) sound.done)
+        at false false true false none fits =
+            follower_sound cmp texts total spelled emptied line
+            (holding_sound cmp texts window l.done (copy [] l.pairs.next)
+            (subst (λ ns. IsSoundCopy cmp texts (copy ns l.pairs.next)) (none_filled l.pairs.nodes none) copied)
+            sound.done)
         at false false true true _ fits = (line_sound cmp texts total spelled l line sound, fits)
         at false false false d _ fits = (line_sound cmp texts total spelled l line sound, fits)
 
@@ -268,19 +297,27 @@ module _ {T : Type 0} (cmp : T → T → Ordering) (texts : Texts T) (total : Is
   role_on v size window (Following s) sound line fits = following_on cmp texts total spelled v size window s sound line
   role_on v size window (Leading l) sound line fits = leading_on v size window l sound.0 sound.1 line fits
 
-  role_sound : (v : Voice) (size window : ℕ) → 2 ≤ size → size < 2 ^ 64 → (r : Role T) → IsSoundRole cmp texts r → (line : List ℕ) → (copy_held (role_after cmp texts (held size window r) line)).next < 2 ^ 64 → IsSoundRole cmp texts (role_after cmp texts (held size window r) line)
+  role_sound : (v : Voice) (size window : ℕ) → 2 ≤ size → size < 2 ^ 64 → (r : Role T) → IsSoundRole cmp texts r
+      → (line : List ℕ) → (copy_held (role_after cmp texts (held size window r) line)).next < 2 ^ 64
+      → IsSoundRole cmp texts (role_after cmp texts (held size window r) line)
   role_sound v size window two few (Following s) sound line fits = following_sound cmp texts total spelled v size window s sound two few line
   role_sound v size window two few (Leading l) sound line fits = leading_sound v size window l sound.0 sound.1 line fits
 
   -- replaying what is kept of a line gives the state after it
-  pub kept_on : (v : Voice) (h : Held T) (line : List ℕ) → IsSoundMap cmp texts h → (copy_held (after_input cmp texts h line).role).next < 2 ^ 64 → state_after cmp texts (state_held h) (kept_by cmp texts (input_reply cmp texts v) h line) ≡ state_held (after_input cmp texts h line)
+  pub kept_on : (v : Voice) (h : Held T) (line : List ℕ) → IsSoundMap cmp texts h
+      → (copy_held (after_input cmp texts h line).role).next < 2 ^ 64
+      → state_after cmp texts (state_held h) (kept_by cmp texts (input_reply cmp texts v) h line)
+      ≡ state_held (after_input cmp texts h line)
   kept_on v h line sound fits = role_on v h.size h.window h.role sound.role (without_return line) fits
 
-  pub map_sound : (v : Voice) (h : Held T) (line : List ℕ) → IsSoundMap cmp texts h → (copy_held (after_input cmp texts h line).role).next < 2 ^ 64 → IsSoundMap cmp texts (after_input cmp texts h line)
+  pub map_sound : (v : Voice) (h : Held T) (line : List ℕ) → IsSoundMap cmp texts h
+      → (copy_held (after_input cmp texts h line).role).next < 2 ^ 64
+      → IsSoundMap cmp texts (after_input cmp texts h line)
   map_sound v h line sound fits = record { two = sound.two; few = sound.few; role = role_sound v h.size h.window sound.two sound.few h.role sound.role (without_return line) fits }
 
   -- of a leader's answer to a line, the lines between the first and the last are kept
-  module _ (v : Voice) (h : Held T) (line : List ℕ) (l : Leader T) (is : h.role ≡ Leading l) (sound : IsSoundMap cmp texts h) (fits : (copy_held (after_input cmp texts h line).role).next < 2 ^ 64) where
+  module _ (v : Voice) (h : Held T) (line : List ℕ) (l : Leader T) (is : h.role ≡ Leading l)
+      (sound : IsSoundMap cmp texts h) (fits : (copy_held (after_input cmp texts h line).role).next < 2 ^ 64) where
     abbrev bare : List ℕ
     bare = without_return line
 
@@ -294,8 +331,12 @@ module _ {T : Type 0} (cmp : T → T → Ordering) (texts : Texts T) (total : Is
     answer_between : query_of texts bare ≡ None → inner (whole_lines answer) ≡ told_lines texts (whole_lines answer)
     answer_between none =
         let led : IsSound cmp texts l × (l.pairs.next < 2 ^ 64) = subst (IsSoundRole cmp texts) is sound.role in
-        let few : (copy_held (role_after cmp texts (held h.size h.window (Leading l)) bare)).next < 2 ^ 64 = subst (λ r. (copy_held (role_after cmp texts (held h.size h.window r) bare)).next < 2 ^ 64) is fits in
-        subst (λ r. inner (whole_lines (held_reply cmp texts v (held h.size h.window r) bare)) ≡ told_lines texts (whole_lines (held_reply cmp texts v (held h.size h.window r) bare))) (sym is) (leading_between v h.size h.window l led.0 led.1 bare none few)
+        let few : (copy_held (role_after cmp texts (held h.size h.window (Leading l)) bare)).next < 2 ^ 64 =
+        subst (λ r. (copy_held (role_after cmp texts (held h.size h.window r) bare)).next < 2 ^ 64) is fits in
+        subst
+        (λ r. inner (whole_lines (held_reply cmp texts v (held h.size h.window r) bare))
+        ≡ told_lines texts (whole_lines (held_reply cmp texts v (held h.size h.window r) bare)))
+        (sym is) (leading_between v h.size h.window l led.0 led.1 bare none few)
 
     pub inner_told : inner_kept texts bare answer ≡ kept_by cmp texts (input_reply cmp texts v) h line
     inner_told = at (query_of texts bare) refl ∙ leading_told cmp texts (input_reply cmp texts v) h line l is

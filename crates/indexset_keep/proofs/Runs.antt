@@ -1,5 +1,7 @@
 -- The state of a run that keeps the changes of its map.
-use Rattle.std.proofs.Common.{Result, Ok, Err, IfErr, OnErr, OnSome, Option, Some, ◌≡◌, ◌≢◌, ℕ, ◌+◌, ◌-◌, ◌<◌, get_or, length, length-append, List, [], ◌∷◌, ◌++◌, refl, sym, ap, subst, ◌∙◌, arith, append_assoc, append-nil}
+use Rattle.std.proofs.Common.{Result, Ok, Err, IfErr, OnErr, OnSome, Option, Some, ◌≡◌, ◌≢◌, ℕ}
+use Rattle.std.proofs.Common.{◌+◌, ◌-◌, ◌<◌, get_or, length, length-append, List, [], ◌∷◌}
+use Rattle.std.proofs.Common.{◌++◌, refl, sym, ap, subst, ◌∙◌, arith, append_assoc, append-nil}
 use Rattle.std.specs.Io.KnownBytes.{Appends, Consumes, IsAtEnd, Keeps}
 use Rattle.std.proofs.KnownBytes.{Appends-kept, Appends-nil, Appends-trans, Consumes-nil, Consumes-trans, Keeps-trans}
 use Rattle.std.proofs.lemmas.List.{get_or-append-add}
@@ -68,7 +70,9 @@ module _ {T : Type 0} (cmp : T → T → Ordering) (texts : Texts T) where
     answers t whole = replies_to reply (after_input cmp texts) t (lines_of whole)
 
     answers_both : (t : Held T) (whole part : List ℕ) → IsWhole whole → answers t (whole ++ part) ≡ answers t whole ++ answers (map_after cmp texts t whole) part
-    answers_both t whole part is_whole = ap (replies_to reply (after_input cmp texts) t) (lines_of-append whole part is_whole) ∙ replies_to-append (after_input cmp texts) reply t (lines_of whole) (lines_of part)
+    answers_both t whole part is_whole =
+        ap (replies_to reply (after_input cmp texts) t) (lines_of-append whole part is_whole)
+        ∙ replies_to-append (after_input cmp texts) reply t (lines_of whole) (lines_of part)
 
     reply_alone : (t : Held T) (line : List ℕ) → replies_to reply (after_input cmp texts) t (line ∷ []) ≡ reply t line
     unfolding replies_to
@@ -119,13 +123,20 @@ module _ {T : Type 0} (cmp : T → T → Ordering) (texts : Texts T) where
       -- a line was executed
       answered : (r2 : Option (List ℕ)) (line : List ℕ) (waiting2 : List ℕ) (told2 : List (List ℕ)) (held2 : Held T) → HasNoEnd line → Consumes r' r2 (line ++ 10 ∷ [])
           → waiting2 ≡ waiting ++ reply held line → told2 ≡ told ++ kept_by cmp texts reply held line → held2 ≡ after_input cmp texts held line
-          → state_after cmp texts (state_held held) (kept_by cmp texts reply held line) ≡ state_held (after_input cmp texts held line) → IsSoundMap cmp texts held2 → Going now r2 w' waiting2 told2 held2
+          → state_after cmp texts (state_held held) (kept_by cmp texts reply held line)
+          ≡ state_held (after_input cmp texts held line)
+          → IsSoundMap cmp texts held2 → Going now r2 w' waiting2 told2 held2
       answered r2 line waiting2 told2 held2 none read told_reply tells after on sound2 =
           let part = line ++ 10 ∷ [] in
           let one : lines_of part ≡ line ∷ [] = lines_of-end line none in
           let before : map_after cmp texts g.between g.more.whole ≡ held = sym g.more.left in
-          let answer : answers reply (map_after cmp texts g.between g.more.whole) part ≡ reply held line = ap (λ u. answers reply u part) before ∙ ap (replies_to reply (after_input cmp texts) held) one ∙ reply_alone reply held line in
-          let leaves : map_after cmp texts (map_after cmp texts g.between g.more.whole) part ≡ after_input cmp texts held line = ap (λ u. map_after cmp texts u part) before ∙ ap (left_by (after_input cmp texts) held) one ∙ left_alone cmp texts held line in
+          let answer : answers reply (map_after cmp texts g.between g.more.whole) part ≡ reply held line =
+          ap (λ u. answers reply u part) before ∙ ap (replies_to reply (after_input cmp texts) held) one
+          ∙ reply_alone reply held line in
+          let leaves : map_after cmp texts (map_after cmp texts g.between g.more.whole) part
+          ≡ after_input cmp texts held line =
+          ap (λ u. map_after cmp texts u part) before ∙ ap (left_by (after_input cmp texts) held) one
+          ∙ left_alone cmp texts held line in
           record {
             middle = g.middle;
             between = g.between;
@@ -170,7 +181,9 @@ module _ {T : Type 0} (cmp : T → T → Ordering) (texts : Texts T) where
       leads_held now2 it = leads_on cmp texts view recovers old now now2 from (state_held g.between) g.leads (state_held held) (settled_same g.between.role held.role) it
 
       -- the pending lines were kept, and the pending answers written
-      pub put : (now2 : S) (w2 : Option (List ℕ)) → Leads cmp texts view recovers now now2 (state_held g.between) (state_held held) → Appends w' w2 waiting → (waiting2 : List ℕ) (told2 : List (List ℕ)) → waiting2 ≡ [] → told2 ≡ []
+      pub put : (now2 : S) (w2 : Option (List ℕ))
+          → Leads cmp texts view recovers now now2 (state_held g.between) (state_held held) → Appends w' w2 waiting
+          → (waiting2 : List ℕ) (told2 : List (List ℕ)) → waiting2 ≡ [] → told2 ≡ []
           → Going now2 r' w2 waiting2 told2 held
       put now2 w2 kept wrote waiting2 told2 no_answers no_lines = record {
         middle = r';
@@ -189,20 +202,31 @@ module _ {T : Type 0} (cmp : T → T → Ordering) (texts : Texts T) where
       }
 
       -- all was kept and written, before such a rest
-      pub ended : (now2 : S) (r2 w2 w3 : Option (List ℕ)) (rest : List ℕ) → Consumes r' r2 rest → Keeps w' w2 → Leads cmp texts view recovers now now2 (state_held g.between) (state_held held) → Appends w2 w3 waiting
+      pub ended : (now2 : S) (r2 w2 w3 : Option (List ℕ)) (rest : List ℕ) → Consumes r' r2 rest → Keeps w' w2
+          → Leads cmp texts view recovers now now2 (state_held g.between) (state_held held) → Appends w2 w3 waiting
           → AnswersWhole cmp texts reply cut t view recovers old now2 r r2 w w3 from rest held
       ended now2 r2 w2 w3 rest read kept adds wrote = record {
         whole = all;
         is_whole = all_whole;
         read = Consumes-trans r r' r2 all rest all_read read;
-        written = subst (Appends w w3) (sym answers_all) (Appends-trans w w2 w3 (answers reply t g.first.whole) waiting (Appends-kept w w' w2 (answers reply t g.first.whole) g.first.written kept) wrote);
+        written =
+            subst (Appends w w3) (sym answers_all)
+            (Appends-trans w w2 w3 (answers reply t g.first.whole) waiting
+            (Appends-kept w w' w2 (answers reply t g.first.whole) g.first.written kept) wrote);
         left = left_all;
         leads = subst (λ u. Leads cmp texts view recovers old now2 from (state_held u)) left_all (leads_held now2 adds);
       }
 
       -- the states that a crash can leave are those after each part
-      in_parts : (now2 : S) → MayLead cmp texts view recovers old now2 from (state_held g.between) (state_held held) → MayLead cmp texts view recovers old now2 from (state_held (map_after cmp texts t g.first.whole)) (state_held (map_after cmp texts (map_after cmp texts t g.first.whole) g.more.whole))
-      in_parts now2 it = subst (λ u. MayLead cmp texts view recovers old now2 from (state_held (map_after cmp texts t g.first.whole)) (state_held u)) second_left (subst (λ u. MayLead cmp texts view recovers old now2 from (state_held u) (state_held held)) g.first.left it)
+      in_parts : (now2 : S) → MayLead cmp texts view recovers old now2 from (state_held g.between) (state_held held)
+          → MayLead cmp texts view recovers old now2 from (state_held (map_after cmp texts t g.first.whole))
+          (state_held (map_after cmp texts (map_after cmp texts t g.first.whole) g.more.whole))
+      in_parts now2 it =
+          subst (λ u.
+          MayLead cmp texts view recovers old now2 from (state_held (map_after cmp texts t g.first.whole))
+          (state_held u))
+          second_left
+          (subst (λ u. MayLead cmp texts view recovers old now2 from (state_held u) (state_held held)) g.first.left it)
 
       -- nothing more was kept or written, before such a rest
       pub stopped : (r2 w2 : Option (List ℕ)) (rest : List ℕ) (IsOut : Type 0) → Consumes r' r2 rest → Keeps w' w2 → AnswersSome cmp texts reply cut t view recovers old now r r2 w w2 from IsOut
@@ -219,11 +243,17 @@ module _ {T : Type 0} (cmp : T → T → Ordering) (texts : Texts T) where
 
       -- the pending lines could not be kept, or the pending answers could not be written
       pub failed : (now2 : S) (r2 w2 w3 : Option (List ℕ)) (rest : List ℕ) (fault : KeepFault) → Consumes r' r2 rest → Keeps w' w2
-          → (fault ≢ Run Write → MayLead cmp texts view recovers now now2 (state_held g.between) (state_held g.between) (state_held held) × Keeps w2 w3) → (fault ≡ Run Write → Leads cmp texts view recovers now now2 (state_held g.between) (state_held held))
+          → (fault ≢ Run Write
+          → MayLead cmp texts view recovers now now2 (state_held g.between) (state_held g.between) (state_held held)
+          × Keeps w2 w3)
+          → (fault ≡ Run Write → Leads cmp texts view recovers now now2 (state_held g.between) (state_held held))
           → AnswersSome cmp texts reply cut t view recovers old now2 r r2 w w3 from (fault ≢ Run Write)
       failed now2 r2 w2 w3 rest fault read kept unkept unwritten = by fault unkept unwritten
         where
-          lost : (IsOut : Type 0) → MayLead cmp texts view recovers now now2 (state_held g.between) (state_held g.between) (state_held held) × Keeps w2 w3 → AnswersSome cmp texts reply cut t view recovers old now2 r r2 w w3 from IsOut
+          lost : (IsOut : Type 0)
+              → MayLead cmp texts view recovers now now2 (state_held g.between) (state_held g.between) (state_held held)
+              × Keeps w2 w3
+              → AnswersSome cmp texts reply cut t view recovers old now2 r r2 w w3 from IsOut
           lost IsOut it = record {
             whole = g.first.whole;
             more = g.more.whole;
@@ -244,10 +274,18 @@ module _ {T : Type 0} (cmp : T → T → Ordering) (texts : Texts T) where
             is_more = none_whole;
             read = Consumes-trans r r' r2 all rest all_read read;
             written = λ out. absurd (out refl);
-            crash = may_lead_none cmp texts view recovers old now2 now2 from (state_held (map_after cmp texts t all)) (subst (λ u. Leads cmp texts view recovers old now2 from (state_held u)) left_all (leads_held now2 leads)) (state_held (map_after cmp texts (map_after cmp texts t all) []));
+            crash =
+                may_lead_none cmp texts view recovers old now2 now2 from (state_held (map_after cmp texts t all))
+                (subst (λ u. Leads cmp texts view recovers old now2 from (state_held u)) left_all
+                (leads_held now2 leads))
+                (state_held (map_after cmp texts (map_after cmp texts t all) []));
           }
 
-          by : (fault : KeepFault) → (fault ≢ Run Write → MayLead cmp texts view recovers now now2 (state_held g.between) (state_held g.between) (state_held held) × Keeps w2 w3) → (fault ≡ Run Write → Leads cmp texts view recovers now now2 (state_held g.between) (state_held held))
+          by : (fault : KeepFault)
+              → (fault ≢ Run Write
+              → MayLead cmp texts view recovers now now2 (state_held g.between) (state_held g.between) (state_held held)
+              × Keeps w2 w3)
+              → (fault ≡ Run Write → Leads cmp texts view recovers now now2 (state_held g.between) (state_held held))
               → AnswersSome cmp texts reply cut t view recovers old now2 r r2 w w3 from (fault ≢ Run Write)
           by (Run Memory) unkept unwritten = lost _ (unkept (λ e. cc))
           by (Run Numbers) unkept unwritten = lost _ (unkept (λ e. cc))
@@ -291,17 +329,26 @@ module _ {T : Type 0} (cmp : T → T → Ordering) (texts : Texts T) where
       input_left = ap (left_by (after_input cmp texts) t) (whole_lines-append rest none a.whole a.is_whole)
 
       -- such a rest was answered
-      pub all_answered : (w2 : Option (List ℕ)) → OnSome r (IsAtEnd r') → Appends w' w2 (rest_reply reply (after_input cmp texts) cut held rest) → AnswersAll cmp texts reply cut t view recovers old now r r' w w2 from
+      pub all_answered : (w2 : Option (List ℕ)) → OnSome r (IsAtEnd r')
+          → Appends w' w2 (rest_reply reply (after_input cmp texts) cut held rest)
+          → AnswersAll cmp texts reply cut t view recovers old now r r' w w2 from
       all_answered w2 end wrote = record {
         input = a.whole ++ rest;
         read = a.read;
         at_end = end;
-        written = subst (Appends w w2) (ap (λ u. answers reply t a.whole ++ rest_reply reply (after_input cmp texts) cut u rest) a.left ∙ sym input_text) (Appends-trans w w' w2 (answers reply t a.whole) (rest_reply reply (after_input cmp texts) cut held rest) a.written wrote);
+        written =
+            subst (Appends w w2)
+            (ap (λ u. answers reply t a.whole ++ rest_reply reply (after_input cmp texts) cut u rest) a.left
+            ∙ sym input_text)
+            (Appends-trans w w' w2 (answers reply t a.whole) (rest_reply reply (after_input cmp texts) cut held rest)
+            a.written wrote);
         leads = subst (λ u. Leads cmp texts view recovers old now from (state_held u)) (sym input_left) a.leads;
       }
 
       -- the answer to it failed
-      pub not_answered : (w2 : Option (List ℕ)) (fault : RunFault) → (fault ≡ Memory → Keeps w' w2) → (fault ≡ Numbers → Keeps w' w2) → fault ≢ Read → AnswersSome cmp texts reply cut t view recovers old now r r' w w2 from (Run fault ≢ Run Write)
+      pub not_answered : (w2 : Option (List ℕ)) (fault : RunFault) → (fault ≡ Memory → Keeps w' w2)
+          → (fault ≡ Numbers → Keeps w' w2) → fault ≢ Read
+          → AnswersSome cmp texts reply cut t view recovers old now r r' w w2 from (Run fault ≢ Run Write)
       not_answered w2 fault kept numbers no_read = by fault kept numbers no_read
         where
           some : (IsOut : Type 0) → (IsOut → Keeps w' w2) → AnswersSome cmp texts reply cut t view recovers old now r r' w w2 from IsOut
@@ -316,19 +363,26 @@ module _ {T : Type 0} (cmp : T → T → Ordering) (texts : Texts T) where
             crash = may_lead_none cmp texts view recovers old now now from (state_held (map_after cmp texts t a.whole)) a.leads (state_held (map_after cmp texts (map_after cmp texts t a.whole) []));
           }
 
-          by : (fault : RunFault) → (fault ≡ Memory → Keeps w' w2) → (fault ≡ Numbers → Keeps w' w2) → fault ≢ Read → AnswersSome cmp texts reply cut t view recovers old now r r' w w2 from (Run fault ≢ Run Write)
+          by : (fault : RunFault) → (fault ≡ Memory → Keeps w' w2) → (fault ≡ Numbers → Keeps w' w2) → fault ≢ Read
+              → AnswersSome cmp texts reply cut t view recovers old now r r' w w2 from (Run fault ≢ Run Write)
           by Memory kept numbers no_read = some _ (λ out. kept refl)
           by Numbers kept numbers no_read = some _ (λ out. numbers refl)
           by Read kept numbers no_read = absurd (no_read refl)
           by Write kept numbers no_read = some _ (λ out. absurd (out refl))
 
     -- all lines had line ends
-    pub ended_whole : (now : S) (r' w' : Option (List ℕ)) (line : List ℕ) (held : Held T) (end : End) → end ≢ Cut → AnswersWhole cmp texts reply cut t view recovers old now r r' w w' from (rest_behind end line) held → HasNoEnd (rest_behind end line)
+    pub ended_whole : (now : S) (r' w' : Option (List ℕ)) (line : List ℕ) (held : Held T) (end : End) → end ≢ Cut
+        → AnswersWhole cmp texts reply cut t view recovers old now r r' w w' from (rest_behind end line) held
+        → HasNoEnd (rest_behind end line)
         → OnSome r (IsAtEnd r') → AnswersAll cmp texts reply cut t view recovers old now r r' w w' from
     ended_whole now r' w' line held Whole other a none at_end = all_answered now r' w' [] held a none w' at_end (Appends-nil w')
     ended_whole now r' w' line held Cut other a none at_end = absurd (other refl)
 
     -- the last line had no line end, and was answered
-    pub ended_cut : (now : S) (r' w' w2 : Option (List ℕ)) (line passed : List ℕ) (held : Held T) → AnswersWhole cmp texts reply cut t view recovers old now r r' w w' from line held → HasNoEnd line → 0 < length line
+    pub ended_cut : (now : S) (r' w' w2 : Option (List ℕ)) (line passed : List ℕ) (held : Held T)
+        → AnswersWhole cmp texts reply cut t view recovers old now r r' w w' from line held → HasNoEnd line
+        → 0 < length line
         → OnSome r (IsAtEnd r') → passed ≡ line → Appends w' w2 (cut held passed) → AnswersAll cmp texts reply cut t view recovers old now r r' w w2 from
-    ended_cut now r' w' w2 line passed held a none some at_end same wrote = all_answered now r' w' line held a none w2 at_end (subst (Appends w' w2) (ap (cut held) same ∙ sym (rest_some held line some)) wrote)
+    ended_cut now r' w' w2 line passed held a none some at_end same wrote =
+        all_answered now r' w' line held a none w2 at_end
+        (subst (Appends w' w2) (ap (cut held) same ∙ sym (rest_some held line some)) wrote)

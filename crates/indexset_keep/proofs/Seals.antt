@@ -30,7 +30,9 @@ module _ {T : Type 0} (cmp : T → T → Ordering) (texts : Texts T) where
   sealed_alike s lines n = more_lines cmp texts s lines (seal_line n ∷ []) ∙ seal_still (state_after cmp texts s lines) n
 
   -- lines and their seal appended to others
-  pub appended : (before after told put : List (List ℕ)) (n : ℕ) (from to : State T) → after ≡ before ++ put → put ≡ told ++ seal_line n ∷ [] → LeadsTo cmp texts before from → state_after cmp texts from told ≡ to → LeadsTo cmp texts after to
+  pub appended : (before after told put : List (List ℕ)) (n : ℕ) (from to : State T) → after ≡ before ++ put
+      → put ≡ told ++ seal_line n ∷ [] → LeadsTo cmp texts before from → state_after cmp texts from told ≡ to
+      → LeadsTo cmp texts after to
   appended before after told put n from to is all was on =
       ap (state_after cmp texts (start_state 0)) (is ∙ ap (λ ls. before ++ ls) all)
       ∙ more_lines cmp texts (start_state 0) before (told ++ seal_line n ∷ [])

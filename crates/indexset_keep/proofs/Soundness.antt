@@ -1,6 +1,8 @@
 -- A follower that starts empty, or from a leader's state, holds lawful nodes and numbers of at most
 -- 64 bits after any lines.
-use Rattle.std.proofs.Common.{Option, None, Some, IfSome, ◌≡◌, ◌≢◌, ℕ, ◌+◌, ◌==◌, ◌<◌, ◌≤◌, ◌^◌, Bool, true, false, max, if◌then◌else◌, List, [], ◌∷◌, ◌++◌, length, refl, ap, sym, ◌∙◌, subst, arith, append_assoc, append-nil}
+use Rattle.std.proofs.Common.{Option, None, Some, IfSome, ◌≡◌, ◌≢◌, ℕ, ◌+◌, ◌==◌, ◌<◌, ◌≤◌, ◌^◌}
+use Rattle.std.proofs.Common.{Bool, true, false, max, if◌then◌else◌, List, [], ◌∷◌, ◌++◌, length}
+use Rattle.std.proofs.Common.{refl, ap, sym, ◌∙◌, subst, arith, append_assoc, append-nil}
 use Rattle.std.below.core.specs.declared.int.u64.TheConstants.{MAX}
 use Rattle.std.proofs.Math.Nat.{max-eq_left, max-eq_right}
 use Rattle.std.proofs.lemmas.Bool.{eqb-false, leb-false, leb-true}
@@ -25,7 +27,9 @@ use Rattle.indexset_replica.specs.Replica.{apply_refusal}
 use Rattle.indexset_follow.specs.Copy.{Copy, body_text, copy, end_line, unsummed_text}
 use Rattle.indexset_follow.specs.Early.{EarlyEvents, Taken, caught_up, copy_after, first_number, taken, with_early}
 use Rattle.indexset_follow.specs.EventLine.{Event, EventFits, event_of}
-use Rattle.indexset_follow.specs.Follow.{State, after_event, after_line, after_mark, after_node, end_reason, event_taken, holding, node_refusal, put_in_place, start_state, state_after, with_coming, with_done, with_node}
+use Rattle.indexset_follow.specs.Follow.{State, after_event, after_line, after_mark, after_node}
+use Rattle.indexset_follow.specs.Follow.{end_reason, event_taken, holding, node_refusal, put_in_place}
+use Rattle.indexset_follow.specs.Follow.{start_state, state_after, with_coming, with_done, with_node}
 use Rattle.indexset_follow.specs.Leading.{leader_of}
 use Rattle.indexset_follow.specs.Mark.{MarkFits, mark_of}
 use Rattle.indexset_follow.specs.NodeLine.{NodeFits, node_of}
@@ -80,7 +84,10 @@ module _ {T : Type 0} (cmp : T → T → Ordering) (texts : Texts T) where
   unfolding delivered
   step_taken c e fit s = at (event_number e == c.next) (c.next == MAX) refl (step (order cmp) c.nodes e) (step_sound cmp texts c.nodes (copy_nodes c s).fit e fit)
     where
-      at : (b d : Bool) → (c.next == MAX) ≡ d → (o : Option (Nodes T)) → IfSome o (SoundNodes cmp texts) → IsSoundCopy cmp texts (unwrap_or (if b then (if d then None else option_map {U = Copy T} (λ ns. copy ns (c.next + 1)) o) else Some c) c)
+      at : (b d : Bool) → (c.next == MAX) ≡ d → (o : Option (Nodes T)) → IfSome o (SoundNodes cmp texts)
+          → IsSoundCopy cmp texts
+          (unwrap_or
+          (if b then (if d then None else option_map {U = Copy T} (λ ns. copy ns (c.next + 1)) o) else Some c) c)
       at true true is o made = s
       at true false other None made = s
       at true false other (Some ns) made = let ne = eqb-false c.next MAX other in copy_made ns (c.next + 1) made (omega (arith, s.next, ne))
@@ -134,7 +141,12 @@ module _ {T : Type 0} (cmp : T → T → Ordering) (texts : Texts T) where
       (caught_sound (copy_after cmp c p.value) early (step_taken cmp texts c p.value (All-head (EarlyFits texts) p early fit) s) (All-tail (EarlyFits texts) p early fit))
     where
       by : (b : Bool) (o : Option Refusal) → SoundTaken (caught_up cmp (copy_after cmp c p.value) early)
-          → SoundTaken (if b then option_map_or (λ cause. taken c early (reply.Unfit c.next (Refused cause))) o (caught_up cmp (copy_after cmp c p.value) early) else taken c (p ∷ early) (reply.Next c.next))
+          → SoundTaken
+          (if b
+          then
+          option_map_or (λ cause. taken c early (reply.Unfit c.next (Refused cause))) o
+          (caught_up cmp (copy_after cmp c p.value) early)
+          else taken c (p ∷ early) (reply.Next c.next))
       by true None more = more
       by true (Some cause) more = record { held = s; early = All-tail (EarlyFits texts) p early fit }
       by false o more = record { held = s; early = fit }
@@ -153,7 +165,12 @@ module _ {T : Type 0} (cmp : T → T → Ordering) (texts : Texts T) (total : Is
         n = event_number e
 
         at : (a b d : Bool)
-            → SoundTaken cmp texts (if a then caught_up cmp s.held (pair n e ∷ s.early) else if b then taken s.held s.early (reply.Had s.held.next) else if d then taken s.held (with_early s.early e) (reply.Missing s.held.next (first_number (with_early s.early e) n)) else taken s.held s.early (reply.Gap s.held.next))
+            → SoundTaken cmp texts
+            (if a then caught_up cmp s.held (pair n e ∷ s.early) else if b
+            then taken s.held s.early (reply.Had s.held.next) else if d
+            then
+            taken s.held (with_early s.early e) (reply.Missing s.held.next (first_number (with_early s.early e) n))
+            else taken s.held s.early (reply.Gap s.held.next))
         at true b d = caught_sound cmp texts s.held (pair n e ∷ s.early) f.held (All-cons (EarlyFits texts) (pair n e) s.early fit f.early)
         at false true d = same_taken (reply.Had s.held.next)
         at false false true = record { held = f.held; early = put_fit cmp texts n e fit s.early f.early }
@@ -168,7 +185,11 @@ module _ {T : Type 0} (cmp : T → T → Ordering) (texts : Texts T) (total : Is
     with_node_sound n fit c came = at (node_refusal cmp c n) refl
       where
         at : (o : Option Refusal) → node_refusal cmp c n ≡ o → IsSoundCopy cmp texts (if is_none o then copy (attached (order cmp) c.nodes n) c.next else c)
-        at None is = copy_made cmp texts (attached (order cmp) c.nodes n) c.next (attached_sound cmp texts total c.nodes (copy_nodes cmp texts c came) n (all_each (PairFits texts) n fit.1) is) came.next
+        at None is =
+            copy_made cmp texts (attached (order cmp) c.nodes n) c.next
+            (attached_sound cmp texts total c.nodes (copy_nodes cmp texts c came) n (all_each (PairFits texts) n fit.1)
+            is)
+            came.next
         at (Some cause) is = came
 
     after_node_sound : (n : List (Pair T T)) → NodeFits texts n → IsSoundFollower cmp texts (after_node cmp s n)
@@ -208,9 +229,13 @@ module _ {T : Type 0} (cmp : T → T → Ordering) (texts : Texts T) (total : Is
 
 module _ {T : Type 0} (cmp : T → T → Ordering) (texts : Texts T) (total : IsTotalOrder cmp) (spelled : AreWords texts) where
   pub line_sound : (s : State T) (line : List ℕ) → IsSoundFollower cmp texts s → IsSoundFollower cmp texts (after_line cmp texts s line)
-  line_sound s line f = at (event_of texts line) (λ e is. (event_sound texts spelled line e is).1) (node_of texts line) (λ n is. (node_sound texts spelled line n is).1) (mark_of line) (λ m is. (mark_sound line m is).1)
+  line_sound s line f =
+      at (event_of texts line) (λ e is. (event_sound texts spelled line e is).1) (node_of texts line)
+      (λ n is. (node_sound texts spelled line n is).1) (mark_of line) (λ m is. (mark_sound line m is).1)
     where
-      at : (e : Option (Event T)) → ((x : Event T) → e ≡ Some x → EventFits texts x) → (n : Option (List (Pair T T))) → ((x : List (Pair T T)) → n ≡ Some x → NodeFits texts x) → (m : Option Mark) → ((x : Mark) → m ≡ Some x → MarkFits x)
+      at : (e : Option (Event T)) → ((x : Event T) → e ≡ Some x → EventFits texts x)
+          → (n : Option (List (Pair T T))) → ((x : List (Pair T T)) → n ≡ Some x → NodeFits texts x) → (m : Option Mark)
+          → ((x : Mark) → m ≡ Some x → MarkFits x)
           → IsSoundFollower cmp texts (option_map_or {U = State T} (after_event cmp s) e (option_map_or (after_node cmp s) n (option_map_or (after_mark texts s) m s)))
       at (Some e) fit n _ m _ = after_event_sound cmp texts total s f e (fit e refl)
       at None _ (Some n) fit m _ = after_node_sound cmp texts total s f n (fit n refl)
@@ -254,7 +279,9 @@ module _ {T : Type 0} (texts : Texts T) where
       sym (ap whole_lines (append-nil text)) ∙ whole_lines-append [] (All-nil (λ x. x ≢ 10)) text (subst IsWhole end (IsWhole-end (front ++ last)))
 
 module _ {T : Type 0} (cmp : T → T → Ordering) (texts : Texts T) (spelled : AreWords texts) where
-  pub snapshot_leads : (taker : State T) (c : Copy T) (d : ℕ) → IsSoundCopy cmp texts c → d < 2 ^ 64 → length c.nodes < 2 ^ 64 → state_after cmp texts taker (whole_lines (unsummed_text texts c d)) ≡ holding taker.window c d
+  pub snapshot_leads : (taker : State T) (c : Copy T) (d : ℕ) → IsSoundCopy cmp texts c → d < 2 ^ 64
+      → length c.nodes < 2 ^ 64
+      → state_after cmp texts taker (whole_lines (unsummed_text texts c d)) ≡ holding taker.window c d
   snapshot_leads taker c d s less few =
       let filled = nodes_each (λ n. 1 ≤ n) c.nodes s.nodes.filled in
       ap (state_after cmp texts taker) (snapshot_whole texts c d)

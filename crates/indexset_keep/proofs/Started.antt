@@ -23,7 +23,9 @@ use Rattle.std.specs.Cmp.{IsTotalOrder}
 module _ {T : Type 0} (cmp : T → T → Ordering) (texts : Texts T) where
   module _ (reply cut : Held T → List ℕ → List ℕ) (t : Held T) {S : Type 0} (view : S → View) (recovers : S → Trees → Type 0) (old : S) (from : State T) where
     -- it failed before the first line
-    pub some_kept : (new : S) (r w : Option (List ℕ)) (IsOut : Type 0) → MayLead cmp texts view recovers old new from (state_held t) (state_held t) → AnswersSome cmp texts reply cut t view recovers old new r r w w from IsOut
+    pub some_kept : (new : S) (r w : Option (List ℕ)) (IsOut : Type 0)
+        → MayLead cmp texts view recovers old new from (state_held t) (state_held t)
+        → AnswersSome cmp texts reply cut t view recovers old new r r w w from IsOut
     unfolding lines_of left_by replies_to
     some_kept new r w IsOut it = record {
       whole = [];
@@ -46,10 +48,14 @@ module _ {T : Type 0} (cmp : T → T → Ordering) (texts : Texts T) where
         read = a.read;
         at_end = a.at_end;
         written = a.written;
-        leads = let end = left_by (after_input cmp texts) t (whole_lines a.input) in leads_on cmp texts view recovers old mid new from (state_held t) first (state_held end) (settled_same t.role end.role) a.leads;
+        leads = let end = left_by (after_input cmp texts) t (whole_lines a.input) in
+            leads_on cmp texts view recovers old mid new from (state_held t) first (state_held end)
+            (settled_same t.role end.role) a.leads;
       }
 
-      pub some_behind : (IsOut : Type 0) → AnswersSome cmp texts reply cut t view recovers mid new r r' w w' (state_held t) IsOut → AnswersSome cmp texts reply cut t view recovers old new r r' w w' from IsOut
+      pub some_behind : (IsOut : Type 0)
+          → AnswersSome cmp texts reply cut t view recovers mid new r r' w w' (state_held t) IsOut
+          → AnswersSome cmp texts reply cut t view recovers old new r r' w w' from IsOut
       some_behind IsOut a = record {
         whole = a.whole;
         more = a.more;
@@ -58,17 +64,42 @@ module _ {T : Type 0} (cmp : T → T → Ordering) (texts : Texts T) where
         is_more = a.is_more;
         read = a.read;
         written = a.written;
-        crash = let end = map_after cmp texts t a.whole in may_lead_behind cmp texts view recovers old mid new from (state_held t) first (state_held end) (state_held (map_after cmp texts end a.more)) (settled_same t.role end.role) a.crash;
+        crash = let end = map_after cmp texts t a.whole in
+            may_lead_behind cmp texts view recovers old mid new from (state_held t) first (state_held end)
+            (state_held (map_after cmp texts end a.more)) (settled_same t.role end.role) a.crash;
       }
 
   -- ---- the same by other names
 
   module _ (v u : Voice) (t h : Held T) {S : Type 0} (view : S → View) (recovers : S → Trees → Type 0) (old new : S) (r r' w w' : Option (List ℕ)) (voice : u ≡ v) (is : h ≡ t) where
-    pub all_named : AnswersAll cmp texts (input_reply cmp texts u) (held_cut cmp texts u) h view recovers old new r r' w w' (state_held h) → AnswersAll cmp texts (input_reply cmp texts v) (held_cut cmp texts v) t view recovers old new r r' w w' (state_held t)
-    all_named a = subst (λ x. AnswersAll cmp texts (input_reply cmp texts x) (held_cut cmp texts x) t view recovers old new r r' w w' (state_held t)) voice (subst (λ x. AnswersAll cmp texts (input_reply cmp texts u) (held_cut cmp texts u) x view recovers old new r r' w w' (state_held x)) is a)
+    pub all_named : AnswersAll cmp texts (input_reply cmp texts u) (held_cut cmp texts u) h view recovers old new r
+        r' w w' (state_held h)
+        → AnswersAll cmp texts (input_reply cmp texts v) (held_cut cmp texts v) t view recovers old new r r' w w'
+        (state_held t)
+    all_named a =
+        subst (λ x.
+        AnswersAll cmp texts (input_reply cmp texts x) (held_cut cmp texts x) t view recovers old new r r' w w'
+        (state_held t))
+        voice
+        (subst (λ x.
+        AnswersAll cmp texts (input_reply cmp texts u) (held_cut cmp texts u) x view recovers old new r r' w w'
+        (state_held x))
+        is a)
 
-    pub some_named : (IsOut : Type 0) → AnswersSome cmp texts (input_reply cmp texts u) (held_cut cmp texts u) h view recovers old new r r' w w' (state_held h) IsOut → AnswersSome cmp texts (input_reply cmp texts v) (held_cut cmp texts v) t view recovers old new r r' w w' (state_held t) IsOut
-    some_named IsOut a = subst (λ x. AnswersSome cmp texts (input_reply cmp texts x) (held_cut cmp texts x) t view recovers old new r r' w w' (state_held t) IsOut) voice (subst (λ x. AnswersSome cmp texts (input_reply cmp texts u) (held_cut cmp texts u) x view recovers old new r r' w w' (state_held x) IsOut) is a)
+    pub some_named : (IsOut : Type 0)
+        → AnswersSome cmp texts (input_reply cmp texts u) (held_cut cmp texts u) h view recovers old new r r' w w'
+        (state_held h) IsOut
+        → AnswersSome cmp texts (input_reply cmp texts v) (held_cut cmp texts v) t view recovers old new r r' w w'
+        (state_held t) IsOut
+    some_named IsOut a =
+        subst (λ x.
+        AnswersSome cmp texts (input_reply cmp texts x) (held_cut cmp texts x) t view recovers old new r r' w w'
+        (state_held t) IsOut)
+        voice
+        (subst (λ x.
+        AnswersSome cmp texts (input_reply cmp texts u) (held_cut cmp texts u) x view recovers old new r r' w w'
+        (state_held x) IsOut)
+        is a)
 
 pub if_err_map : {X E : Type 0} (r : Result X E) {P Q : E → Type 0} → IfErr r P → ((e : E) → P e → Q e) → IfErr r Q
 if_err_map (Ok x) p f = tt
@@ -77,12 +108,17 @@ if_err_map (Err e) p f = f e p
 module _ {T : Type 0} (cmp : T → T → Ordering) (texts : Texts T) (total : IsTotalOrder cmp) (spelled : AreWords texts) where
   -- ---- the initial map
 
-  module _ (m : Manner) (lines : List (List ℕ)) (follower : State T) (role : Role T) (read : follower ≡ state_after cmp texts (start_state 0) lines) (began : role ≡ role_of m.size m.window m.leads follower) where
+  module _ (m : Manner) (lines : List (List ℕ)) (follower : State T) (role : Role T)
+      (read : follower ≡ state_after cmp texts (start_state 0) lines)
+      (began : role ≡ role_of m.size m.window m.leads follower) where
     pub role_is : role ≡ role_of m.size m.window m.leads (state_after cmp texts (start_state 0) lines)
     role_is = began ∙ ap (role_of m.size m.window m.leads) read
 
     pub role_sound : m.size < 2 ^ 64 → (m.leads ≡ true → can_lead cmp m.size follower.held ≡ true) → IsSoundRole cmp texts role
-    role_sound few can = subst (IsSoundRole cmp texts) (sym role_is) (first_sound cmp texts total spelled m.size m.window m.leads lines m.two few (λ yes. subst (λ s. can_lead cmp m.size s.held ≡ true) read (can yes)))
+    role_sound few can =
+        subst (IsSoundRole cmp texts) (sym role_is)
+        (first_sound cmp texts total spelled m.size m.window m.leads lines m.two few
+        (λ yes. subst (λ s. can_lead cmp m.size s.held ≡ true) read (can yes)))
 
     pub role_same : IsSame (state_after cmp texts (start_state 0) lines) (settled role)
     role_same = subst (λ r. IsSame (state_after cmp texts (start_state 0) lines) (settled r)) (sym role_is) (first_same m.size m.window m.leads (state_after cmp texts (start_state 0) lines))

@@ -38,14 +38,20 @@ module _ {T : Type 0} (cmp : T → T → Ordering) (texts : Texts T) (spelled : 
 module _ {T : Type 0} (cmp : T → T → Ordering) (texts : Texts T) (total : IsTotalOrder cmp) (spelled : AreWords texts) where
   -- ---- the initial role
 
-  pub first_sound : (size window : ℕ) (leads : Bool) (lines : List (List ℕ)) → 2 ≤ size → size < 2 ^ 64 → (leads ≡ true → can_lead cmp size (state_after cmp texts (start_state 0) lines).held ≡ true) → IsSoundRole cmp texts (role_of size window leads (state_after cmp texts (start_state 0) lines))
+  pub first_sound : (size window : ℕ) (leads : Bool) (lines : List (List ℕ)) → 2 ≤ size → size < 2 ^ 64
+      → (leads ≡ true → can_lead cmp size (state_after cmp texts (start_state 0) lines).held ≡ true)
+      → IsSoundRole cmp texts (role_of size window leads (state_after cmp texts (start_state 0) lines))
   first_sound size window leads lines two few can = at leads can
     where
       sound : IsSoundFollower cmp texts (state_after cmp texts (start_state 0) lines)
       sound = lines_sound cmp texts total spelled (start_state 0) lines (start_sound cmp texts 0)
 
-      at : (b : Bool) → (b ≡ true → can_lead cmp size (state_after cmp texts (start_state 0) lines).held ≡ true) → IsSoundRole cmp texts (role_of size window b (state_after cmp texts (start_state 0) lines))
-      at true can = (leader_sound cmp texts total size (state_after cmp texts (start_state 0) lines).done (state_after cmp texts (start_state 0) lines).held two few sound.held sound.done (can refl), sound.held.next)
+      at : (b : Bool) → (b ≡ true → can_lead cmp size (state_after cmp texts (start_state 0) lines).held ≡ true)
+          → IsSoundRole cmp texts (role_of size window b (state_after cmp texts (start_state 0) lines))
+      at true can = (
+        leader_sound cmp texts total size (state_after cmp texts (start_state 0) lines).done (state_after cmp texts (start_state 0) lines).held two few sound.held sound.done (can refl),
+        sound.held.next,
+      )
       at false can = holding_sound cmp texts window (state_after cmp texts (start_state 0) lines).done (state_after cmp texts (start_state 0) lines).held sound.held sound.done
 
 module _ {T : Type 0} where
@@ -59,13 +65,19 @@ module _ {T : Type 0} where
 
 module _ {T : Type 0} (cmp : T → T → Ordering) (texts : Texts T) where
   -- a map that starts from lines has the state that replaying them gives
-  pub again_held : (size window : ℕ) (leads : Bool) (lines : List (List ℕ)) (r : Role T) → LeadsTo cmp texts lines (settled r) → copy_held (role_of size window leads (state_after cmp texts (start_state 0) lines)) ≡ copy_held r
+  pub again_held : (size window : ℕ) (leads : Bool) (lines : List (List ℕ)) (r : Role T)
+      → LeadsTo cmp texts lines (settled r)
+      → copy_held (role_of size window leads (state_after cmp texts (start_state 0) lines)) ≡ copy_held r
   again_held size window leads lines r led = ap (λ s. s.held) (first_settled size window leads (state_after cmp texts (start_state 0) lines)) ∙ ap (λ s. s.held) led
 
-  pub again_done : (size window : ℕ) (leads : Bool) (lines : List (List ℕ)) (r : Role T) → LeadsTo cmp texts lines (settled r) → done_held (role_of size window leads (state_after cmp texts (start_state 0) lines)) ≡ done_held r
+  pub again_done : (size window : ℕ) (leads : Bool) (lines : List (List ℕ)) (r : Role T)
+      → LeadsTo cmp texts lines (settled r)
+      → done_held (role_of size window leads (state_after cmp texts (start_state 0) lines)) ≡ done_held r
   again_done size window leads lines r led = ap (λ s. s.done) (first_settled size window leads (state_after cmp texts (start_state 0) lines)) ∙ ap (λ s. s.done) led
 
-  pub again_leads : (window : ℕ) (lines : List (List ℕ)) (l : Leader T) → LeadsTo cmp texts lines (settled (Leading l)) → role_of l.pairs.size window true (state_after cmp texts (start_state 0) lines) ≡ Leading l
+  pub again_leads : (window : ℕ) (lines : List (List ℕ)) (l : Leader T)
+      → LeadsTo cmp texts lines (settled (Leading l))
+      → role_of l.pairs.size window true (state_after cmp texts (start_state 0) lines) ≡ Leading l
   again_leads window lines l led = ap (role_of l.pairs.size window true) led
 
 module _ {T : Type 0} where
@@ -97,7 +109,10 @@ module _ {T : Type 0} (cmp : T → T → Ordering) (texts : Texts T) where
   line_plain : (s : State T) → IsPlain s → (line : List ℕ) → IsPlain (after_line cmp texts s line)
   line_plain s it line = at (event_of texts line) (node_of texts line) (mark_of line)
     where
-      at : (e : Option (Event T)) (n : Option (List (Pair T T))) (m : Option Mark) → IsPlain (option_map_or (after_event cmp s) e (option_map_or (after_node cmp s) n (option_map_or (after_mark texts s) m s)))
+      at : (e : Option (Event T)) (n : Option (List (Pair T T))) (m : Option Mark)
+          → IsPlain
+          (option_map_or (after_event cmp s) e
+          (option_map_or (after_node cmp s) n (option_map_or (after_mark texts s) m s)))
       at (Some e) n m = (it.0, (alone cmp s e it.0 it.1).0)
       at None (Some n) m = it
       at None None (Some m) = mark_plain texts s it m
@@ -109,7 +124,9 @@ module _ {T : Type 0} (cmp : T → T → Ordering) (texts : Texts T) where
   lines_plain s it (line ∷ lines) = lines_plain (after_line cmp texts s line) (line_plain s it line) lines
 
   -- unless a snapshot has begun, it is the initial map of the run
-  pub first_whole : (size window : ℕ) (leads : Bool) (lines : List (List ℕ)) → (state_after cmp texts (start_state 0) lines).coming ≡ None → (state_after cmp texts (start_state 0) lines).coming_done ≡ 0
+  pub first_whole : (size window : ℕ) (leads : Bool) (lines : List (List ℕ))
+      → (state_after cmp texts (start_state 0) lines).coming ≡ None
+      → (state_after cmp texts (start_state 0) lines).coming_done ≡ 0
       → state_after cmp texts (start_state 0) lines ≡ settled (role_of size window leads (state_after cmp texts (start_state 0) lines))
   first_whole size window leads lines coming done =
       let s = state_after cmp texts (start_state 0) lines in

@@ -83,7 +83,9 @@ module _ {T : Type 0} (cmp : T → T → Ordering) (texts : Texts T) where
         crash = λ clean was db found. left (clean_before b c second.clean clean) was db (second.crash clean (first.kept (clean_before b c second.clean clean) was) db found);
       }
         where
-          left : IsClean (view b) → LeadsTo cmp texts (lines_in (view a).committed) from → (db : Trees) → IsLeft cmp texts view recovers b c mid mid db ⊎ LeadsTo cmp texts (lines_in db) to → IsLeft cmp texts view recovers a c from mid db ⊎ LeadsTo cmp texts (lines_in db) to
+          left : IsClean (view b) → LeadsTo cmp texts (lines_in (view a).committed) from → (db : Trees)
+              → IsLeft cmp texts view recovers b c mid mid db ⊎ LeadsTo cmp texts (lines_in db) to
+              → IsLeft cmp texts view recovers a c from mid db ⊎ LeadsTo cmp texts (lines_in db) to
           left clean was db (inl (inl it)) = inl (first.crash clean was db it.0)
           left clean was db (inl (inr led)) = inl (inr led)
           left clean was db (inr led) = inr led
@@ -95,7 +97,9 @@ module _ {T : Type 0} (cmp : T → T → Ordering) (texts : Texts T) where
         crash = λ clean was db found. left (clean_before b c second.clean clean) was db (second.crash clean (first.kept (clean_before b c second.clean clean) was) db found);
       }
         where
-          left : IsClean (view b) → LeadsTo cmp texts (lines_in (view a).committed) from → (db : Trees) → IsLeft cmp texts view recovers b c mid mid db ⊎ LeadsTo cmp texts (lines_in db) mid → IsLeft cmp texts view recovers a c from from db ⊎ LeadsTo cmp texts (lines_in db) mid
+          left : IsClean (view b) → LeadsTo cmp texts (lines_in (view a).committed) from → (db : Trees)
+              → IsLeft cmp texts view recovers b c mid mid db ⊎ LeadsTo cmp texts (lines_in db) mid
+              → IsLeft cmp texts view recovers a c from from db ⊎ LeadsTo cmp texts (lines_in db) mid
           left clean was db (inl (inl it)) = still (first.crash clean was db it.0)
             where
               still : IsLeft cmp texts view recovers a b from mid db → IsLeft cmp texts view recovers a c from from db ⊎ LeadsTo cmp texts (lines_in db) mid
@@ -114,7 +118,9 @@ module _ {T : Type 0} (cmp : T → T → Ordering) (texts : Texts T) where
         crash = λ clean was db found. left (clean_before b c second.clean clean) was db (second.crash clean (first.kept (clean_before b c second.clean clean) was) db found);
       }
         where
-          left : IsClean (view b) → LeadsTo cmp texts (lines_in (view a).committed) from → (db : Trees) → IsLeft cmp texts view recovers b c mid to db ⊎ LeadsTo cmp texts (lines_in db) more → IsLeft cmp texts view recovers a c from to db ⊎ LeadsTo cmp texts (lines_in db) more
+          left : IsClean (view b) → LeadsTo cmp texts (lines_in (view a).committed) from → (db : Trees)
+              → IsLeft cmp texts view recovers b c mid to db ⊎ LeadsTo cmp texts (lines_in db) more
+              → IsLeft cmp texts view recovers a c from to db ⊎ LeadsTo cmp texts (lines_in db) more
           left clean was db (inl (inl it)) = still (first.crash clean was db it.0)
             where
               still : IsLeft cmp texts view recovers a b from mid db → IsLeft cmp texts view recovers a c from to db ⊎ LeadsTo cmp texts (lines_in db) more

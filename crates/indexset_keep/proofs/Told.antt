@@ -72,7 +72,9 @@ module _ {T : Type 0} (texts : Texts T) (spelled : AreWords texts) where
   keeps_events (e ∷ es) fit =
       let told = event_told texts spelled e fit.0 in
       let is : is_told texts (event_text texts e) ≡ true = rw told refl in
-      keeps_both texts (ended (event_text texts e)) (lines_for (event_text texts) es) (event_text texts e ∷ []) (map (event_text texts) es) (keeps_line texts (event_text texts e) (event_whole texts spelled e fit.0) is) (keeps_events es fit.1)
+      keeps_both texts (ended (event_text texts e)) (lines_for (event_text texts) es) (event_text texts e ∷ [])
+      (map (event_text texts) es) (keeps_line texts (event_text texts e) (event_whole texts spelled e fit.0) is)
+      (keeps_events es fit.1)
 
 -- ---- a reply
 
@@ -108,7 +110,9 @@ module _ {T : Type 0} (texts : Texts T) (spelled : AreWords texts) where
   node_unmarked [] fit = refl
   node_unmarked (p ∷ []) fit = word_unmarked (pair_text texts p) (pair_lacks texts 32 (space_apart texts spelled) p fit.0)
   node_unmarked (p ∷ q ∷ ps) fit =
-      let cut : cut_at 32 (node_text texts (p ∷ q ∷ ps)) ≡ Some (pair_text texts p, node_text texts (q ∷ ps)) = cut_told 32 (pair_text texts p) (node_text texts (q ∷ ps)) (pair_lacks texts 32 (space_apart texts spelled) p fit.0) in
+      let cut : cut_at 32 (node_text texts (p ∷ q ∷ ps)) ≡ Some (pair_text texts p, node_text texts (q ∷ ps)) =
+      cut_told 32 (pair_text texts p) (node_text texts (q ∷ ps))
+      (pair_lacks texts 32 (space_apart texts spelled) p fit.0) in
       let start : bytes_eq (pair_text texts p) (codes "start") ≡ false = pair_no_word texts p (codes "start") refl in
       let end : bytes_eq (pair_text texts p) (codes "end") ≡ false = pair_no_word texts p (codes "end") refl in
       let done : bytes_eq (pair_text texts p) (codes "done") ≡ false = pair_no_word texts p (codes "done") refl in
@@ -119,7 +123,10 @@ module _ {T : Type 0} (texts : Texts T) (spelled : AreWords texts) where
   passes_nodes (n ∷ ns) fit =
       let event = node_alone texts spelled n fit.0 in
       let mark = node_unmarked n fit.0 in
-      keeps_both texts (ended (node_text texts n)) (lines_for (node_text texts) ns) [] [] (passes texts (node_text texts n) (row_lacks texts spelled n (each_all (PairFits texts) n fit.0)) (rw (event, mark) refl)) (passes_nodes ns fit.1)
+      keeps_both texts (ended (node_text texts n)) (lines_for (node_text texts) ns) [] []
+      (passes texts (node_text texts n) (row_lacks texts spelled n (each_all (PairFits texts) n fit.0))
+      (rw (event, mark) refl))
+      (passes_nodes ns fit.1)
 
 module _ {T : Type 0} (texts : Texts T) where
   -- ---- after a command number
@@ -135,7 +142,11 @@ module _ {T : Type 0} (texts : Texts T) where
     number_cut text = ap (cut_at 32) (number_first text) ∙ cut_told 32 (35 ∷ decimal n) text (number_apart 32 (lacks_tested 32 (codes "#") refl) (number_lacks 32 (omega arith) n small))
 
     pub number_whole : (line : List ℕ) → HasNoEnd line → HasNoEnd (echo_text (Some n) ++ line)
-    number_whole line none = subst HasNoEnd (sym (number_first line)) (All-append (λ x. x ≢ 10) (35 ∷ decimal n) (32 ∷ line) (number_apart 10 (lacks_tested 10 (codes "#") refl) (number_lacks 10 (omega arith) n small)) (All-cons (λ x. x ≢ 10) 32 line (omega arith) none))
+    number_whole line none =
+        subst HasNoEnd (sym (number_first line))
+        (All-append (λ x. x ≢ 10) (35 ∷ decimal n) (32 ∷ line)
+        (number_apart 10 (lacks_tested 10 (codes "#") refl) (number_lacks 10 (omega arith) n small))
+        (All-cons (λ x. x ≢ 10) 32 line (omega arith) none))
 
     -- a line that begins with a command number is not kept
     passes_first : (line : List ℕ) → HasNoEnd line → Keeps texts (ended (echo_text (Some n) ++ line)) []
@@ -160,21 +171,34 @@ EchoFits None = Unit {0}
 EchoFits (Some n) = n < 2 ^ 64
 
 module _ {T : Type 0} (texts : Texts T) (spelled : AreWords texts) where
-  keeps_change : (echo : Option ℕ) → EchoFits echo → (r : Reply T) → ReplyFits texts r → (es : List (Event T)) → Each (EventFits texts) es → Keeps texts (echo_text echo ++ (reply_ended texts r ++ lines_for (event_text texts) es)) (map (event_text texts) es)
-  keeps_change None small r fit es fits = keeps_both texts (reply_ended texts r) (lines_for (event_text texts) es) [] (map (event_text texts) es) (passes_reply texts spelled r fit) (keeps_events texts spelled es fits)
-  keeps_change (Some n) small r fit es fits = passes_number texts n small (reply_text texts r) (lines_for (event_text texts) es) (map (event_text texts) es) (reply_whole texts spelled r fit) (keeps_events texts spelled es fits)
+  keeps_change : (echo : Option ℕ) → EchoFits echo → (r : Reply T) → ReplyFits texts r → (es : List (Event T))
+      → Each (EventFits texts) es
+      → Keeps texts (echo_text echo ++ (reply_ended texts r ++ lines_for (event_text texts) es))
+      (map (event_text texts) es)
+  keeps_change None small r fit es fits =
+      keeps_both texts (reply_ended texts r) (lines_for (event_text texts) es) [] (map (event_text texts) es)
+      (passes_reply texts spelled r fit) (keeps_events texts spelled es fits)
+  keeps_change (Some n) small r fit es fits =
+      passes_number texts n small (reply_text texts r) (lines_for (event_text texts) es) (map (event_text texts) es)
+      (reply_whole texts spelled r fit) (keeps_events texts spelled es fits)
 
-  keeps_rows : (echo : Option ℕ) → EchoFits echo → (ns : List (List (Pair T T))) → Each (Each (PairFits texts)) ns → Keeps texts (echo_text echo ++ (cond (is_filled ns) (lines_for (node_text texts) ns) (reply_ended texts Empty))) []
+  keeps_rows : (echo : Option ℕ) → EchoFits echo → (ns : List (List (Pair T T))) → Each (Each (PairFits texts)) ns
+      → Keeps texts
+      (echo_text echo ++ (cond (is_filled ns) (lines_for (node_text texts) ns) (reply_ended texts Empty))) []
   keeps_rows None small ns fit = at (is_filled ns)
     where
       at : (b : Bool) → Keeps texts (cond b (lines_for (node_text texts) ns) (reply_ended texts Empty)) []
       at true = passes_nodes texts spelled ns fit
       at false = passes_reply texts spelled Empty tt
   keeps_rows (Some n) small [] fit = passes_alone texts n small (reply_text texts Empty) (reply_whole texts spelled Empty tt)
-  keeps_rows (Some n) small (x ∷ ns) fit = passes_number texts n small (node_text texts x) (lines_for (node_text texts) ns) [] (row_lacks texts spelled x (each_all (PairFits texts) x fit.0)) (passes_nodes texts spelled ns fit.1)
+  keeps_rows (Some n) small (x ∷ ns) fit =
+      passes_number texts n small (node_text texts x) (lines_for (node_text texts) ns) []
+      (row_lacks texts spelled x (each_all (PairFits texts) x fit.0)) (passes_nodes texts spelled ns fit.1)
 
 module _ {T : Type 0} (cmp : T → T → Ordering) (texts : Texts T) (spelled : AreWords texts) where
-  keeps_reply : (echo : Option ℕ) → EchoFits echo → (t : PairTree T) → Good cmp texts t → (c : PairCommand T) → Each (EventFits texts) (told_events cmp t c) → Keeps texts (echo_text echo ++ pair_reply cmp texts t c) (map (event_text texts) (told_events cmp t c))
+  keeps_reply : (echo : Option ℕ) → EchoFits echo → (t : PairTree T) → Good cmp texts t → (c : PairCommand T)
+      → Each (EventFits texts) (told_events cmp t c)
+      → Keeps texts (echo_text echo ++ pair_reply cmp texts t c) (map (event_text texts) (told_events cmp t c))
   keeps_reply echo small t g (Put k v) fits = keeps_change texts spelled echo small (change_reply cmp t (Put k v)) (change_fits cmp texts t g (Put k v)) (told_events cmp t (Put k v)) fits
   keeps_reply echo small t g (Cut k) fits = keeps_change texts spelled echo small (change_reply cmp t (Cut k)) (change_fits cmp texts t g (Cut k)) (told_events cmp t (Cut k)) fits
   keeps_reply echo small t g Nodes fits = keeps_rows texts spelled echo small t.nodes (each_apart (PairFits texts) t.nodes g.held)
@@ -227,7 +251,9 @@ module _ {T : Type 0} (texts : Texts T) where
   others_keep Pass = refl
 
 module _ {T : Type 0} (cmp : T → T → Ordering) (texts : Texts T) (total : IsTotalOrder cmp) (spelled : AreWords texts) where
-  module _ (l : Leader T) (g : Good cmp texts l.pairs) (c : Command T) (fit : CommandFits texts c.change) (small : EchoFits c.echo) (known : done_by l.done c < 2 ^ 64) (less : (pairs_after cmp l.pairs c.change).next ≤ MAX) where
+  module _ (l : Leader T) (g : Good cmp texts l.pairs) (c : Command T) (fit : CommandFits texts c.change)
+      (small : EchoFits c.echo) (known : done_by l.done c < 2 ^ 64)
+      (less : (pairs_after cmp l.pairs c.change).next ≤ MAX) where
     abbrev next : ℕ
     next = (pairs_after cmp l.pairs c.change).next
 
@@ -254,7 +280,9 @@ module _ {T : Type 0} (cmp : T → T → Ordering) (texts : Texts T) (total : Is
         let few : next < 2 ^ 64 = omega (arith, less) in
         let back = keeps_both texts (done_text c.echo (done_by l.done c) next) (ended last) done [] (keeps_done texts c.echo (done_by l.done c) next known few) (next_passes texts next few) in
         let all = keeps_both texts front (done_text c.echo (done_by l.done c) next ++ ended last) events (done ++ []) (keeps_reply cmp texts spelled c.echo small l.pairs g c.change fits) back in
-        ap (told_lines texts) whole_text ∙ ap (λ t. told_lines texts (lines_of t)) (sym (append-nil (command_text cmp texts l c))) ∙ all [] ∙ append-nil (events ++ (done ++ [])) ∙ ap (λ ls. events ++ ls) (append-nil done)
+        ap (told_lines texts) whole_text
+        ∙ ap (λ t. told_lines texts (lines_of t)) (sym (append-nil (command_text cmp texts l c))) ∙ all []
+        ∙ append-nil (events ++ (done ++ [])) ∙ ap (λ ls. events ++ ls) (append-nil done)
 
 -- ---- the number of a command
 

@@ -1,5 +1,6 @@
 -- What a run keeps of its answers, and what a crash leaves of it.
-use Rattle.std.specs.Prelude.{◌≡◌, ◌⊎◌, ◌≤◌, ◌+◌, ◌-◌, ◌/◌, ◌&&◌, ◌||◌, nat_lt, Bool, Option, OnSome, ℕ, List, [], ◌++◌, length}
+use Rattle.std.specs.Prelude.{◌≡◌, ◌⊎◌, ◌≤◌, ◌+◌, ◌-◌, ◌/◌, ◌&&◌, ◌||◌, nat_lt}
+use Rattle.std.specs.Prelude.{Bool, Option, OnSome, ℕ, List, [], ◌++◌, length}
 use Rattle.std.specs.Io.KnownBytes.{Appends, Consumes, IsAtEnd}
 use Rattle.indexset_core.specs.Nodes.{concat}
 use Rattle.indexset_core.specs.declared.pair.Pair.{Pair}
@@ -38,7 +39,8 @@ module _ {T : Type 0} where
   is_long lines nodes =
       let pairs = length (concat nodes) in
       let events = lines - length nodes in
-      (nat_lt 4096 lines && nat_lt pairs (lines / 10)) || (nat_lt (pairs / 20) events && nat_lt 1500000 (events + pairs / 10))
+      (nat_lt 4096 lines && nat_lt pairs (lines / 10))
+      || (nat_lt (pairs / 20) events && nat_lt 1500000 (events + pairs / 10))
 
   -- the nodes, the next number and the greatest command number are the same
   pub record IsSame (s t : State T) : Type 0 where
@@ -57,18 +59,24 @@ module _ {T : Type 0} (cmp : T → T → Ordering) (texts : Texts T) where
     -- replaying the kept lines gave the first state before, and gives the second after
     pub record Leads (from to : State T) : Type 0 where
       pub clean : doubt (view old).is_clean ≤ doubt (view new).is_clean
-      pub kept : IsClean (view new) → LeadsTo cmp texts (lines_in (view old).committed) from → LeadsTo cmp texts (lines_in (view new).committed) to
-      pub crash : IsClean (view new) → LeadsTo cmp texts (lines_in (view old).committed) from → (db : Trees) → recovers new db → IsLeft from to db
+      pub kept : IsClean (view new) → LeadsTo cmp texts (lines_in (view old).committed) from
+          → LeadsTo cmp texts (lines_in (view new).committed) to
+      pub crash : IsClean (view new) → LeadsTo cmp texts (lines_in (view old).committed) from
+          → (db : Trees) → recovers new db → IsLeft from to db
 
     -- replaying the kept lines gave the first state before, and gives the second or the third after
     -- a crash
     pub record MayLead (from to more : State T) : Type 0 where
       pub clean : doubt (view old).is_clean ≤ doubt (view new).is_clean
-      pub crash : IsClean (view new) → LeadsTo cmp texts (lines_in (view old).committed) from → (db : Trees) → recovers new db → IsLeft from to db ⊎ LeadsTo cmp texts (lines_in db) more
+      pub crash : IsClean (view new) → LeadsTo cmp texts (lines_in (view old).committed) from
+          → (db : Trees) → recovers new db
+          → IsLeft from to db ⊎ LeadsTo cmp texts (lines_in db) more
 
   -- ---- a run
 
-  module _ (reply cut : Held T → List ℕ → List ℕ) (h : Held T) {S : Type 0} (view : S → View) (recovers : S → Trees → Type 0) (old new : S) (reader reader' writer writer' : Option (List ℕ)) (from : State T) where
+  module _ (reply cut : Held T → List ℕ → List ℕ) (h : Held T) {S : Type 0} (view : S → View)
+      (recovers : S → Trees → Type 0) (old new : S)
+      (reader reader' writer writer' : Option (List ℕ)) (from : State T) where
     -- the answers to whole lines
     abbrev pub answers_to : List ℕ → List ℕ
     answers_to whole = replies_to reply (after_input cmp texts) h (lines_of whole)
@@ -90,7 +98,8 @@ module _ {T : Type 0} (cmp : T → T → Ordering) (texts : Texts T) where
       pub read : Consumes reader reader' input
       pub at_end : OnSome reader (IsAtEnd reader')
       pub written : Appends writer writer' (text_of reply (after_input cmp texts) cut h input)
-      pub leads : Leads view recovers old new from (state_held (left_by (after_input cmp texts) h (whole_lines input)))
+      pub leads : Leads view recovers old new from
+          (state_held (left_by (after_input cmp texts) h (whole_lines input)))
 
     -- the reader returned whole lines whose answers were written, further whole lines that were
     -- executed, and a rest: after a crash, replaying what is kept gives the state after the first
@@ -103,13 +112,16 @@ module _ {T : Type 0} (cmp : T → T → Ordering) (texts : Texts T) where
       pub is_more : IsWhole more
       pub read : Consumes reader reader' (whole ++ (more ++ rest))
       pub written : IsOut → Appends writer writer' (answers_to whole)
-      pub crash : MayLead view recovers old new from (state_held (map_after cmp texts h whole)) (state_held (map_after cmp texts (map_after cmp texts h whole) more))
+      pub crash : MayLead view recovers old new from (state_held (map_after cmp texts h whole))
+          (state_held (map_after cmp texts (map_after cmp texts h whole) more))
 
   -- the map starts from some lines; the reader returned an input to its end, and the text for it
   -- was written
-  pub record AnswersFrom (reply cut : Held T → List ℕ → List ℕ) (first : List (List ℕ) → Held T) (reader reader' writer writer' : Option (List ℕ)) : Type 0 where
+  pub record AnswersFrom (reply cut : Held T → List ℕ → List ℕ) (first : List (List ℕ) → Held T)
+      (reader reader' writer writer' : Option (List ℕ)) : Type 0 where
     pub lines : List (List ℕ)
     pub input : List ℕ
     pub read : Consumes reader reader' input
     pub at_end : OnSome reader (IsAtEnd reader')
-    pub written : Appends writer writer' (text_of reply (after_input cmp texts) cut (first lines) input)
+    pub written : Appends writer writer'
+        (text_of reply (after_input cmp texts) cut (first lines) input)

@@ -14,7 +14,8 @@ use Rattle.indexset_follow.specs.declared.store.Store.{Store}
 use Rattle.indexset_keep.specs.Roles.{role_of}
 use Rattle.indexset_keep.specs.declared.manner.Manner.{Manner}
 
-module _ {T : Type 0} {k : key.Ghosts T} {o : ord.Ghosts T} {e : eq.Ghosts T} {p : partial.Ghosts T} {c : clone.Ghosts T} {d : display.Ghosts T} where
+module _ {T : Type 0} {k : key.Ghosts T} {o : ord.Ghosts T} {e : eq.Ghosts T}
+    {p : partial.Ghosts T} {c : clone.Ghosts T} {d : display.Ghosts T} where
   -- the role of a map, with its settings
   abbrev pub map_held : Store T k o e p c d → Held T
   map_held m = held m.size m.window m.role
@@ -22,4 +23,6 @@ module _ {T : Type 0} {k : key.Ghosts T} {o : ord.Ghosts T} {e : eq.Ghosts T} {p
 module _ {T : Type 0} (cmp : T → T → Ordering) (texts : Texts T) where
   -- the initial map, from the lines that are kept
   abbrev pub first_map : Manner → List (List ℕ) → Held T
-  first_map m lines = held m.size m.window (role_of m.size m.window m.leads (state_after cmp texts (start_state 0) lines))
+  first_map m lines =
+      held m.size m.window
+      (role_of m.size m.window m.leads (state_after cmp texts (start_state 0) lines))

@@ -40,7 +40,9 @@ module _ {T : Type 0} (texts : Texts T) where
 module _ {T : Type 0} where
   -- the initial role for a follower's state
   abbrev pub role_of : ℕ → ℕ → Bool → State T → Role T
-  role_of size window leads s = if leads then Leading (leader_of (promoted size s.held) s.done) else Following (holding window s.held s.done)
+  role_of size window leads s =
+      if leads then Leading (leader_of (promoted size s.held) s.done)
+      else Following (holding window s.held s.done)
 
 module _ {T : Type 0} (cmp : T → T → Ordering) (texts : Texts T) where
   -- a role that the program can have: its nodes are lawful, and its numbers have at most 64 bits

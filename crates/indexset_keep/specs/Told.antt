@@ -1,5 +1,6 @@
 -- The lines that a map keeps of a line that it reads.
-use Rattle.std.specs.Prelude.{Bool, true, false, ◌||◌, is_some, Option, None, Some, ℕ, ◌-◌, List, [], filter, length, take, drop}
+use Rattle.std.specs.Prelude.{Bool, true, false, ◌||◌, is_some, Option, None}
+use Rattle.std.specs.Prelude.{Some, ℕ, ◌-◌, List, [], filter, length, take, drop}
 use Rattle.std.specs.Option.{option_map_or}
 use Rattle.indexset_lines.specs.Lines.{whole_lines}
 use Rattle.indexset_follow.specs.EventLine.{event_of}
@@ -36,11 +37,13 @@ module _ {T : Type 0} (texts : Texts T) where
 
   -- what a leader keeps of its answer to a line: nothing of a read
   abbrev pub answer_kept : List ℕ → List ℕ → List (List ℕ)
-  answer_kept line answer = option_map_or (λ q. []) (query_of texts line) (told_lines (whole_lines answer))
+  answer_kept line answer =
+      option_map_or (λ q. []) (query_of texts line) (told_lines (whole_lines answer))
 
   -- the lines of a leader's answer between the first and the last: nothing of a read
   abbrev pub inner_kept : List ℕ → List ℕ → List (List ℕ)
-  inner_kept line answer = option_map_or (λ q. []) (query_of texts line) (inner (whole_lines answer))
+  inner_kept line answer =
+      option_map_or (λ q. []) (query_of texts line) (inner (whole_lines answer))
 
 module _ {T : Type 0} (cmp : T → T → Ordering) (texts : Texts T) where
   -- what is kept of a line in a role, from the answer to it

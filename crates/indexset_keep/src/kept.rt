@@ -1,6 +1,7 @@
 //! The kept lines of a map.
 
-ghost use Rattle.std.specs.Prelude.{◌≡◌, ◌≢◌, ◌∷◌, ◌++◌, if◌then◌else◌, [], Err, IfErr, IfOk, OnErr, OnOk, Some};
+ghost use Rattle.std.specs.Prelude.{◌≡◌, ◌≢◌, ◌∷◌, ◌++◌, if◌then◌else◌, []};
+ghost use Rattle.std.specs.Prelude.{Err, IfErr, IfOk, OnErr, OnOk, Some};
 ghost use Rattle.sqlite_trees.specs.View.{IsClean};
 ghost use Rattle.indexset_follow.specs.Follow.{State, state_after};
 ghost use Rattle.indexset_events.specs.Nodes.{is_filled};

@@ -12,7 +12,8 @@ ghost use Rattle.indexset_follow.specs.declared.others.Voice.{Voice};
 ghost use Rattle.indexset_follow.specs.declared.role.Role.{Role};
 ghost use Rattle.indexset_follow.specs.declared.role.Role.TheVariants as role;
 ghost use Rattle.indexset_keep.specs.Leads.{IsSound};
-ghost use Rattle.indexset_keep.specs.Roles.{IsSoundMap, IsSoundRole, LeadsTo, copy_held, done_held, role_of, settled, snapshot_of};
+ghost use Rattle.indexset_keep.specs.Roles.{IsSoundMap, IsSoundRole, LeadsTo, copy_held};
+ghost use Rattle.indexset_keep.specs.Roles.{done_held, role_of, settled, snapshot_of};
 ghost use Rattle.indexset_keep.specs.Told.{kept_by};
 
 use indexset_bench::key::Key;

@@ -4,7 +4,8 @@ ghost use Rattle.std.specs.Prelude.{◌≡◌, ◌≢◌, IfErr, IsTrue, OnErr, 
 ghost use Rattle.indexset_follow.specs.Follow.{State, start_state, state_after};
 ghost use Rattle.indexset_follow.specs.Store.{held_cut, input_reply};
 ghost use Rattle.indexset_journal.specs.Kept.{texts};
-ghost use Rattle.indexset_keep.specs.Keep.{AnswersAll, AnswersFrom, AnswersSome, IsSame, Leads, MayLead};
+ghost use Rattle.indexset_keep.specs.Keep.{AnswersAll, AnswersFrom};
+ghost use Rattle.indexset_keep.specs.Keep.{AnswersSome, IsSame, Leads, MayLead};
 ghost use Rattle.indexset_keep.specs.Map.{first_map};
 ghost use Rattle.indexset_keep.specs.Roles.{IsSoundRole, settled};
 

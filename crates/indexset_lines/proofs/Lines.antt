@@ -1,5 +1,6 @@
 -- The lines of an input and their replies, for concatenations of inputs.
-use Rattle.std.proofs.Common.{◌≡◌, ◌≢◌, ℕ, suc, ◌-◌, ◌<◌, get_or, Bool, true, false, cond, eqb, List, [], ◌∷◌, ◌++◌, length, refl, sym, ap, ◌∙◌, arith, append_assoc, append-nil, eq-eqb, ne_eqb, ◌==◌, ◌||◌}
+use Rattle.std.proofs.Common.{◌≡◌, ◌≢◌, ℕ, suc, ◌-◌, ◌<◌, get_or, Bool, true, false, cond, eqb, List, [], ◌∷◌, ◌++◌}
+use Rattle.std.proofs.Common.{length, refl, sym, ap, ◌∙◌, arith, append_assoc, append-nil, eq-eqb, ne_eqb, ◌==◌, ◌||◌}
 use Rattle.std.proofs.lemmas.List.{get_or_push, length_push}
 use Rattle.std.proofs.lemmas.Bool.{eqb-false}
 use Rattle.std.proofs.lemmas.List.Elements.{All-cons, All-head, All-nil, All-tail}
@@ -176,7 +177,9 @@ module _ {S : Type 0} (after : S → List ℕ → S) where
   left_by-append s [] ms = refl
   left_by-append s (l ∷ ls) ms = left_by-append (after s l) ls ms
 
-  pub replies_to-append : (reply : S → List ℕ → List ℕ) (s : S) (ls ms : List (List ℕ)) → replies_to reply after s (ls ++ ms) ≡ replies_to reply after s ls ++ replies_to reply after (left_by after s ls) ms
+  pub replies_to-append : (reply : S → List ℕ → List ℕ) (s : S) (ls ms : List (List ℕ))
+      → replies_to reply after s (ls ++ ms)
+      ≡ replies_to reply after s ls ++ replies_to reply after (left_by after s ls) ms
   unfolding replies_to left_by
   replies_to-append reply s [] ms = refl
   replies_to-append reply s (l ∷ ls) ms =

@@ -1,5 +1,8 @@
 -- Reading a line, piece by piece.
-use Rattle.std.proofs.Common.{Option, true, false, cond, None, Some, IfSome, OnSome, ◌≡◌, ◌≢◌, ℕ, suc, ◌==◌, not, ◌||◌, ◌+◌, ◌<◌, ◌≤◌, List, [], ◌∷◌, ◌++◌, length, take, get_or, refl, sym, ap, subst, ◌∙◌, arith, rules, append_assoc, append-nil, eq-eqb, eqb-true, true≢false, length-take-le, get_or-take}
+use Rattle.std.proofs.Common.{Option, true, false, cond, None, Some, IfSome, OnSome, ◌≡◌, ◌≢◌, ℕ}
+use Rattle.std.proofs.Common.{suc, ◌==◌, not, ◌||◌, ◌+◌, ◌<◌, ◌≤◌, List, [], ◌∷◌, ◌++◌, length}
+use Rattle.std.proofs.Common.{take, get_or, refl, sym, ap, subst, ◌∙◌, arith, rules, append_assoc}
+use Rattle.std.proofs.Common.{append-nil, eq-eqb, eqb-true, true≢false, length-take-le, get_or-take}
 use Rattle.std.proofs.lemmas.List.{take_more}
 use Rattle.std.proofs.lemmas.List.Elements.{All-append, All-from_get_or}
 use Rattle.std.proofs.lemmas.List.Folds.{list_any-append}
@@ -81,7 +84,9 @@ pub no_bytes : (xs : List ℕ) → length xs ≡ 0 → xs ≡ []
 no_bytes [] none = refl
 no_bytes (x ∷ xs) none = absurd (omega arith)
 
-pub no_room_left : (r : Option (List ℕ)) (shown piece : List ℕ) (room len : ℕ) → IfSome r (λ xs. StartsWith xs shown) → length piece ≤ length shown → room < len + length piece → IfSome r (λ xs. room < len + length xs)
+pub no_room_left : (r : Option (List ℕ)) (shown piece : List ℕ) (room len : ℕ)
+    → IfSome r (λ xs. StartsWith xs shown) → length piece ≤ length shown → room < len + length piece
+    → IfSome r (λ xs. room < len + length xs)
 no_room_left None shown piece room len front within small = tt
 no_room_left (Some xs) shown piece room len front within small = omega (arith, starts_with_length xs shown front)
 

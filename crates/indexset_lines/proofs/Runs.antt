@@ -54,7 +54,9 @@ module _ {S : Type 0} (reply : S → List ℕ → List ℕ) (after : S → List 
   -- ---- whole lines and a rest
 
   module _ (cut : S → List ℕ → List ℕ) where
-    text_with : (whole rest : List ℕ) → IsWhole whole → HasNoEnd rest → text_of reply after cut begun (whole ++ rest) ≡ text_so_far whole ++ rest_reply reply after cut (left_by after begun (lines_of whole)) rest
+    text_with : (whole rest : List ℕ) → IsWhole whole → HasNoEnd rest
+        → text_of reply after cut begun (whole ++ rest)
+        ≡ text_so_far whole ++ rest_reply reply after cut (left_by after begun (lines_of whole)) rest
     text_with whole rest is_whole none = rw (whole_lines-append rest none whole is_whole, rest_of-append rest none whole is_whole) refl
 
     text_whole : (whole : List ℕ) → IsWhole whole → text_of reply after cut begun whole ≡ text_so_far whole
@@ -94,12 +96,15 @@ module _ {S : Type 0} (reply : S → List ℕ → List ℕ) (after : S → List 
           whole = far.whole ++ (line ++ 10 ∷ []);
           is_whole = subst IsWhole (append_assoc far.whole line (10 ∷ [])) (IsWhole-end (far.whole ++ line));
           read = Consumes-trans r r1 r2 far.whole (line ++ 10 ∷ []) far.read read.1;
-          written = subst (Appends w w2) (sym (text_of-more far.whole (line ++ 10 ∷ []) line held far.is_whole one far.left)) (Appends-trans w w1 w2 (text_so_far far.whole) (reply held line) far.written line_told);
+          written =
+              subst (Appends w w2) (sym (text_of-more far.whole (line ++ 10 ∷ []) line held far.is_whole one far.left))
+              (Appends-trans w w1 w2 (text_so_far far.whole) (reply held line) far.written line_told);
           left = next ∙ ap (λ l. after held l) same ∙ sym (left_by-more far.whole (line ++ 10 ∷ []) line held far.is_whole one far.left);
         }
 
     -- the last line, which has no end, was answered
-    pub all_but_end : (cut : S → List ℕ → List ℕ) (part : Part) (passed : List ℕ) → part ≡ Last → passed ≡ line → Reads r1 r2 line part → Appends w1 w2 (cut held passed) → AnswersAll (text_of reply after cut begun) r r2 w w2
+    pub all_but_end : (cut : S → List ℕ → List ℕ) (part : Part) (passed : List ℕ) → part ≡ Last → passed ≡ line
+        → Reads r1 r2 line part → Appends w1 w2 (cut held passed) → AnswersAll (text_of reply after cut begun) r r2 w w2
     all_but_end cut part passed is same reads told =
         let read = subst (Reads r1 r2 line) is reads in
         let cut_told = subst (λ l. Appends w1 w2 (cut held l)) same told in
@@ -107,7 +112,12 @@ module _ {S : Type 0} (reply : S → List ℕ → List ℕ) (after : S → List 
           input = far.whole ++ line;
           read = Consumes-trans r r1 r2 far.whole line far.read read.1;
           at_end = at_end-after r r1 r2 far.whole far.read read.3;
-          written = subst (Appends w w2) (sym (text_with cut far.whole line far.is_whole read.0 ∙ ap (λ t. text_so_far far.whole ++ t) (rest_some cut line read.2 ∙ ap (λ s. cut s line) (sym far.left)))) (Appends-trans w w1 w2 (text_so_far far.whole) (cut held line) far.written cut_told);
+          written =
+              subst (Appends w w2)
+              (sym
+              (text_with cut far.whole line far.is_whole read.0
+              ∙ ap (λ t. text_so_far far.whole ++ t) (rest_some cut line read.2 ∙ ap (λ s. cut s line) (sym far.left))))
+              (Appends-trans w w1 w2 (text_so_far far.whole) (cut held line) far.written cut_told);
         }
 
     -- the reader failed within a line
@@ -138,14 +148,20 @@ module _ {S : Type 0} (reply : S → List ℕ → List ℕ) (after : S → List 
     unanswered End other reads kept = absurd (other refl)
 
     -- a line was read whose events need more numbers than remain
-    lacking_rest : (lacks : S → Type 0) (rest passed : List ℕ) → lines_of rest ≡ line ∷ [] → IsLinePart rest → Consumes r1 r2 rest → passed ≡ line → Keeps w1 w2 → lacks (after held passed) → LacksNumbers reply after begun lacks r r2 w w2
+    lacking_rest : (lacks : S → Type 0) (rest passed : List ℕ) → lines_of rest ≡ line ∷ [] → IsLinePart rest
+        → Consumes r1 r2 rest → passed ≡ line → Keeps w1 w2 → lacks (after held passed)
+        → LacksNumbers reply after begun lacks r r2 w w2
     unfolding unanswered_rest
     lacking_rest lacks rest passed one stops read same kept many =
         let onward = ap (λ l. after held l) same ∙ sym (left_by-more far.whole rest line held far.is_whole one far.left) in
         (unanswered_rest rest stops read kept, subst lacks onward many)
 
-    pub lacking : (lacks : S → Type 0) (part : Part) (passed : List ℕ) → part ≢ End → passed ≡ line → Reads r1 r2 line part → Keeps w1 w2 → lacks (after held passed) → LacksNumbers reply after begun lacks r r2 w w2
-    lacking lacks (Whole is_used_up) passed other same reads kept many = lacking_rest lacks (line ++ 10 ∷ []) passed (lines_of-end line reads.0) (StopsAt-append line (10 ∷ []) 10 reads.0 (All-nil (λ x. x ≢ 10))) reads.1 same kept many
+    pub lacking : (lacks : S → Type 0) (part : Part) (passed : List ℕ) → part ≢ End → passed ≡ line
+        → Reads r1 r2 line part → Keeps w1 w2 → lacks (after held passed)
+        → LacksNumbers reply after begun lacks r r2 w w2
+    lacking lacks (Whole is_used_up) passed other same reads kept many =
+        lacking_rest lacks (line ++ 10 ∷ []) passed (lines_of-end line reads.0)
+        (StopsAt-append line (10 ∷ []) 10 reads.0 (All-nil (λ x. x ≢ 10))) reads.1 same kept many
     lacking lacks Last passed other same reads kept many = lacking_rest lacks line passed (lines_of-last line reads.0 reads.2) (StopsAt-of_All line 10 reads.0) reads.1 same kept many
     lacking lacks End passed other same reads kept many = absurd (other refl)
 
@@ -161,7 +177,8 @@ module _ {S : Type 0} (reply : S → List ℕ → List ℕ) (after : S → List 
         }
 
   -- the reader had nothing left
-  pub rest_read : (cut : S → List ℕ → List ℕ) (r r1 r2 w w1 : Option (List ℕ)) (held : S) → SoFar r r1 w w1 held → Keeps r1 r2 → OnSome r1 (IsAtEnd r2) → AnswersAll (text_of reply after cut begun) r r2 w w1
+  pub rest_read : (cut : S → List ℕ → List ℕ) (r r1 r2 w w1 : Option (List ℕ)) (held : S) → SoFar r r1 w w1 held
+      → Keeps r1 r2 → OnSome r1 (IsAtEnd r2) → AnswersAll (text_of reply after cut begun) r r2 w w1
   rest_read cut r r1 r2 w w1 held far kept end = record {
     input = far.whole;
     read = Consumes-kept r r1 r2 far.whole far.read kept;

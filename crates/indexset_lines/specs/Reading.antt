@@ -8,7 +8,8 @@ use Rattle.indexset_lines.specs.Lines.{HasNoEnd}
 -- the reader returned a line and its end, or the last line, or no bytes
 abbrev pub Reads : Option (List ℕ) → Option (List ℕ) → List ℕ → Part → Type 0
 Reads old new line (Whole is_used_up) = HasNoEnd line × Consumes old new (line ++ 10 ∷ [])
-Reads old new line Last = HasNoEnd line × Consumes old new line × (0 < length line) × OnSome old (IsAtEnd new)
+Reads old new line Last =
+    HasNoEnd line × Consumes old new line × (0 < length line) × OnSome old (IsAtEnd new)
 Reads old new line End = (line ≡ []) × Consumes old new [] × OnSome old (IsAtEnd new)
 
 -- the reader returned less than a line

@@ -10,7 +10,8 @@ module _ {S : Type 0} (after : S → List ℕ → S) where
   left_by s (line ∷ lines) = left_by (after s line) lines
 
 -- the reader returned an input to its end, and the text for it was written
-pub record AnswersAll (text : List ℕ → List ℕ) (reader reader' writer writer' : Option (List ℕ)) : Type 0 where
+pub record AnswersAll (text : List ℕ → List ℕ)
+    (reader reader' writer writer' : Option (List ℕ)) : Type 0 where
   pub input : List ℕ
   pub read : Consumes reader reader' input
   pub at_end : OnSome reader (IsAtEnd reader')
@@ -30,12 +31,15 @@ module _ {S : Type 0} (reply : S → List ℕ → List ℕ) (after : S → List 
 
     -- the replies to the whole lines of an input, and the reply to the rest
     abbrev pub text_of : S → List ℕ → List ℕ
-    text_of start input = replies_to start (whole_lines input) ++ rest_reply (left_by after start (whole_lines input)) (rest_of input)
+    text_of start input =
+        replies_to start (whole_lines input)
+        ++ rest_reply (left_by after start (whole_lines input)) (rest_of input)
 
   module _ (start : S) where
     -- the reader returned whole lines and such a rest, and the replies to the whole lines were
     -- written
-    pub record AnswersWholeLines (IsRest : List ℕ → Type 0) (reader reader' writer writer' : Option (List ℕ)) : Type 0 where
+    pub record AnswersWholeLines (IsRest : List ℕ → Type 0)
+        (reader reader' writer writer' : Option (List ℕ)) : Type 0 where
       pub whole : List ℕ
       pub rest : List ℕ
       pub is_whole : IsWhole whole
@@ -44,5 +48,8 @@ module _ {S : Type 0} (reply : S → List ℕ → List ℕ) (after : S → List 
       pub written : Appends writer writer' (replies_to start (lines_of whole))
 
     -- the same, where the rest is the line whose events need more numbers than remain
-    abbrev pub LacksNumbers : (S → Type 0) → (reader reader' writer writer' : Option (List ℕ)) → Type 0
-    LacksNumbers lacks reader reader' writer writer' = (answered : AnswersWholeLines IsLinePart reader reader' writer writer') × lacks (left_by after start (lines_of (answered.whole ++ answered.rest)))
+    abbrev pub LacksNumbers : (S → Type 0) → (reader reader' writer writer' : Option (List ℕ))
+        → Type 0
+    LacksNumbers lacks reader reader' writer writer' =
+        (answered : AnswersWholeLines IsLinePart reader reader' writer writer')
+        × lacks (left_by after start (lines_of (answered.whole ++ answered.rest)))

@@ -1,5 +1,7 @@
 -- The facts of `Changed`, from one equation between trees.
-use Rattle.std.proofs.Common.{◌≡◌, ℕ, ◌+◌, ◌/◌, ◌<◌, ◌≤◌, true, false, List, [], length, slice_get, Option, Some, None, IfSome, MatchOption, Result, Ok, Err, IfOk, OnOk, OnErr, Ordering, refl, ap, sym, ◌∙◌, subst, arith}
+use Rattle.std.proofs.Common.{◌≡◌, ℕ, ◌+◌, ◌/◌, ◌<◌, ◌≤◌, true, false, List, [], length}
+use Rattle.std.proofs.Common.{slice_get, Option, Some, None, IfSome, MatchOption, Result, Ok}
+use Rattle.std.proofs.Common.{Err, IfOk, OnOk, OnErr, Ordering, refl, ap, sym, ◌∙◌, subst, arith}
 use Rattle.std.below.core.specs.declared.int.u64.TheConstants.{MAX}
 use Rattle.std.specs.Cmp.{IsTotalOrder}
 use Rattle.std.proofs.lemmas.List.Elements.{length_all_zip, same_from_all_zip}
@@ -23,7 +25,11 @@ use Rattle.indexset_log.specs.Tree.{IsTree, Tree}
 use Rattle.indexset_events.specs.declared.change.ChangeEvent.{ChangeEvent}
 use Rattle.indexset_events.specs.declared.change.ChangeEventUnassigned.{ChangeEventUnassigned}
 use Rattle.indexset_log.proofs.CheckedPutLemmas.{absent_change, there_change}
-use Rattle.indexset_events.proofs.CallerLemmas.{absent_contents, absent_events, absent_here, ascends, clones_numbered, event_same, lawful_ascends, lawful_filled, lawful_ruled, length-numbered, pair_same, put_contents, put_replayed, put_spaced, some_read, sought_at, sought_contents, sought_events, taken_replay, taken_spaced, taking_length, three_at_most, two_at_most, up_node}
+use Rattle.indexset_events.proofs.CallerLemmas.{absent_contents, absent_events, absent_here, ascends, clones_numbered}
+use Rattle.indexset_events.proofs.CallerLemmas.{event_same, lawful_ascends, lawful_filled, lawful_ruled}
+use Rattle.indexset_events.proofs.CallerLemmas.{length-numbered, pair_same, put_contents, put_replayed, put_spaced}
+use Rattle.indexset_events.proofs.CallerLemmas.{some_read, sought_at, sought_contents, sought_events, taken_replay}
+use Rattle.indexset_events.proofs.CallerLemmas.{taken_spaced, taking_length, three_at_most, two_at_most, up_node}
 use Rattle.indexset_core.proofs.CallerLemmas.{found_has_equal, found_rank, has_put, parted_by_sought, gap_found}
 use Rattle.indexset_core.specs.Places.{located}
 use Rattle.indexset_core.specs.LookupKey.{OrdersAsItem, EqualsAtMostOne, acts_as_itself, one_as_itself}
@@ -51,7 +57,8 @@ module _ {T : Type 0} {cmp : T → T → Ordering} {old new : Tree T} {made : Ch
     dense = a.dense;
   }
 
-  pub told_where : {H : Type 0} (C : T → T → Type 0) → (H → AreIdentical C) → (fs : List (ChangeEvent T)) → Changed cmp old new made → AreTableEvents C old.next made.events fs → AreEventsOf H cmp C old new made fs
+  pub told_where : {H : Type 0} (C : T → T → Type 0) → (H → AreIdentical C) → (fs : List (ChangeEvent T))
+      → Changed cmp old new made → AreTableEvents C old.next made.events fs → AreEventsOf H cmp C old new made fs
   told_where {H} C identical fs d clones =
       let same : H → fs ≡ numbered_from old.next made.events = λ h. same_from_all_zip (IsEventClone C) (numbered_from old.next made.events) fs clones (event_same C (identical h)) in
       record {
@@ -66,8 +73,16 @@ module _ {T : Type 0} {cmp : T → T → Ordering} {old new : Tree T} {made : Ch
   told C = told_where C (λ h. h)
 
 -- the events that a set of pairs returns are those that a map returns
-pub pairs_told : {K V : Type 0} (cmp : K → K → Ordering) (C : K → K → Type 0) (D : V → V → Type 0) {old new : Tree (Pair K V)} {made : Change (Pair K V)} {fs : List (ChangeEvent (Pair K V))} → ItemEvents (by_key cmp) (IsPairClone C D) old new made fs → PairEvents cmp C D old new made fs
-pairs_told cmp C D s = record { clones = s.clones; events = λ h. s.events (pair_same h.0 h.1); numbered = s.numbered; replay = λ h. s.replay (pair_same h.0 h.1); at_most_three_events = s.at_most_three_events }
+pub pairs_told : {K V : Type 0} (cmp : K → K → Ordering) (C : K → K → Type 0) (D : V → V → Type 0)
+    {old new : Tree (Pair K V)} {made : Change (Pair K V)} {fs : List (ChangeEvent (Pair K V))}
+    → ItemEvents (by_key cmp) (IsPairClone C D) old new made fs → PairEvents cmp C D old new made fs
+pairs_told cmp C D s = record {
+  clones = s.clones;
+  events = λ h. s.events (pair_same h.0 h.1);
+  numbered = s.numbered;
+  replay = λ h. s.replay (pair_same h.0 h.1);
+  at_most_three_events = s.at_most_three_events;
+}
 
 pub if_some_map : {A : Type 0} (r : Option A) {P Q : A → Type 0} → IfSome r P → ((x : A) → P x → Q x) → IfSome r Q
 if_some_map (Some x) p f = f x p
@@ -116,20 +131,30 @@ module _ {T : Type 0} {cmp : T → T → Ordering} {most len : ℕ} {old new : T
   pub checked_changed : false ≡ has_equal cmp (concat old.nodes) v → new ≡ after_put cmp old v → Fits old (put_change cmp old v) → Changed cmp old new (checked_put_change cmp old v)
   checked_changed absent e fits = subst (Changed cmp old new) (sym (absent_change cmp old v absent)) (put_changed o t v e fits)
 
-  pub checked_told : (C : T → T → Type 0) (fs : List (ChangeEvent T)) → false ≡ has_equal cmp (concat old.nodes) v → Changed cmp old new (checked_put_change cmp old v) → AreTableEvents C old.next (put_events cmp old.size old.nodes v) fs → ItemEvents cmp C old new (checked_put_change cmp old v) fs
+  pub checked_told : (C : T → T → Type 0) (fs : List (ChangeEvent T)) → false ≡ has_equal cmp (concat old.nodes) v
+      → Changed cmp old new (checked_put_change cmp old v)
+      → AreTableEvents C old.next (put_events cmp old.size old.nodes v) fs
+      → ItemEvents cmp C old new (checked_put_change cmp old v) fs
   checked_told C fs absent d clones = told C fs d (subst (λ m. AreTableEvents C old.next m.events fs) (sym (absent_change cmp old v absent)) clones)
 
 -- the removal of the item at a place
 module _ {T : Type 0} (old : Tree T) (k i : ℕ) {nodes : List (List T)} {size next : ℕ} where
   -- as the code removes it, with a merge and without one
-  pub joined_after : {j : ℕ} → merge_after old.size old.nodes k i ≡ Some j → nodes ≡ with_merged (item_removed old.nodes k i) j → size ≡ old.size → next ≡ old.next + 2 → (let made : Tree T = record { nodes = nodes; size = size; next = next } in made) ≡ after_place_removal old k i
+  pub joined_after : {j : ℕ} → merge_after old.size old.nodes k i ≡ Some j
+      → nodes ≡ with_merged (item_removed old.nodes k i) j → size ≡ old.size → next ≡ old.next + 2
+      → (let made : Tree T = record { nodes = nodes; size = size; next = next } in made) ≡ after_place_removal old k i
   joined_after join n s c = rw join (λ i. record { nodes = n i; size = s i; next = c i })
 
-  pub lone_after : merge_after old.size old.nodes k i ≡ None → nodes ≡ item_removed old.nodes k i → size ≡ old.size → next ≡ old.next + 1 → (let made : Tree T = record { nodes = nodes; size = size; next = next } in made) ≡ after_place_removal old k i
+  pub lone_after : merge_after old.size old.nodes k i ≡ None → nodes ≡ item_removed old.nodes k i → size ≡ old.size
+      → next ≡ old.next + 1
+      → (let made : Tree T = record { nodes = nodes; size = size; next = next } in made) ≡ after_place_removal old k i
   lone_after join n s c = rw join (λ i. record { nodes = n i; size = s i; next = c i })
 
 module _ {T : Type 0} {cmp : T → T → Ordering} {most len : ℕ} {old new : Tree T} (o : IsTotalOrder cmp) (t : IsTree cmp most old.nodes old.size len) where
-  pub taken_altered : (k i : ℕ) → k < length old.nodes → {x : T} → slice_get (node_at old.nodes k) i ≡ Some x → new ≡ after_place_removal old k i → Altered cmp old new (concat (with_removed old.size old.nodes k i)) (place_removal_events old.size old.nodes k i x)
+  pub taken_altered : (k i : ℕ) → k < length old.nodes → {x : T} → slice_get (node_at old.nodes k) i ≡ Some x
+      → new ≡ after_place_removal old k i
+      → Altered cmp old new (concat (with_removed old.size old.nodes k i))
+      (place_removal_events old.size old.nodes k i x)
   taken_altered k i inside {x} here e =
       let count = taking_length old.size old.nodes k i x in
       record {
@@ -141,13 +166,17 @@ module _ {T : Type 0} {cmp : T → T → Ordering} {most len : ℕ} {old new : T
         dense = λ s. subst (λ t. IsDense (t.size / 2) t.nodes) (sym e) (taken_spaced cmp old.size t.two old.nodes k i t.lawful inside (slice_get_within (node_at old.nodes k) i x here) s);
       }
 
-  pub taken_changed : (k i : ℕ) → k < length old.nodes → {x : T} → slice_get (node_at old.nodes k) i ≡ Some x → new ≡ after_place_removal old k i → old.next + place_removal_count old.size old.nodes k i ≤ MAX → Changed cmp old new (place_removal old k i x)
+  pub taken_changed : (k i : ℕ) → k < length old.nodes → {x : T} → slice_get (node_at old.nodes k) i ≡ Some x
+      → new ≡ after_place_removal old k i → old.next + place_removal_count old.size old.nodes k i ≤ MAX
+      → Changed cmp old new (place_removal old k i x)
   taken_changed k i inside {x} here e fits =
       changed {made = place_removal old k i x} e (omega (arith, fits, taking_length old.size old.nodes k i x)) (taken_altered k i inside here e)
 
 -- a removal, by the place of its item
 module _ {T : Type 0} {cmp : T → T → Ordering} (old : Tree T) where
-  pub sought_after : {Q : Type 0} {order : T → Q → Ordering} {among : Q → Q → Ordering} {v : Q} {k i : ℕ} → OrdersAsItem cmp order among → IsLawful cmp old.size old.nodes → IsFoundIn order old.nodes v k i → after_removal order old v ≡ after_place_removal old k i
+  pub sought_after : {Q : Type 0} {order : T → Q → Ordering} {among : Q → Q → Ordering} {v : Q} {k i : ℕ}
+      → OrdersAsItem cmp order among → IsLawful cmp old.size old.nodes → IsFoundIn order old.nodes v k i
+      → after_removal order old v ≡ after_place_removal old k i
   unfolding after_removal_by
   sought_after {order = order} {v = v} {k = k} {i = i} acts law f =
       let n = node_at old.nodes k in
@@ -168,8 +197,19 @@ pub record Goes {T : Type 0} (old : Tree T) (place : Option (ℕ × ℕ)) (answe
   pub events : events_from old place ≡ es
   pub after : after_optional_removal old place ≡ new
 
-pub value_goes : {T Q : Type 0} {cmp : T → T → Ordering} {order : T → Q → Ordering} {among : Q → Q → Ordering} {old : Tree T} → IsTotalOrder cmp → OrdersAsItem cmp order among → IsLawful cmp old.size old.nodes → (v : Q) (place : Option (ℕ × ℕ)) → MatchOption place (equal_element order (concat old.nodes) v ≡ None) (λ p. IsFoundIn order old.nodes v p.0 p.1) → Goes old place (equal_element order (concat old.nodes) v) (removal_events order old.size old.nodes v) (after_removal order old v)
-value_goes {order = order} {old = old} o acts law v None none = record { inside = tt; item = sym none; events = sym (absent_events order old.nodes v none old.size); after = sym (absent_after order old v none) }
+pub value_goes : {T Q : Type 0} {cmp : T → T → Ordering} {order : T → Q → Ordering} {among : Q → Q → Ordering}
+    {old : Tree T}
+    → IsTotalOrder cmp → OrdersAsItem cmp order among → IsLawful cmp old.size old.nodes
+    → (v : Q) (place : Option (ℕ × ℕ))
+    → MatchOption place (equal_element order (concat old.nodes) v ≡ None) (λ p. IsFoundIn order old.nodes v p.0 p.1)
+    → Goes old place (equal_element order (concat old.nodes) v) (removal_events order old.size old.nodes v)
+    (after_removal order old v)
+value_goes {order = order} {old = old} o acts law v None none = record {
+  inside = tt;
+  item = sym none;
+  events = sym (absent_events order old.nodes v none old.size);
+  after = sym (absent_after order old v none);
+}
 value_goes {old = old} o acts law v (Some p) found =
     let x = some_read (node_at old.nodes p.0) p.1 found.here.inside in
     record { inside = (found.node_in, found.here.inside); item = found.item; events = rw x.1 (sym (sought_events o law found acts x.1)); after = sym (sought_after old acts law found) }
@@ -182,9 +222,17 @@ events_counted old k i here =
 
 -- a call without events changes nothing
 pub altered_nowhere : {T : Type 0} (cmp : T → T → Ordering) (old new : Tree T) → new ≡ old → Altered cmp old new (concat old.nodes) []
-altered_nowhere cmp old new same = subst (λ t. Altered cmp old t (concat old.nodes) []) (sym same) (record { contents = refl; size = refl; next = omega arith; table = refl; at_most_three_events = omega arith; dense = λ s. s })
+altered_nowhere cmp old new same = subst (λ t. Altered cmp old t (concat old.nodes) []) (sym same) (record {
+  contents = refl;
+  size = refl;
+  next = omega arith;
+  table = refl;
+  at_most_three_events = omega arith;
+  dense = λ s. s;
+})
 
-pub unchanged : {T : Type 0} (cmp : T → T → Ordering) (old new : Tree T) → new ≡ old → old.next ≤ MAX → {made : Change T} → made ≡ record { tree = old; items = concat old.nodes; events = [] } → Changed cmp old new made
+pub unchanged : {T : Type 0} (cmp : T → T → Ordering) (old new : Tree T) → new ≡ old → old.next ≤ MAX
+    → {made : Change T} → made ≡ record { tree = old; items = concat old.nodes; events = [] } → Changed cmp old new made
 unchanged cmp old new same in_range is =
     subst (Changed cmp old new) (sym is) (changed {made = record { tree = old; items = concat old.nodes; events = [] }} same (omega (arith, in_range)) (altered_nowhere cmp old new same))
 
@@ -192,7 +240,9 @@ pub there_changed : {T : Type 0} (cmp : T → T → Ordering) (old : Tree T) (v 
 there_changed cmp old v in_range there = unchanged cmp old old refl in_range (there_change cmp old v there)
 
 -- a removal
-module _ {T Q : Type 0} {cmp : T → T → Ordering} {order : T → Q → Ordering} {among : Q → Q → Ordering} {most len : ℕ} {old new : Tree T} (o : IsTotalOrder cmp) (acts : OrdersAsItem cmp order among) (one : EqualsAtMostOne cmp order) (t : IsTree cmp most old.nodes old.size len) (v : Q) where
+module _ {T Q : Type 0} {cmp : T → T → Ordering} {order : T → Q → Ordering} {among : Q → Q → Ordering}
+    {most len : ℕ} {old new : Tree T} (o : IsTotalOrder cmp) (acts : OrdersAsItem cmp order among)
+    (one : EqualsAtMostOne cmp order) (t : IsTree cmp most old.nodes old.size len) (v : Q) where
   pub sought_altered : new ≡ after_removal order old v → Altered cmp old new (without order (concat old.nodes) v) (removal_events order old.size old.nodes v)
   sought_altered e = at (located (λ x. order x v) old.nodes) refl
     where
@@ -202,7 +252,10 @@ module _ {T Q : Type 0} {cmp : T → T → Ordering} {order : T → Q → Orderi
           let read = some_read (node_at old.nodes p.0) p.1 found.here.inside in
           rw (sought_events o t.lawful found acts read.1, ← sought_contents o t.lawful found one read.1) (taken_altered o t p.0 p.1 found.node_in read.1 (e ∙ sought_after old acts t.lawful found))
       at (Err p) w =
-          let none = gap_found (λ x. order x v) old.nodes (lawful_filled cmp old.size old.nodes t.lawful) (parted_by_sought acts (concat old.nodes) (lawful_ascends cmp old.size old.nodes t.lawful) v) (Err p) w p refl in
+          let none =
+          gap_found (λ x. order x v) old.nodes (lawful_filled cmp old.size old.nodes t.lawful)
+          (parted_by_sought acts (concat old.nodes) (lawful_ascends cmp old.size old.nodes t.lawful) v) (Err p) w p
+          refl in
           rw (absent_events order old.nodes v none old.size, ← absent_contents order old.nodes v none) (altered_nowhere cmp old new (e ∙ absent_after order old v none))
 
   pub sought_changed : new ≡ after_removal order old v → Fits old (removal_change order old v) → Changed cmp old new (removal_change order old v)

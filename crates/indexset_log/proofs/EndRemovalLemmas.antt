@@ -1,6 +1,8 @@
 -- The item at a position of lawful nodes: the events of its removal, and that no item is below the
 -- first or above the last.
-use Rattle.std.proofs.Common.{◌≡◌, ℕ, zero, suc, ◌+◌, ◌-◌, ◌<◌, ◌≤◌, Bool, true, false, List, [], ◌∷◌, length, length-append, filter, take, drop, remove, slice_get, Option, Some, None, IfSome, MatchOption, Ordering, refl, ap, sym, subst, ◌∙◌, arith}
+use Rattle.std.proofs.Common.{◌≡◌, ℕ, zero, suc, ◌+◌, ◌-◌, ◌<◌, ◌≤◌, Bool, true, false, List, [], ◌∷◌}
+use Rattle.std.proofs.Common.{length, length-append, filter, take, drop, remove, slice_get, Option, Some}
+use Rattle.std.proofs.Common.{None, IfSome, MatchOption, Ordering, refl, ap, sym, subst, ◌∙◌, arith}
 use Rattle.std.below.core.specs.declared.int.u64.TheConstants.{MAX}
 use Rattle.std.specs.Borrow.{Bor}
 use Rattle.std.specs.Cmp.{IsTotalOrder}
@@ -50,7 +52,9 @@ module _ {T : Type 0} (cmp : T → T → Ordering) (o : IsTotalOrder cmp) (l : L
 
   pub last_greatest : (r : Option (Bor T)) (rest : List T) → TakesLast deref l r rest → IfSome r (λ x. above cmp l x.now ≡ [])
   last_greatest None rest is = tt
-  last_greatest (Some x) rest is = none_above (length rest + 0) x.now (rw is (slice_get-right rest (x.now ∷ []) (length rest + 0) 0 refl)) (omega (arith, ap (λ q. length q) is, length-append rest (x.now ∷ [])))
+  last_greatest (Some x) rest is =
+      none_above (length rest + 0) x.now (rw is (slice_get-right rest (x.now ∷ []) (length rest + 0) 0 refl))
+      (omega (arith, ap (λ q. length q) is, length-append rest (x.now ∷ [])))
 
 -- the removal of the item at the place
 module _ {T : Type 0} {cmp : T → T → Ordering} {size : ℕ} {ns : List (List T)} (o : IsTotalOrder cmp) (law : IsLawful cmp size ns) {p : ℕ × ℕ} {i : ℕ} (at : IsItemAt ns p i) where
@@ -58,7 +62,11 @@ module _ {T : Type 0} {cmp : T → T → Ordering} {size : ℕ} {ns : List (List
     pub item_there : slice_get (concat ns) i ≡ Some x
     item_there = rw (← at.before) (get_in_node ns p.0 p.1 at.node_in at.offset_in ∙ here)
 
-pub position_goes : {T : Type 0} {cmp : T → T → Ordering} {old : Tree T} → IsTotalOrder cmp → IsLawful cmp old.size old.nodes → (i : ℕ) (place : Option (ℕ × ℕ)) → MatchOption place (concat old.nodes ≡ []) (λ p. IsItemAt old.nodes p i) → Goes old place (slice_get (concat old.nodes) i) (removal_events_at cmp old.size old.nodes i) (after_removal_at cmp old i)
+pub position_goes : {T : Type 0} {cmp : T → T → Ordering} {old : Tree T} → IsTotalOrder cmp
+    → IsLawful cmp old.size old.nodes → (i : ℕ) (place : Option (ℕ × ℕ))
+    → MatchOption place (concat old.nodes ≡ []) (λ p. IsItemAt old.nodes p i)
+    → Goes old place (slice_get (concat old.nodes) i) (removal_events_at cmp old.size old.nodes i)
+    (after_removal_at cmp old i)
 unfolding after_removal_at removal_events_at
 position_goes o law i None none = rw none (record { inside = tt; item = refl; events = refl; after = refl })
 position_goes {cmp = cmp} {old = old} o law i (Some p) at =
@@ -98,7 +106,14 @@ module _ {T : Type 0} {cmp : T → T → Ordering} {most len : ℕ} {old new : T
   unfolding after_removal_at removal_events_at
   popped i e fits = at (slice_get (concat old.nodes) i) refl e fits
     where
-      at : (r : Option T) → slice_get (concat old.nodes) i ≡ r → new ≡ option_map_or (after_removal cmp old) r old → old.next + length (option_map_or (λ x. removal_events cmp old.size old.nodes x) r []) ≤ MAX → Changed cmp old new (record { tree = option_map_or (after_removal cmp old) r old; items = remove (concat old.nodes) i; events = option_map_or (λ x. removal_events cmp old.size old.nodes x) r [] })
+      at : (r : Option T) → slice_get (concat old.nodes) i ≡ r → new ≡ option_map_or (after_removal cmp old) r old
+          → old.next + length (option_map_or (λ x. removal_events cmp old.size old.nodes x) r []) ≤ MAX
+          → Changed cmp old new
+          (record {
+            tree = option_map_or (after_removal cmp old) r old;
+            items = remove (concat old.nodes) i;
+            events = option_map_or (λ x. removal_events cmp old.size old.nodes x) r [];
+          })
       at None is e fits = rw (← remove_beyond (concat old.nodes) i is) (unchanged cmp old new e (omega (arith, fits)) refl)
       at (Some x) is e fits = rw (← without_there cmp o (concat old.nodes) (lawful_ascends cmp old.size old.nodes t.lawful) i x is) (removal_changed o t x e fits)
 

@@ -1,6 +1,8 @@
 -- The end of the items that are not found Greater, in a list and in nodes, and the comparisons of
 -- an exponential search for it.
-use Rattle.std.proofs.Common.{◌≡◌, ℕ, zero, suc, ◌+◌, ◌-◌, ◌*◌, ◌/◌, ◌<◌, ◌≤◌, ◌==◌, true, false, if◌then◌else◌, List, [], ◌∷◌, length, take, min, Ordering, Some, None, slice_get, refl, ap, sym, ◌∙◌, inl, inr, arith}
+use Rattle.std.proofs.Common.{◌≡◌, ℕ, zero, suc, ◌+◌, ◌-◌, ◌*◌, ◌/◌, ◌<◌, ◌≤◌, ◌==◌, true}
+use Rattle.std.proofs.Common.{false, if◌then◌else◌, List, [], ◌∷◌, length, take, min, Ordering}
+use Rattle.std.proofs.Common.{Some, None, slice_get, refl, ap, sym, ◌∙◌, inl, inr, arith}
 use Rattle.std.specs.Ordering.{is_eq, is_gt, is_le, is_lt}
 use Rattle.std.specs.declared.cmp.Ordering.TheVariants.{Less, Equal, Greater}
 use Rattle.std.proofs.lemmas.Bool.{cases_lt, false≢true, ne_eqb}
@@ -10,7 +12,9 @@ use Rattle.std.proofs.lemmas.Option.{get_or_from_slice_get, none-some, slice_get
 use Rattle.indexset_core.specs.Digits.{digits}
 use Rattle.indexset_core.specs.Nodes.{equal_at, concat, node_at}
 use Rattle.indexset_core.specs.Parted.{IsParted, less_count, not_greater_count}
-use Rattle.indexset_core.proofs.CallerLemmas.{Parts, count_parts, digits-half, digits-left, digits-mono, digits-right, digits-zero, equal_read, front-is_le, front-is_lt, get_in_node, length-concat-more, parted_node}
+use Rattle.indexset_core.proofs.CallerLemmas.{Parts, count_parts, digits-half, digits-left, digits-mono}
+use Rattle.indexset_core.proofs.CallerLemmas.{digits-right, digits-zero, equal_read, front-is_le}
+use Rattle.indexset_core.proofs.CallerLemmas.{front-is_lt, get_in_node, length-concat-more, parted_node}
 
 -- the comparisons of an exponential search from `from`, with the bounds `low` and `high` so far, in
 -- a list of `len` items
@@ -270,7 +274,11 @@ module _ {T : Type 0} (answer : T → Ordering) (ns : List (List T)) (parted : I
     pub ends_inside : 1 ≤ here → here < length (node_at ns k) → before ns k + here ≡ whole answer ns
     ends_inside some inside =
         let x = some_read (node_at ns k) here inside in
-        omega (arith, at_least some, run_stops answer (concat ns) parted (before ns k + here) x.0 (get_in_node ns k here lt inside ∙ x.1) (run_fails answer (node_at ns k) node_parted here x.0 x.1 (omega arith)))
+        omega (
+          arith,
+          at_least some,
+          run_stops answer (concat ns) parted (before ns k + here) x.0 (get_in_node ns k here lt inside ∙ x.1) (run_fails answer (node_at ns k) node_parted here x.0 x.1 (omega arith)),
+        )
 
     -- the comparison with the first item of a node determines on which side of it the end is
     module _ (x : T) (is : slice_get (node_at ns k) 0 ≡ Some x) where
@@ -298,7 +306,9 @@ more_nodes ns some j (suc n) le =
 
 -- the comparisons of a search for the end, from `old` over `one` to `two` and `three`, if the end
 -- is in the node of the place
-pub few_near : (start offset end one two old : ℕ) → offset < end → one ≤ old + (2 * digits (end - (offset + 1)) + 1) → (offset + 1 ≡ end → one ≡ old) → two ≤ one + (2 * digits 0 + 1) → two ≤ old + (1 + 8 * digits (start + end - (start + offset) - 1))
+pub few_near : (start offset end one two old : ℕ) → offset < end → one ≤ old + (2 * digits (end - (offset + 1)) + 1)
+    → (offset + 1 ≡ end → one ≡ old) → two ≤ one + (2 * digits 0 + 1)
+    → two ≤ old + (1 + 8 * digits (start + end - (start + offset) - 1))
 few_near start offset end one two old lt few none next =
     let same : start + end - (start + offset) - 1 ≡ end - (offset + 1) = omega arith in
     rw same (elim (cases_lt (offset + 1) end) [
@@ -307,7 +317,11 @@ few_near start offset end one two old lt few none next =
     ])
 
 -- if the end is in a later node
-pub few_far : {T : Type 0} (ns : List (List T)) → ((k : ℕ) → k < length ns → 1 ≤ length (node_at ns k)) → (j k offset end one two three old : ℕ) → offset < length (node_at ns j) → j < k → k < length ns → 1 ≤ end → one ≤ old + (2 * digits (length (node_at ns j) - (offset + 1)) + 1) → two ≤ one + (2 * digits (k - j) + 1) → three ≤ two + (2 * digits (end - 1) + 1) → three ≤ old + (1 + 8 * digits (before ns k + end - (before ns j + offset) - 1))
+pub few_far : {T : Type 0} (ns : List (List T)) → ((k : ℕ) → k < length ns → 1 ≤ length (node_at ns k))
+    → (j k offset end one two three old : ℕ) → offset < length (node_at ns j) → j < k → k < length ns → 1 ≤ end
+    → one ≤ old + (2 * digits (length (node_at ns j) - (offset + 1)) + 1) → two ≤ one + (2 * digits (k - j) + 1)
+    → three ≤ two + (2 * digits (end - 1) + 1)
+    → three ≤ old + (1 + 8 * digits (before ns k + end - (before ns j + offset) - 1))
 few_far ns some j k offset end one two three old inside lt within begun first second third =
     let n = before ns k + end - (before ns j + offset) - 1 in
     let same : j + 1 + (k - (j + 1)) ≡ k = omega arith in
@@ -319,7 +333,9 @@ few_far ns some j k offset end one two three old inside lt within begun first se
     omega (arith, first, second, third, digits-mono _ n left, digits-mono _ n nodes, digits-mono _ n last, digits-some n (omega (arith, nodes, lt)))
 
 -- a place some items ahead that is in a later node
-pub next_place : {T : Type 0} (ns : List (List T)) (k o left total size : ℕ) → k < length ns → size ≡ length (node_at ns k) → o ≤ size → before ns k + o + left ≡ total → total < length (concat ns) → size - o ≤ left → (k + 1 < length ns) × (before ns (k + 1) + 0 + (left - (size - o)) ≡ total)
+pub next_place : {T : Type 0} (ns : List (List T)) (k o left total size : ℕ) → k < length ns
+    → size ≡ length (node_at ns k) → o ≤ size → before ns k + o + left ≡ total → total < length (concat ns)
+    → size - o ≤ left → (k + 1 < length ns) × (before ns (k + 1) + 0 + (left - (size - o)) ≡ total)
 next_place ns k o left total size lt is inside sum within long =
     let more = length-concat-more ns k lt in (
       elim (cases_lt (k + 1) (length ns)) [

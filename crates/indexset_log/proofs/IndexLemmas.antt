@@ -10,12 +10,18 @@ use Rattle.indexset_index.proofs.CallerLemmas.{both, both_inside, lengths_set, l
 
 module _ {X : Type 0} where
   -- a node halved
-  pub halved : {index : List ℕ} {ms : List (List X)} (ns : List (List X)) (k moved : ℕ) → ms ≡ with_halved ns k → index ≡ block_sums (node_lengths ns) → k < length ns → moved + length (node_at ns k) / 2 ≡ length (node_at ns k) → set index (k / 32) (get_or index (k / 32) 0 - moved) ≡ block_sums (remove (node_lengths ms) (k + 1))
+  pub halved : {index : List ℕ} {ms : List (List X)} (ns : List (List X)) (k moved : ℕ) → ms ≡ with_halved ns k
+      → index ≡ block_sums (node_lengths ns) → k < length ns → moved + length (node_at ns k) / 2 ≡ length (node_at ns k)
+      → set index (k / 32) (get_or index (k / 32) 0 - moved) ≡ block_sums (remove (node_lengths ms) (k + 1))
   halved ns k moved made is inside cut =
       let n = node_at ns k in
       let half = take (length n / 2) n in
       let left = length-take-le (length n / 2) n (omega arith) in
-      lowered ns k is inside half moved (omega (arith, cut)) (omega (arith, cut, left)) ∙ ap block_sums (lengths_set ns k half ∙ (sym (without-half ns k half (drop (length n / 2) n) inside) ∙ ap (λ l. remove (node_lengths l) (k + 1)) (sym made)))
+      lowered ns k is inside half moved (omega (arith, cut)) (omega (arith, cut, left))
+      ∙ ap block_sums
+      (lengths_set ns k half
+      ∙ (sym (without-half ns k half (drop (length n / 2) n) inside)
+      ∙ ap (λ l. remove (node_lengths l) (k + 1)) (sym made)))
 
   pub halved_sum : (ns : List (List X)) (k : ℕ) → k < length ns → sum (node_lengths (with_halved ns k)) ≡ sum (node_lengths ns)
   halved_sum ns k inside =
@@ -23,7 +29,20 @@ module _ {X : Type 0} where
       let half = length n / 2 in
       let ends = drop (k + 1) ns in
       let parts = take half n ∷ drop half n ∷ ends in
-      omega (arith, length-concat ns, length-concat (take k ns ++ parts), ap (λ (l : List X). length l) (concat-append (take k ns) parts), ap (λ (l : List X). length l) (joined_around ns k inside), length-append (concat (take k ns)) (concat parts), length-append (concat (take k ns)) (n ++ concat ends), length-append n (concat ends), length-append (take half n) (drop half n ++ concat ends), length-append (drop half n) (concat ends), length-take-le half n (omega arith), length-drop half n)
+      omega (
+        arith,
+        length-concat ns,
+        length-concat (take k ns ++ parts),
+        ap (λ (l : List X). length l) (concat-append (take k ns) parts),
+        ap (λ (l : List X). length l) (joined_around ns k inside),
+        length-append (concat (take k ns)) (concat parts),
+        length-append (concat (take k ns)) (n ++ concat ends),
+        length-append n (concat ends),
+        length-append (take half n) (drop half n ++ concat ends),
+        length-append (drop half n) (concat ends),
+        length-take-le half n (omega arith),
+        length-drop half n,
+      )
 
   -- two neighbours merged after one of them lost an item
   module _ (ns : List (List X)) (j : ℕ) (inside : j + 1 < length ns) (k : ℕ) (m : List X) (which : (k ≡ j) ⊎ (k ≡ j + 1)) (less : length m + 1 ≡ length (node_at ns k)) where
@@ -56,10 +75,16 @@ module _ {X : Type 0} where
     some_items = omega (arith, shorter, two_long ns j inside)
 
     -- merged after one of them lost an item
-    pub merged : {index : List ℕ} {ms : List (List X)} → ms ≡ with_merged ls j → index ≡ block_sums (node_lengths (both ns j inside)) → set index (j / 32) (get_or index (j / 32) 0 - 1) ≡ block_sums (node_lengths ms)
+    pub merged : {index : List ℕ} {ms : List (List X)} → ms ≡ with_merged ls j
+        → index ≡ block_sums (node_lengths (both ns j inside))
+        → set index (j / 32) (get_or index (j / 32) 0 - 1) ≡ block_sums (node_lengths ms)
     merged made is =
         let m2 = node_at ls j ++ node_at ls (j + 1) in
         let front : take j ls ≡ take j ns = take-set-le j ns k m at_most_two.0 in
         let back : drop (j + 2) ls ≡ drop (j + 2) ns = drop-set-lt (j + 2) ns k m at_most_two.1 in
-        let one : node_lengths (set (both ns j inside) j m2) ≡ node_lengths (take j ns ++ m2 ∷ drop (j + 2) ns) = ap (λ l. node_lengths l) (set-set (remove ns (j + 1)) j _ m2) ∙ (lengths_set (remove ns (j + 1)) j m2 ∙ sym (made-of-two ns j m2 inside)) in
-        lowered (both ns j inside) j is (both_inside ns j inside) m2 1 some_items (omega (arith, shorter, two_long ns j inside)) ∙ ap block_sums (one ∙ (rw (← front, ← back) refl ∙ ap (λ l. node_lengths l) (sym made)))
+        let one : node_lengths (set (both ns j inside) j m2) ≡ node_lengths (take j ns ++ m2 ∷ drop (j + 2) ns) =
+        ap (λ l. node_lengths l) (set-set (remove ns (j + 1)) j _ m2)
+        ∙ (lengths_set (remove ns (j + 1)) j m2 ∙ sym (made-of-two ns j m2 inside)) in
+        lowered (both ns j inside) j is (both_inside ns j inside) m2 1 some_items
+        (omega (arith, shorter, two_long ns j inside))
+        ∙ ap block_sums (one ∙ (rw (← front, ← back) refl ∙ ap (λ l. node_lengths l) (sym made)))

@@ -23,7 +23,9 @@ use Rattle.indexset_core.proofs.CallerLemmas.{pairs_total, parted_by_sought_key,
 use Rattle.indexset_core.specs.Places.{located}
 use Rattle.indexset_core.specs.LookupKey.{OrdersAsItem, EqualsAtMostOne, acts_on, one_on}
 
-module _ {K V Q : Type 0} {cmp : K → K → Ordering} {order : K → Q → Ordering} {among : Q → Q → Ordering} {size : ℕ} {ns : List (List (Pair K V))} (o : IsTotalOrder cmp) (acts : OrdersAsItem cmp order among) (one : EqualsAtMostOne cmp order) (law : IsLawful (by_key cmp) size ns) (k : Q) where
+module _ {K V Q : Type 0} {cmp : K → K → Ordering} {order : K → Q → Ordering} {among : Q → Q → Ordering} {size : ℕ}
+    {ns : List (List (Pair K V))} (o : IsTotalOrder cmp) (acts : OrdersAsItem cmp order among)
+    (one : EqualsAtMostOne cmp order) (law : IsLawful (by_key cmp) size ns) (k : Q) where
   abbrev answer : Pair K V → Ordering
   answer p = order p.key k
 
@@ -86,7 +88,9 @@ module _ {K V Q : Type 0} {cmp : K → K → Ordering} {order : K → Q → Orde
           record { pair_is = none; events = absent_events by_sought ns k none size; contents = absent_contents by_sought ns k none }
 
 -- the tree after the removal of the pair of a key
-module _ {K V Q : Type 0} {cmp : K → K → Ordering} {order : K → Q → Ordering} {among : Q → Q → Ordering} (o : IsTotalOrder cmp) (acts : OrdersAsItem cmp order among) (one : EqualsAtMostOne cmp order) (old : Tree (Pair K V)) (law : IsLawful (by_key cmp) old.size old.nodes) (k : Q) where
+module _ {K V Q : Type 0} {cmp : K → K → Ordering} {order : K → Q → Ordering} {among : Q → Q → Ordering}
+    (o : IsTotalOrder cmp) (acts : OrdersAsItem cmp order among) (one : EqualsAtMostOne cmp order)
+    (old : Tree (Pair K V)) (law : IsLawful (by_key cmp) old.size old.nodes) (k : Q) where
   key_after : {p : ℕ × ℕ} {x : Pair K V} → KeyTaken o acts one law k p x → after_key_removal order old k ≡ after_place_removal old p.0 p.1
   key_after taken = sought_after old (acts_on (λ (q : Pair K V). q.key) acts) law taken.found
 
@@ -96,10 +100,15 @@ module _ {K V Q : Type 0} {cmp : K → K → Ordering} {order : K → Q → Orde
   key_change : {p : ℕ × ℕ} {x : Pair K V} → KeyTaken o acts one law k p x → key_removal order old k ≡ place_removal old p.0 p.1 x
   key_change taken = λ i. record { tree = key_after taken i; items = sym taken.contents i; events = taken.events i }
 
-  pub key_changed : {p : ℕ × ℕ} {x : Pair K V} {new : Tree (Pair K V)} → KeyTaken o acts one law k p x → Changed (by_key cmp) old new (place_removal old p.0 p.1 x) → Changed (by_key cmp) old new (key_removal order old k)
+  pub key_changed : {p : ℕ × ℕ} {x : Pair K V} {new : Tree (Pair K V)} → KeyTaken o acts one law k p x
+      → Changed (by_key cmp) old new (place_removal old p.0 p.1 x)
+      → Changed (by_key cmp) old new (key_removal order old k)
   key_changed {new = new} taken = subst (Changed (by_key cmp) old new) (sym (key_change taken))
 
-  pub key_told : {p : ℕ × ℕ} {x : Pair K V} {C : K → K → Type 0} {D : V → V → Type 0} {new : Tree (Pair K V)} {fs : List (ChangeEvent (Pair K V))} → KeyTaken o acts one law k p x → PairEvents cmp C D old new (place_removal old p.0 p.1 x) fs → PairEvents cmp C D old new (key_removal order old k) fs
+  pub key_told : {p : ℕ × ℕ} {x : Pair K V} {C : K → K → Type 0} {D : V → V → Type 0} {new : Tree (Pair K V)}
+      {fs : List (ChangeEvent (Pair K V))}
+      → KeyTaken o acts one law k p x → PairEvents cmp C D old new (place_removal old p.0 p.1 x) fs
+      → PairEvents cmp C D old new (key_removal order old k) fs
   key_told {C = C} {D = D} {new = new} {fs = fs} taken = subst (λ made. PairEvents cmp C D old new made fs) (sym (key_change taken))
 
   pub no_key_changed : NoKey o acts one law k → old.next ≤ MAX → Changed (by_key cmp) old old (key_removal order old k)

@@ -64,28 +64,44 @@ module _ {K V : Type 0} (cmp : K → K → Ordering) (o : IsTotalOrder cmp) (k o
 
   beside_put : (l : List (Pair K V)) (w : V) → value_of cmp (put (by_key cmp) l (pair k w)) other ≡ value_of cmp l other
   unfolding put own
-  beside_put l w = ap (option_map (λ p. p.value)) (find-append own low (pair k w ∷ high) ∙ (rw (apart_back cmp o k other apart) (elim (cmp other k) as (λ a. cmp other k ≡ a → option_or (find own low) (find own high) ≡ find own l) [
-    | Less ↦ λ e. rw (find_kept own (λ p. is_lt (cmp p.key k)) (λ p h. ap is_lt (like_other p h ∙ e)) l, find_lost own (λ p. is_gt (cmp p.key k)) (λ p h. ap is_gt (like_other p h ∙ e)) l) (option_or_none (find own l))
-    | Equal ↦ λ e. absurd (false≢true (sym apart ∙ ap is_eq e))
-    | Greater ↦ λ e. rw (find_lost own (λ p. is_lt (cmp p.key k)) (λ p h. ap is_lt (like_other p h ∙ e)) l, find_kept own (λ p. is_gt (cmp p.key k)) (λ p h. ap is_gt (like_other p h ∙ e)) l) refl
-  ] refl))) where
-    low : List (Pair K V)
-    low = below (by_key cmp) l (pair k w)
+  beside_put l w =
+      ap (option_map (λ p. p.value))
+      (find-append own low (pair k w ∷ high)
+      ∙ (rw (apart_back cmp o k other apart)
+      (elim (cmp other k) as (λ a. cmp other k ≡ a → option_or (find own low) (find own high) ≡ find own l) [
+        | Less ↦
+            λ e.
+            rw (
+              find_kept own (λ p. is_lt (cmp p.key k)) (λ p h. ap is_lt (like_other p h ∙ e)) l,
+              find_lost own (λ p. is_gt (cmp p.key k)) (λ p h. ap is_gt (like_other p h ∙ e)) l,
+            )
+            (option_or_none (find own l))
+        | Equal ↦ λ e. absurd (false≢true (sym apart ∙ ap is_eq e))
+        | Greater ↦ λ e. rw (find_lost own (λ p. is_lt (cmp p.key k)) (λ p h. ap is_lt (like_other p h ∙ e)) l, find_kept own (λ p. is_gt (cmp p.key k)) (λ p h. ap is_gt (like_other p h ∙ e)) l) refl
+      ] refl))) where
+        low : List (Pair K V)
+        low = below (by_key cmp) l (pair k w)
 
-    high : List (Pair K V)
-    high = above (by_key cmp) l (pair k w)
+        high : List (Pair K V)
+        high = above (by_key cmp) l (pair k w)
 
-module _ {K V Q : Type 0} {cmp : K → K → Ordering} {order : K → Q → Ordering} {among : Q → Q → Ordering} (acts : OrdersAsItem cmp order among) (k : Q) (other : K) (apart : is_eq (order other k) ≡ false) where
+module _ {K V Q : Type 0} {cmp : K → K → Ordering} {order : K → Q → Ordering} {among : Q → Q → Ordering}
+    (acts : OrdersAsItem cmp order among) (k : Q) (other : K) (apart : is_eq (order other k) ≡ false) where
   beside_removed : (l : List (Pair K V)) → value_of cmp (without_key order l k) other ≡ value_of cmp l other
   unfolding unequal
-  beside_removed l = ap (option_map (λ p. p.value)) (find_kept (λ p. is_eq (cmp p.key other)) (λ p. not (is_eq (order p.key k))) (λ p e. ap not (ap is_eq (acts.alike k p.key other (equal_from _ e)) ∙ apart)) l)
+  beside_removed l =
+      ap (option_map (λ p. p.value))
+      (find_kept (λ p. is_eq (cmp p.key other)) (λ p. not (is_eq (order p.key k)))
+      (λ p e. ap not (ap is_eq (acts.alike k p.key other (equal_from _ e)) ∙ apart)) l)
 
 -- an insertion or a removal of a pair keeps the values of the other keys
 module _ {K V : Type 0} {cmp : K → K → Ordering} (before after : List (List (Pair K V))) where
   pub others_put : IsTotalOrder cmp → (k : K) (w : V) → concat after ≡ put (by_key cmp) (concat before) (pair k w) → KeepsOthers cmp cmp before after k
   others_put o k w made other apart = ap (λ l. value_of cmp l other) made ∙ beside_put cmp o k other apart (concat before) w
 
-  pub others_removed : {Q : Type 0} {order : K → Q → Ordering} {among : Q → Q → Ordering} → OrdersAsItem cmp order among → (k : Q) → concat after ≡ without_key order (concat before) k → KeepsOthers cmp order before after k
+  pub others_removed : {Q : Type 0} {order : K → Q → Ordering} {among : Q → Q → Ordering}
+      → OrdersAsItem cmp order among → (k : Q) → concat after ≡ without_key order (concat before) k
+      → KeepsOthers cmp order before after k
   others_removed acts k made other apart = ap (λ l. value_of cmp l other) made ∙ beside_removed acts k other apart (concat before)
 
 -- a pair inserted only if its key was absent

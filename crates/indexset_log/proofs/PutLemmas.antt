@@ -1,5 +1,7 @@
 -- A put into a tree, by its aim.
-use Rattle.std.proofs.Common.{◌≡◌, ℕ, suc, ◌+◌, ◌/◌, ◌<◌, ◌≤◌, Bool, true, false, cond, if◌then◌else◌, List, [], ◌∷◌, ◌++◌, length, set, take, eqb, Option, Some, None, is_some, is_err, is_ok, Ordering, Result, Ok, Err, refl, ap, sym, ◌∙◌, subst, arith, length-append}
+use Rattle.std.proofs.Common.{◌≡◌, ℕ, suc, ◌+◌, ◌/◌, ◌<◌, ◌≤◌, Bool, true, false, cond, if◌then◌else◌, List, []}
+use Rattle.std.proofs.Common.{◌∷◌, ◌++◌, length, set, take, eqb, Option, Some, None, is_some, is_err, is_ok}
+use Rattle.std.proofs.Common.{Ordering, Result, Ok, Err, refl, ap, sym, ◌∙◌, subst, arith, length-append}
 use Rattle.std.specs.Cmp.{IsTotalOrder}
 use Rattle.std.specs.Ordering.{is_eq}
 use Rattle.std.proofs.lemmas.Bool.{eqb-false, false≢true}
@@ -15,7 +17,9 @@ use Rattle.indexset_events.specs.Nodes.{is_filled, last_of}
 use Rattle.indexset_log.specs.Tree.{IsTree}
 use Rattle.indexset_events.specs.Replay.{numbered_from, assigned}
 use Rattle.indexset_events.specs.Table.{target, half_of, part_for, is_after_last, halving_events, node_events, target_events, put_events}
-use Rattle.indexset_events.proofs.CallerLemmas.{Roomy, Ruled, ascends, each_all, equal_in_target, filled_length, half_and, lawful_bounded, lawful_ruled, lawful_small, length_filled, ne_from, node_count, put_events_none, roomy, up_node}
+use Rattle.indexset_events.proofs.CallerLemmas.{Roomy, Ruled, ascends, each_all, equal_in_target, filled_length}
+use Rattle.indexset_events.proofs.CallerLemmas.{half_and, lawful_bounded, lawful_ruled, lawful_small, length_filled}
+use Rattle.indexset_events.proofs.CallerLemmas.{ne_from, node_count, put_events_none, roomy, up_node}
 
 numbered-append : {T : Type 0} (s : ℕ) (xs ys : List (ChangeEventUnassigned T)) → numbered_from s (xs ++ ys) ≡ numbered_from s xs ++ numbered_from (s + length xs) ys
 numbered-append s [] ys = ap (λ k. numbered_from k ys) (omega arith)
@@ -53,7 +57,10 @@ module _ {T : Type 0} {cmp : T → T → Ordering} {most size len : ℕ} {ns : L
     part_up = let d = r in subst (IsAscending cmp) part_is (ascends cmp _ (up_node cmp (with_room cmp size ns v) (target cmp (with_room cmp size ns v) v) d.ruled))
 
     pub part_some : 1 ≤ length (part_for cmp size (node_at ns a.node) v)
-    part_some = let d = r in let ruled : Ruled cmp (with_room cmp size ns v) = d.ruled in subst (λ q. 1 ≤ length q) part_is (filled_length _ (each_all _ (with_room cmp size ns v) ruled.filled (target cmp (with_room cmp size ns v) v) [] place_in))
+    part_some = let d = r in let ruled : Ruled cmp (with_room cmp size ns v) = d.ruled in
+        subst (λ q. 1 ≤ length q) part_is
+        (filled_length _
+        (each_all _ (with_room cmp size ns v) ruled.filled (target cmp (with_room cmp size ns v) v) [] place_in))
 
     -- the events of the put, in two parts
     pub events_parts : put_events cmp size ns v ≡ halving_events size (node_at ns a.node) v ++ node_events cmp (part_for cmp size (node_at ns a.node) v) v
@@ -66,11 +73,23 @@ module _ {T : Type 0} {cmp : T → T → Ordering} {most size len : ℕ} {ns : L
       | false ↦ refl
     ]
 
-    pub events_numbered : (s : ℕ) → numbered_from s (put_events cmp size ns v) ≡ numbered_from s (halving_events size (node_at ns a.node) v) ++ numbered_from (s + cond (eqb (length (node_at ns a.node)) size) 1 0) (node_events cmp (part_for cmp size (node_at ns a.node) v) v)
-    events_numbered s = ap (numbered_from s) events_parts ∙ (numbered-append s (halving_events size (node_at ns a.node) v) (node_events cmp (part_for cmp size (node_at ns a.node) v) v) ∙ rw (halving_count (node_at ns a.node)) refl)
+    pub events_numbered : (s : ℕ)
+        → numbered_from s (put_events cmp size ns v)
+        ≡ numbered_from s (halving_events size (node_at ns a.node) v)
+        ++ numbered_from (s + cond (eqb (length (node_at ns a.node)) size) 1 0)
+        (node_events cmp (part_for cmp size (node_at ns a.node) v) v)
+    events_numbered s =
+        ap (numbered_from s) events_parts
+        ∙ (numbered-append s (halving_events size (node_at ns a.node) v)
+        (node_events cmp (part_for cmp size (node_at ns a.node) v) v)
+        ∙ rw (halving_count (node_at ns a.node)) refl)
 
     pub parts_length : length (put_events cmp size ns v) ≡ cond (eqb (length (node_at ns a.node)) size) 1 0 + length (node_events cmp (part_for cmp size (node_at ns a.node) v) v)
-    parts_length = ap (λ q. length q) events_parts ∙ (length-append (halving_events size (node_at ns a.node) v) (node_events cmp (part_for cmp size (node_at ns a.node) v) v) ∙ rw (halving_count (node_at ns a.node)) refl)
+    parts_length =
+        ap (λ q. length q) events_parts
+        ∙ (length-append (halving_events size (node_at ns a.node) v)
+        (node_events cmp (part_for cmp size (node_at ns a.node) v) v)
+        ∙ rw (halving_count (node_at ns a.node)) refl)
 
     pub events_count : length (put_events cmp size ns v) ≡ cond a.full 1 0 + cond (is_ok a.at) 2 1
     events_count =

@@ -1,5 +1,7 @@
 -- Nodes without the items of a range.
-use Rattle.std.proofs.Common.{◌≡◌, ℕ, zero, suc, ◌+◌, ◌<◌, ◌≤◌, Bool, true, false, not, ◌==◌, List, [], ◌∷◌, ◌++◌, length, take, drop, get_or, set, map, filter, Ordering, refl, ap, sym, ◌∙◌, subst, arith, length-append}
+use Rattle.std.proofs.Common.{◌≡◌, ℕ, zero, suc, ◌+◌, ◌<◌, ◌≤◌, Bool, true, false, not, ◌==◌}
+use Rattle.std.proofs.Common.{List, [], ◌∷◌, ◌++◌, length, take, drop, get_or, set, map, filter}
+use Rattle.std.proofs.Common.{Ordering, refl, ap, sym, ◌∙◌, subst, arith, length-append}
 use Rattle.std.specs.declared.cmp.Ordering.TheVariants.{Less}
 use Rattle.std.proofs.lemmas.List.Elements.{All-filter, filter-append}
 use Rattle.std.proofs.lemmas.List.Sums.{count_by-le-length, length-filter}
@@ -33,15 +35,26 @@ module _ {T : Type 0} (p : T → Bool) where
   joined_fewer ns = rw (concat-filter ns) (filter_le (concat ns))
 
   -- the nodes after the first i are filtered
-  pub filtered_so_far : (ns : List (List T)) (i : ℕ) (d : List T) → i < length ns → set (take i (map (filter p) ns) ++ drop i ns) i (filter p (get_or (take i (map (filter p) ns) ++ drop i ns) i d)) ≡ take (suc i) (map (filter p) ns) ++ drop (suc i) ns
+  pub filtered_so_far : (ns : List (List T)) (i : ℕ) (d : List T) → i < length ns
+      → set (take i (map (filter p) ns) ++ drop i ns) i
+      (filter p (get_or (take i (map (filter p) ns) ++ drop i ns) i d))
+      ≡ take (suc i) (map (filter p) ns) ++ drop (suc i) ns
   filtered_so_far [] i d lt = absurd (omega arith)
   filtered_so_far (n ∷ ns) zero d lt = refl
   filtered_so_far (n ∷ ns) (suc i) d lt = ap (λ q. filter p n ∷ q) (filtered_so_far ns i d (omega arith))
 
-  pub filtered_length : (ns : List (List T)) (i : ℕ) (d : List T) → i < length ns → length (concat (take (suc i) (map (filter p) ns))) ≡ length (concat (take i (map (filter p) ns))) + length (filter p (get_or (take i (map (filter p) ns) ++ drop i ns) i d))
+  pub filtered_length : (ns : List (List T)) (i : ℕ) (d : List T) → i < length ns
+      → length (concat (take (suc i) (map (filter p) ns)))
+      ≡ length (concat (take i (map (filter p) ns)))
+      + length (filter p (get_or (take i (map (filter p) ns) ++ drop i ns) i d))
   filtered_length [] i d lt = absurd (omega arith)
   filtered_length (n ∷ ns) zero d lt = omega (arith, length-append (filter p n) [])
-  filtered_length (n ∷ ns) (suc i) d lt = omega (arith, filtered_length ns i d (omega arith), length-append (filter p n) (concat (take (suc i) (map (filter p) ns))), length-append (filter p n) (concat (take i (map (filter p) ns))))
+  filtered_length (n ∷ ns) (suc i) d lt = omega (
+    arith,
+    filtered_length ns i d (omega arith),
+    length-append (filter p n) (concat (take (suc i) (map (filter p) ns))),
+    length-append (filter p n) (concat (take i (map (filter p) ns))),
+  )
 
 -- the nodes without the empty ones
 pub joined_filled : {T : Type 0} (ns : List (List T)) → concat (filter is_filled ns) ≡ concat ns
@@ -61,7 +74,13 @@ each_fewer p size (n ∷ ns) h = (omega (arith, filter_le p n, h.0), each_fewer 
 pub ranged_lawful : {T : Type 0} (cmp : T → T → Ordering) (p : T → Bool) (size : ℕ) (ns : List (List T)) → IsLawful cmp size ns → IsLawful cmp size (filter is_filled (map (filter p) ns))
 ranged_lawful cmp p size ns law =
     let rule = lawful_ruled cmp size ns law in
-    lawful_from cmp size _ (record { filled = all_filled (map (filter p) ns); up = rw (joined_filled (map (filter p) ns), concat-filter p ns) (up_filter p cmp (concat ns) rule.up) }) (each_filter is_filled (λ n. length n ≤ size) (map (filter p) ns) (each_fewer p size ns (lawful_bounded cmp size ns law)))
+    lawful_from cmp size _
+    (record {
+      filled = all_filled (map (filter p) ns);
+      up = rw (joined_filled (map (filter p) ns), concat-filter p ns) (up_filter p cmp (concat ns) rule.up);
+    })
+    (each_filter is_filled (λ n. length n ≤ size) (map (filter p) ns)
+    (each_fewer p size ns (lawful_bounded cmp size ns law)))
 
 -- the nodes without the empty ones, as the code holds them
 pub filled-map : {T N : Type 0} (f : N → List T) (q : N → Bool) → ((v : N) → q v ≡ is_filled (f v)) → (vs : List N) → map f (filter q vs) ≡ filter is_filled (map f vs)
@@ -79,14 +98,22 @@ pub record Turned {T N : Type 0} (f : N → List T) (p : T → Bool) (old nodes 
   pub count : length (concat (take i (map (filter p) (map f old)))) + length (f w) ≡ length (concat (take (i + 1) (map (filter p) (map f old))))
   pub fits : length (concat (take i (map (filter p) (map f old)))) + length (f w) ≤ length (concat (map f old))
 
-pub turned : {T N : Type 0} (f : N → List T) (p : T → Bool) (old nodes : List N) (i : ℕ) (v w : N) → i < length old → length nodes ≡ length old → map f nodes ≡ take i (map (filter p) (map f old)) ++ drop i (map f old) → v ≡ get_or nodes i v → f w ≡ filter p (f v) → Turned f p old nodes i w
+pub turned : {T N : Type 0} (f : N → List T) (p : T → Bool) (old nodes : List N) (i : ℕ) (v w : N) → i < length old
+    → length nodes ≡ length old → map f nodes ≡ take i (map (filter p) (map f old)) ++ drop i (map f old)
+    → v ≡ get_or nodes i v → f w ≡ filter p (f v) → Turned f p old nodes i w
 turned f p old nodes i v w inside long so_far read made =
     let was = node_is f nodes (take i (map (filter p) (map f old)) ++ drop i (map f old)) i v so_far (omega arith) read in
     let within : i < length (map f old) = omega (arith, length-map old f) in
     let next : suc i ≡ i + 1 = omega arith in
-    let count = subst (λ j. length (concat (take i (map (filter p) (map f old)))) + length (f w) ≡ length (concat (take j (map (filter p) (map f old))))) next (rw (made, was) (sym (filtered_length p (map f old) i [] within))) in
+    let count =
+    subst
+    (λ j. length (concat (take i (map (filter p) (map f old)))) + length (f w)
+    ≡ length (concat (take j (map (filter p) (map f old)))))
+    next (rw (made, was) (sym (filtered_length p (map f old) i [] within))) in
     record {
-      nodes_are = subst (λ j. map f (set nodes i w) ≡ take j (map (filter p) (map f old)) ++ drop j (map f old)) next (map-set f nodes i w ∙ rw (so_far, made, was) (filtered_so_far p (map f old) i [] within));
+      nodes_are =
+          subst (λ j. map f (set nodes i w) ≡ take j (map (filter p) (map f old)) ++ drop j (map f old)) next
+          (map-set f nodes i w ∙ rw (so_far, made, was) (filtered_so_far p (map f old) i [] within));
       count = count;
       fits = omega (arith, count, length-concat-take (map (filter p) (map f old)) (i + 1), joined_fewer p (map f old));
     }

@@ -40,7 +40,9 @@ pub record Held {T N : Type 0} (cmp : T → T → Ordering) (most : ℕ) (f : N 
   pub indexed : index ≡ block_sums (node_lengths t.nodes)
 
 module _ {T N : Type 0} {cmp : T → T → Ordering} {most size len next : ℕ} {index : List ℕ} {t : Tree T} where
-  pub held : (f : N → List T) (items : List N) → (let seen : Tree T = record { nodes = map f items; size = size; next = next } in seen) ≡ t → IsIndexedTree cmp most (map f items) size len index → Held cmp most f items size len next index t
+  pub held : (f : N → List T) (items : List N)
+      → (let seen : Tree T = record { nodes = map f items; size = size; next = next } in seen) ≡ t
+      → IsIndexedTree cmp most (map f items) size len index → Held cmp most f items size len next index t
   held f items seen rule = record {
     same = ap (λ t. t.nodes) seen;
     many = length_view f items t.nodes (ap (λ t. t.nodes) seen);
@@ -55,13 +57,21 @@ module _ {T N : Type 0} {cmp : T → T → Ordering} {most size len next : ℕ} 
   node_held {f = f} {items = items} {n = n} h k lt is = node_is f items t.nodes k n h.same (omega (arith, lt, h.many)) is
 
 -- the invariant of a tree after a put, after a removal, and after the insertion of a node
-pub put_tree : {T : Type 0} {cmp : T → T → Ordering} {most size len : ℕ} {ns : List (List T)} (o : IsTotalOrder cmp) → IsTree cmp most ns size len → (v : T) → IsTree cmp most (with_put cmp size ns v) size (len + cond (has_equal cmp (concat ns) v) 0 1)
+pub put_tree : {T : Type 0} {cmp : T → T → Ordering} {most size len : ℕ} {ns : List (List T)} (o : IsTotalOrder cmp)
+    → IsTree cmp most ns size len → (v : T)
+    → IsTree cmp most (with_put cmp size ns v) size (len + cond (has_equal cmp (concat ns) v) 0 1)
 put_tree o t v = record { lawful = put_lawful o t.two t.lawful v; two = t.two; within = t.within; counted = omega (arith, t.counted, put_counted o t.two t.lawful v) }
 
-pub taken_tree : {T : Type 0} {cmp : T → T → Ordering} {size : ℕ} {ns : List (List T)} (o : IsTotalOrder cmp) (law : IsLawful cmp size ns) (k i : ℕ) {x : T} → k < length ns → slice_get (node_at ns k) i ≡ Some x → {most len : ℕ} → IsTree cmp most ns size len → IsTree cmp most (with_removed size ns k i) size (len - 1)
+pub taken_tree : {T : Type 0} {cmp : T → T → Ordering} {size : ℕ} {ns : List (List T)} (o : IsTotalOrder cmp)
+    (law : IsLawful cmp size ns) (k i : ℕ) {x : T}
+    → k < length ns → slice_get (node_at ns k) i ≡ Some x → {most len : ℕ} → IsTree cmp most ns size len
+    → IsTree cmp most (with_removed size ns k i) size (len - 1)
 taken_tree o law k i inside here t = record { lawful = taken_lawful o law k i inside here; two = t.two; within = t.within; counted = omega (arith, t.counted, taken_counted o law k i inside here) }
 
-pub attached_tree : {T : Type 0} (cmp : T → T → Ordering) (o : IsTotalOrder cmp) (size : ℕ) (ns : List (List T)) {most len : ℕ} (n : List T) → IsTree cmp most ns size len → attach_refusal cmp size ns n ≡ None → IsTree cmp most (attached cmp ns n) size (len + length n)
+pub attached_tree : {T : Type 0} (cmp : T → T → Ordering) (o : IsTotalOrder cmp) (size : ℕ) (ns : List (List T))
+    {most len : ℕ} (n : List T)
+    → IsTree cmp most ns size len → attach_refusal cmp size ns n ≡ None
+    → IsTree cmp most (attached cmp ns n) size (len + length n)
 attached_tree cmp o size ns n t h =
     let d = added cmp o size ns n t.lawful h in
     record { lawful = d.lawful; two = t.two; within = t.within; counted = omega (arith, t.counted, d.counted) }

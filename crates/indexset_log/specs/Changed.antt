@@ -10,14 +10,16 @@ use Rattle.indexset_core.specs.Pairs.{by_key, without_key}
 use Rattle.indexset_events.specs.Clones.{AreTableEvents}
 use Rattle.indexset_core.specs.Clones.{AreIdentical}
 use Rattle.indexset_events.specs.Edits.{with_removed}
-use Rattle.indexset_log.specs.Edits.{after_checked_put, after_put, after_removal, after_place_removal}
+use Rattle.indexset_log.specs.Edits.{after_checked_put, after_put}
+use Rattle.indexset_log.specs.Edits.{after_removal, after_place_removal}
 use Rattle.indexset_events.specs.Ends.{removal_events_at}
 use Rattle.indexset_log.specs.Ends.{after_removal_at}
 use Rattle.indexset_events.specs.Merging.{IsDense}
 use Rattle.indexset_events.specs.Keys.{IsPairClone, key_removal_events}
 use Rattle.indexset_log.specs.Keys.{after_key_removal}
 use Rattle.indexset_events.specs.Replay.{IsNumberedFrom, numbered_from, replay}
-use Rattle.indexset_events.specs.Table.{checked_put_events, put_events, removal_events, place_removal_events}
+use Rattle.indexset_events.specs.Table.{checked_put_events, put_events}
+use Rattle.indexset_events.specs.Table.{removal_events, place_removal_events}
 use Rattle.indexset_log.specs.Tree.{Tree, refusal_for}
 use Rattle.indexset_events.specs.declared.change.ChangeEvent.{ChangeEvent}
 use Rattle.indexset_events.specs.declared.change.ChangeEventUnassigned.{ChangeEventUnassigned}
@@ -31,33 +33,62 @@ pub record Change (T : Type 0) : Type 0 where
 module _ {T : Type 0} (cmp : T → T → Ordering) (t : Tree T) where
   -- the change of a put
   abbrev pub put_change : T → Change T
-  put_change v = record { tree = after_put cmp t v; items = put cmp (concat t.nodes) v; events = put_events cmp t.size t.nodes v }
+  put_change v = record {
+    tree = after_put cmp t v;
+    items = put cmp (concat t.nodes) v;
+    events = put_events cmp t.size t.nodes v;
+  }
 
   -- the change of a checked put
   abbrev pub checked_put_change : T → Change T
-  checked_put_change v = record { tree = after_checked_put cmp t v; items = keep cmp (concat t.nodes) v; events = checked_put_events cmp t.size t.nodes v }
+  checked_put_change v = record {
+    tree = after_checked_put cmp t v;
+    items = keep cmp (concat t.nodes) v;
+    events = checked_put_events cmp t.size t.nodes v;
+  }
 
   -- the removal of the first item, if any
   abbrev pub first_removal : Change T
-  first_removal = record { tree = after_removal_at cmp t 0; items = drop 1 (concat t.nodes); events = removal_events_at cmp t.size t.nodes 0 }
+  first_removal = record {
+    tree = after_removal_at cmp t 0;
+    items = drop 1 (concat t.nodes);
+    events = removal_events_at cmp t.size t.nodes 0;
+  }
 
   -- the removal of the last item, if any
   abbrev pub last_removal : Change T
   last_removal =
       let last = length (concat t.nodes) - 1 in
-      record { tree = after_removal_at cmp t last; items = take last (concat t.nodes); events = removal_events_at cmp t.size t.nodes last }
+      record {
+        tree = after_removal_at cmp t last;
+        items = take last (concat t.nodes);
+        events = removal_events_at cmp t.size t.nodes last;
+      }
 
 -- the removal of the item x at offset i of the node at index k
 abbrev pub place_removal : {T : Type 0} → Tree T → ℕ → ℕ → T → Change T
-place_removal t k i x = record { tree = after_place_removal t k i; items = concat (with_removed t.size t.nodes k i); events = place_removal_events t.size t.nodes k i x }
+place_removal t k i x = record {
+  tree = after_place_removal t k i;
+  items = concat (with_removed t.size t.nodes k i);
+  events = place_removal_events t.size t.nodes k i x;
+}
 
 -- the removal of the item that equals v, if any
 abbrev pub removal_change : {T Q : Type 0} → (T → Q → Ordering) → Tree T → Q → Change T
-removal_change cmp t v = record { tree = after_removal cmp t v; items = without cmp (concat t.nodes) v; events = removal_events cmp t.size t.nodes v }
+removal_change cmp t v = record {
+  tree = after_removal cmp t v;
+  items = without cmp (concat t.nodes) v;
+  events = removal_events cmp t.size t.nodes v;
+}
 
 -- the removal of the pair of the key k, if any
-abbrev pub key_removal : {K V Q : Type 0} → (K → Q → Ordering) → Tree (Pair K V) → Q → Change (Pair K V)
-key_removal cmp t k = record { tree = after_key_removal cmp t k; items = without_key cmp (concat t.nodes) k; events = key_removal_events cmp t.size t.nodes k }
+abbrev pub key_removal : {K V Q : Type 0} → (K → Q → Ordering) → Tree (Pair K V) → Q
+    → Change (Pair K V)
+key_removal cmp t k = record {
+  tree = after_key_removal cmp t k;
+  items = without_key cmp (concat t.nodes) k;
+  events = key_removal_events cmp t.size t.nodes k;
+}
 
 -- the numbers of the change's events fit the counter
 abbrev pub Fits : {T : Type 0} → Tree T → Change T → Type 0
@@ -68,7 +99,8 @@ abbrev pub refusal_of : {T : Type 0} → Tree T → Change T → Refusal
 refusal_of t made = refusal_for t.next (length made.events)
 
 -- the new tree is the old one after the change
-pub record Changed {T : Type 0} (cmp : T → T → Ordering) (old new : Tree T) (made : Change T) : Type 0 where
+pub record Changed {T : Type 0} (cmp : T → T → Ordering) (old new : Tree T)
+    (made : Change T) : Type 0 where
   pub tree : new ≡ made.tree
   pub contents : concat new.nodes ≡ made.items
   pub nodes : new.nodes ≡ made.tree.nodes
@@ -81,7 +113,8 @@ pub record Changed {T : Type 0} (cmp : T → T → Ordering) (old new : Tree T) 
 
 -- the events of the change are returned, with clones in the place of their items; under H the
 -- clones are identical to them
-pub record AreEventsOf {T : Type 0} (H : Type 0) (cmp : T → T → Ordering) (C : T → T → Type 0) (old new : Tree T) (made : Change T) (told : List (ChangeEvent T)) : Type 0 where
+pub record AreEventsOf {T : Type 0} (H : Type 0) (cmp : T → T → Ordering) (C : T → T → Type 0)
+    (old new : Tree T) (made : Change T) (told : List (ChangeEvent T)) : Type 0 where
   pub clones : AreTableEvents C old.next made.events told
   pub events : H → told ≡ numbered_from old.next made.events
   pub numbered : IsNumberedFrom old.next told
@@ -89,9 +122,13 @@ pub record AreEventsOf {T : Type 0} (H : Type 0) (cmp : T → T → Ordering) (C
   pub at_most_three_events : length told ≤ 3
 
 -- the events that a set returns
-abbrev pub ItemEvents : {T : Type 0} → (T → T → Ordering) → (T → T → Type 0) → Tree T → Tree T → Change T → List (ChangeEvent T) → Type 0
+abbrev pub ItemEvents : {T : Type 0} → (T → T → Ordering) → (T → T → Type 0) → Tree T → Tree T
+    → Change T → List (ChangeEvent T) → Type 0
 ItemEvents cmp C old new made told = AreEventsOf (AreIdentical C) cmp C old new made told
 
 -- the events that a map returns
-abbrev pub PairEvents : {K V : Type 0} → (K → K → Ordering) → (K → K → Type 0) → (V → V → Type 0) → Tree (Pair K V) → Tree (Pair K V) → Change (Pair K V) → List (ChangeEvent (Pair K V)) → Type 0
-PairEvents cmp C D old new made told = AreEventsOf (AreIdentical C × AreIdentical D) (by_key cmp) (IsPairClone C D) old new made told
+abbrev pub PairEvents : {K V : Type 0} → (K → K → Ordering) → (K → K → Type 0)
+    → (V → V → Type 0) → Tree (Pair K V) → Tree (Pair K V) → Change (Pair K V)
+    → List (ChangeEvent (Pair K V)) → Type 0
+PairEvents cmp C D old new made told =
+    AreEventsOf (AreIdentical C × AreIdentical D) (by_key cmp) (IsPairClone C D) old new made told

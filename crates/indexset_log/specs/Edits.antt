@@ -12,22 +12,35 @@ use Rattle.indexset_log.specs.Tree.{Tree}
 module _ {T : Type 0} where
   -- the tree after a put
   abbrev pub after_put : (T → T → Ordering) → Tree T → T → Tree T
-  after_put cmp t v = record { nodes = with_put cmp t.size t.nodes v; size = t.size; next = t.next + length (put_events cmp t.size t.nodes v) }
+  after_put cmp t v = record {
+    nodes = with_put cmp t.size t.nodes v;
+    size = t.size;
+    next = t.next + length (put_events cmp t.size t.nodes v);
+  }
 
   -- the tree after a checked put
   abbrev pub after_checked_put : (T → T → Ordering) → Tree T → T → Tree T
-  after_checked_put cmp t v = record { nodes = with_checked_put cmp t.size t.nodes v; size = t.size; next = t.next + length (checked_put_events cmp t.size t.nodes v) }
+  after_checked_put cmp t v = record {
+    nodes = with_checked_put cmp t.size t.nodes v;
+    size = t.size;
+    next = t.next + length (checked_put_events cmp t.size t.nodes v);
+  }
 
   -- the tree after the removal of the item at offset i of the node at index k
   abbrev pub after_place_removal : Tree T → ℕ → ℕ → Tree T
-  after_place_removal t k i = record { nodes = with_removed t.size t.nodes k i; size = t.size; next = t.next + place_removal_count t.size t.nodes k i }
+  after_place_removal t k i = record {
+    nodes = with_removed t.size t.nodes k i;
+    size = t.size;
+    next = t.next + place_removal_count t.size t.nodes k i;
+  }
 
   -- the tree after the removal of the item that is found Equal, if any
   unfoldable pub after_removal_by : (T → Ordering) → Tree T → Tree T
   after_removal_by answer t =
       let k = node_for answer t.nodes in
       let n = node_at t.nodes k in
-      if list_any (λ x. is_eq (answer x)) n then after_place_removal t k (less_count answer n) else t
+      if list_any (λ x. is_eq (answer x)) n then after_place_removal t k (less_count answer n)
+      else t
 
   -- the tree after the removal of the item that equals v, if any
   abbrev pub after_removal : {Q : Type 0} → (T → Q → Ordering) → Tree T → Q → Tree T

@@ -16,7 +16,9 @@ module _ {T : Type 0} where
   -- its events
   abbrev pub events_from : Tree T → Option (ℕ × ℕ) → List (ChangeEventUnassigned T)
   events_from t None = []
-  events_from t (Some p) = option_map_or (λ x. place_removal_events t.size t.nodes p.0 p.1 x) (slice_get (node_at t.nodes p.0) p.1) []
+  events_from t (Some p) =
+      option_map_or (λ x. place_removal_events t.size t.nodes p.0 p.1 x)
+      (slice_get (node_at t.nodes p.0) p.1) []
 
   -- the tree after the removal
   abbrev pub after_optional_removal : Tree T → Option (ℕ × ℕ) → Tree T

@@ -18,14 +18,16 @@ abbrev pub fresh : {T : Type 0} → ℕ → Tree T
 fresh size = record { nodes = []; size = size; next = 0 }
 
 -- the invariant of a tree, where `most` is the limit of the node type and `len` the number of items
-pub record IsTree {T : Type 0} (cmp : T → T → Ordering) (most : ℕ) (nodes : List (List T)) (size len : ℕ) : Type 0 where
+pub record IsTree {T : Type 0} (cmp : T → T → Ordering) (most : ℕ) (nodes : List (List T))
+    (size len : ℕ) : Type 0 where
   pub lawful : IsLawful cmp size nodes
   pub two : 2 ≤ size
   pub within : size ≤ most
   pub counted : len ≡ length (concat nodes)
 
 -- the same, with the sums of the index
-pub record IsIndexedTree {T : Type 0} (cmp : T → T → Ordering) (most : ℕ) (nodes : List (List T)) (size len : ℕ) (index : List ℕ) : Type 0 where
+pub record IsIndexedTree {T : Type 0} (cmp : T → T → Ordering) (most : ℕ)
+    (nodes : List (List T)) (size len : ℕ) (index : List ℕ) : Type 0 where
   pub tree : IsTree cmp most nodes size len
   pub index_is : index ≡ block_sums (node_lengths nodes)
 

@@ -1,5 +1,6 @@
 //! The logged map, a logged set of pairs.
-ghost use Rattle.std.specs.Prelude.{◌≡◌, ◌==◌, ◌+◌, ◌<◌, ◌≤◌, [], find, length, map, None, IfOk, OnOk, IfErr, OnErr, IsOk};
+ghost use Rattle.std.specs.Prelude.{◌≡◌, ◌==◌, ◌+◌, ◌<◌, ◌≤◌, [], find, length};
+ghost use Rattle.std.specs.Prelude.{map, None, IfOk, OnOk, IfErr, OnErr, IsOk};
 ghost use Rattle.std.specs.Map.Iter.{ShowsInOrder, ShowsInReverse, deref};
 ghost use Rattle.std.specs.Option.{option_copied, unwrap_or};
 ghost use Rattle.std.specs.Ordering.{is_eq};
@@ -71,7 +72,8 @@ impl<K: Ord + Clone + Drop, V: Clone + Drop, Node: NodeLike<Pair<K, V>>> BTreeMa
     /// The size must be at least 2 and at most the limit of the node type.
     ///
     /// ```
-    /// let tree: map::BTreeMap<u64, u64, Vec<Pair<u64, u64>>> = map::BTreeMap::starting_at(alloc, 256, 100);
+    /// let tree: map::BTreeMap<u64, u64, Vec<Pair<u64, u64>>> =
+    ///     map::BTreeMap::starting_at(alloc, 256, 100);
     /// assert!(rt; tree.events_issued() == 100);
     /// ```
     pub fn starting_at(alloc: Global, size: usize, next: u64) -> Self
@@ -93,9 +95,13 @@ impl<K: Ord + Clone + Drop, V: Clone + Drop, Node: NodeLike<Pair<K, V>>> BTreeMa
     /// ```
     /// // A replica goes on as the map.
     /// let mut replica: Replica<Pair<u64, u64>> = Replica::new(alloc, 0);
-    /// replica.apply(&ChangeEvent::CreateNode { event_id: Id::from(0), max_value: Pair { key: 5, value: 50 } })?;
+    /// replica.apply(&ChangeEvent::CreateNode {
+    ///     event_id: Id::from(0),
+    ///     max_value: Pair { key: 5, value: 50 },
+    /// })?;
     /// let next = replica.next();
-    /// let tree: map::BTreeMap<u64, u64, Vec<Pair<u64, u64>>> = map::BTreeMap::from_nodes(replica.into_nodes(), 64, next)?;
+    /// let tree: map::BTreeMap<u64, u64, Vec<Pair<u64, u64>>> =
+    ///     map::BTreeMap::from_nodes(replica.into_nodes(), 64, next)?;
     /// assert!(rt; tree.contains_key(&5) && tree.events_issued() == 1);
     /// ```
     ///
@@ -129,7 +135,8 @@ impl<K: Ord + Clone + Drop, V: Clone + Drop, Node: NodeLike<Pair<K, V>>> BTreeMa
     /// The size must be at least 2 and at most the limit of the node type.
     ///
     /// ```
-    /// let tree: map::BTreeMap<u64, u64, Vec<Pair<u64, u64>>> = map::BTreeMap::with_maximum_node_size(alloc, 256);
+    /// let tree: map::BTreeMap<u64, u64, Vec<Pair<u64, u64>>> =
+    ///     map::BTreeMap::with_maximum_node_size(alloc, 256);
     /// assert!(rt; tree.is_empty());
     /// ```
     pub fn with_maximum_node_size(alloc: Global, size: usize) -> Self
@@ -335,7 +342,8 @@ impl<K: Ord + Clone + Drop, V: Clone + Drop, Node: NodeLike<Pair<K, V>>> BTreeMa
     ///
     /// ```
     /// // A text key, found by a &str without an allocation.
-    /// let mut prices: map::BTreeMap<String, u64, Vec<Pair<String, u64>>> = map::BTreeMap::new(alloc);
+    /// let mut prices: map::BTreeMap<String, u64, Vec<Pair<String, u64>>> =
+    ///     map::BTreeMap::new(alloc);
     /// prices.insert(String::from_str(alloc, "pear")?, 120)?;
     /// let mut sought = ByKey::new(&"pear");
     /// assert!(rt; prices.get_by(&mut sought).is_some_and(|pair| pair.value == 120));

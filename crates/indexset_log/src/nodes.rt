@@ -1,5 +1,8 @@
 //! Edits of the node list and its index.
-ghost use Rattle.std.specs.Prelude.{◌≡◌, ◌+◌, ◌/◌, ◌<◌, ◌≤◌, ◌++◌, Bool, true, false, IsTrue, [], vec_len, vec_capacity, length, map, set, cond, if◌then◌else◌, min, sum_by, Option, Some, nat_le, ◌⊎◌, insert, remove, slice_get, IfOk, OnOk, IfErr, OnErr, IsOk, is_err};
+ghost use Rattle.std.specs.Prelude.{◌≡◌, ◌+◌, ◌/◌, ◌<◌, ◌≤◌, ◌++◌, Bool, true, false, IsTrue, []};
+ghost use Rattle.std.specs.Prelude.{vec_len, vec_capacity, length, map, set, cond, if◌then◌else◌};
+ghost use Rattle.std.specs.Prelude.{min, sum_by, Option, Some, nat_le, ◌⊎◌, insert, remove};
+ghost use Rattle.std.specs.Prelude.{slice_get, IfOk, OnOk, IfErr, OnErr, IsOk, is_err};
 ghost use Rattle.std.specs.List.{HoldsAt};
 ghost use Rattle.indexset_core.specs.Nodes.{concat, node_at, node_lengths};
 ghost use Rattle.indexset_core.specs.Order.{IsAscending, IsFoundAt, IsGapFor, put, equal_element};

@@ -73,7 +73,8 @@ impl<T: Ord + Clone + Drop, Node: NodeLike<T>> Model for BTreeSet<T, Node> {
       next = s.next;
     } };
 
-    ghost invariant = { λ s. IsIndexedTree T.cmp Node.most (map Node.list s.nodes.items) s.size s.len
+    ghost invariant = { λ s.
+        IsIndexedTree T.cmp Node.most (map Node.list s.nodes.items) s.size s.len
         s.index.sums };
 }
 
@@ -177,7 +178,8 @@ impl<T: Ord + Clone + Drop, Node: NodeLike<T>> BTreeSet<T, Node> {
     ///
     /// ```
     /// // The fifth item halves a full node.
-    /// let mut tree: set::BTreeSet<u64, Vec<u64>> = set::BTreeSet::with_maximum_node_size(alloc, 4);
+    /// let mut tree: set::BTreeSet<u64, Vec<u64>> =
+    ///     set::BTreeSet::with_maximum_node_size(alloc, 4);
     /// for number in [0, 2, 4, 6, 3] {
     ///     tree.insert(number)?;
     /// }

@@ -15,6 +15,10 @@ module _ {T : Type 0} (l r ls rs : List T) (p q : T) (left : l ≡ p ∷ ls) (ri
   past_partial_equal R e = rw (left, right, e) refl
 
 -- the input of one more item, in two parts
-pub fed_next : {S A X : Type 0} (write : S → A → S) (f : X → List A) (s : S) (xs : List X) (x : X) (a b : List A) → f x ≡ a ++ b → fold write (fold write (fold write s (flat_map f xs)) a) b ≡ fold write s (flat_map f (xs ++ x ∷ []))
+pub fed_next : {S A X : Type 0} (write : S → A → S) (f : X → List A) (s : S) (xs : List X) (x : X) (a b : List A)
+    → f x ≡ a ++ b
+    → fold write (fold write (fold write s (flat_map f xs)) a) b ≡ fold write s (flat_map f (xs ++ x ∷ []))
 fed_next write f s xs x a b is =
-    sym (ap (fold write s) (flat_map-append f xs (x ∷ []) ∙ ap (λ l. flat_map f xs ++ l) (append-nil (f x) ∙ is)) ∙ (fold-append write s (flat_map f xs) (a ++ b) ∙ fold-append write (fold write s (flat_map f xs)) a b))
+    sym
+    (ap (fold write s) (flat_map-append f xs (x ∷ []) ∙ ap (λ l. flat_map f xs ++ l) (append-nil (f x) ∙ is))
+    ∙ (fold-append write s (flat_map f xs) (a ++ b) ∙ fold-append write (fold write s (flat_map f xs)) a b))

@@ -27,7 +27,12 @@ module _ {K V : Type 0} where
 
   -- a write in the set is one in the map
   pub contents_written : (s : NodeList (Pair K V)) (m : Contents K V) (i : ℕ) (w : V) → contents s ≡ m → contents (cut.with_value_at s i w) ≡ with_written m i w
-  contents_written s m i w e = (λ j. record { pairs = items-with_value_at s i w j; lengths = node_lengths-with_value_at s i w j; size = size-with_value_at s i w j }) ∙ ap (λ (n : Contents K V). with_written n i w) e
+  contents_written s m i w e = (λ j. record {
+    pairs = items-with_value_at s i w j;
+    lengths = node_lengths-with_value_at s i w j;
+    size = size-with_value_at s i w j;
+  })
+      ∙ ap (λ (n : Contents K V). with_written n i w) e
 
   pub set_cons : (q : Pair K V) (l : List (Pair K V)) (j : ℕ) (w : V) → q ∷ set_value_at l j w ≡ set_value_at (q ∷ l) (suc j) w
   set_cons q l j w = elim (slice_get l j) as (λ o. q ∷ option_map_or (λ p. slice_set l j (valued p w)) o l ≡ option_map_or (λ p. slice_set (q ∷ l) (suc j) (valued p w)) o (q ∷ l)) [

@@ -11,7 +11,9 @@ use Rattle.indexset_spine.specs.NodeList.{NodeList, items}
 use Rattle.indexset_core.specs.Order.{IsAscending, has_equal}
 use Rattle.indexset_core.specs.Pairs.{by_key, has_key, key_rank, value_of, without_key}
 use Rattle.indexset_core.specs.LookupKey.{OrdersAsItem, EqualsAtMostOne, one_on}
-use Rattle.indexset_core.proofs.CallerLemmas.{Parts, count_parts, front-is_lt, less_from, pairs_total, rank-slice_get, slice_get-rank_equal, found_key, found_rank, parted_by_sought_key, key_there, key_written, absent_without, sought_without}
+use Rattle.indexset_core.proofs.CallerLemmas.{Parts, count_parts, front-is_lt, less_from, pairs_total, rank-slice_get}
+use Rattle.indexset_core.proofs.CallerLemmas.{slice_get-rank_equal, found_key, found_rank, parted_by_sought_key}
+use Rattle.indexset_core.proofs.CallerLemmas.{key_there, key_written, absent_without, sought_without}
 use Rattle.indexset_map.specs.Contents.{Contents, contents, with_entry, with_written, without_at, without_entry}
 use Rattle.indexset_spine.specs.Lengths.{lengths_with, lengths_without}
 use Rattle.indexset_map.proofs.ContentsLemmas.{put_there}
@@ -19,10 +21,17 @@ use Rattle.indexset_spine.proofs.CallerLemmas.{node_lengths-without}
 use Rattle.indexset_set.specs.SetNodes.{IsWithoutAt}
 
 -- the removal of a key's pair
-pub key_taken : {K V Q : Type 0} {cmp : K → K → Ordering} {among : Q → Q → Ordering} (order : K → Q → Ordering) (l : List (Pair K V)) (k : Q) → IsTotalOrder cmp → OrdersAsItem cmp order among → EqualsAtMostOne cmp order → IsAscending (by_key cmp) l → (i : ℕ) → position (λ p. is_eq (order p.key k)) l ≡ Some i → remove l i ≡ without_key order l k
-key_taken {K = K} {V = V} {cmp = cmp} order l k o acts one up i h = sym (sought_without (on_total (λ (p : Pair K V). p.key) o) (one_on (λ (p : Pair K V). p.key) one) l k i up (found_key order l k i h (parted_by_sought_key acts l up k)))
+pub key_taken : {K V Q : Type 0} {cmp : K → K → Ordering} {among : Q → Q → Ordering} (order : K → Q → Ordering)
+    (l : List (Pair K V)) (k : Q)
+    → IsTotalOrder cmp → OrdersAsItem cmp order among → EqualsAtMostOne cmp order → IsAscending (by_key cmp) l → (i : ℕ)
+    → position (λ p. is_eq (order p.key k)) l ≡ Some i → remove l i ≡ without_key order l k
+key_taken {K = K} {V = V} {cmp = cmp} order l k o acts one up i h =
+    sym
+    (sought_without (on_total (λ (p : Pair K V). p.key) o) (one_on (λ (p : Pair K V). p.key) one) l k i up
+    (found_key order l k i h (parted_by_sought_key acts l up k)))
 
-module _ {K V Q : Type 0} {cmp : K → K → Ordering} {among : Q → Q → Ordering} (order : K → Q → Ordering) (acts : OrdersAsItem cmp order among) (l : List (Pair K V)) (up : IsAscending (by_key cmp) l) where
+module _ {K V Q : Type 0} {cmp : K → K → Ordering} {among : Q → Q → Ordering} (order : K → Q → Ordering)
+    (acts : OrdersAsItem cmp order among) (l : List (Pair K V)) (up : IsAscending (by_key cmp) l) where
   -- the keys at the positions before a key's rank are below it
   pub key_before : (k : Q) (i : ℕ) → i ≡ key_rank order l k → AllWithin (λ p. order p.key k ≡ Less) l 0 i
   key_before k i place n d low high =

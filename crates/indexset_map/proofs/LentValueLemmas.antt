@@ -15,7 +15,9 @@ use Rattle.indexset_map.proofs.ContentsLemmas.{contents_written}
 
 module _ {K V Q : Type 0} (cmp : K → Q → Ordering) where
   -- a value that was found is written under its key
-  met_written : (l : List (Pair K V)) (k : Q) (u w : V) → IsParted (λ p. cmp p.key k) l → Some u ≡ option_map (λ p. p.value) (find (λ p. is_eq (cmp p.key k)) l) → set_value_at l (less_count (λ p. cmp p.key k) l) w ≡ set_value cmp l k w
+  met_written : (l : List (Pair K V)) (k : Q) (u w : V) → IsParted (λ p. cmp p.key k) l
+      → Some u ≡ option_map (λ p. p.value) (find (λ p. is_eq (cmp p.key k)) l)
+      → set_value_at l (less_count (λ p. cmp p.key k) l) w ≡ set_value cmp l k w
   met_written l k u w parted met =
       let answer : Pair K V → Ordering = λ p. cmp p.key k in
       let i : ℕ = less_count answer l in
@@ -27,6 +29,11 @@ module _ {K V Q : Type 0} (cmp : K → Q → Ordering) where
       ] refl
 
   -- the same in the map, for a probe whose key is k
-  pub met_value : (s : NodeList (Pair K V)) (m : Contents K V) (j k : Q) (u w : V) → contents s ≡ m → j ≡ k → IsParted (λ p. cmp p.key j) (items s) → Some u ≡ option_map (λ p. p.value) (find (λ p. is_eq (cmp p.key j)) (items s)) → contents (cut.with_value_at s (less_count (λ p. cmp p.key j) (items s)) w) ≡ with_value cmp m k w
+  pub met_value : (s : NodeList (Pair K V)) (m : Contents K V) (j k : Q) (u w : V) → contents s ≡ m → j ≡ k
+      → IsParted (λ p. cmp p.key j) (items s)
+      → Some u ≡ option_map (λ p. p.value) (find (λ p. is_eq (cmp p.key j)) (items s))
+      → contents (cut.with_value_at s (less_count (λ p. cmp p.key j) (items s)) w) ≡ with_value cmp m k w
   met_value s m j k u w seen same parted met =
-      contents_written s (contents s) (less_count (λ p. cmp p.key j) (items s)) w refl ∙ (ap (with_pairs (contents s)) (met_written (items s) j u w parted met) ∙ (ap (λ n. with_value cmp n j w) seen ∙ ap (λ q. with_value cmp m q w) same))
+      contents_written s (contents s) (less_count (λ p. cmp p.key j) (items s)) w refl
+      ∙ (ap (with_pairs (contents s)) (met_written (items s) j u w parted met)
+      ∙ (ap (λ n. with_value cmp n j w) seen ∙ ap (λ q. with_value cmp m q w) same))

@@ -76,34 +76,54 @@ module _ {K V : Type 0} (cmp : K → K → Ordering) (o : IsTotalOrder cmp) (k o
   set_beside (p ∷ l) w =
       elim (is_eq (cmp p.key k)) as (λ b. is_eq (cmp p.key k) ≡ b → value_of cmp (if b then valued p w ∷ l else p ∷ set_value cmp l k w) other ≡ value_of cmp (p ∷ l) other) [
         | true ↦ λ e. rw (not_other cmp o k other apart p.key e) refl
-        | false ↦ λ e. elim (is_eq (cmp p.key other)) as (λ d. option_map (λ q. q.value) (cond d (Some p) (pair_of cmp (set_value cmp l k w) other)) ≡ option_map (λ q. q.value) (cond d (Some p) (pair_of cmp l other))) [
-          | true ↦ refl
-          | false ↦ set_beside l w
-        ]
+        | false ↦
+            λ e.
+            elim (is_eq (cmp p.key other))
+            as (λ d. option_map (λ q. q.value) (cond d (Some p) (pair_of cmp (set_value cmp l k w) other))
+            ≡ option_map (λ q. q.value) (cond d (Some p) (pair_of cmp l other))) [
+              | true ↦ refl
+              | false ↦ set_beside l w
+            ]
       ] refl
 
   put_beside : (l : List (Pair K V)) (w : V) → value_of cmp (put (by_key cmp) l (pair k w)) other ≡ value_of cmp l other
   unfolding put
-  put_beside l w = ap (option_map (λ p. p.value)) (find-append own below_k (pair k w ∷ above_k) ∙ (rw new (elim (cmp other k) as (λ a. cmp other k ≡ a → option_or (find own below_k) (find own above_k) ≡ find own l) [
-    | Less ↦ λ e. rw (found_kept own (λ p. is_lt (cmp p.key k)) (λ p h. ap is_lt (beside cmp o k other apart p.key h ∙ e)) l, found_lost own (λ p. is_gt (cmp p.key k)) (λ p h. ap is_gt (beside cmp o k other apart p.key h ∙ e)) l) (or_none (find own l))
-    | Equal ↦ λ e. absurd (false≢true (sym apart ∙ ap is_eq e))
-    | Greater ↦ λ e. rw (found_lost own (λ p. is_lt (cmp p.key k)) (λ p h. ap is_lt (beside cmp o k other apart p.key h ∙ e)) l, found_kept own (λ p. is_gt (cmp p.key k)) (λ p h. ap is_gt (beside cmp o k other apart p.key h ∙ e)) l) refl
-  ] refl))) where
-    own : Pair K V → Bool
-    own p = is_eq (cmp p.key other)
+  put_beside l w =
+      ap (option_map (λ p. p.value))
+      (find-append own below_k (pair k w ∷ above_k)
+      ∙ (rw new
+      (elim (cmp other k) as (λ a. cmp other k ≡ a → option_or (find own below_k) (find own above_k) ≡ find own l) [
+        | Less ↦
+            λ e.
+            rw (
+              found_kept own (λ p. is_lt (cmp p.key k)) (λ p h. ap is_lt (beside cmp o k other apart p.key h ∙ e)) l,
+              found_lost own (λ p. is_gt (cmp p.key k)) (λ p h. ap is_gt (beside cmp o k other apart p.key h ∙ e)) l,
+            )
+            (or_none (find own l))
+        | Equal ↦ λ e. absurd (false≢true (sym apart ∙ ap is_eq e))
+        | Greater ↦
+            λ e.
+            rw (
+              found_lost own (λ p. is_lt (cmp p.key k)) (λ p h. ap is_lt (beside cmp o k other apart p.key h ∙ e)) l,
+              found_kept own (λ p. is_gt (cmp p.key k)) (λ p h. ap is_gt (beside cmp o k other apart p.key h ∙ e)) l,
+            )
+            refl
+      ] refl))) where
+        own : Pair K V → Bool
+        own p = is_eq (cmp p.key other)
 
-    below_k : List (Pair K V)
-    below_k = below (by_key cmp) l (pair k w)
+        below_k : List (Pair K V)
+        below_k = below (by_key cmp) l (pair k w)
 
-    above_k : List (Pair K V)
-    above_k = above (by_key cmp) l (pair k w)
+        above_k : List (Pair K V)
+        above_k = above (by_key cmp) l (pair k w)
 
-    new : is_eq (cmp k other) ≡ false
-    new = not_other cmp o k other apart k (ap is_eq (tied_itself o k))
+        new : is_eq (cmp k other) ≡ false
+        new = not_other cmp o k other apart k (ap is_eq (tied_itself o k))
 
-    or_none : (r : Option (Pair K V)) → option_or r None ≡ r
-    or_none (Some p) = refl
-    or_none None = refl
+        or_none : (r : Option (Pair K V)) → option_or r None ≡ r
+        or_none (Some p) = refl
+        or_none None = refl
 
   pub value_beside : (l : List (Pair K V)) (w : V) → value_of cmp (put_value cmp l k w) other ≡ value_of cmp l other
   unfolding put_value
@@ -113,12 +133,17 @@ module _ {K V : Type 0} (cmp : K → K → Ordering) (o : IsTotalOrder cmp) (k o
   ]
 
 -- the value of another key is unchanged by a removal
-pub without_beside : {K V Q : Type 0} {cmp : K → K → Ordering} (order : K → Q → Ordering) → IsTotalOrder cmp → EqualsAtMostOne cmp order → (k : Q) (other : K) → is_eq (order other k) ≡ false → (l : List (Pair K V)) → value_of cmp (without_key order l k) other ≡ value_of cmp l other
+pub without_beside : {K V Q : Type 0} {cmp : K → K → Ordering} (order : K → Q → Ordering) → IsTotalOrder cmp
+    → EqualsAtMostOne cmp order → (k : Q) (other : K) → is_eq (order other k) ≡ false → (l : List (Pair K V))
+    → value_of cmp (without_key order l k) other ≡ value_of cmp l other
 unfolding unequal
-without_beside {cmp = cmp} order o one k other apart l = ap (option_map (λ p. p.value)) (found_kept (λ p. is_eq (cmp p.key other)) (λ p. not (is_eq (order p.key k))) (λ p e. stays p.key (order p.key k) refl (equal_from _ e)) l) where
-  stays : (x : _) (a : Ordering) → order x k ≡ a → cmp x other ≡ Equal → not (is_eq a) ≡ true
-  stays x Less e same = refl
-  stays x Greater e same = refl
-  stays x Equal e same =
-      let there : order other k ≡ Equal = one k x other e ∙ (o.antisymm other x ∙ ap ordering_reverse same) in
-      absurd (false≢true (sym apart ∙ ap is_eq there))
+without_beside {cmp = cmp} order o one k other apart l =
+    ap (option_map (λ p. p.value))
+    (found_kept (λ p. is_eq (cmp p.key other)) (λ p. not (is_eq (order p.key k)))
+    (λ p e. stays p.key (order p.key k) refl (equal_from _ e)) l) where
+      stays : (x : _) (a : Ordering) → order x k ≡ a → cmp x other ≡ Equal → not (is_eq a) ≡ true
+      stays x Less e same = refl
+      stays x Greater e same = refl
+      stays x Equal e same =
+          let there : order other k ≡ Equal = one k x other e ∙ (o.antisymm other x ∙ ap ordering_reverse same) in
+          absurd (false≢true (sym apart ∙ ap is_eq there))

@@ -10,7 +10,9 @@ use Rattle.indexset_core.proofs.CallerLemmas.{parted_by_sought_key}
 use Rattle.indexset_set.proofs.CallerLemmas.{below_all, drop_not_below, not_below_all, take_below}
 
 -- the pairs, split at the rank of the key
-module _ {K V Q : Type 0} {cmp : K → K → Ordering} {among : Q → Q → Ordering} (order : K → Q → Ordering) (acts : OrdersAsItem cmp order among) (l : List (Pair K V)) (up : IsAscending (by_key cmp) l) (k : Q) (i : ℕ) (place : i ≡ key_rank order l k) where
+module _ {K V Q : Type 0} {cmp : K → K → Ordering} {among : Q → Q → Ordering} (order : K → Q → Ordering)
+    (acts : OrdersAsItem cmp order among) (l : List (Pair K V)) (up : IsAscending (by_key cmp) l) (k : Q) (i : ℕ)
+    (place : i ≡ key_rank order l k) where
   pub cut_below : take i l ≡ pairs_below order l k
   cut_below = take_below (λ (p : Pair K V). order p.key) l k (parted_by_sought_key acts l up k) i place
 

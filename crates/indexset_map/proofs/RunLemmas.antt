@@ -28,7 +28,9 @@ module _ {X : Type 0} (ns : List (List X)) (some : 1 ≤ length ns) where
 module _ {K V : Type 0} (cmp : K → K → Ordering) (total : IsTotalOrder cmp) where
   module _ (size : ℕ) where
     -- a pair above all is inserted at the end
-    one_behind : (ns : List (List (Pair K V))) (p : Pair K V) (rest : List (Pair K V)) → AreNodeLengths (node_lengths ns) size → IsAscending (by_key cmp) (concat ns ++ p ∷ rest) → contents (node_list (with_last size ns p) size) ≡ with_entry cmp (contents (node_list ns size)) p.key p.value
+    one_behind : (ns : List (List (Pair K V))) (p : Pair K V) (rest : List (Pair K V))
+        → AreNodeLengths (node_lengths ns) size → IsAscending (by_key cmp) (concat ns ++ p ∷ rest)
+        → contents (node_list (with_last size ns p) size) ≡ with_entry cmp (contents (node_list ns size)) p.key p.value
     one_behind ns p rest is up =
         let some : 1 ≤ length ns = omega (arith, is.some, length-map ns (λ (n : List (Pair K V)). length n)) in
         let gap = gap_behind (by_key cmp) (concat ns) p rest up in
@@ -38,7 +40,10 @@ module _ {K V : Type 0} (cmp : K → K → Ordering) (total : IsTotalOrder cmp) 
         (joined_last size ns p some ∙ (sym (insert_end (concat ns) p) ∙ ap (λ i. insert (concat ns) i p) (sym at))) refl refl
 
     -- the pairs of a run are inserted at the end, one by one
-    run_behind : (ns : List (List (Pair K V))) (run : List (Pair K V)) → AreNodeLengths (node_lengths ns) size → IsAscending (by_key cmp) (concat ns ++ run) → contents (node_list (with_all_last size ns run) size) ≡ with_all cmp (contents (node_list ns size)) (map entry_of run)
+    run_behind : (ns : List (List (Pair K V))) (run : List (Pair K V)) → AreNodeLengths (node_lengths ns) size
+        → IsAscending (by_key cmp) (concat ns ++ run)
+        → contents (node_list (with_all_last size ns run) size)
+        ≡ with_all cmp (contents (node_list ns size)) (map entry_of run)
     unfolding with_all_last
     run_behind ns [] is up = refl
     run_behind ns (p ∷ run) is up =
@@ -59,7 +64,9 @@ module _ {K V : Type 0} (cmp : K → K → Ordering) (total : IsTotalOrder cmp) 
     run_taken up none same = run_moved up (all_nodes others none s.size t.nodes _ same)
 
     -- with p at the end of the run, of which a prefix may have been inserted
-    pub run_joined : (p : Pair K V) → AreNodeLengths (node_lengths t.nodes) t.size → IsAscending (by_key cmp) (items t ++ others) → items t ++ others ≡ items s ++ (run ++ p ∷ []) → with_all_last s.size t.nodes others ≡ with_all_last s.size s.nodes (run ++ p ∷ [])
+    pub run_joined : (p : Pair K V) → AreNodeLengths (node_lengths t.nodes) t.size
+        → IsAscending (by_key cmp) (items t ++ others) → items t ++ others ≡ items s ++ (run ++ p ∷ [])
+        → with_all_last s.size t.nodes others ≡ with_all_last s.size s.nodes (run ++ p ∷ [])
         → with_all cmp (contents t) (map entry_of others) ≡ with_entry cmp (with_all cmp m (map entry_of run)) p.key p.value
     run_joined p still up all same =
         ap (λ (n : Contents K V). with_all cmp n (map entry_of others)) (resized t.nodes refl)
@@ -71,7 +78,9 @@ module _ {K V : Type 0} (cmp : K → K → Ordering) (total : IsTotalOrder cmp) 
         ∙ ap (λ (n : Contents K V). with_entry cmp (with_all cmp n (map entry_of run)) p.key p.value) e)))))
 
     -- with q, which is p, inserted after the move of the whole run
-    pub run_then_put : (p q : Pair K V) (n : Contents K V) → q ≡ p → others ≡ [] → IsAscending (by_key cmp) (items s ++ run) → t.nodes ≡ with_all_last s.size s.nodes run → n ≡ with_entry cmp (contents t) q.key q.value
+    pub run_then_put : (p q : Pair K V) (n : Contents K V) → q ≡ p → others ≡ []
+        → IsAscending (by_key cmp) (items s ++ run) → t.nodes ≡ with_all_last s.size s.nodes run
+        → n ≡ with_entry cmp (contents t) q.key q.value
         → with_all cmp n (map entry_of others) ≡ with_entry cmp (with_all cmp m (map entry_of run)) p.key p.value
     run_then_put p q n same none up moved put =
         ap (λ l. with_all cmp n (map entry_of l)) none

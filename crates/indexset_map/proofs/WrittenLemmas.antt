@@ -1,6 +1,8 @@
 -- A caller's loop over an iterator with mutable references: the map after each iteration, and at
 -- the end.
-use Rattle.std.proofs.Common.{◌≡◌, ℕ, zero, suc, ◌+◌, ◌-◌, ◌<◌, ◌≤◌, Bool, if◌then◌else◌, List, [], ◌∷◌, ◌++◌, length, map, take, drop, Option, Some, None, slice_get, refl, sym, ap, subst, ◌∙◌, arith, zero-add}
+use Rattle.std.proofs.Common.{◌≡◌, ℕ, zero, suc, ◌+◌, ◌-◌, ◌<◌, ◌≤◌, Bool, if◌then◌else◌}
+use Rattle.std.proofs.Common.{List, [], ◌∷◌, ◌++◌, length, map, take, drop, Option, Some}
+use Rattle.std.proofs.Common.{None, slice_get, refl, sym, ap, subst, ◌∙◌, arith, zero-add}
 use Rattle.std.proofs.lemmas.List.{append-nil, drop-drop, drop_all, take-append-drop, take_all}
 use Rattle.std.specs.Option.{option_map}
 use Rattle.std.specs.declared.cmp.Ord as ord
@@ -71,7 +73,10 @@ module _ {K V : Type 0} (h : Pair K V → V) where
 
   -- the next pair is written
   written_more : (l : List (Pair K V)) (i j : ℕ) (p : Pair K V) → i ≤ j → slice_get (written h l i j) j ≡ Some p → set_value_at (written h l i j) j (h p) ≡ written h l i (j + 1)
-  written_more l i j p le = let e : i + (j - i) ≡ j = omega arith in subst (λ m. slice_get (written h l i m) m ≡ Some p → set_value_at (written h l i m) m (h p) ≡ written h l i (m + 1)) e (one_more l i (j - i) p)
+  written_more l i j p le = let e : i + (j - i) ≡ j = omega arith in
+      subst
+      (λ m. slice_get (written h l i m) m ≡ Some p → set_value_at (written h l i m) m (h p) ≡ written h l i (m + 1)) e
+      (one_more l i (j - i) p)
 
   written_none : (l : List (Pair K V)) (i : ℕ) → written h l i i ≡ l
   written_none l i = let e : i - i ≡ 0 = omega arith in ap (λ m. take i l ++ (map step (take m (drop i l)) ++ drop i l)) e ∙ take-append-drop i l
@@ -80,7 +85,9 @@ module _ {K V : Type 0} (h : Pair K V → V) where
   written_whole : (l : List (Pair K V)) → written h l 0 (length l) ≡ map step l
   written_whole l =
       let e : length l - 0 ≡ length l = omega arith in
-      ap (λ m. map step (take m l) ++ drop (length l) l) e ∙ (ap (λ t. map step t ++ drop (length l) l) (take_all (length l) l (omega arith)) ∙ (ap (λ t. map step l ++ t) (drop_all (length l) l (omega arith)) ∙ append-nil (map step l)))
+      ap (λ m. map step (take m l) ++ drop (length l) l) e
+      ∙ (ap (λ t. map step t ++ drop (length l) l) (take_all (length l) l (omega arith))
+      ∙ (ap (λ t. map step l ++ t) (drop_all (length l) l (omega arith)) ∙ append-nil (map step l)))
 
   -- the pairs of a span are written
   written_span : (r : Pair K V → Bool) (l : List (Pair K V)) (i j : ℕ) → IsSpan r l i j → written h l i j ≡ map (λ p. if r p then step p else p) l

@@ -22,7 +22,10 @@ module _ {K V : Type 0} (C : K → K → Type 0) (D : V → V → Type 0) where
     pub clones : List (Pair K V)
     pub cloned : AllZip IsPairClone m.pairs clones
     pub in_place : IsAscending (by_key cmp) clones → copy ≡ with_pairs m clones
-    pub in_turn : (IsAscending (by_key cmp) clones → ⊥) → copy ≡ contents (node_list (nodes_kept_all (by_key cmp) (node_list ([] ∷ []) m.size) clones) m.size)
+    pub in_turn : (IsAscending (by_key cmp) clones → ⊥)
+        → copy
+        ≡ contents
+        (node_list (nodes_kept_all (by_key cmp) (node_list ([] ∷ []) m.size) clones) m.size)
     pub pairs : copy.pairs ≡ fold (keep (by_key cmp)) [] clones
     pub size : copy.size ≡ m.size
 

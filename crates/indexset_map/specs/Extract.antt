@@ -28,8 +28,13 @@ module _ {K V F : Type 0} {g : ord.Ghosts K} {g' : eq.Ghosts K} {g'' : partial.G
 
   -- a step of the iterator: the closure was called up to the pair that was removed, or for all
   -- pairs
-  pub record ExtractsPair (f : Mut F (Bor K × (MutBor V × Unit {0})) (Bool × (MutBor V × Unit {0}))) (s : ExtractIfMap K V F g g' g'') (r : Option (K × V)) (t : ExtractIfMap K V F g g' g'') : Type 0 where
-    pub extracted : Extracts (CalledOnPair f) (extract_map_pred s) (extract_pairs s) (option_map (λ entry. pair entry.0 entry.1) r) (extract_map_pred t) (extract_pairs t)
+  pub record ExtractsPair
+      (f : Mut F (Bor K × (MutBor V × Unit {0})) (Bool × (MutBor V × Unit {0})))
+      (s : ExtractIfMap K V F g g' g'') (r : Option (K × V))
+      (t : ExtractIfMap K V F g g' g'') : Type 0 where
+    pub extracted : Extracts (CalledOnPair f) (extract_map_pred s) (extract_pairs s)
+        (option_map (λ entry. pair entry.0 entry.1) r) (extract_map_pred t) (extract_pairs t)
     pub same_map : (extract_map t).ghost_name ≡ (extract_map s).ghost_name
-    pub lengths : MatchOption r ((extract_map t).now.lengths ≡ (extract_map s).now.lengths) (λ _. (extract_map t).now.lengths ≡ lengths_without (extract_map s).now.lengths t.at.front)
+    pub lengths : MatchOption r ((extract_map t).now.lengths ≡ (extract_map s).now.lengths)
+        (λ _. (extract_map t).now.lengths ≡ lengths_without (extract_map s).now.lengths t.at.front)
     pub size : (extract_map t).now.size ≡ (extract_map s).now.size

@@ -3,8 +3,11 @@ ghost use Rattle.std.specs.Prelude.{◌&&◌, ◌++◌};
 ghost use Rattle.std.specs.Hash as fed;
 ghost use Rattle.std.specs.Hash.{on_Alike, and-Alike, items_Alike};
 ghost use Rattle.std.specs.Ordering.{ordering_then, partial_ordering_then};
-ghost use Rattle.std.specs.Cmp.{on_equiv, and_equiv, then_agrees, on_total, then_total, both_tied, on_per, and_per, on_po, then_po};
-ghost use Rattle.std.specs.Cmp.Lexicographic.{pointwise, slice_cmp, slice_partial_cmp, lists_equiv, lists_agrees, lists_total, lists_ties, lists_per, lists_po};
+ghost use Rattle.std.specs.Cmp.{on_equiv, and_equiv, then_agrees, on_total, then_total};
+ghost use Rattle.std.specs.Cmp.{both_tied, on_per, and_per, on_po, then_po};
+ghost use Rattle.std.specs.Cmp.Lexicographic.{pointwise, slice_cmp, slice_partial_cmp};
+ghost use Rattle.std.specs.Cmp.Lexicographic.{lists_equiv, lists_agrees, lists_total};
+ghost use Rattle.std.specs.Cmp.Lexicographic.{lists_ties, lists_per, lists_po};
 
 use super::BTreeMap;
 use std::cmp::Ordering;

@@ -4,7 +4,8 @@ ghost use Rattle.std.specs.List.{position_or_len};
 ghost use Rattle.std.specs.Option.{option_copied, option_map};
 ghost use Rattle.indexset_core.specs.KeyRange.{is_from_start, is_up_to_end};
 ghost use Rattle.indexset_core.specs.Pairs.{entry_of};
-ghost use Rattle.indexset_set.specs.SetCursor.{item_at, previous_state, next_state, cursor_state_at};
+ghost use Rattle.indexset_set.specs.SetCursor.{item_at, previous_state};
+ghost use Rattle.indexset_set.specs.SetCursor.{next_state, cursor_state_at};
 
 use super::BTreeMap;
 use indexset_core::lookup_key::LookupKey;

@@ -1,5 +1,7 @@
 //! Insertion and removal of pairs, and `retain`.
-ghost use Rattle.std.specs.Prelude.{◌≡◌, ◌-◌, ◌<◌, ◌++◌, true, false, Some, None, IfOk, OnOk, IfErr, OnErr, IsOk, MatchOption, length, map, take, drop, slice_get};
+ghost use Rattle.std.specs.Prelude.{◌≡◌, ◌-◌, ◌<◌, ◌++◌, true, false, Some, None};
+ghost use Rattle.std.specs.Prelude.{IfOk, OnOk, IfErr, OnErr, IsOk, MatchOption};
+ghost use Rattle.std.specs.Prelude.{length, map, take, drop, slice_get};
 ghost use Rattle.std.specs.Option.{option_map, option_to_list};
 ghost use Rattle.std.specs.Ordering.{is_eq};
 ghost use Rattle.std.specs.List.Retain.{RetainsInTurn};

@@ -1,5 +1,6 @@
 //! An iterator with mutable references to the values of a map, without their keys.
-ghost use Rattle.std.specs.Prelude.{◌≡◌, ◌-◌, ◌<◌, ◌≤◌, Some, length, nat_lt, slice_get, sum, take, MatchOption};
+ghost use Rattle.std.specs.Prelude.{◌≡◌, ◌-◌, ◌<◌, ◌≤◌, Some, length, nat_lt};
+ghost use Rattle.std.specs.Prelude.{slice_get, sum, take, MatchOption};
 ghost use Rattle.std.specs.Borrow.{sem};
 ghost use Rattle.std.specs.Option.{option_map};
 
@@ -61,7 +62,9 @@ impl<K: Ord, V> BTreeMap<K, V> {
 
 impl<'a, K: Ord, V> ValuesMut<'a, K, V> {
     ghost use Rattle.indexset_map.specs.Walk.{walk_back, walk_front, walk_map, walk_rest};
-    ghost use Rattle.indexset_map.specs.ValuesWalk.{lends_next_value, lends_next_value_back, lends_next_value_back_if, lends_next_value_if, values_walk};
+    ghost use Rattle.indexset_map.specs.ValuesWalk.{lends_next_value, lends_next_value_back};
+    ghost use Rattle.indexset_map.specs.ValuesWalk.{lends_next_value_back_if};
+    ghost use Rattle.indexset_map.specs.ValuesWalk.{lends_next_value_if, values_walk};
 
     /// Returns the number of remaining values.
     ///

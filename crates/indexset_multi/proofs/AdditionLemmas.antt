@@ -48,7 +48,9 @@ module _ {K V : Type 0} (cmp : K → K → Ordering) (m : MultiTree K V) (k : K)
       ∙ ap (λ b. if b then Numbers else refusal_for m.next (length (put_events (by_number cmp) m.size m.nodes (inserted_pair cmp no m k w)))) more)
 
   -- the pairs after the insertion
-  pub added : IsTotalOrder cmp → IsLawful (by_number cmp) m.size m.nodes → AreNumberedBelow m.pair_next (concat m.nodes) → (new : MultiTree K V) → concat new.nodes ≡ put (by_number cmp) (concat m.nodes) (inserted_pair cmp no m k w) → IsAdded cmp m new k w
+  pub added : IsTotalOrder cmp → IsLawful (by_number cmp) m.size m.nodes
+      → AreNumberedBelow m.pair_next (concat m.nodes) → (new : MultiTree K V)
+      → concat new.nodes ≡ put (by_number cmp) (concat m.nodes) (inserted_pair cmp no m k w) → IsAdded cmp m new k w
   added o law low new made =
       let up = lawful_ascends (by_number cmp) m.size m.nodes law in
       record {

@@ -35,6 +35,8 @@ module _ {K V : Type 0} (cmp : K → K → Ordering) (v : MultiPair K V) (is_asi
       ] refl
 
 -- the set's events of the removal of the item at a position are the multimap's of that pair
-pub told_at : {K V : Type 0} (cmp : K → K → Ordering) (position : MultiTree K V → ℕ) {m n : MultiTree K V} → n ≡ m → removal_events_at (by_number cmp) n.size n.nodes (position n) ≡ pair_removal_events cmp m.size m.nodes (slice_get (concat m.nodes) (position m))
+pub told_at : {K V : Type 0} (cmp : K → K → Ordering) (position : MultiTree K V → ℕ) {m n : MultiTree K V} → n ≡ m
+    → removal_events_at (by_number cmp) n.size n.nodes (position n)
+    ≡ pair_removal_events cmp m.size m.nodes (slice_get (concat m.nodes) (position m))
 unfolding removal_events_at
 told_at cmp position seen = λ j. let t = seen j in pair_removal_events cmp t.size t.nodes (slice_get (concat t.nodes) (position t))

@@ -16,7 +16,8 @@ module _ {K V : Type 0} where
       let next : suc i + 1 ≡ suc (i + 1) = omega arith in
       rw next (omega (arith, free_more l i x (omega arith) at))
 
-  pub greatest_more : (l : List (MultiPair K V)) (i : ℕ) (x : MultiPair K V) → i < length l → x ≡ get_or l i x → x.discriminator < MAX → has_greatest (take i l) ≡ false → has_greatest (take (i + 1) l) ≡ false
+  pub greatest_more : (l : List (MultiPair K V)) (i : ℕ) (x : MultiPair K V) → i < length l → x ≡ get_or l i x
+      → x.discriminator < MAX → has_greatest (take i l) ≡ false → has_greatest (take (i + 1) l) ≡ false
   greatest_more [] i x lt at small h = absurd (omega arith)
   greatest_more (y ∷ l) zero x lt at small h =
       let other : eqb y.discriminator MAX ≡ false = ne_eqb y.discriminator MAX (λ e. omega (arith, ap (λ (p : MultiPair K V). p.discriminator) at)) in
@@ -47,10 +48,14 @@ module _ {K V : Type 0} where
         let next : suc i + 1 ≡ suc (i + 1) = omega arith in
         rw next (ap (λ l. held u ++ l) (read_more vs i v (omega arith) at) ∙ sym (append_assoc (held u) (concat (take i (map held vs))) (held v)))
 
-    pub free_read : (vs : List N) (i : ℕ) (v : N) → i < length vs → v ≡ get_or vs i v → free_number (concat (take (i + 1) (map held vs))) ≡ max (free_number (concat (take i (map held vs)))) (free_number (held v))
+    pub free_read : (vs : List N) (i : ℕ) (v : N) → i < length vs → v ≡ get_or vs i v
+        → free_number (concat (take (i + 1) (map held vs)))
+        ≡ max (free_number (concat (take i (map held vs)))) (free_number (held v))
     free_read vs i v lt at = ap free_number (read_more vs i v lt at) ∙ free-append (concat (take i (map held vs))) (held v)
 
-    pub greatest_read : (vs : List N) (i : ℕ) (v : N) → i < length vs → v ≡ get_or vs i v → has_greatest (concat (take (i + 1) (map held vs))) ≡ (has_greatest (concat (take i (map held vs))) || has_greatest (held v))
+    pub greatest_read : (vs : List N) (i : ℕ) (v : N) → i < length vs → v ≡ get_or vs i v
+        → has_greatest (concat (take (i + 1) (map held vs)))
+        ≡ (has_greatest (concat (take i (map held vs))) || has_greatest (held v))
     greatest_read vs i v lt at = ap has_greatest (read_more vs i v lt at) ∙ greatest-append (concat (take i (map held vs))) (held v)
 
     -- the greatest number in a node is in the joined nodes

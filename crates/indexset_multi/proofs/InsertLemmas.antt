@@ -17,7 +17,10 @@ use Rattle.indexset_multi.proofs.NumberedPairLemmas.{kept_found, none_kept, none
 
 module _ {K V : Type 0} (cmp : K → K → Ordering) (eq : V → V → Bool) (m : MultiTree K V) (k : K) (w : V) where
   -- the item that the pair replaces is the first pair of the key with an equal value
-  pub replaced_pair : IsTotalOrder cmp → IsLawful (by_number cmp) m.size m.nodes → AreNumberedBelow m.pair_next (concat m.nodes) → equal_element (by_number cmp) (concat m.nodes) (inserted_pair cmp eq m k w) ≡ equal_pair cmp eq (concat m.nodes) k w
+  pub replaced_pair : IsTotalOrder cmp → IsLawful (by_number cmp) m.size m.nodes
+      → AreNumberedBelow m.pair_next (concat m.nodes)
+      → equal_element (by_number cmp) (concat m.nodes) (inserted_pair cmp eq m k w)
+      ≡ equal_pair cmp eq (concat m.nodes) k w
   replaced_pair o law low =
       let l = concat m.nodes in
       elim (kept_number cmp eq l k w) as (λ r. kept_number cmp eq l k w ≡ r → equal_element (by_number cmp) l (numbered_pair k w (unwrap_or r m.pair_next)) ≡ equal_pair cmp eq l k w) [
@@ -36,7 +39,13 @@ module _ {K V : Type 0} (cmp : K → K → Ordering) (eq : V → V → Bool) (m 
       ] refl
 
   -- the multimap after its set, which n has, was put the pair
-  pub insertion_tree : {n : MultiTree K V} {pair : MultiPair K V} {nodes : List (List (MultiPair K V))} {size next pair_next : ℕ} → n ≡ m → pair ≡ inserted_pair cmp eq m k w → nodes ≡ with_put (by_number cmp) n.size n.nodes pair → size ≡ n.size → next ≡ n.next + length (put_events (by_number cmp) n.size n.nodes pair) → pair_next ≡ pair_next_after cmp eq m k w → (let t : MultiTree K V = record { nodes = nodes; size = size; next = next; pair_next = pair_next } in t) ≡ after_insertion cmp eq m k w
+  pub insertion_tree : {n : MultiTree K V} {pair : MultiPair K V} {nodes : List (List (MultiPair K V))}
+      {size next pair_next : ℕ}
+      → n ≡ m → pair ≡ inserted_pair cmp eq m k w → nodes ≡ with_put (by_number cmp) n.size n.nodes pair → size ≡ n.size
+      → next ≡ n.next + length (put_events (by_number cmp) n.size n.nodes pair)
+      → pair_next ≡ pair_next_after cmp eq m k w
+      → (let t : MultiTree K V = record { nodes = nodes; size = size; next = next; pair_next = pair_next } in t)
+      ≡ after_insertion cmp eq m k w
   insertion_tree seen is nodes size next pair_next =
       let all_nodes = nodes ∙ (λ j. let t = seen j in with_put (by_number cmp) t.size t.nodes (is j)) in
       let same_size = size ∙ (λ j. let t = seen j in t.size) in

@@ -138,7 +138,9 @@ module _ {K V : Type 0} (cmp : K → K → Ordering) (o : IsTotalOrder cmp) wher
         let p : MultiPair K V → Bool = λ x. is_eq (cmp x.key k) in
         let is_low : MultiPair K V → Bool = λ x. is_lt (by_number cmp x v) in
         let is_high : MultiPair K V → Bool = λ x. is_gt (by_number cmp x v) in
-        let less : Each (λ x. p x ≡ true → by_number cmp x v ≡ Less) l = each-map _ _ (λ x lt e. by_numbers x e ∙ below_less x.discriminator v.discriminator lt) l (all_each (λ x. x.discriminator < v.discriminator) l low) in
+        let less : Each (λ x. p x ≡ true → by_number cmp x v ≡ Less) l =
+        each-map _ _ (λ x lt e. by_numbers x e ∙ below_less x.discriminator v.discriminator lt) l
+        (all_each (λ x. x.discriminator < v.discriminator) l low) in
         let before : filter p (filter is_low l) ≡ filter p l = nested_all p is_low l (each-map _ _ (λ x h e. ap is_lt (h e)) l less) in
         let behind : filter p (filter is_high l) ≡ [] = nested_none p is_high l (each-map _ _ (λ x h e. ap is_gt (h e)) l less) in
         filter-append p (filter is_low l) (v ∷ filter is_high l) ∙ rw (before, here, behind) refl
@@ -151,7 +153,15 @@ module _ {K V : Type 0} (cmp : K → K → Ordering) (o : IsTotalOrder cmp) wher
         ap is_eq (o.congr x.key v.key other e ∙ o.congr v.key k other at) ∙ turned other ne in
         around (by_number cmp) (numbers_total cmp o) v (λ l. filter p (put (by_number cmp) l v) ≡ filter p l)
         (λ l r low high. rw (parts-put (by_number cmp) (numbers_total cmp o) l [] r v low tt high, filter-append p l (v ∷ r), out v (tied_itself o v.key)) (sym (filter-append p l r)))
-        (λ l x r low same high. rw (parts-put (by_number cmp) (numbers_total cmp o) l (x ∷ []) r v low (same, tt) high, filter-append p l (v ∷ r), out v (tied_itself o v.key), filter-append p l (x ∷ r), out x (keys_tied x v same)) refl)
+        (λ l x r low same high.
+        rw (
+          parts-put (by_number cmp) (numbers_total cmp o) l (x ∷ []) r v low (same, tt) high,
+          filter-append p l (v ∷ r),
+          out v (tied_itself o v.key),
+          filter-append p l (x ∷ r),
+          out x (keys_tied x v same),
+        )
+        refl)
         l (rises (by_number cmp) l up)
       where
         turned : (other : K) → is_eq (cmp other k) ≡ false → is_eq (cmp k other) ≡ false
@@ -165,7 +175,9 @@ module _ {K V : Type 0} (cmp : K → K → Ordering) (o : IsTotalOrder cmp) wher
     -- the first pair with an equal value is the pair that was put, if it has the number of such a
     -- pair
     module _ (q : MultiPair K V → Bool) (passes : q v ≡ true) where
-      none_before : (l : List (MultiPair K V)) → Each (λ x. by_number cmp x v ≡ Less) l → ((x : MultiPair K V) → find q (pairs_of cmp l k) ≡ Some x → x.discriminator ≡ v.discriminator) → find q (pairs_of cmp l k) ≡ None
+      none_before : (l : List (MultiPair K V)) → Each (λ x. by_number cmp x v ≡ Less) l
+          → ((x : MultiPair K V) → find q (pairs_of cmp l k) ≡ Some x → x.discriminator ≡ v.discriminator)
+          → find q (pairs_of cmp l k) ≡ None
       none_before l low number =
           elim (find q (pairs_of cmp l k)) as (λ f. find q (pairs_of cmp l k) ≡ f → f ≡ None) [
             | None ↦ λ e. refl
@@ -175,17 +187,25 @@ module _ {K V : Type 0} (cmp : K → K → Ordering) (o : IsTotalOrder cmp) wher
                 absurd (less_equal (sym found.0 ∙ (by_numbers x found.1 ∙ same)))
           ] refl
 
-      put_found : (l r : List (MultiPair K V)) → Each (λ x. by_number cmp x v ≡ Less) l → ((x : MultiPair K V) → find q (pairs_of cmp l k) ≡ Some x → x.discriminator ≡ v.discriminator) → find q (pairs_of cmp (l ++ v ∷ r) k) ≡ Some v
+      put_found : (l r : List (MultiPair K V)) → Each (λ x. by_number cmp x v ≡ Less) l
+          → ((x : MultiPair K V) → find q (pairs_of cmp l k) ≡ Some x → x.discriminator ≡ v.discriminator)
+          → find q (pairs_of cmp (l ++ v ∷ r) k) ≡ Some v
       put_found l r low number =
           let p : MultiPair K V → Bool = λ x. is_eq (cmp x.key k) in
           let next : filter p (v ∷ r) ≡ v ∷ filter p r = rw here refl in
           rw (filter-append p l (v ∷ r), next) (found_right q (filter p l) (v ∷ filter p r) (none_before l low number) ∙ rw passes refl)
 
-      pub put_there : (l : List (MultiPair K V)) → IsAscending (by_number cmp) l → ((x : MultiPair K V) → find q (pairs_of cmp l k) ≡ Some x → x.discriminator ≡ v.discriminator) → find q (pairs_of cmp (put (by_number cmp) l v) k) ≡ Some v
+      pub put_there : (l : List (MultiPair K V)) → IsAscending (by_number cmp) l
+          → ((x : MultiPair K V) → find q (pairs_of cmp l k) ≡ Some x → x.discriminator ≡ v.discriminator)
+          → find q (pairs_of cmp (put (by_number cmp) l v) k) ≡ Some v
       put_there l up =
           let p : MultiPair K V → Bool = λ x. is_eq (cmp x.key k) in
-          let front : (l r : List (MultiPair K V)) (x : MultiPair K V) → find q (filter p l) ≡ Some x → find q (filter p (l ++ r)) ≡ Some x = λ l r x e. rw (filter-append p l r) (found_left q (filter p l) (filter p r) x e) in
-          around (by_number cmp) (numbers_total cmp o) v (λ l. ((x : MultiPair K V) → find q (filter p l) ≡ Some x → x.discriminator ≡ v.discriminator) → find q (filter p (put (by_number cmp) l v)) ≡ Some v)
+          let front : (l r : List (MultiPair K V)) (x : MultiPair K V) → find q (filter p l) ≡ Some x
+          → find q (filter p (l ++ r)) ≡ Some x =
+          λ l r x e. rw (filter-append p l r) (found_left q (filter p l) (filter p r) x e) in
+          around (by_number cmp) (numbers_total cmp o) v
+          (λ l. ((x : MultiPair K V) → find q (filter p l) ≡ Some x → x.discriminator ≡ v.discriminator)
+          → find q (filter p (put (by_number cmp) l v)) ≡ Some v)
           (λ l r low high number. rw (parts-put (by_number cmp) (numbers_total cmp o) l [] r v low tt high) (put_found l r low (λ x e. number x (front l r x e))))
           (λ l y r low same high number. rw (parts-put (by_number cmp) (numbers_total cmp o) l (y ∷ []) r v low (same, tt) high) (put_found l r low (λ x e. number x (front l (y ∷ r) x e))))
           l (rises (by_number cmp) l up)
@@ -211,7 +231,10 @@ module _ {K V Q : Type 0} {cmp : K → K → Ordering} (o : IsTotalOrder cmp) {o
         let found = found_each (λ p. is_eq (order p.key k)) q (λ y. by_number cmp x y ≡ Less) r x high e in
         less_equal (sym found.0 ∙ same)
 
-    first_gone : (l : List (MultiPair K V)) (y : MultiPair K V) (r : List (MultiPair K V)) → Each (λ y. by_number cmp y x ≡ Less) l → by_number cmp y x ≡ Equal → Each (λ y. by_number cmp x y ≡ Less) r → find q (pairs_of order (l ++ y ∷ r) k) ≡ Some x → pairs_of order (l ++ r) k ≡ without_first q (pairs_of order (l ++ y ∷ r) k)
+    first_gone : (l : List (MultiPair K V)) (y : MultiPair K V) (r : List (MultiPair K V))
+        → Each (λ y. by_number cmp y x ≡ Less) l → by_number cmp y x ≡ Equal → Each (λ y. by_number cmp x y ≡ Less) r
+        → find q (pairs_of order (l ++ y ∷ r) k) ≡ Some x
+        → pairs_of order (l ++ r) k ≡ without_first q (pairs_of order (l ++ y ∷ r) k)
     first_gone l y r low tied high e =
         let p : MultiPair K V → Bool = λ z. is_eq (order z.key k) in
         let parts = filter-append p l (y ∷ r) in
@@ -245,7 +268,8 @@ module _ {K V Q : Type 0} {cmp : K → K → Ordering} (o : IsTotalOrder cmp) {o
         l (rises (by_number cmp) l up)
 
   -- the pairs of a key after the removal of the first that passes, if any
-  pub pair_gone : (k : Q) (q : MultiPair K V → Bool) (l : List (MultiPair K V)) → IsAscending (by_number cmp) l → pairs_of order (without_named cmp l (find q (pairs_of order l k))) k ≡ without_first q (pairs_of order l k)
+  pub pair_gone : (k : Q) (q : MultiPair K V → Bool) (l : List (MultiPair K V)) → IsAscending (by_number cmp) l
+      → pairs_of order (without_named cmp l (find q (pairs_of order l k))) k ≡ without_first q (pairs_of order l k)
   pair_gone k q l up =
       elim (find q (pairs_of order l k)) as (λ f. find q (pairs_of order l k) ≡ f → pairs_of order (without_named cmp l f) k ≡ without_first q (pairs_of order l k)) [
         | None ↦ λ e. sym (none_first q (pairs_of order l k) e)
@@ -299,10 +323,14 @@ module _ {K V : Type 0} (cmp : K → K → Ordering) (o : IsTotalOrder cmp) (eq 
   keyed : cmp k k ≡ Equal
   keyed = tied_itself o k
 
-  inserted_there : ((x : V) → eq x x ≡ true) → IsAscending (by_number cmp) (concat m.nodes) → equal_pair cmp eq (put (by_number cmp) (concat m.nodes) (inserted_pair cmp eq m k w)) k w ≡ Some (inserted_pair cmp eq m k w)
+  inserted_there : ((x : V) → eq x x ≡ true) → IsAscending (by_number cmp) (concat m.nodes)
+      → equal_pair cmp eq (put (by_number cmp) (concat m.nodes) (inserted_pair cmp eq m k w)) k w
+      ≡ Some (inserted_pair cmp eq m k w)
   inserted_there same up = put_there cmp o k (inserted_pair cmp eq m k w) keyed (λ p. eq p.value w) (same w) (concat m.nodes) up (λ x e. rw e refl)
 
-  pub inserted_last : AreNumberedBelow m.pair_next (concat m.nodes) → takes_number cmp eq m k w ≡ true → pairs_of cmp (put (by_number cmp) (concat m.nodes) (inserted_pair cmp eq m k w)) k ≡ pairs_of cmp (concat m.nodes) k ++ inserted_pair cmp eq m k w ∷ []
+  pub inserted_last : AreNumberedBelow m.pair_next (concat m.nodes) → takes_number cmp eq m k w ≡ true
+      → pairs_of cmp (put (by_number cmp) (concat m.nodes) (inserted_pair cmp eq m k w)) k
+      ≡ pairs_of cmp (concat m.nodes) k ++ inserted_pair cmp eq m k w ∷ []
   inserted_last low new =
       let number : unwrap_or (kept_number cmp eq (concat m.nodes) k w) m.pair_next ≡ m.pair_next = no_other (kept_number cmp eq (concat m.nodes) k w) new in
       put_last cmp o k (inserted_pair cmp eq m k w) keyed (concat m.nodes) (subst (λ n. AreNumberedBelow n (concat m.nodes)) (sym number) low)
@@ -311,7 +339,9 @@ module _ {K V : Type 0} (cmp : K → K → Ordering) (o : IsTotalOrder cmp) (eq 
       no_other None e = refl
       no_other (Some n) e = absurd (false≢true e)
 
-  pub inserted_others : IsAscending (by_number cmp) (concat m.nodes) → (other : K) → is_eq (cmp other k) ≡ false → pairs_of cmp (put (by_number cmp) (concat m.nodes) (inserted_pair cmp eq m k w)) other ≡ pairs_of cmp (concat m.nodes) other
+  pub inserted_others : IsAscending (by_number cmp) (concat m.nodes) → (other : K) → is_eq (cmp other k) ≡ false
+      → pairs_of cmp (put (by_number cmp) (concat m.nodes) (inserted_pair cmp eq m k w)) other
+      ≡ pairs_of cmp (concat m.nodes) other
   inserted_others up other ne = put_others cmp o k (inserted_pair cmp eq m k w) keyed (concat m.nodes) up other ne
 
   -- the pairs after an insertion, for a caller
@@ -320,7 +350,10 @@ module _ {K V : Type 0} (cmp : K → K → Ordering) (o : IsTotalOrder cmp) (eq 
     pub last : takes_number cmp eq m k w ≡ true → pairs_of cmp after k ≡ pairs_of cmp (concat m.nodes) k ++ inserted_pair cmp eq m k w ∷ []
     pub others : (other : K) → is_eq (cmp other k) ≡ false → pairs_of cmp after other ≡ pairs_of cmp (concat m.nodes) other
 
-  pub inserted : ((x : V) → eq x x ≡ true) → IsLawful (by_number cmp) m.size m.nodes → AreNumberedBelow m.pair_next (concat m.nodes) → {ns : List (List (MultiPair K V))} {pair : MultiPair K V} {after : List (MultiPair K V)} → ns ≡ m.nodes → pair ≡ inserted_pair cmp eq m k w → after ≡ put (by_number cmp) (concat ns) pair → Inserted after
+  pub inserted : ((x : V) → eq x x ≡ true) → IsLawful (by_number cmp) m.size m.nodes
+      → AreNumberedBelow m.pair_next (concat m.nodes)
+      → {ns : List (List (MultiPair K V))} {pair : MultiPair K V} {after : List (MultiPair K V)} → ns ≡ m.nodes
+      → pair ≡ inserted_pair cmp eq m k w → after ≡ put (by_number cmp) (concat ns) pair → Inserted after
   inserted same law low {ns = ns} nodes pair made =
       let up = lawful_ascends (by_number cmp) m.size m.nodes law in
       let is = made ∙ (ap (put (by_number cmp) (concat ns)) pair ∙ ap (λ q. put (by_number cmp) (concat q) (inserted_pair cmp eq m k w)) nodes) in

@@ -14,7 +14,9 @@ module _ {K V : Type 0} where
   pub below_more : (m n : ℕ) → m ≤ n → (l : List (MultiPair K V)) → AreNumberedBelow m l → AreNumberedBelow n l
   below_more m n le l h = All-weaker (λ (p : MultiPair K V). p.discriminator < m) (λ p. p.discriminator < n) (λ p lt. omega arith) l h
 
-  pub below_put : (cmp : MultiPair K V → MultiPair K V → Ordering) (n : ℕ) (l : List (MultiPair K V)) (v : MultiPair K V) → AreNumberedBelow n l → v.discriminator < n → AreNumberedBelow n (put cmp l v)
+  pub below_put : (cmp : MultiPair K V → MultiPair K V → Ordering) (n : ℕ) (l : List (MultiPair K V))
+      (v : MultiPair K V)
+      → AreNumberedBelow n l → v.discriminator < n → AreNumberedBelow n (put cmp l v)
   unfolding put
   below_put cmp n l v h lt =
       let P : MultiPair K V → Type 0 = λ p. p.discriminator < n in

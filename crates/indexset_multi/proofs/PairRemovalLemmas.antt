@@ -28,11 +28,18 @@ pair_removal_few cmp size ns None = omega arith
 pair_removal_few cmp size ns (Some p) = removal_few (by_number cmp) size ns p
 
 -- the multimap whose set has the nodes after the replay of the events
-pub removal_tree : {K V : Type 0} (cmp : K → K → Ordering) (m : MultiTree K V) (pair : Option (MultiPair K V)) {nodes : List (List (MultiPair K V))} {size next pair_next : ℕ} → replay (by_number cmp) m.nodes (numbered_from m.next (pair_removal_events cmp m.size m.nodes pair)) ≡ Some nodes → size ≡ m.size → next ≡ m.next + length (pair_removal_events cmp m.size m.nodes pair) → pair_next ≡ m.pair_next → (let t : MultiTree K V = record { nodes = nodes; size = size; next = next; pair_next = pair_next } in t) ≡ after_pair_removal cmp m pair
+pub removal_tree : {K V : Type 0} (cmp : K → K → Ordering) (m : MultiTree K V) (pair : Option (MultiPair K V))
+    {nodes : List (List (MultiPair K V))} {size next pair_next : ℕ}
+    → replay (by_number cmp) m.nodes (numbered_from m.next (pair_removal_events cmp m.size m.nodes pair)) ≡ Some nodes
+    → size ≡ m.size → next ≡ m.next + length (pair_removal_events cmp m.size m.nodes pair) → pair_next ≡ m.pair_next
+    → (let t : MultiTree K V = record { nodes = nodes; size = size; next = next; pair_next = pair_next } in t)
+    ≡ after_pair_removal cmp m pair
 removal_tree cmp m pair replayed size next pair_next = λ i. record { nodes = unwrap_or (sym replayed i) m.nodes; size = size i; next = next i; pair_next = pair_next i }
 
 -- clones of pairs are identical to their sources if clones of keys and of values are
-pub pair_same : {K V : Type 0} {C : K → K → Type 0} {D : V → V → Type 0} → ((x y : K) → C x y → y ≡ x) → ((x y : V) → D x y → y ≡ x) → (p q : MultiPair K V) → C p.key q.key × (D p.value q.value × (q.discriminator ≡ p.discriminator)) → q ≡ p
+pub pair_same : {K V : Type 0} {C : K → K → Type 0} {D : V → V → Type 0} → ((x y : K) → C x y → y ≡ x)
+    → ((x y : V) → D x y → y ≡ x) → (p q : MultiPair K V)
+    → C p.key q.key × (D p.value q.value × (q.discriminator ≡ p.discriminator)) → q ≡ p
 pair_same hk hv p q e = λ i. record { key = hk p.key q.key e.0 i; value = hv p.value q.value e.1.0 i; discriminator = e.1.1 i }
 
 some_read : {T : Type 0} (l : List T) (i : ℕ) → i < length l → (x : T) × (slice_get l i ≡ Some x)
@@ -57,7 +64,9 @@ module _ {K V : Type 0} {cmp : K → K → Ordering} (o : IsTotalOrder cmp) (old
     pub pair_altered : Altered (by_number cmp) (set_tree old) (set_tree new) (without_named cmp (concat old.nodes) pair) (pair_removal_events cmp old.size old.nodes pair)
     pair_altered = at pair e
       where
-        at : (pair : Option (MultiPair K V)) → new ≡ after_pair_removal cmp old pair → Altered (by_number cmp) (set_tree old) (set_tree new) (without_named cmp (concat old.nodes) pair) (pair_removal_events cmp old.size old.nodes pair)
+        at : (pair : Option (MultiPair K V)) → new ≡ after_pair_removal cmp old pair
+            → Altered (by_number cmp) (set_tree old) (set_tree new) (without_named cmp (concat old.nodes) pair)
+            (pair_removal_events cmp old.size old.nodes pair)
         at None e =
             let nodes : new.nodes ≡ old.nodes = ap (λ t. t.nodes) e in
             let size : new.size ≡ old.size = ap (λ t. t.size) e in
@@ -114,11 +123,17 @@ module _ {K V : Type 0} {cmp : K → K → Ordering} {old new : MultiTree K V} {
     dense = d.dense;
   }
 
-  pub multi_told : (C : K → K → Type 0) (D : V → V → Type 0) (fs : List (ChangeEvent (MultiPair K V))) → MultiChanged cmp old new made → AreTableEvents (IsMultiPairClone C D) old.next made.events fs → MultiPairEvents cmp C D old new made fs
+  pub multi_told : (C : K → K → Type 0) (D : V → V → Type 0) (fs : List (ChangeEvent (MultiPair K V)))
+      → MultiChanged cmp old new made → AreTableEvents (IsMultiPairClone C D) old.next made.events fs
+      → MultiPairEvents cmp C D old new made fs
   multi_told C D fs d clones = told_where (IsMultiPairClone C D) (λ h. pair_same h.0 h.1) fs (set_changed d) clones
 
 -- a call removes the pair, or it fails
-pub removed : {K V A E : Type 0} {cmp : K → K → Ordering} {most len : ℕ} (old new : MultiTree K V) → IsTotalOrder cmp → IsTree (by_number cmp) most old.nodes old.size len → (pair : Option (MultiPair K V)) (r : Result A E) → OnOk r (new ≡ after_pair_removal cmp old pair) → OnOk r (MultiFits old (named_removal cmp old pair)) → OnOk r (MultiChanged cmp old new (named_removal cmp old pair))
+pub removed : {K V A E : Type 0} {cmp : K → K → Ordering} {most len : ℕ} (old new : MultiTree K V)
+    → IsTotalOrder cmp → IsTree (by_number cmp) most old.nodes old.size len
+    → (pair : Option (MultiPair K V)) (r : Result A E) → OnOk r (new ≡ after_pair_removal cmp old pair)
+    → OnOk r (MultiFits old (named_removal cmp old pair))
+    → OnOk r (MultiChanged cmp old new (named_removal cmp old pair))
 removed {cmp = cmp} old new o t pair r tree fits = on_ok_both r tree fits (λ e f. multi_changed {made = named_removal cmp old pair} e f (pair_altered o old t pair e))
 
 -- the removal of the pair at a place, as in the set's contract
@@ -126,11 +141,16 @@ module _ {K V : Type 0} (cmp : K → K → Ordering) where
   abbrev place_removal : MultiTree K V → Option (ℕ × ℕ) → List (ChangeEventUnassigned (MultiPair K V))
   place_removal m place = pair_removal_events cmp m.size m.nodes (placed_item m.nodes place)
 
-  pub record Taken (size : ℕ) (ns : List (List (MultiPair K V))) (s pair_next : ℕ) (m : MultiTree K V) (place : Option (ℕ × ℕ)) (p : ℕ × ℕ) (x : MultiPair K V) (after : Tree (MultiPair K V)) : Type 0 where
+  pub record Taken (size : ℕ) (ns : List (List (MultiPair K V))) (s pair_next : ℕ) (m : MultiTree K V)
+      (place : Option (ℕ × ℕ)) (p : ℕ × ℕ) (x : MultiPair K V) (after : Tree (MultiPair K V)) : Type 0 where
     pub told : numbered_from s (place_removal_events size ns p.0 p.1 x) ≡ numbered_from m.next (place_removal m place)
     pub tree : (let t : MultiTree K V = record { nodes = after.nodes; size = after.size; next = after.next; pair_next = pair_next } in t) ≡ after_pair_removal cmp m (placed_item m.nodes place)
 
-  module _ (o : IsTotalOrder cmp) {most len : ℕ} {ns : List (List (MultiPair K V))} {size next pair_next : ℕ} {m : MultiTree K V} (seen : (let t : MultiTree K V = record { nodes = ns; size = size; next = next; pair_next = pair_next } in t) ≡ m) (rule : IsTree (by_number cmp) most m.nodes m.size len) {place : Option (ℕ × ℕ)} {p : ℕ × ℕ} (is : place ≡ Some p) (at : IsItemPlaceInNodes m.nodes place) where
+  module _ (o : IsTotalOrder cmp) {most len : ℕ} {ns : List (List (MultiPair K V))} {size next pair_next : ℕ}
+      {m : MultiTree K V}
+      (seen : (let t : MultiTree K V = record { nodes = ns; size = size; next = next; pair_next = pair_next } in t) ≡ m)
+      (rule : IsTree (by_number cmp) most m.nodes m.size len) {place : Option (ℕ × ℕ)} {p : ℕ × ℕ} (is : place ≡ Some p)
+      (at : IsItemPlaceInNodes m.nodes place) where
     law : IsLawful (by_number cmp) size ns
     law = subst (λ (t : MultiTree K V). IsLawful (by_number cmp) t.size t.nodes) (sym seen) rule.lawful
 
@@ -147,10 +167,16 @@ module _ {K V : Type 0} (cmp : K → K → Ordering) where
       count : length (pair_removal_events cmp size ns (placed_item ns place)) ≡ place_removal_count size ns p.0 p.1
       count = ap (λ l. length l) events ∙ taking_length size ns p.0 p.1 x
 
-      pub taken : {after : Tree (MultiPair K V)} → after ≡ after_place_removal (record { nodes = ns; size = size; next = next }) p.0 p.1 → replay (by_number cmp) ns (numbered_from next (place_removal_events size ns p.0 p.1 x)) ≡ Some after.nodes → Taken size ns next pair_next m place p x after
+      pub taken : {after : Tree (MultiPair K V)}
+          → after ≡ after_place_removal (record { nodes = ns; size = size; next = next }) p.0 p.1
+          → replay (by_number cmp) ns (numbered_from next (place_removal_events size ns p.0 p.1 x)) ≡ Some after.nodes
+          → Taken size ns next pair_next m place p x after
       taken {after = after} made h = subst (λ (t : MultiTree K V). Taken size ns next pair_next t place p x after) seen (record {
         told = ap (numbered_from next) (sym events);
-        tree = removal_tree cmp (record { nodes = ns; size = size; next = next; pair_next = pair_next }) (placed_item ns place) (rw events h) (ap (λ t. t.size) made) (ap (λ t. t.next) made ∙ ap (λ c. next + c) (sym count)) refl;
+        tree =
+            removal_tree cmp (record { nodes = ns; size = size; next = next; pair_next = pair_next })
+            (placed_item ns place) (rw events h) (ap (λ t. t.size) made)
+            (ap (λ t. t.next) made ∙ ap (λ c. next + c) (sym count)) refl;
       })
 
     pub taken_count : length (place_removal m place) ≡ place_removal_count size ns p.0 p.1

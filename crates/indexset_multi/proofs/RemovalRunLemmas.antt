@@ -1,5 +1,7 @@
 -- Removals of the first pairs of a key, one after another.
-use Rattle.std.proofs.Common.{◌≡◌, ℕ, zero, suc, ◌+◌, ◌-◌, ◌/◌, ◌≤◌, Bool, true, false, not, cond, List, [], ◌∷◌, ◌++◌, length, drop, filter, find, Option, Some, None, is_some, Ordering, refl, ap, sym, ◌∙◌, subst, add-one, arith, length-append}
+use Rattle.std.proofs.Common.{◌≡◌, ℕ, zero, suc, ◌+◌, ◌-◌, ◌/◌, ◌≤◌, Bool, true, false, not, cond, List}
+use Rattle.std.proofs.Common.{[], ◌∷◌, ◌++◌, length, drop, filter, find, Option, Some, None, is_some}
+use Rattle.std.proofs.Common.{Ordering, refl, ap, sym, ◌∙◌, subst, add-one, arith, length-append}
 use Rattle.std.specs.Cmp.{IsTotalOrder}
 use Rattle.std.specs.List.{AllZip}
 use Rattle.std.specs.Option.{option_map}
@@ -81,7 +83,10 @@ drop_none [] = refl
 drop_none (x ∷ l) = refl
 
 -- the events of one removal
-led_once : {K V : Type 0} (cmp : K → K → Ordering) (m n : MultiTree K V) (es : List (ChangeEventUnassigned (MultiPair K V))) → replay (by_number cmp) m.nodes (numbered_from m.next es) ≡ Some n.nodes → n.next ≡ m.next + length es → EvolvesTo cmp m n
+led_once : {K V : Type 0} (cmp : K → K → Ordering) (m n : MultiTree K V)
+    (es : List (ChangeEventUnassigned (MultiPair K V)))
+    → replay (by_number cmp) m.nodes (numbered_from m.next es) ≡ Some n.nodes → n.next ≡ m.next + length es
+    → EvolvesTo cmp m n
 led_once cmp m n es replayed next = record {
   events = numbered_from m.next es;
   numbered = numbered_is m.next es;
@@ -96,7 +101,9 @@ numbered_on s (e ∷ a) b =
     ap (λ l. assigned s e ∷ l) (numbered_on (s + 1) a b ∙ ap (λ n. numbered_from (s + 1) a ++ numbered_from n b) e')
 
 -- the multimaps after removals of the first pairs of a key
-module _ {K V Q : Type 0} {cmp : K → K → Ordering} (o : IsTotalOrder cmp) {order : K → Q → Ordering} {among : Q → Q → Ordering} (acts : OrdersAsItem cmp order among) (old : MultiTree K V) {most len : ℕ} (t : IsTree (by_number cmp) most old.nodes old.size len) (k : Q) where
+module _ {K V Q : Type 0} {cmp : K → K → Ordering} (o : IsTotalOrder cmp) {order : K → Q → Ordering}
+    {among : Q → Q → Ordering} (acts : OrdersAsItem cmp order among) (old : MultiTree K V) {most len : ℕ}
+    (t : IsTree (by_number cmp) most old.nodes old.size len) (k : Q) where
   pub record Gone (n : ℕ) (now : MultiTree K V) : Type 0 where
     pub rule : IsTree (by_number cmp) most now.nodes now.size (length (concat now.nodes))
     pub gone : pairs_of order (concat now.nodes) k ≡ drop n (pairs_of order (concat old.nodes) k)
@@ -134,7 +141,11 @@ module _ {K V Q : Type 0} {cmp : K → K → Ordering} (o : IsTotalOrder cmp) {o
         rest = ap (λ l. without_pairs_of order l k) d.contents ∙ (rest_left_first o acts k (concat m.nodes) ∙ g.rest);
         others = λ other ne. ap (λ l. pairs_of cmp l other) d.contents ∙ (others_left_first o acts k (concat m.nodes) other ne ∙ g.others other ne);
         led = led_further cmp old m (after_pair_removal cmp m first) g.led (led_once cmp m (after_pair_removal cmp m first) (pair_removal_events cmp m.size m.nodes first) d.table d.next);
-        table = rw (numbered_on old.next (removals_events cmp order old k n) (first_events cmp order m k)) (replay-append (by_number cmp) old.nodes (numbered_from old.next (removals_events cmp order old k n)) (numbered_from (old.next + length (removals_events cmp order old k n)) (first_events cmp order m k)) ∙ rw (g.table, ← g.next) d.table);
+        table =
+            rw (numbered_on old.next (removals_events cmp order old k n) (first_events cmp order m k))
+            (replay-append (by_number cmp) old.nodes (numbered_from old.next (removals_events cmp order old k n))
+            (numbered_from (old.next + length (removals_events cmp order old k n)) (first_events cmp order m k))
+            ∙ rw (g.table, ← g.next) d.table);
         next = omega (arith, d.next, g.next, length-append (removals_events cmp order old k n) (first_events cmp order m k));
         size = g.size;
         dense = λ s. d.dense (g.dense s);
@@ -149,13 +160,19 @@ module _ {K V Q : Type 0} {cmp : K → K → Ordering} (o : IsTotalOrder cmp) {o
     one_more e = rw add-one (e ∙ ap (λ t. after_pair_removal cmp t (first_pair order (concat t.nodes) k)) is)
 
     -- the returned events with those of one more removal
-    pub told_more : (C : MultiPair K V → MultiPair K V → Type 0) (fs gs : List (ChangeEvent (MultiPair K V))) → AreTableEvents C old.next (removals_events cmp order old k n) fs → AppendsEvents C now.next (first_events cmp order now k) fs gs → AreTableEvents C old.next (removals_events cmp order old k (n + 1)) gs
+    pub told_more : (C : MultiPair K V → MultiPair K V → Type 0) (fs gs : List (ChangeEvent (MultiPair K V)))
+        → AreTableEvents C old.next (removals_events cmp order old k n) fs
+        → AppendsEvents C now.next (first_events cmp order now k) fs gs
+        → AreTableEvents C old.next (removals_events cmp order old k (n + 1)) gs
     told_more C fs gs before on =
         let g = now_gone in
         let s = old.next in
         let a = removals_events cmp order old k n in
         let b = first_events cmp order (after_removals cmp order old k n) k in
-        let more : AllZip (IsEventClone C) (numbered_from (s + length a) b) on.told = subst (λ (t : MultiTree K V). AllZip (IsEventClone C) (numbered_from (s + length a) (first_events cmp order t k)) on.told) is (rw g.next at on.clones) in
+        let more : AllZip (IsEventClone C) (numbered_from (s + length a) b) on.told =
+        subst (λ (t : MultiTree K V).
+        AllZip (IsEventClone C) (numbered_from (s + length a) (first_events cmp order t k)) on.told)
+        is (rw g.next at on.clones) in
         rw (add-one, on.added, numbered_on s a b) (zip_on (IsEventClone C) (numbered_from s a) (numbered_from (s + length a) b) fs on.told before more)
 
     -- a removal that found a pair was not the last
@@ -180,7 +197,9 @@ module _ {K V Q : Type 0} {cmp : K → K → Ordering} (o : IsTotalOrder cmp) {o
       pub tree_is : now ≡ after_removals cmp order old k (length (pairs_of order (concat old.nodes) k) - length (pairs_of order (concat now.nodes) k))
       tree_is = is ∙ ap (after_removals cmp order old k) (sym number)
 
-      pub told_is : (C : MultiPair K V → MultiPair K V → Type 0) (fs : List (ChangeEvent (MultiPair K V))) → AreTableEvents C old.next (removals_events cmp order old k n) fs → AreTableEvents C old.next (key_events cmp order old now k) fs
+      pub told_is : (C : MultiPair K V → MultiPair K V → Type 0) (fs : List (ChangeEvent (MultiPair K V)))
+          → AreTableEvents C old.next (removals_events cmp order old k n) fs
+          → AreTableEvents C old.next (key_events cmp order old now k) fs
       told_is C fs told = subst (λ m. AreTableEvents C old.next (removals_events cmp order old k m) fs) (sym number) told
 
       pub table_is : replay (by_number cmp) old.nodes (numbered_from old.next (key_events cmp order old now k)) ≡ Some now.nodes
@@ -188,7 +207,9 @@ module _ {K V Q : Type 0} {cmp : K → K → Ordering} (o : IsTotalOrder cmp) {o
 
       -- the replay of the returned events gives the multimap, if clones are identical to their
       -- sources
-      pub led_by : (C : MultiPair K V → MultiPair K V → Type 0) (fs : List (ChangeEvent (MultiPair K V))) → AreTableEvents C old.next (removals_events cmp order old k n) fs → ((p q : MultiPair K V) → C p q → q ≡ p) → EvolvesBy cmp old now fs
+      pub led_by : (C : MultiPair K V → MultiPair K V → Type 0) (fs : List (ChangeEvent (MultiPair K V)))
+          → AreTableEvents C old.next (removals_events cmp order old k n) fs → ((p q : MultiPair K V) → C p q → q ≡ p)
+          → EvolvesBy cmp old now fs
       led_by C fs told same =
           let g = now_gone in
           let es = removals_events cmp order old k n in
@@ -207,7 +228,9 @@ module _ {K V Q : Type 0} {cmp : K → K → Ordering} (o : IsTotalOrder cmp) {o
           let g = now_gone in
           record { tree = tree_is; left = left_is; rest = g.rest; others = g.others; led = g.led; table = table_is; size = g.size; dense = g.dense; pair_next = g.pair_next }
 
-      pub removals_told : (C : K → K → Type 0) (D : V → V → Type 0) (fs : List (ChangeEvent (MultiPair K V))) → AreTableEvents (IsMultiPairClone C D) old.next (removals_events cmp order old k n) fs → RemovalEvents cmp order C D old now k fs
+      pub removals_told : (C : K → K → Type 0) (D : V → V → Type 0) (fs : List (ChangeEvent (MultiPair K V)))
+          → AreTableEvents (IsMultiPairClone C D) old.next (removals_events cmp order old k n) fs
+          → RemovalEvents cmp order C D old now k fs
       removals_told C D fs told = record {
         clones = told_is (IsMultiPairClone C D) fs told;
         numbered = clones_numbered (IsMultiPairClone C D) old.next (removals_events cmp order old k n) fs told;

@@ -1,5 +1,6 @@
 -- The place where a search of lawful nodes ends, as the code returns it.
-use Rattle.std.proofs.Common.{◌≡◌, ℕ, ◌<◌, ◌≤◌, zero, suc, true, List, slice_get, [], ◌∷◌, length, Option, None, Some, MatchOption, Result, Ok, Err, is_ok, is_some, Ordering, refl, ap, sym, ◌∙◌, arith}
+use Rattle.std.proofs.Common.{◌≡◌, ℕ, ◌<◌, ◌≤◌, zero, suc, true, List, slice_get, [], ◌∷◌, length, Option, None, Some}
+use Rattle.std.proofs.Common.{MatchOption, Result, Ok, Err, is_ok, is_some, Ordering, refl, ap, sym, ◌∙◌, arith}
 use Rattle.std.proofs.lemmas.Option.{slice_get_past}
 use Rattle.std.specs.Cmp.{IsTotalOrder}
 use Rattle.std.specs.List.{find, list_any}
@@ -15,7 +16,9 @@ use Rattle.indexset_core.specs.LookupKey.{OrdersAsItem, acts_as_itself, acts_on_
 use Rattle.indexset_core.proofs.CallerLemmas.{parted_by_sought, is_some-find, end_found, end_node, end_offset, gap_found, get_in_node}
 use Rattle.indexset_core.specs.Places.{items_before, located}
 
-module _ {T : Type 0} (cmp : T → T → Ordering) (size : ℕ) (ns : List (List T)) (law : IsLawful cmp size ns) (answer : T → Ordering) (parted : IsParted answer (concat ns)) (r : Result (ℕ × ℕ) (ℕ × ℕ)) (e : r ≡ located answer ns) where
+module _ {T : Type 0} (cmp : T → T → Ordering) (size : ℕ) (ns : List (List T)) (law : IsLawful cmp size ns)
+    (answer : T → Ordering) (parted : IsParted answer (concat ns)) (r : Result (ℕ × ℕ) (ℕ × ℕ))
+    (e : r ≡ located answer ns) where
   -- it is the place of an item if the search found one
   pub ok_place : IsItemPlaceInNodes ns (result_ok r)
   ok_place = elim r as (λ s. r ≡ s → IsItemPlaceInNodes ns (result_ok s)) [
@@ -46,7 +49,9 @@ module _ {K V : Type 0} (cmp : K → K → Ordering) (size : ℕ) (ns : List (Li
   pub sought_keys : {Q : Type 0} {order : K → Q → Ordering} {among : Q → Q → Ordering} → OrdersAsItem cmp order among → (k : Q) → IsParted (λ p. order p.key k) (concat ns)
   sought_keys acts k = parted_by_sought (acts_on_numbered acts) (concat ns) (lawful_ascends (by_number cmp) size ns law) k
 
-pub lawful_keys : {K V : Type 0} (cmp : K → K → Ordering) (o : IsTotalOrder cmp) (size : ℕ) (ns : List (List (MultiPair K V))) (law : IsLawful (by_number cmp) size ns) (k : K) → IsParted (λ p. cmp p.key k) (concat ns)
+pub lawful_keys : {K V : Type 0} (cmp : K → K → Ordering) (o : IsTotalOrder cmp) (size : ℕ)
+    (ns : List (List (MultiPair K V))) (law : IsLawful (by_number cmp) size ns) (k : K)
+    → IsParted (λ p. cmp p.key k) (concat ns)
 lawful_keys cmp o size ns law k = sought_keys cmp size ns law (acts_as_itself o) k
 
 -- the item at a position, by its place

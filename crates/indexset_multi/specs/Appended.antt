@@ -6,7 +6,8 @@ use Rattle.indexset_events.specs.Clones.{AreTableEvents}
 
 -- the list `after` is the list `before` with the returned events of the table appended, numbered
 -- from s
-pub record AppendsEvents {T : Type 0} (C : T → T → Type 0) (s : ℕ) (table : List (ChangeEventUnassigned T)) (before after : List (ChangeEvent T)) : Type 0 where
+pub record AppendsEvents {T : Type 0} (C : T → T → Type 0) (s : ℕ)
+    (table : List (ChangeEventUnassigned T)) (before after : List (ChangeEvent T)) : Type 0 where
   pub told : List (ChangeEvent T)
   pub added : after ≡ before ++ told
   pub clones : AreTableEvents C s table told

@@ -1,5 +1,6 @@
 -- Lists of numbered pairs, by key.
-use Rattle.std.specs.Prelude.{ℕ, ◌<◌, Bool, List, [], ◌∷◌, if◌then◌else◌, not, Option, filter, find, map}
+use Rattle.std.specs.Prelude.{ℕ, ◌<◌, Bool, List, [], ◌∷◌, if◌then◌else◌}
+use Rattle.std.specs.Prelude.{not, Option, filter, find, map}
 use Rattle.std.specs.Borrow.{Bor}
 use Rattle.std.specs.List.{All, list_any}
 use Rattle.std.specs.Option.{option_map, option_map_or}

@@ -10,4 +10,5 @@ module _ {X : Type 0} where
 
   -- an optional place is that of an item
   abbrev pub IsItemPlaceInNodes : List (List X) → Option (ℕ × ℕ) → Type 0
-  IsItemPlaceInNodes ns place = IfSome place (λ p. (p.0 < length ns) × (p.1 < length (node_at ns p.0)))
+  IsItemPlaceInNodes ns place =
+      IfSome place (λ p. (p.0 < length ns) × (p.1 < length (node_at ns p.0)))

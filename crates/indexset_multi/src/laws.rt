@@ -21,6 +21,7 @@ pub fn iterators_yield_each_pair_once<
         ⟦<Iter<'a, K, V, Node> as DoubleEndedIterator>⟧.next_back_gives }
     ensures range { IsDoubleEnded pair_deref ⟦<Range<'a, K, V, Node> as Iterator>⟧.next_gives
         ⟦<Range<'a, K, V, Node> as DoubleEndedIterator>⟧.next_back_gives }
-    ensures raw_range { IsDoubleEnded number_shown ⟦<RawRange<'a, K, V, Node> as Iterator>⟧.next_gives
+    ensures raw_range { IsDoubleEnded number_shown
+        ⟦<RawRange<'a, K, V, Node> as Iterator>⟧.next_gives
         ⟦<RawRange<'a, K, V, Node> as DoubleEndedIterator>⟧.next_back_gives }
 {}

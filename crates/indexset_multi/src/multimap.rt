@@ -80,7 +80,8 @@ impl<K: Ord + Clone + Drop, V: Eq + Clone + Drop, Node: NodeLike<MultiPair<K, V>
     /// The size must be at least 2 and at most the limit of the node type.
     ///
     /// ```
-    /// let tags: multimap::BTreeMultiMap<u64, u64, Vec<MultiPair<u64, u64>>> = multimap::BTreeMultiMap::starting_at(alloc, 256, 100);
+    /// let tags: multimap::BTreeMultiMap<u64, u64, Vec<MultiPair<u64, u64>>> =
+    ///     multimap::BTreeMultiMap::starting_at(alloc, 256, 100);
     /// assert!(rt; tags.events_issued() == 100);
     /// ```
     pub fn starting_at(alloc: Global, size: usize, next: u64) -> Self
@@ -99,7 +100,8 @@ impl<K: Ord + Clone + Drop, V: Eq + Clone + Drop, Node: NodeLike<MultiPair<K, V>
     /// The size must be at least 2 and at most the limit of the node type.
     ///
     /// ```
-    /// let tags: multimap::BTreeMultiMap<u64, u64, Vec<MultiPair<u64, u64>>> = multimap::BTreeMultiMap::with_maximum_node_size(alloc, 256);
+    /// let tags: multimap::BTreeMultiMap<u64, u64, Vec<MultiPair<u64, u64>>> =
+    ///     multimap::BTreeMultiMap::with_maximum_node_size(alloc, 256);
     /// assert!(rt; tags.is_empty());
     /// ```
     pub fn with_maximum_node_size(alloc: Global, size: usize) -> Self
@@ -113,7 +115,8 @@ impl<K: Ord + Clone + Drop, V: Eq + Clone + Drop, Node: NodeLike<MultiPair<K, V>
     /// Returns an empty multimap of the default node size, with events numbered from 0.
     ///
     /// ```
-    /// let mut tags: multimap::BTreeMultiMap<u64, u64, Vec<MultiPair<u64, u64>>> = multimap::BTreeMultiMap::new(alloc);
+    /// let mut tags: multimap::BTreeMultiMap<u64, u64, Vec<MultiPair<u64, u64>>> =
+    ///     multimap::BTreeMultiMap::new(alloc);
     /// tags.insert(1, 100)?;
     /// tags.insert(1, 101)?;
     /// assert!(rt; tags.len() == 2);
@@ -152,7 +155,8 @@ impl<K: Ord + Clone + Drop, V: Eq + Clone + Drop, Node: NodeLike<MultiPair<K, V>
     /// Returns the number of pairs.
     ///
     /// ```
-    /// let mut tags: multimap::BTreeMultiMap<u64, u64, Vec<MultiPair<u64, u64>>> = multimap::BTreeMultiMap::new(alloc);
+    /// let mut tags: multimap::BTreeMultiMap<u64, u64, Vec<MultiPair<u64, u64>>> =
+    ///     multimap::BTreeMultiMap::new(alloc);
     /// for (tag, document) in [(1, 100), (1, 101), (2, 100)] {
     ///     tags.insert(tag, document)?;
     /// }
@@ -167,7 +171,8 @@ impl<K: Ord + Clone + Drop, V: Eq + Clone + Drop, Node: NodeLike<MultiPair<K, V>
     /// Returns true if the multimap contains no pairs.
     ///
     /// ```
-    /// let mut tags: multimap::BTreeMultiMap<u64, u64, Vec<MultiPair<u64, u64>>> = multimap::BTreeMultiMap::new(alloc);
+    /// let mut tags: multimap::BTreeMultiMap<u64, u64, Vec<MultiPair<u64, u64>>> =
+    ///     multimap::BTreeMultiMap::new(alloc);
     /// assert!(rt; tags.is_empty());
     /// tags.insert(1, 100)?;
     /// assert!(rt; !tags.is_empty());
@@ -184,7 +189,8 @@ impl<K: Ord + Clone + Drop, V: Eq + Clone + Drop, Node: NodeLike<MultiPair<K, V>
     /// number, within and across nodes, and their numbers are below that of the next new pair.
     ///
     /// ```
-    /// let mut tags: multimap::BTreeMultiMap<u64, u64, Vec<MultiPair<u64, u64>>> = multimap::BTreeMultiMap::new(alloc);
+    /// let mut tags: multimap::BTreeMultiMap<u64, u64, Vec<MultiPair<u64, u64>>> =
+    ///     multimap::BTreeMultiMap::new(alloc);
     /// for (tag, document) in [(1, 100), (1, 101), (2, 100)] {
     ///     tags.insert(tag, document)?;
     /// }
@@ -202,7 +208,8 @@ impl<K: Ord + Clone + Drop, V: Eq + Clone + Drop, Node: NodeLike<MultiPair<K, V>
     /// Returns the sum of the capacities of the nodes, at most `usize::MAX`.
     ///
     /// ```
-    /// let mut tags: multimap::BTreeMultiMap<u64, u64, Vec<MultiPair<u64, u64>>> = multimap::BTreeMultiMap::new(alloc);
+    /// let mut tags: multimap::BTreeMultiMap<u64, u64, Vec<MultiPair<u64, u64>>> =
+    ///     multimap::BTreeMultiMap::new(alloc);
     /// for (tag, document) in [(1, 100), (1, 101), (2, 100)] {
     ///     tags.insert(tag, document)?;
     /// }
@@ -218,7 +225,8 @@ impl<K: Ord + Clone + Drop, V: Eq + Clone + Drop, Node: NodeLike<MultiPair<K, V>
     /// Returns the number of the next event.
     ///
     /// ```
-    /// let mut tags: multimap::BTreeMultiMap<u64, u64, Vec<MultiPair<u64, u64>>> = multimap::BTreeMultiMap::new(alloc);
+    /// let mut tags: multimap::BTreeMultiMap<u64, u64, Vec<MultiPair<u64, u64>>> =
+    ///     multimap::BTreeMultiMap::new(alloc);
     /// for (tag, document) in [(1, 100), (1, 101), (2, 100)] {
     ///     tags.insert(tag, document)?;
     /// }
@@ -233,7 +241,8 @@ impl<K: Ord + Clone + Drop, V: Eq + Clone + Drop, Node: NodeLike<MultiPair<K, V>
     /// Returns a double-ended iterator over the nodes, in order.
     ///
     /// ```
-    /// let mut tags: multimap::BTreeMultiMap<u64, u64, Vec<MultiPair<u64, u64>>> = multimap::BTreeMultiMap::new(alloc);
+    /// let mut tags: multimap::BTreeMultiMap<u64, u64, Vec<MultiPair<u64, u64>>> =
+    ///     multimap::BTreeMultiMap::new(alloc);
     /// for (tag, document) in [(1, 100), (1, 101), (2, 100)] {
     ///     tags.insert(tag, document)?;
     /// }
@@ -250,7 +259,8 @@ impl<K: Ord + Clone + Drop, V: Eq + Clone + Drop, Node: NodeLike<MultiPair<K, V>
     /// Returns true if a pair has the key.
     ///
     /// ```
-    /// let mut tags: multimap::BTreeMultiMap<u64, u64, Vec<MultiPair<u64, u64>>> = multimap::BTreeMultiMap::new(alloc);
+    /// let mut tags: multimap::BTreeMultiMap<u64, u64, Vec<MultiPair<u64, u64>>> =
+    ///     multimap::BTreeMultiMap::new(alloc);
     /// for (tag, document) in [(1, 100), (1, 101), (2, 100)] {
     ///     tags.insert(tag, document)?;
     /// }

@@ -1,5 +1,7 @@
 -- Equal clones in the place of their sources.
-use Rattle.std.proofs.Common.{◌≡◌, ◌==◌, ◌&&◌, ℕ, zero, suc, ◌+◌, ◌<◌, true, not, if◌then◌else◌, List, [], ◌∷◌, length, slice_get, take, insert, Result, Ok, Err, OnOk, Option, Some, None, Ordering, option_and_then, refl, ap, sym, ◌∙◌, inl, inr, subst}
+use Rattle.std.proofs.Common.{◌≡◌, ◌==◌, ◌&&◌, ℕ, zero, suc, ◌+◌, ◌<◌, true, not, if◌then◌else◌, List}
+use Rattle.std.proofs.Common.{[], ◌∷◌, length, slice_get, take, insert, Result, Ok, Err, OnOk, Option}
+use Rattle.std.proofs.Common.{Some, None, Ordering, option_and_then, refl, ap, sym, ◌∙◌, inl, inr, subst}
 use Rattle.std.below.core.specs.declared.int.u64.TheConstants.{MAX}
 use Rattle.std.specs.Cmp.{IsTotalOrder}
 use Rattle.std.specs.List.{position_or_len, splice}
@@ -37,7 +39,10 @@ module _ {T : Type 0} (cmp : T → T → Ordering) (o : IsTotalOrder cmp) (v w :
   between_same before after = λ i. (let t = option_map_or (λ x. is_lt (alike_right o w v x same i)) before true in t) && option_map_or (λ x. is_lt (o.congr w v x same i)) after true
 
   -- the items ascend with the clone if and only if they do with its source
-  pub inserted_same : (ns : List (List T)) → Ruled cmp ns → (p : ℕ) → p < length ns → (i : ℕ) → let n = node_at ns p in is_ascending cmp (concat (splice ns p (p + 1) (insert n i w ∷ []))) ≡ is_ascending cmp (concat (splice ns p (p + 1) (insert n i v ∷ [])))
+  pub inserted_same : (ns : List (List T)) → Ruled cmp ns → (p : ℕ) → p < length ns → (i : ℕ)
+      → let n = node_at ns p in
+      is_ascending cmp (concat (splice ns p (p + 1) (insert n i w ∷ [])))
+      ≡ is_ascending cmp (concat (splice ns p (p + 1) (insert n i v ∷ [])))
   inserted_same ns rule p inside i = fits_node cmp o w ns rule p inside i ∙ (between_same _ _ ∙ sym (fits_node cmp o v ns rule p inside i))
 
   pub created_same : (ns : List (List T)) → Ruled cmp ns → (p : ℕ) → is_ascending cmp (concat (insert ns p (w ∷ []))) ≡ is_ascending cmp (concat (insert ns p (v ∷ [])))
@@ -62,7 +67,9 @@ module _ {T : Type 0} {cmp : T → T → Ordering} {C : T → T → Type 0} {ns 
 
 -- an event that is the next, if it is applied
 module _ {T U E : Type 0} (cmp : T → T → Ordering) (C : T → T → Type 0) where
-  pub delivery_where_ok : (o : Result U E) (r q : ReplicaState T) (e : ChangeEvent T) → event_number e ≡ r.next → OnOk o (apply_refusal cmp r.nodes r.next e ≡ None) → OnOk o (q.next ≡ r.next + 1) → OnOk o (IsClonedStep cmp C r.nodes (unassigned e) q.nodes) → OnOk o (IsDelivery cmp C r e q)
+  pub delivery_where_ok : (o : Result U E) (r q : ReplicaState T) (e : ChangeEvent T) → event_number e ≡ r.next
+      → OnOk o (apply_refusal cmp r.nodes r.next e ≡ None) → OnOk o (q.next ≡ r.next + 1)
+      → OnOk o (IsClonedStep cmp C r.nodes (unassigned e) q.nodes) → OnOk o (IsDelivery cmp C r e q)
   unfolding apply_refusal
   delivery_where_ok (Ok u) r q e number fits next made =
       let gap = else_none _ Gap (if r.next == MAX then Some Numbers else misfit cmp r.nodes (unassigned e)) fits in
@@ -96,6 +103,8 @@ module _ {T : Type 0} (cmp : T → T → Ordering) (C : T → T → Type 0) (h :
   followed_same es r q [] d = ap (λ s. Some s) (sym d)
   followed_same es r q (p ∷ order) d = one (slice_get es p) d.1 (followed_same es d.0 q order d.2)
     where
-      one : (o : Option (ChangeEvent T)) → IsSomeAnd o (λ e. IsDelivery cmp C r e d.0) → followed cmp es d.0 order ≡ Some q → option_and_then (λ s. followed cmp es s order) (option_and_then (delivered cmp r) o) ≡ Some q
+      one : (o : Option (ChangeEvent T)) → IsSomeAnd o (λ e. IsDelivery cmp C r e d.0)
+          → followed cmp es d.0 order ≡ Some q
+          → option_and_then (λ s. followed cmp es s order) (option_and_then (delivered cmp r) o) ≡ Some q
       one None there rest = absurd there
       one (Some e) there rest = rw (delivered_same r d.0 e there) rest

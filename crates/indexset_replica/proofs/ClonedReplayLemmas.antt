@@ -75,7 +75,9 @@ module _ {T : Type 0} (cmp : T → T → Ordering) (o : IsTotalOrder cmp) (C E :
   replayed_one : (ms mid r : List (List T)) (f : ChangeEvent T) (fs : List (ChangeEvent T)) → step cmp ms f ≡ Some mid → replay cmp mid fs ≡ Some r → replay cmp ms (f ∷ fs) ≡ Some r
   replayed_one ms mid r f fs first rest = rw first rest
 
-  pub replay_clones : (ns ms after : List (List T)) (es fs : List (ChangeEvent T)) → AreNodesAlike ns ms → AllZip (IsEventClone C) es fs → replay cmp ns es ≡ Some after → (r : List (List T)) × (replay cmp ms fs ≡ Some r) × AreNodesAlike after r
+  pub replay_clones : (ns ms after : List (List T)) (es fs : List (ChangeEvent T)) → AreNodesAlike ns ms
+      → AllZip (IsEventClone C) es fs → replay cmp ns es ≡ Some after
+      → (r : List (List T)) × (replay cmp ms fs ≡ Some r) × AreNodesAlike after r
   replay_clones ns ms after [] [] near h led = (ms, refl, subst (λ t. AreNodesAlike t ms) (some_inj led) near)
   replay_clones ns ms after [] (f ∷ fs) near h led = absurd h
   replay_clones ns ms after (e ∷ es) [] near h led = absurd h

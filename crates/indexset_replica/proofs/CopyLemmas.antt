@@ -77,12 +77,18 @@ module _ {T : Type 0} (cmp : T → T → Ordering) (C : T → T → Type 0) wher
       copy_once x y c = copy_on x x y (copy_itself x) (c, tied_back o x y (equal x y c))
 
       -- the replay of clones of events gives copies of the nodes after the events
-      pub replay_copies : (ns ms after : List (List T)) (es fs : List (ChangeEvent T)) → AreCopies cmp C ns ms → AllZip (IsEventClone C) es fs → replay cmp ns es ≡ Some after → LeadsToCopies cmp C ms fs after
+      pub replay_copies : (ns ms after : List (List T)) (es fs : List (ChangeEvent T)) → AreCopies cmp C ns ms
+          → AllZip (IsEventClone C) es fs → replay cmp ns es ≡ Some after → LeadsToCopies cmp C ms fs after
       replay_copies = replay_clones cmp o C (IsCopy cmp C) copy_equal copy_once
 
       -- a replica that adds clones of their items has such copies too
-      pub step_copies : (ns ms after new : List (List T)) (e f : ChangeEvent T) → AreCopies cmp C ns ms → IsEventClone C e f → step cmp ns e ≡ Some after → IsClonedStep cmp C ms (unassigned f) new → AreCopies cmp C after new
+      pub step_copies : (ns ms after new : List (List T)) (e f : ChangeEvent T) → AreCopies cmp C ns ms
+          → IsEventClone C e f → step cmp ns e ≡ Some after → IsClonedStep cmp C ms (unassigned f) new
+          → AreCopies cmp C after new
       step_copies ns ms after new e f near h made d =
           let told = clone_alike cmp o C (IsCopy cmp C) copy_equal copy_once e f h in
-          let both = step_alike cmp o (IsCopy cmp C) copy_equal ns ms near (unassigned e) d.event (adds_alike cmp o (IsCopy cmp C) copy_equal C copy_on (unassigned e) (unassigned f) d.event told d.adds) in
+          let both =
+          step_alike cmp o (IsCopy cmp C) copy_equal ns ms near (unassigned e) d.event
+          (adds_alike cmp o (IsCopy cmp C) copy_equal C copy_on (unassigned e) (unassigned f) d.event told
+          d.adds) in
           subst (λ t. AreAlike (AreCopies cmp C) t (Some new)) made (subst (λ t. AreAlike (AreCopies cmp C) (step cmp ns e) t) d.made both)

@@ -29,7 +29,13 @@ module _ {T Q : Type 0} (cmp : T → T → Ordering) (o : IsTotalOrder cmp) (ord
   rank_zip [] (y ∷ ys) c = absurd c
   rank_zip (x ∷ xs) [] c = absurd c
   rank_zip (x ∷ xs) (y ∷ ys) c =
-      omega (arith, sum_by-cons (λ x. cond (is_lt (order x k)) 1 0) x xs, sum_by-cons (λ x. cond (is_lt (order x k)) 1 0) y ys, ap {B = ℕ} (λ a. cond (is_lt a) 1 0) (alike k x y c.0), rank_zip xs ys c.1)
+      omega (
+        arith,
+        sum_by-cons (λ x. cond (is_lt (order x k)) 1 0) x xs,
+        sum_by-cons (λ x. cond (is_lt (order x k)) 1 0) y ys,
+        ap {B = ℕ} (λ a. cond (is_lt a) 1 0) (alike k x y c.0),
+        rank_zip xs ys c.1,
+      )
 
   has_zip : (xs ys : List T) → AllZip (λ x y. cmp x y ≡ Equal) xs ys → has_equal order ys k ≡ has_equal order xs k
   has_zip [] [] c = refl

@@ -1,5 +1,7 @@
 -- Events delivered out of order, and the prefix that they make.
-use Rattle.std.proofs.Common.{◌≡◌, ◌==◌, is_some, inl, inr, ℕ, zero, suc, ◌+◌, ◌-◌, ◌<◌, ◌≤◌, Bool, true, false, if◌then◌else◌, List, [], ◌∷◌, ◌++◌, length, get_or, slice_get, take, drop, Option, Some, None, Ordering, option_and_then, refl, ap, sym, ◌∙◌, subst, arith}
+use Rattle.std.proofs.Common.{◌≡◌, ◌==◌, is_some, inl, inr, ℕ, zero, suc, ◌+◌, ◌-◌, ◌<◌, ◌≤◌, Bool, true}
+use Rattle.std.proofs.Common.{false, if◌then◌else◌, List, [], ◌∷◌, ◌++◌, length, get_or, slice_get, take, drop}
+use Rattle.std.proofs.Common.{Option, Some, None, Ordering, option_and_then, refl, ap, sym, ◌∙◌, subst, arith}
 use Rattle.std.below.core.specs.declared.int.u64.TheConstants.{MAX}
 use Rattle.std.specs.List.{fold}
 use Rattle.std.proofs.lemmas.Bool.{eqb-true, eqb-false, eq-eqb, ne_eqb, not-false}
@@ -162,14 +164,19 @@ module _ {T : Type 0} (cmp : T → T → Ordering) where
         let more : r.next < MAX = omega (arith, at.next, feed.fits, read.0, same) in
         misfit_refused cmp r.nodes r.next e number (λ last. omega (arith, last, more)) ∙ step_fits cmp r.nodes (unassigned e) made.0 made.1
 
-    pub at_more : (j p : ℕ) (b : Bool) (r q : ReplicaState T) (e : ChangeEvent T) → (p == j) ≡ b → IsAt cmp s ns es j r → slice_get es p ≡ Some e → delivered cmp r e ≡ Some q → IsAt cmp s ns es (if b then j + 1 else j) q
+    pub at_more : (j p : ℕ) (b : Bool) (r q : ReplicaState T) (e : ChangeEvent T) → (p == j) ≡ b
+        → IsAt cmp s ns es j r → slice_get es p ≡ Some e → delivered cmp r e ≡ Some q
+        → IsAt cmp s ns es (if b then j + 1 else j) q
     unfolding delivered
     at_more j p true r q e here at told made =
         let same = eqb-true p j here in
         let read = read_at es p e told in
         let number : event_number e ≡ r.next = number_at p e told ∙ omega (arith, same, at.next) in
         let more : r.next < MAX = omega (arith, at.next, feed.fits, read.0, same) in
-        let stepped = map_some (step cmp r.nodes e) (λ ns. record { nodes = ns; next = r.next + 1 }) q (rw (eq-eqb (event_number e) r.next number, ne_eqb r.next MAX (λ last. omega (arith, last, more))) at made) in
+        let stepped =
+        map_some (step cmp r.nodes e) (λ ns. record { nodes = ns; next = r.next + 1 }) q
+        (rw (eq-eqb (event_number e) r.next number, ne_eqb r.next MAX (λ last. omega (arith, last, more))) at
+        made) in
         record {
           within = omega (arith, read.0, same);
           nodes = step_at j r e at (subst (λ i. slice_get es i ≡ Some e) same told) ∙ stepped.1 ∙ ap (λ t. Some t.nodes) stepped.2;

@@ -1,5 +1,7 @@
 -- The nodes of a replica after an event, and when an event does not apply.
-use Rattle.std.proofs.Common.{◌≡◌, ℕ, ◌+◌, ◌<◌, ◌≤◌, true, false, not, cond, List, [], ◌∷◌, length, map, get_or, slice_get, take, drop, set, insert, remove, ltb, leb, eqb, Option, Some, None, Ordering, refl, ap, sym, ◌∙◌, add-one, arith}
+use Rattle.std.proofs.Common.{◌≡◌, ℕ, ◌+◌, ◌<◌, ◌≤◌, true, false, not, cond, List, [], ◌∷◌, length}
+use Rattle.std.proofs.Common.{map, get_or, slice_get, take, drop, set, insert, remove, ltb, leb}
+use Rattle.std.proofs.Common.{eqb, Option, Some, None, Ordering, refl, ap, sym, ◌∙◌, add-one, arith}
 use Rattle.std.proofs.lemmas.Option.{slice_get-get_or}
 use Rattle.std.proofs.lemmas.List.{get_or_read, length-map, set_split}
 use Rattle.std.specs.List.{position_or_len, splice}
@@ -106,11 +108,17 @@ module _ {T N : Type 0} (cmp : T → T → Ordering) (f : N → List T) (items :
       insert_outside out = rw (named, held, lt-ltb (length (f n)) i out) refl
 
       module _ (inside : i ≤ length (f n)) where
-        pub insert_disorder : is_ascending cmp (concat (splice (map f items) p (p + 1) (insert (node_at (map f items) p) i v ∷ []))) ≡ false → misfit cmp (map f items) (InsertAt m v i) ≡ Some OutOfOrder
+        pub insert_disorder : is_ascending cmp
+            (concat (splice (map f items) p (p + 1) (insert (node_at (map f items) p) i v ∷ [])))
+            ≡ false
+            → misfit cmp (map f items) (InsertAt m v i) ≡ Some OutOfOrder
         unfolding misfit
         insert_disorder bad = rw (named, held, le-ltb (length (f n)) i inside, le-leb i (length (f n)) inside, rw held at bad) refl
 
-        pub insert_edit : is_ascending cmp (concat (splice (map f items) p (p + 1) (insert (node_at (map f items) p) i v ∷ []))) ≡ true → IsEdit cmp (map f items) (InsertAt m v i) (set (map f items) p (insert (f n) i v))
+        pub insert_edit : is_ascending cmp
+            (concat (splice (map f items) p (p + 1) (insert (node_at (map f items) p) i v ∷ [])))
+            ≡ true
+            → IsEdit cmp (map f items) (InsertAt m v i) (set (map f items) p (insert (f n) i v))
         unfolding misfit
         insert_edit good = record {
           fits = rw (named, held, le-ltb (length (f n)) i inside, le-leb i (length (f n)) inside, rw held at good) refl;
@@ -142,7 +150,10 @@ module _ {T N : Type 0} (cmp : T → T → Ordering) (f : N → List T) (items :
           unfolding misfit
           remove_edit more = record {
             fits = rw (named, held, lt-leb (length (f n)) i inside, item, equal, ne_eqb (length (f n)) 1 more) refl;
-            edited = rw (named, held, le-leb 2 (length (f n)) (omega arith), lt-ltb i (length (f n)) inside, item, equal) (ap Some (sym (set_splice (map f items) p (remove (f n) i) (named_inside cmp (map f items) m p named))));
+            edited =
+                rw (named, held, le-leb 2 (length (f n)) (omega arith), lt-ltb i (length (f n)) inside, item, equal)
+                (ap Some
+                (sym (set_splice (map f items) p (remove (f n) i) (named_inside cmp (map f items) m p named))));
           }
 
     module _ (k : ℕ) where

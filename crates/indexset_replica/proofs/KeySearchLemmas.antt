@@ -46,4 +46,11 @@ module _ {T : Type 0} (answer : T → Ordering) where
   pub count_equal : (l : List T) → not_greater_count answer l ≡ less_count answer l + count_by (λ x. is_eq (answer x)) l
   count_equal [] = refl
   count_equal (x ∷ l) =
-      omega (arith, cond_or (answer x), count_equal l, sum_by-cons (λ x. cond (is_le (answer x)) 1 0) x l, sum_by-cons (λ x. cond (is_lt (answer x)) 1 0) x l, sum_by-cons (λ x. cond (is_eq (answer x)) 1 0) x l)
+      omega (
+        arith,
+        cond_or (answer x),
+        count_equal l,
+        sum_by-cons (λ x. cond (is_le (answer x)) 1 0) x l,
+        sum_by-cons (λ x. cond (is_lt (answer x)) 1 0) x l,
+        sum_by-cons (λ x. cond (is_eq (answer x)) 1 0) x l,
+      )

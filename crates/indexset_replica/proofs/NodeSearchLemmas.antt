@@ -1,5 +1,7 @@
 -- The place of a value in the nodes of a replica.
-use Rattle.std.proofs.Common.{◌≡◌, ℕ, zero, suc, ◌+◌, ◌-◌, ◌<◌, ◌≤◌, ◌==◌, Bool, true, false, List, [], ◌∷◌, ◌++◌, length, map, get_or, slice_get, take, drop, insert, Option, Some, None, Ordering, All, inl, inr, refl, ap, sym, ◌∙◌, subst, arith, append_assoc, length-append}
+use Rattle.std.proofs.Common.{◌≡◌, ℕ, zero, suc, ◌+◌, ◌-◌, ◌<◌, ◌≤◌, ◌==◌, Bool, true, false, List, [], ◌∷◌, ◌++◌}
+use Rattle.std.proofs.Common.{length, map, get_or, slice_get, take, drop, insert, Option, Some, None, Ordering}
+use Rattle.std.proofs.Common.{All, inl, inr, refl, ap, sym, ◌∙◌, subst, arith, append_assoc, length-append}
 use Rattle.std.specs.Borrow.{Bor}
 use Rattle.std.specs.Cmp.{IsTotalOrder}
 use Rattle.std.specs.List.{position_or_len, splice, take-map}
@@ -14,7 +16,11 @@ use Rattle.indexset_core.specs.Nodes.{concat, node_at, node_for, node_lengths}
 use Rattle.indexset_core.proofs.CallerLemmas.{equal_from, concat-append, concat-splice, joined_around, less_from, node_read, slice_get-right}
 use Rattle.indexset_events.specs.Nodes.{is_filled, last_of, is_ascending}
 use Rattle.indexset_events.specs.Replay.{has_name, node_named, reaches}
-use Rattle.indexset_events.proofs.CallerLemmas.{Ruled, Each, Up, at_place, each-append, each-left, each-map, each-right, each_last, greater, last_some, min_place_here, min_place_past, node_is, length_filled, not_reaching, over_rest, place_none, position_at, reaching, true_up, unnamed, up-between, up-left, up-right, up_put, up_true, upto_last, nodes_each}
+use Rattle.indexset_events.proofs.CallerLemmas.{Ruled, Each, Up, at_place, each-append, each-left, each-map}
+use Rattle.indexset_events.proofs.CallerLemmas.{each-right, each_last, greater, last_some, min_place_here}
+use Rattle.indexset_events.proofs.CallerLemmas.{min_place_past, node_is, length_filled, not_reaching, over_rest}
+use Rattle.indexset_events.proofs.CallerLemmas.{place_none, position_at, reaching, true_up, unnamed, up-between}
+use Rattle.indexset_events.proofs.CallerLemmas.{up-left, up-right, up_put, up_true, upto_last, nodes_each}
 use Rattle.indexset_replica.specs.Replica.{first_item, is_between, last_item}
 
 pub filled_each : {T : Type 0} (ns : List (List T)) → All (λ n. 1 ≤ n) (node_lengths ns) → Each (λ n. is_filled n ≡ true) ns
@@ -142,7 +148,9 @@ module _ {T : Type 0} (cmp : T → T → Ordering) (o : IsTotalOrder cmp) (v : T
       (λ b a low on. here b a low)
       ns rule rule.filled
     where
-      here : (b a : List (List T)) → Each (λ x. cmp x v ≡ Less) (concat b) → Each (λ n. is_filled n ≡ true) (b ++ a) → length b < length (b ++ a) → has_name cmp v (node_at (b ++ a) (length b)) ≡ true → node_named cmp (b ++ a) v ≡ Some (length b)
+      here : (b a : List (List T)) → Each (λ x. cmp x v ≡ Less) (concat b) → Each (λ n. is_filled n ≡ true) (b ++ a)
+          → length b < length (b ++ a) → has_name cmp v (node_at (b ++ a) (length b)) ≡ true
+          → node_named cmp (b ++ a) v ≡ Some (length b)
       here b [] low full inside own = absurd (omega (arith, length-append b []))
       here b (n ∷ a) low full inside own = position_at (has_name cmp v) b n a (unnamed cmp o v b (each-left _ b (n ∷ a) full) low) (rw get_or-append_seam at own)
 
@@ -155,7 +163,10 @@ module _ {T : Type 0} (cmp : T → T → Ordering) (o : IsTotalOrder cmp) (v : T
       nowhere : (q : List (List T)) → Each (λ n. has_name cmp v n ≡ false) q → node_named cmp q v ≡ None
       nowhere q h = rw (place_none (has_name cmp v) q h, le-ltb (length q) (length q) (omega arith)) refl
 
-      none : (b a : List (List T)) → Each (λ x. cmp x v ≡ Less) (concat b) → Reached a → Each (λ n. is_filled n ≡ true) (b ++ a) → (length b < length (b ++ a) → has_name cmp v (node_at (b ++ a) (length b)) ≡ false) → node_named cmp (b ++ a) v ≡ None
+      none : (b a : List (List T)) → Each (λ x. cmp x v ≡ Less) (concat b) → Reached a
+          → Each (λ n. is_filled n ≡ true) (b ++ a)
+          → (length b < length (b ++ a) → has_name cmp v (node_at (b ++ a) (length b)) ≡ false)
+          → node_named cmp (b ++ a) v ≡ None
       none b [] low on full other = nowhere (b ++ []) (each-append _ b [] (unnamed cmp o v b (each-left _ b [] full) low) tt)
       none b (n ∷ a) low on full other =
           let rest : Each (λ n. is_filled n ≡ true) (n ∷ a) = each-right _ b (n ∷ a) full in
@@ -179,7 +190,9 @@ module _ {T : Type 0} (cmp : T → T → Ordering) (o : IsTotalOrder cmp) (v : T
     unnamed_past past = named_not (map f items) rule (λ inside. absurd (omega (arith, inside, is, length-map items f)))
 
   -- the same for the node in which a search by the last items ends
-  module _ {N : Type 0} (f : N → List T) (items : List N) (rule : Ruled cmp (map f items)) (k : ℕ) (is : k ≡ node_for (λ x. cmp x v) (map f items)) (n : N) (some : 1 ≤ length items) (read : n ≡ get_or items k n) where
+  module _ {N : Type 0} (f : N → List T) (items : List N) (rule : Ruled cmp (map f items)) (k : ℕ)
+      (is : k ≡ node_for (λ x. cmp x v) (map f items)) (n : N) (some : 1 ≤ length items)
+      (read : n ≡ get_or items k n) where
     inside : k < length items
     inside = omega (arith, some, is, length-map items f)
 
@@ -250,16 +263,24 @@ module _ {T : Type 0} (cmp : T → T → Ordering) (o : IsTotalOrder cmp) (v : T
       up_true cmp (l ++ v ∷ r) (up_put cmp l v r (low.0 both.0) (high.0 both.1) up))
 
   -- a value inserted into a node, or as a new node
-  pub fits_node : (ns : List (List T)) → Ruled cmp ns → (p : ℕ) → p < length ns → (i : ℕ) → let n = node_at ns p in is_ascending cmp (concat (splice ns p (p + 1) (insert n i v ∷ []))) ≡ is_between cmp (option_or (last_item (take i n)) (last_item (concat (take p ns)))) v (option_or (first_item (drop i n)) (first_item (concat (drop (p + 1) ns))))
+  pub fits_node : (ns : List (List T)) → Ruled cmp ns → (p : ℕ) → p < length ns → (i : ℕ) → let n = node_at ns p in
+      is_ascending cmp (concat (splice ns p (p + 1) (insert n i v ∷ [])))
+      ≡ is_between cmp (option_or (last_item (take i n)) (last_item (concat (take p ns)))) v
+      (option_or (first_item (drop i n)) (first_item (concat (drop (p + 1) ns))))
   fits_node ns rule p inside i =
       let n = node_at ns p in
       let b = concat (take p ns) in
       let a = concat (drop (p + 1) ns) in
-      let whole : (b ++ take i n) ++ (drop i n ++ a) ≡ concat ns = append_assoc b (take i n) (drop i n ++ a) ∙ (ap (λ q. b ++ q) (sym (append_assoc (take i n) (drop i n) a) ∙ ap (λ q. q ++ a) (take-append-drop i n)) ∙ sym (joined_around ns p inside)) in
+      let whole : (b ++ take i n) ++ (drop i n ++ a) ≡ concat ns =
+      append_assoc b (take i n) (drop i n ++ a)
+      ∙ (ap (λ q. b ++ q) (sym (append_assoc (take i n) (drop i n) a) ∙ ap (λ q. q ++ a) (take-append-drop i n))
+      ∙ sym (joined_around ns p inside)) in
       let made : concat (splice ns p (p + 1) (insert n i v ∷ [])) ≡ (b ++ take i n) ++ v ∷ (drop i n ++ a) = concat-splice ns (insert n i v ∷ []) p (p + 1) ∙ simp (append_assoc, append-nil) in
       rw made (between (b ++ take i n) (drop i n ++ a) (subst (Up cmp) (sym whole) rule.up) ∙ rw (last_item-append b (take i n), first_item-append (drop i n) a) refl)
 
-  pub fits_alone : (ns : List (List T)) → Ruled cmp ns → (p : ℕ) → is_ascending cmp (concat (insert ns p (v ∷ []))) ≡ is_between cmp (last_item (concat (take p ns))) v (first_item (concat (drop p ns)))
+  pub fits_alone : (ns : List (List T)) → Ruled cmp ns → (p : ℕ)
+      → is_ascending cmp (concat (insert ns p (v ∷ [])))
+      ≡ is_between cmp (last_item (concat (take p ns))) v (first_item (concat (drop p ns)))
   fits_alone ns rule p =
       let b = concat (take p ns) in
       let a = concat (drop p ns) in

@@ -1,6 +1,8 @@
 -- A step of an event keeps a relation between the items of two lists of nodes, if related items are
 -- equal.
-use Rattle.std.proofs.Common.{◌≡◌, ◌==◌, ◌&&◌, ℕ, zero, suc, ◌+◌, ◌-◌, Bool, true, false, not, if◌then◌else◌, List, [], ◌∷◌, ◌++◌, length, get_or, slice_get, take, drop, insert, remove, nat_lt, ltb, leb, Option, Some, None, Ordering, cond, option_and_then, refl, ap, sym, ◌∙◌, subst}
+use Rattle.std.proofs.Common.{◌≡◌, ◌==◌, ◌&&◌, ℕ, zero, suc, ◌+◌, ◌-◌, Bool, true, false, not, if◌then◌else◌, List}
+use Rattle.std.proofs.Common.{[], ◌∷◌, ◌++◌, length, get_or, slice_get, take, drop, insert, remove, nat_lt, ltb}
+use Rattle.std.proofs.Common.{leb, Option, Some, None, Ordering, cond, option_and_then, refl, ap, sym, ◌∙◌, subst}
 use Rattle.std.specs.Cmp.{IsTotalOrder}
 use Rattle.std.specs.List.{AllZip, list_all, position, position_or_len, splice}
 use Rattle.std.specs.Option.{option_map, option_map_or}
@@ -181,18 +183,29 @@ module _ {T : Type 0} (cmp : T → T → Ordering) (o : IsTotalOrder cmp) (E : T
 
     at_alike : (f g : List T → Option (List (List T))) → ((n m : List T) → N n m → AreAlike NN (f n) (g m)) → (p q : Option ℕ) → p ≡ q
         → AreAlike NN (option_and_then (λ p. option_map (splice ns p (p + 1)) (f (node_at ns p))) p) (option_and_then (λ p. option_map (splice ms p (p + 1)) (g (node_at ms p))) q)
-    at_alike f g k p q e = subst (λ q. AreAlike NN (option_and_then (λ p. option_map (splice ns p (p + 1)) (f (node_at ns p))) p) (option_and_then (λ p. option_map (splice ms p (p + 1)) (g (node_at ms p))) q)) e (here p)
+    at_alike f g k p q e =
+        subst (λ q.
+        AreAlike NN (option_and_then (λ p. option_map (splice ns p (p + 1)) (f (node_at ns p))) p)
+        (option_and_then (λ p. option_map (splice ms p (p + 1)) (g (node_at ms p))) q))
+        e (here p)
       where
-        here : (p : Option ℕ) → AreAlike NN (option_and_then (λ p. option_map (splice ns p (p + 1)) (f (node_at ns p))) p) (option_and_then (λ p. option_map (splice ms p (p + 1)) (g (node_at ms p))) p)
+        here : (p : Option ℕ)
+            → AreAlike NN (option_and_then (λ p. option_map (splice ns p (p + 1)) (f (node_at ns p))) p)
+            (option_and_then (λ p. option_map (splice ms p (p + 1)) (g (node_at ms p))) p)
         here None = tt
         here (Some p) = spliced_alike p (f (node_at ns p)) (g (node_at ms p)) (k (node_at ns p) (node_at ms p) (node_alike p))
 
-    joined_pair : (p q : Option ℕ) → AreAlike NN (option_and_then (λ p. option_and_then (λ q. if q == p + 1 then Some (with_merged ns p) else None) q) p) (option_and_then (λ p. option_and_then (λ q. if q == p + 1 then Some (with_merged ms p) else None) q) p)
+    joined_pair : (p q : Option ℕ)
+        → AreAlike NN
+        (option_and_then (λ p. option_and_then (λ q. if q == p + 1 then Some (with_merged ns p) else None) q) p)
+        (option_and_then (λ p. option_and_then (λ q. if q == p + 1 then Some (with_merged ms p) else None) q) p)
     joined_pair None q = tt
     joined_pair (Some p) None = tt
     joined_pair (Some p) (Some q) =
         let pair = zip_on E (node_at ns p) (node_at ns (p + 1)) (node_at ms p) (node_at ms (p + 1)) (node_alike p) (node_alike (p + 1)) in
-        if_alike NN (q == p + 1) (q == p + 1) refl (with_merged ns p) (with_merged ms p) (zip_splice N p (p + 2) ns ms ((node_at ns p ++ node_at ns (p + 1)) ∷ []) ((node_at ms p ++ node_at ms (p + 1)) ∷ []) h (pair, tt))
+        if_alike NN (q == p + 1) (q == p + 1) refl (with_merged ns p) (with_merged ms p)
+        (zip_splice N p (p + 2) ns ms ((node_at ns p ++ node_at ns (p + 1)) ∷ [])
+        ((node_at ms p ++ node_at ms (p + 1)) ∷ []) h (pair, tt))
 
   -- f is e, with related items in the place of its items
   abbrev pub IsEventAlike : ChangeEventUnassigned T → ChangeEventUnassigned T → Type 0
@@ -211,14 +224,19 @@ module _ {T : Type 0} (cmp : T → T → Ordering) (o : IsTotalOrder cmp) (E : T
       (node_named cmp ns a) (node_named cmp ms s.0) (named_alike a s.0 s.3 ns ms h))
   edit_alike ns ms h (RemoveAt a v i) f s =
       subst (λ f. AreAlike NN (edit cmp ns (RemoveAt a v i)) (edit cmp ms f)) (sym s.2)
-      (at_alike ns ms h (λ n. if (leb 2 (length n) && ltb i (length n)) && is_eq (cmp (get_or n i v) v) then Some (remove n i ∷ []) else None) (λ n. if (leb 2 (length n) && ltb i (length n)) && is_eq (cmp (get_or n i s.1) s.1) then Some (remove n i ∷ []) else None)
+      (at_alike ns ms h
+      (λ n. if (leb 2 (length n) && ltb i (length n)) && is_eq (cmp (get_or n i v) v) then Some (remove n i ∷ [])
+      else None)
+      (λ n. if (leb 2 (length n) && ltb i (length n)) && is_eq (cmp (get_or n i s.1) s.1)
+      then Some (remove n i ∷ []) else None)
       (λ n m r. if_alike NN ((leb 2 (length n) && ltb i (length n)) && is_eq (cmp (get_or n i v) v)) ((leb 2 (length m) && ltb i (length m)) && is_eq (cmp (get_or m i s.1) s.1))
       (λ j. (leb 2 (length_all_zip E n m r j) && ltb i (length_all_zip E n m r j)) && is_eq (answer_alike (get_or n i v) (get_or m i s.1) v s.1 (zip_get E n m i v s.1 r s.4) s.4 j))
       (remove n i ∷ []) (remove m i ∷ []) (zip_remove E i n m r, tt))
       (node_named cmp ns a) (node_named cmp ms s.0) (named_alike a s.0 s.3 ns ms h))
   edit_alike ns ms h (CreateNode a) f s =
       subst (λ f. AreAlike NN (edit cmp ns (CreateNode a)) (edit cmp ms f)) (sym s.1)
-      (subst (λ q. NN (insert ns (position_or_len (reaches cmp a) ns) (a ∷ [])) (insert ms q (s.0 ∷ []))) (count_alike (reaches cmp a) (reaches cmp s.0) ns ms (zip_weaker ns ms h (reach_alike a s.0 s.2)))
+      (subst (λ q. NN (insert ns (position_or_len (reaches cmp a) ns) (a ∷ [])) (insert ms q (s.0 ∷ [])))
+      (count_alike (reaches cmp a) (reaches cmp s.0) ns ms (zip_weaker ns ms h (reach_alike a s.0 s.2)))
       (zip_insert N (position_or_len (reaches cmp a) ns) ns ms (a ∷ []) (s.0 ∷ []) h (s.2, tt)))
   edit_alike ns ms h (RemoveNode a) f s =
       subst (λ f. AreAlike NN (edit cmp ns (RemoveNode a)) (edit cmp ms f)) (sym s.1)
@@ -226,19 +244,33 @@ module _ {T : Type 0} (cmp : T → T → Ordering) (o : IsTotalOrder cmp) (E : T
   edit_alike ns ms h (SplitNode a k) f s =
       subst (λ f. AreAlike NN (edit cmp ns (SplitNode a k)) (edit cmp ms f)) (sym s.1)
       (at_alike ns ms h (λ n. if ltb 0 k && ltb k (length n) then Some (take k n ∷ drop k n ∷ []) else None) (λ n. if ltb 0 k && ltb k (length n) then Some (take k n ∷ drop k n ∷ []) else None)
-      (λ n m r. if_alike NN (ltb 0 k && ltb k (length n)) (ltb 0 k && ltb k (length m)) (λ j. ltb 0 k && ltb k (length_all_zip E n m r j)) (take k n ∷ drop k n ∷ []) (take k m ∷ drop k m ∷ []) (zip_take E k n m r, (zip_drop E k n m r, tt)))
+      (λ n m r.
+      if_alike NN (ltb 0 k && ltb k (length n)) (ltb 0 k && ltb k (length m))
+      (λ j. ltb 0 k && ltb k (length_all_zip E n m r j)) (take k n ∷ drop k n ∷ []) (take k m ∷ drop k m ∷ [])
+      (zip_take E k n m r, (zip_drop E k n m r, tt)))
       (node_named cmp ns a) (node_named cmp ms s.0) (named_alike a s.0 s.2 ns ms h))
   edit_alike ns ms h (MergeNodes a w) f s =
       let here = joined_pair ns ms h (node_named cmp ns a) (node_named cmp ns w) in
-      let next = subst (λ q. AreAlike NN (edit cmp ns (MergeNodes a w)) (option_and_then (λ p. option_and_then (λ q. if q == p + 1 then Some (with_merged ms p) else None) q) (node_named cmp ns a))) (named_alike w s.1 s.4 ns ms h) here in
+      let next =
+      subst (λ q.
+      AreAlike NN (edit cmp ns (MergeNodes a w))
+      (option_and_then (λ p. option_and_then (λ q. if q == p + 1 then Some (with_merged ms p) else None) q)
+      (node_named cmp ns a)))
+      (named_alike w s.1 s.4 ns ms h) here in
       subst (λ f. AreAlike NN (edit cmp ns (MergeNodes a w)) (edit cmp ms f)) (sym s.2)
-      (subst (λ p. AreAlike NN (edit cmp ns (MergeNodes a w)) (option_and_then (λ p. option_and_then (λ q. if q == p + 1 then Some (with_merged ms p) else None) (node_named cmp ms s.1)) p)) (named_alike a s.0 s.3 ns ms h) next)
+      (subst (λ p.
+      AreAlike NN (edit cmp ns (MergeNodes a w))
+      (option_and_then
+      (λ p. option_and_then (λ q. if q == p + 1 then Some (with_merged ms p) else None) (node_named cmp ms s.1)) p))
+      (named_alike a s.0 s.3 ns ms h) next)
 
   pub step_alike : (ns ms : List (List T)) → NN ns ms → (e f : ChangeEventUnassigned T) → IsEventAlike e f → AreAlike NN (step_plain cmp ns e) (step_plain cmp ms f)
   unfolding step_plain
   step_alike ns ms h e f s = kept (edit cmp ns e) (edit cmp ms f) (edit_alike ns ms h e f s)
     where
-      kept : (x y : Option (List (List T))) → AreAlike NN x y → AreAlike NN (option_and_then (λ r. if are_nodes cmp r then Some r else None) x) (option_and_then (λ r. if are_nodes cmp r then Some r else None) y)
+      kept : (x y : Option (List (List T))) → AreAlike NN x y
+          → AreAlike NN (option_and_then (λ r. if are_nodes cmp r then Some r else None) x)
+          (option_and_then (λ r. if are_nodes cmp r then Some r else None) y)
       kept None None k = tt
       kept None (Some y) k = absurd k
       kept (Some x) None k = absurd k

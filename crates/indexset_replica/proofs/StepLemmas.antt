@@ -1,5 +1,8 @@
 -- An event that applies is a step, and a step applies.
-use Rattle.std.proofs.Common.{◌≡◌, ◌≢◌, ◌==◌, ◌↔◌, is_some, ℕ, ◌+◌, ◌<◌, ◌≤◌, ◌||◌, Bool, true, false, not, if◌then◌else◌, ◌&&◌, List, [], ◌∷◌, ◌++◌, length, get_or, slice_get, take, drop, insert, remove, nat_lt, nat_le, ltb, leb, Option, Some, None, Ordering, option_and_then, refl, ap, sym, ◌∙◌, subst, arith}
+use Rattle.std.proofs.Common.{◌≡◌, ◌≢◌, ◌==◌, ◌↔◌, is_some, ℕ, ◌+◌, ◌<◌, ◌≤◌, ◌||◌, Bool, true, false}
+use Rattle.std.proofs.Common.{not, if◌then◌else◌, ◌&&◌, List, [], ◌∷◌, ◌++◌, length, get_or}
+use Rattle.std.proofs.Common.{slice_get, take, drop, insert, remove, nat_lt, nat_le, ltb, leb, Option}
+use Rattle.std.proofs.Common.{Some, None, Ordering, option_and_then, refl, ap, sym, ◌∙◌, subst, arith}
 use Rattle.std.below.core.specs.declared.int.u64.TheConstants.{MAX}
 use Rattle.std.specs.Cmp.{IsTotalOrder}
 use Rattle.std.specs.List.{position_or_len, splice}
@@ -18,7 +21,10 @@ use Rattle.indexset_events.specs.Replay.{at_named, edit, event_number, node_name
 use Rattle.indexset_events.specs.declared.change.ChangeEvent.{ChangeEvent}
 use Rattle.indexset_events.specs.declared.change.ChangeEventUnassigned.{ChangeEventUnassigned}
 use Rattle.indexset_events.specs.declared.change.ChangeEventUnassigned.TheVariants.{InsertAt, RemoveAt, CreateNode, RemoveNode, SplitNode, MergeNodes}
-use Rattle.indexset_events.proofs.CallerLemmas.{At, Ruled, Each, at_ruled, at_pair, at_place, ruled_at, each-append, each-left, each-right, edit_step, filled-append, joined_seam, length_filled, merge_step, remove_at, remove_node_step, remove_step, splice_at, split_step, tested_ruled, true_up, up_true}
+use Rattle.indexset_events.proofs.CallerLemmas.{At, Ruled, Each, at_ruled, at_pair, at_place, ruled_at, each-append}
+use Rattle.indexset_events.proofs.CallerLemmas.{each-left, each-right, edit_step, filled-append, joined_seam}
+use Rattle.indexset_events.proofs.CallerLemmas.{length_filled, merge_step, remove_at, remove_node_step, remove_step}
+use Rattle.indexset_events.proofs.CallerLemmas.{splice_at, split_step, tested_ruled, true_up, up_true}
 use Rattle.indexset_replica.proofs.EditLemmas.{named_inside, some_inj}
 use Rattle.indexset_replica.specs.Replica.{IsEdit, apply_refusal, disorder, in_named, misfit}
 
@@ -71,7 +77,8 @@ module _ {T : Type 0} (cmp : T → T → Ordering) where
       (at.0, made.0, at.1, made.1, made.2)
 
   -- the result of an edit that merges two nodes
-  merge_parts : (ns : List (List T)) (m w : T) (r : List (List T)) → edit cmp ns (MergeNodes m w) ≡ Some r → (p : ℕ) × (node_named cmp ns m ≡ Some p) × (node_named cmp ns w ≡ Some (p + 1)) × (with_merged ns p ≡ r)
+  merge_parts : (ns : List (List T)) (m w : T) (r : List (List T)) → edit cmp ns (MergeNodes m w) ≡ Some r
+      → (p : ℕ) × (node_named cmp ns m ≡ Some p) × (node_named cmp ns w ≡ Some (p + 1)) × (with_merged ns p ≡ r)
   merge_parts ns m w r e =
       let at = then_some (node_named cmp ns m) (λ p. option_and_then (λ q. if q == p + 1 then Some (with_merged ns p) else None) (node_named cmp ns w)) r e in
       let next = then_some (node_named cmp ns w) (λ q. if q == at.0 + 1 then Some (with_merged ns at.0) else None) r at.2 in
@@ -117,7 +124,9 @@ module _ {T : Type 0} (cmp : T → T → Ordering) where
 
   module _ (o : IsTotalOrder cmp) where
     -- a node replaced by parts, for any neighbours
-    parts_ruled : (parts : List (List T)) (ns : List (List T)) (p : ℕ) (n : List T) → slice_get ns p ≡ Some n → ((b a : List (List T)) → At cmp o b n a → Ruled cmp (b ++ (parts ++ a))) → Ruled cmp ns → Ruled cmp (splice ns p (p + 1) parts)
+    parts_ruled : (parts : List (List T)) (ns : List (List T)) (p : ℕ) (n : List T) → slice_get ns p ≡ Some n
+        → ((b a : List (List T)) → At cmp o b n a → Ruled cmp (b ++ (parts ++ a))) → Ruled cmp ns
+        → Ruled cmp (splice ns p (p + 1) parts)
     parts_ruled parts =
         at_place (λ q j m. ((b a : List (List T)) → At cmp o b m a → Ruled cmp (b ++ (parts ++ a))) → Ruled cmp q → Ruled cmp (splice q j (j + 1) parts))
         (λ b m a f rule. rw (splice_at b m a parts) (f b a (ruled_at cmp o b m a rule)))
@@ -194,7 +203,9 @@ module _ {T : Type 0} (cmp : T → T → Ordering) where
   in_named_is : (ns : List (List T)) (m : T) (f : List T → Option Refusal) (p : ℕ) → node_named cmp ns m ≡ Some p → in_named cmp ns m f ≡ f (node_at ns p)
   in_named_is ns m f p named = rw named refl
 
-  at_named_is : (ns : List (List T)) (m : T) (f : List T → Option (List (List T))) (p : ℕ) (parts : List (List T)) → node_named cmp ns m ≡ Some p → f (node_at ns p) ≡ Some parts → at_named cmp ns m f ≡ Some (splice ns p (p + 1) parts)
+  at_named_is : (ns : List (List T)) (m : T) (f : List T → Option (List (List T))) (p : ℕ) (parts : List (List T))
+      → node_named cmp ns m ≡ Some p → f (node_at ns p) ≡ Some parts
+      → at_named cmp ns m f ≡ Some (splice ns p (p + 1) parts)
   at_named_is ns m f p parts named made = rw (named, made) refl
 
   edit_some : (ns : List (List T)) (e : ChangeEventUnassigned T) → misfit cmp ns e ≡ None → (r : List (List T)) × (edit cmp ns e ≡ Some r)
@@ -210,21 +221,35 @@ module _ {T : Type 0} (cmp : T → T → Ordering) where
       let inside = le-leb i (length n) (ltb-false (length n) i tests.0) in
       (splice ns found.0 (found.0 + 1) (insert n i v ∷ []), at_named_is ns m (λ n. if leb i (length n) then Some (insert n i v ∷ []) else None) found.0 (insert n i v ∷ []) found.1 (rw inside refl))
   edit_some ns (RemoveAt m v i) fits =
-      let found = in_named_none ns m (λ n. if nat_le (length n) i then Some IndexOutside else if not (is_eq (cmp (get_or n i v) v)) then Some ValueDiffers else if length n == 1 then Some WouldBeEmpty else None) fits in
+      let found =
+      in_named_none ns m
+      (λ n. if nat_le (length n) i then Some IndexOutside else if not (is_eq (cmp (get_or n i v) v))
+      then Some ValueDiffers else if length n == 1 then Some WouldBeEmpty else None)
+      fits in
       let n = node_at ns found.0 in
       let index = else_none (nat_le (length n) i) IndexOutside (if not (is_eq (cmp (get_or n i v) v)) then Some ValueDiffers else if length n == 1 then Some WouldBeEmpty else None) found.2 in
       let value = else_none (not (is_eq (cmp (get_or n i v) v))) ValueDiffers (if length n == 1 then Some WouldBeEmpty else None) index.1 in
       let count = else_none (length n == 1) WouldBeEmpty None value.1 in
       let inside = leb-false (length n) i index.0 in
-      let two : 2 ≤ length n = ne_from 1 (length n) (λ one. eqb-false (length n) 1 count.0 (sym one)) (omega arith) in
-      (splice ns found.0 (found.0 + 1) (remove n i ∷ []), at_named_is ns m (λ n. if (leb 2 (length n) && ltb i (length n)) && is_eq (cmp (get_or n i v) v) then Some (remove n i ∷ []) else None) found.0 (remove n i ∷ []) found.1 (rw (le-leb 2 (length n) two, lt-ltb i (length n) inside, not-false _ value.0) refl))
+      let two : 2 ≤ length n = ne_from 1 (length n) (λ one. eqb-false (length n) 1 count.0 (sym one)) (omega arith) in (
+        splice ns found.0 (found.0 + 1) (remove n i ∷ []),
+        at_named_is ns m
+            (λ n. if (leb 2 (length n) && ltb i (length n)) && is_eq (cmp (get_or n i v) v) then Some (remove n i ∷ [])
+            else None)
+            found.0 (remove n i ∷ []) found.1
+            (rw (le-leb 2 (length n) two, lt-ltb i (length n) inside, not-false _ value.0) refl),
+      )
   edit_some ns (SplitNode m k) fits =
       let found = in_named_none ns m (λ n. if k == 0 || nat_le (length n) k then Some BadSplit else None) fits in
       let n = node_at ns found.0 in
       let tests = else_none (k == 0 || nat_le (length n) k) BadSplit None found.2 in
       let both = or_parts (k == 0) (nat_le (length n) k) tests.0 in
-      let some : 0 < k = ne_from 0 k (λ none. eqb-false k 0 both.0 (sym none)) (omega arith) in
-      (splice ns found.0 (found.0 + 1) (take k n ∷ drop k n ∷ []), at_named_is ns m (λ n. if ltb 0 k && ltb k (length n) then Some (take k n ∷ drop k n ∷ []) else None) found.0 (take k n ∷ drop k n ∷ []) found.1 (rw (lt-ltb 0 k some, lt-ltb k (length n) (leb-false (length n) k both.1)) refl))
+      let some : 0 < k = ne_from 0 k (λ none. eqb-false k 0 both.0 (sym none)) (omega arith) in (
+        splice ns found.0 (found.0 + 1) (take k n ∷ drop k n ∷ []),
+        at_named_is ns m (λ n. if ltb 0 k && ltb k (length n) then Some (take k n ∷ drop k n ∷ []) else None)
+            found.0 (take k n ∷ drop k n ∷ []) found.1
+            (rw (lt-ltb 0 k some, lt-ltb k (length n) (leb-false (length n) k both.1)) refl),
+      )
   edit_some ns (MergeNodes m w) fits =
       let at = merge_none ns m w fits in
       (with_merged ns at.0, rw (at.1, at.2, eq-eqb (at.0 + 1) (at.0 + 1) refl) refl)

@@ -27,4 +27,5 @@ module _ {T : Type 0} (cmp : T → T → Ordering) (C : T → T → Type 0) wher
 
   -- the replay of the events turns the nodes ns into copies of the nodes `after`
   abbrev pub LeadsToCopies : List (List T) → List (ChangeEvent T) → List (List T) → Type 0
-  LeadsToCopies ns es after = (made : List (List T)) × (replay cmp ns es ≡ Some made) × AreCopies after made
+  LeadsToCopies ns es after =
+      (made : List (List T)) × (replay cmp ns es ≡ Some made) × AreCopies after made

@@ -1,5 +1,7 @@
 -- A replica after events that are delivered with losses, repeats and in any order.
-use Rattle.std.specs.Prelude.{◌≡◌, ◌≢◌, ℕ, ◌+◌, ◌-◌, ◌≤◌, ◌==◌, ◌⊎◌, ⊤, zero, suc, true, is_some, if◌then◌else◌, Option, Some, None, unwrap_or, IsSomeAnd, slice_get, List, [], ◌∷◌, length, take}
+use Rattle.std.specs.Prelude.{◌≡◌, ◌≢◌, ℕ, ◌+◌, ◌-◌, ◌≤◌, ◌==◌, ◌⊎◌, ⊤, zero, suc, true}
+use Rattle.std.specs.Prelude.{is_some, if◌then◌else◌, Option, Some, None, unwrap_or}
+use Rattle.std.specs.Prelude.{IsSomeAnd, slice_get, List, [], ◌∷◌, length, take}
 use Rattle.std.below.core.specs.declared.int.u64.TheConstants.{MAX}
 use Rattle.std.specs.Option.{option_map, option_and_then}
 use Rattle.std.specs.declared.cmp.Ordering.{Ordering}
@@ -36,40 +38,55 @@ module _ {T : Type 0} (cmp : T → T → Ordering) where
   -- the replica after an event: unchanged if the event is not the next, and none if it does not
   -- apply
   unfoldable pub delivered : ReplicaState T → ChangeEvent T → Option (ReplicaState T)
-  delivered r e = if event_number e == r.next then (if r.next == MAX then None else option_map (λ ns. record { nodes = ns; next = r.next + 1 }) (step cmp r.nodes e)) else Some r
+  delivered r e =
+      if event_number e == r.next
+      then
+      (if r.next == MAX then None
+      else option_map (λ ns. record { nodes = ns; next = r.next + 1 }) (step cmp r.nodes e))
+      else Some r
 
   -- the replica after the events at these places, in order
   abbrev pub followed : List (ChangeEvent T) → ReplicaState T → List ℕ → Option (ReplicaState T)
   followed es r [] = Some r
-  followed es r (p ∷ order) = option_and_then (λ q. followed es q order) (option_and_then (delivered r) (slice_get es p))
+  followed es r (p ∷ order) =
+      option_and_then (λ q. followed es q order) (option_and_then (delivered r) (slice_get es p))
 
   -- the same, with an equal clone in the place of the item that an event adds
   module _ (C : T → T → Type 0) where
     -- q is the replica r after the event e, up to an equal clone of the item that it adds
     abbrev pub IsDelivery : ReplicaState T → ChangeEvent T → ReplicaState T → Type 0
-    IsDelivery r e q = ((event_number e ≢ r.next) × (q ≡ r)) ⊎ ((event_number e ≡ r.next) × (r.next ≢ MAX) × (q.next ≡ r.next + 1) × IsClonedStep cmp C r.nodes (unassigned e) q.nodes)
+    IsDelivery r e q =
+        ((event_number e ≢ r.next) × (q ≡ r))
+        ⊎ ((event_number e ≡ r.next) × (r.next ≢ MAX) × (q.next ≡ r.next + 1)
+        × IsClonedStep cmp C r.nodes (unassigned e) q.nodes)
 
     -- q is the replica r after the events at these places, in order, up to equal clones of the
     -- items that they add
     abbrev pub IsFollowed : List (ChangeEvent T) → ReplicaState T → List ℕ → ReplicaState T → Type 0
     IsFollowed es r [] q = q ≡ r
-    IsFollowed es r (p ∷ order) q = (s : ReplicaState T) × IsSomeAnd (slice_get es p) (λ e. IsDelivery r e s) × IsFollowed es s order q
+    IsFollowed es r (p ∷ order) q =
+        (s : ReplicaState T) × IsSomeAnd (slice_get es p) (λ e. IsDelivery r e s)
+        × IsFollowed es s order q
 
   -- the error of a replica that fails at this event: `Memory` if no other applies
   abbrev pub failure : ReplicaState T → ChangeEvent T → Refusal
   failure r e = unwrap_or (apply_refusal cmp r.nodes r.next e) Memory
 
   -- the replica failed at the event that it expected, and is as after the places before
-  pub record IsStopped (es : List (ChangeEvent T)) (old : ReplicaState T) (order : List ℕ) (cause : Refusal) (new : ReplicaState T) : Type 0 where
+  pub record IsStopped (es : List (ChangeEvent T)) (old : ReplicaState T) (order : List ℕ)
+      (cause : Refusal) (new : ReplicaState T) : Type 0 where
     pub count : ℕ
     pub before : followed es old (take count order) ≡ Some new
-    pub at : IsSomeAnd (slice_get order count) (λ p. IsSomeAnd (slice_get es p) (λ e. (event_number e ≡ new.next) × (cause ≡ failure new e)))
+    pub at : IsSomeAnd (slice_get order count) (λ p.
+        IsSomeAnd (slice_get es p) (λ e. (event_number e ≡ new.next) × (cause ≡ failure new e)))
 
   -- the same, up to equal clones of the items that were added
-  pub record HasStopped (C : T → T → Type 0) (es : List (ChangeEvent T)) (old : ReplicaState T) (order : List ℕ) (cause : Refusal) (new : ReplicaState T) : Type 0 where
+  pub record HasStopped (C : T → T → Type 0) (es : List (ChangeEvent T)) (old : ReplicaState T)
+      (order : List ℕ) (cause : Refusal) (new : ReplicaState T) : Type 0 where
     pub count : ℕ
     pub before : IsFollowed C es old (take count order) new
-    pub at : IsSomeAnd (slice_get order count) (λ p. IsSomeAnd (slice_get es p) (λ e. (event_number e ≡ new.next) × (cause ≡ failure new e)))
+    pub at : IsSomeAnd (slice_get order count) (λ p.
+        IsSomeAnd (slice_get es p) (λ e. (event_number e ≡ new.next) × (cause ≡ failure new e)))
 
   -- the events are numbered from s, they apply to the nodes ns in order, and a number remains after
   -- them
@@ -79,7 +96,8 @@ module _ {T : Type 0} (cmp : T → T → Ordering) where
     pub fits : s + length es ≤ MAX
 
   -- the replica has the nodes after the first j events, and expects the event after them
-  pub record IsAt (s : ℕ) (ns : List (List T)) (es : List (ChangeEvent T)) (j : ℕ) (r : ReplicaState T) : Type 0 where
+  pub record IsAt (s : ℕ) (ns : List (List T)) (es : List (ChangeEvent T)) (j : ℕ)
+      (r : ReplicaState T) : Type 0 where
     pub within : j ≤ length es
     pub nodes : replay cmp ns (take j es) ≡ Some r.nodes
     pub next : r.next ≡ s + j
@@ -89,7 +107,8 @@ module _ {T : Type 0} (cmp : T → T → Ordering) where
   IsPrefix s ns es r = IsAt s ns es (r.next - s) r
 
   -- the replica has the nodes after all events, and expects the event after them
-  pub record IsCaughtUp (s : ℕ) (ns : List (List T)) (es : List (ChangeEvent T)) (r : ReplicaState T) : Type 0 where
+  pub record IsCaughtUp (s : ℕ) (ns : List (List T)) (es : List (ChangeEvent T))
+      (r : ReplicaState T) : Type 0 where
     pub nodes : replay cmp ns es ≡ Some r.nodes
     pub next : r.next ≡ s + length es
 
@@ -110,5 +129,6 @@ module _ {T : Type 0} (cmp : T → T → Ordering) where
 
   -- the replica has the nodes after the longest prefix of which the events from j on were delivered
   -- in order
-  abbrev pub IsDelivered : ℕ → List (List T) → List (ChangeEvent T) → ℕ → List ℕ → ReplicaState T → Type 0
+  abbrev pub IsDelivered : ℕ → List (List T) → List (ChangeEvent T) → ℕ → List ℕ
+      → ReplicaState T → Type 0
   IsDelivered s ns es j order r = (m : ℕ) → IsDeliveredUpTo j order m → IsAt s ns es m r

@@ -1,10 +1,18 @@
 //! The change that an event makes to the nodes of a replica and to their index.
-ghost use Rattle.std.specs.Prelude.{◌≡◌, ◌<◌, [], ◌∷◌, IfOk, OnOk, IfErr, OnErr, unwrap_or, vec_len, vec_capacity};
+ghost use Rattle.std.specs.Prelude.{◌≡◌, ◌<◌, [], ◌∷◌, IfOk, OnOk, IfErr};
+ghost use Rattle.std.specs.Prelude.{OnErr, unwrap_or, vec_len, vec_capacity};
 ghost use Rattle.indexset_core.specs.Nodes.{node_lengths, IsNodeList, vec_items};
 ghost use Rattle.indexset_index.specs.Blocks.{block_sums};
 ghost use Rattle.indexset_replica.specs.Replica.{IsClonedEdit, IsEdit, IsEqualClone, misfit};
 ghost use Rattle.indexset_events.specs.Replay.{unassigned};
-ghost use Rattle.indexset_events.specs.declared.change.ChangeEventUnassigned.TheVariants.{InsertAt, RemoveAt, CreateNode, RemoveNode, SplitNode, MergeNodes};
+ghost use Rattle.indexset_events.specs.declared.change.ChangeEventUnassigned.TheVariants.{
+  InsertAt,
+  RemoveAt,
+  CreateNode,
+  RemoveNode,
+  SplitNode,
+  MergeNodes,
+};
 
 use super::index::NodeIndex;
 use super::places::{first_reaching, fits_at, fits_before, place_named};

@@ -1,8 +1,12 @@
 //! Events that are delivered with losses, repeats and in any order.
 ghost use Rattle.indexset_core.specs.Clones.{AreIdentical};
-ghost use Rattle.std.specs.Prelude.{◌≡◌, ◌<◌, ◌≤◌, ◌+◌, ◌-◌, ℕ, List, Some, IfErr, OnOk, OnErr, length, take};
+ghost use Rattle.std.specs.Prelude.{◌≡◌, ◌<◌, ◌≤◌, ◌+◌, ◌-◌, ℕ, List, Some};
+ghost use Rattle.std.specs.Prelude.{IfErr, OnOk, OnErr, length, take};
 ghost use Rattle.std.specs.List.{All};
-ghost use Rattle.indexset_replica.specs.Delivery.{failure, followed, numbers_from, CopiesAll, CopiesPrefix, HasStopped, IsCaughtUp, IsAlike, IsAt, IsPrefix, IsDelivered, IsDelivery, IsEventLog, IsFollowed, IsStopped, IsSubsequence};
+ghost use Rattle.indexset_replica.specs.Delivery.{failure, followed, numbers_from, CopiesAll};
+ghost use Rattle.indexset_replica.specs.Delivery.{CopiesPrefix, HasStopped, IsCaughtUp, IsAlike};
+ghost use Rattle.indexset_replica.specs.Delivery.{IsAt, IsPrefix, IsDelivered, IsDelivery};
+ghost use Rattle.indexset_replica.specs.Delivery.{IsEventLog, IsFollowed, IsStopped, IsSubsequence};
 ghost use Rattle.indexset_replica.specs.Replica.{ReplicaState};
 ghost use Rattle.indexset_events.specs.Replay.{event_number, replay};
 
@@ -27,7 +31,8 @@ impl<T: Ord + Clone + Drop> Replica<T> {
     /// ```
     /// // The first event comes twice, and the second before it: that one is passed over.
     /// let first = ChangeEvent::CreateNode { event_id: Id::from(0), max_value: 5 };
-    /// let second = ChangeEvent::InsertAt { event_id: Id::from(1), max_value: 5, value: 7, index: 1 };
+    /// let second =
+    ///     ChangeEvent::InsertAt { event_id: Id::from(1), max_value: 5, value: 7, index: 1 };
     /// let mut copy = Replica::new(alloc, 0);
     /// copy.follow([first, second].as_slice(), [1, 0, 0].as_slice())?;
     /// assert!(rt; copy.len() == 1 && copy.next() == 1);

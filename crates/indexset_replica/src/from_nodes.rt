@@ -80,7 +80,8 @@ impl<T: Ord + Clone + Drop> Replica<T> {
     /// let nodes = vec![in alloc; vec![in alloc; 10, 20]?, vec![in alloc; 30]?]?;
     /// let replica = Replica::from_nodes(nodes, 3)?;
     /// let next = replica.next();
-    /// let tree: set::BTreeSet<u64, Vec<u64>> = set::BTreeSet::from_nodes(replica.into_nodes(), 64, next)?;
+    /// let tree: set::BTreeSet<u64, Vec<u64>> =
+    ///     set::BTreeSet::from_nodes(replica.into_nodes(), 64, next)?;
     /// assert!(rt; tree.len() == 3 && tree.events_issued() == 3);
     /// ```
     ///

@@ -1,5 +1,7 @@
 //! The index of a replica: the lengths of its nodes by blocks, and the number of items.
-ghost use Rattle.std.specs.Prelude.{◌≡◌, ◌+◌, ◌-◌, ◌/◌, ◌<◌, ◌≤◌, ◌^◌, [], insert, length, remove, sum, slice_index, slice_set, IfOk, IfErr, IfSome, OnOk, MatchOption};
+ghost use Rattle.std.specs.Prelude.{◌≡◌, ◌+◌, ◌-◌, ◌/◌, ◌<◌, ◌≤◌, ◌^◌, [], insert};
+ghost use Rattle.std.specs.Prelude.{length, remove, sum, slice_index, slice_set};
+ghost use Rattle.std.specs.Prelude.{IfOk, IfErr, IfSome, OnOk, MatchOption};
 ghost use Rattle.indexset_core.specs.Nodes.{concat, node_at, node_lengths, vec_items};
 ghost use Rattle.indexset_core.specs.Places.{IsPlace, items_before};
 ghost use Rattle.indexset_index.specs.Blocks.{block_sums};

@@ -7,7 +7,8 @@ ghost use Rattle.std.specs.List.{AllZip, fold};
 ghost use Rattle.std.specs.Map.Iter.{deref};
 ghost use Rattle.std.specs.declared.cmp.Ordering.TheVariants.{Equal};
 ghost use Rattle.indexset_replica.specs.Copies.{AreClonesEqual, AreCopies, LeadsToCopies};
-ghost use Rattle.indexset_replica.specs.Delivery.{awaited, numbers_from, IsDeliveredUpTo, IsSubsequence};
+ghost use Rattle.indexset_replica.specs.Delivery.{awaited, numbers_from};
+ghost use Rattle.indexset_replica.specs.Delivery.{IsDeliveredUpTo, IsSubsequence};
 ghost use Rattle.indexset_replica.specs.Replica.{apply_refusal, IsClonedStep};
 ghost use Rattle.indexset_events.specs.Clones.{IsEventClone};
 ghost use Rattle.indexset_events.specs.Replay.{event_number, replay, step, unassigned};
@@ -31,7 +32,8 @@ pub fn refused_unless_a_step<T: Ord>()
 /// The expected number is incremented at each place that equals it.
 pub fn reached_in_one_pass()
     ensures found { (j : ℕ) (order : List ℕ) → IsDeliveredUpTo j order (fold awaited j order) }
-    ensures once { (j m n : ℕ) (order : List ℕ) → IsDeliveredUpTo j order m → IsDeliveredUpTo j order n
+    ensures once { (j m n : ℕ) (order : List ℕ) → IsDeliveredUpTo j order m
+        → IsDeliveredUpTo j order n
         → m ≡ n }
 {}
 

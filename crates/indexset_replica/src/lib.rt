@@ -15,7 +15,8 @@
 #![tactic(auto)]
 
 ghost use Rattle.indexset_core.specs.Clones.{AreIdentical};
-ghost use Rattle.std.specs.Prelude.{◌≡◌, ◌+◌, ◌≤◌, [], insert, length, None, Some, OnOk, IfErr, OnErr, unwrap_or};
+ghost use Rattle.std.specs.Prelude.{◌≡◌, ◌+◌, ◌≤◌, [], insert, length, None};
+ghost use Rattle.std.specs.Prelude.{Some, OnOk, IfErr, OnErr, unwrap_or};
 ghost use Rattle.indexset_core.specs.Nodes.{IsNodeList, vec_items};
 ghost use Rattle.indexset_replica.specs.Replica.{apply_refusal, IsClonedStep};
 ghost use Rattle.indexset_events.specs.Attach.{attached, attach_refusal};

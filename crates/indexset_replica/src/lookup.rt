@@ -46,7 +46,10 @@ impl<T: Ord + Clone + Drop> Replica<T> {
     ///
     /// ```
     /// let mut copy: Replica<Pair<u64, u64>> = Replica::new(alloc, 0);
-    /// copy.apply(&ChangeEvent::CreateNode { event_id: Id::from(0), max_value: Pair { key: 5, value: 50 } })?;
+    /// copy.apply(&ChangeEvent::CreateNode {
+    ///     event_id: Id::from(0),
+    ///     max_value: Pair { key: 5, value: 50 },
+    /// })?;
     /// assert!(rt; copy.get(&5).is_some() && copy.get(&6).is_none());
     /// ```
     ///
@@ -186,7 +189,8 @@ impl<T: Ord + Clone + Drop> Replica<T> {
     /// let replica: Replica<u64> = Replica::new(alloc, 3);
     /// let late = ChangeEvent::CreateNode { event_id: Id::from(2), max_value: 5 };
     /// let early = ChangeEvent::CreateNode { event_id: Id::from(4), max_value: 5 };
-    /// assert!(rt; replica.expects(&late) == Delivery::Had && replica.expects(&early) == Delivery::Missing);
+    /// assert!(rt; replica.expects(&late) == Delivery::Had
+    ///     && replica.expects(&early) == Delivery::Missing);
     /// ```
     ///
     /// # Complexity
@@ -194,7 +198,8 @@ impl<T: Ord + Clone + Drop> Replica<T> {
     /// Takes constant time.
     pub fn expects(&self, event: &ChangeEvent<T>) -> Delivery
         ensures { result ≡ (if event_number event.now
-            == self.now.next then Delivery.Next else if nat_lt (event_number event.now) self.now.next
+            == self.now.next then Delivery.Next
+            else if nat_lt (event_number event.now) self.now.next
             then Delivery.Had else Delivery.Missing) }
     {
         let number = event.id().inner();

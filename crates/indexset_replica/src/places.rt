@@ -1,5 +1,6 @@
 //! The places of nodes and items in a replica.
-ghost use Rattle.std.specs.Prelude.{◌≡◌, ◌+◌, ◌<◌, ◌≤◌, Some, None, not, [], ◌∷◌, length, take, drop, insert, IfOk, OnOk, IfErr};
+ghost use Rattle.std.specs.Prelude.{◌≡◌, ◌+◌, ◌<◌, ◌≤◌, Some, None, not, [], ◌∷◌};
+ghost use Rattle.std.specs.Prelude.{length, take, drop, insert, IfOk, OnOk, IfErr};
 ghost use Rattle.std.specs.Option.{option_copied};
 ghost use Rattle.std.specs.List.{All, position_or_len, splice};
 ghost use Rattle.indexset_core.specs.Nodes.{concat, node_at, node_lengths, IsNodeList, vec_items};

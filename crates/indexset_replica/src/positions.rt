@@ -51,7 +51,8 @@ impl<T: Ord + Clone + Drop> Replica<T> {
     /// let board = Replica::from_nodes(nodes, 3)?;
     /// assert!(rt; board.rank(&30) == 2 && board.rank(&25) == 2);
     ///
-    /// let nodes = vec![in alloc; vec![in alloc; MultiPair::new(1, 100, 0), MultiPair::new(1, 101, 1)]?]?;
+    /// let nodes =
+    ///     vec![in alloc; vec![in alloc; MultiPair::new(1, 100, 0), MultiPair::new(1, 101, 1)]?]?;
     /// let replica: Replica<MultiPair<u64, u64>> = Replica::from_nodes(nodes, 2)?;
     /// assert!(rt; replica.rank(&1) == 0 && replica.rank(&MultiPair::new(1, 101, 1)) == 1);
     /// ```
@@ -113,7 +114,8 @@ impl<T: Ord + Clone + Drop> Replica<T> {
     /// # Examples
     ///
     /// ```
-    /// let nodes = vec![in alloc; vec![in alloc; MultiPair::new(1, 100, 0), MultiPair::new(1, 101, 1)]?]?;
+    /// let nodes =
+    ///     vec![in alloc; vec![in alloc; MultiPair::new(1, 100, 0), MultiPair::new(1, 101, 1)]?]?;
     /// let replica: Replica<MultiPair<u64, u64>> = Replica::from_nodes(nodes, 2)?;
     /// assert!(rt; replica.count(&1) == 2 && replica.count(&2) == 0);
     /// ```

@@ -1,4 +1,6 @@
--- What the proofs by hand share of functions that lend a pair as an `Option`, which the borrow checker does not cover: a test is asked first, of the lender lent again for a lifetime within the old one, and then the pair is borrowed mutably as it is. Crates above this one may cite it.
+-- What the proofs by hand share of functions that lend a pair as an `Option`, which the borrow
+-- checker does not cover: a test is asked first, of the lender lent again for a lifetime within the
+-- old one, and then the pair is borrowed mutably as it is. Crates above this one may cite it.
 use Rattle.std.proofs.Common.{◌≡◌, ℕ, ◌<◌, Bool, true, false, T, not, nat_lt, refl, sym, ◌∙◌, arith}
 use Rattle.std.proofs.lemmas.Bool.Decides.{nat_tests}
 pub use Rattle.std.proofs.VecSteps.Element.{Some-of, none_of}

@@ -9,14 +9,26 @@ use Rattle.indexset_set.specs.declared.algebra.merge.MergeItem.TheVariants.{Left
 use Rattle.indexset_set.specs.Merge.{read, merged, merged_from, of_left, of_right, of_either, of_both, of_left_alone}
 
 -- a property of merged lists, if either has ended, and if an item comes before merged ones
-module _ {T : Type 0} (cmp : T → T → Ordering) (P : List T → List T → List (MergeItem T) → Type 0) (left_ended : (r : List T) → P [] r (map Right r)) (right_ended : (l : List T) → P l [] (map Left l)) (less : (x : T) (xs : List T) (y : T) (ys : List T) (m : List (MergeItem T)) → cmp x y ≡ Less → P xs (y ∷ ys) m → P (x ∷ xs) (y ∷ ys) (Left x ∷ m)) (equal : (x : T) (xs : List T) (y : T) (ys : List T) (m : List (MergeItem T)) → cmp x y ≡ Equal → P xs ys m → P (x ∷ xs) (y ∷ ys) (Both x y ∷ m)) (greater : (x : T) (xs : List T) (y : T) (ys : List T) (m : List (MergeItem T)) → cmp x y ≡ Greater → P (x ∷ xs) ys m → P (x ∷ xs) (y ∷ ys) (Right y ∷ m)) where
+module _ {T : Type 0} (cmp : T → T → Ordering) (P : List T → List T → List (MergeItem T) → Type 0)
+    (left_ended : (r : List T) → P [] r (map Right r)) (right_ended : (l : List T) → P l [] (map Left l))
+    (less : (x : T) (xs : List T) (y : T) (ys : List T) (m : List (MergeItem T)) → cmp x y ≡ Less → P xs (y ∷ ys) m
+    → P (x ∷ xs) (y ∷ ys) (Left x ∷ m))
+    (equal : (x : T) (xs : List T) (y : T) (ys : List T) (m : List (MergeItem T)) → cmp x y ≡ Equal → P xs ys m
+    → P (x ∷ xs) (y ∷ ys) (Both x y ∷ m))
+    (greater : (x : T) (xs : List T) (y : T) (ys : List T) (m : List (MergeItem T)) → cmp x y ≡ Greater
+    → P (x ∷ xs) ys m → P (x ∷ xs) (y ∷ ys) (Right y ∷ m)) where
   by_first : (x : T) (xs : List T) → ((r : List T) → P xs r (merged cmp xs r)) → (r : List T) → P (x ∷ xs) r (merged cmp (x ∷ xs) r)
   by_first x xs rest [] = right_ended (x ∷ xs)
-  by_first x xs rest (y ∷ ys) = elim (cmp x y) as (λ a. cmp x y ≡ a → P (x ∷ xs) (y ∷ ys) (match_ordering a (Left x ∷ merged cmp xs (y ∷ ys)) (Both x y ∷ merged cmp xs ys) (Right y ∷ merged_from cmp x xs (merged cmp xs) ys))) [
-    | Less ↦ λ e. less x xs y ys _ e (rest (y ∷ ys))
-    | Equal ↦ λ e. equal x xs y ys _ e (rest ys)
-    | Greater ↦ λ e. greater x xs y ys _ e (by_first x xs rest ys)
-  ] refl
+  by_first x xs rest (y ∷ ys) =
+      elim (cmp x y)
+      as (λ a. cmp x y ≡ a
+      → P (x ∷ xs) (y ∷ ys)
+      (match_ordering a (Left x ∷ merged cmp xs (y ∷ ys)) (Both x y ∷ merged cmp xs ys)
+      (Right y ∷ merged_from cmp x xs (merged cmp xs) ys))) [
+        | Less ↦ λ e. less x xs y ys _ e (rest (y ∷ ys))
+        | Equal ↦ λ e. equal x xs y ys _ e (rest ys)
+        | Greater ↦ λ e. greater x xs y ys _ e (by_first x xs rest ys)
+      ] refl
 
   pub merged_by : (l r : List T) → P l r (merged cmp l r)
   merged_by [] r = left_ended r
@@ -68,7 +80,13 @@ module _ {T : Type 0} where
 -- each list is read from the merged one
 module _ {T : Type 0} (cmp : T → T → Ordering) where
   pub lefts_merged : (l r : List T) → read of_left (merged cmp l r) ≡ l
-  lefts_merged = merged_by cmp (λ l r m. read of_left m ≡ l) (λ r. read_none of_left Right (λ x. refl) r) (λ l. read_all of_left Left (λ x. refl) l) (λ x xs y ys m e h. ap (λ l. x ∷ l) h) (λ x xs y ys m e h. ap (λ l. x ∷ l) h) (λ x xs y ys m e h. h)
+  lefts_merged =
+      merged_by cmp (λ l r m. read of_left m ≡ l) (λ r. read_none of_left Right (λ x. refl) r)
+      (λ l. read_all of_left Left (λ x. refl) l) (λ x xs y ys m e h. ap (λ l. x ∷ l) h)
+      (λ x xs y ys m e h. ap (λ l. x ∷ l) h) (λ x xs y ys m e h. h)
 
   pub rights_merged : (l r : List T) → read of_right (merged cmp l r) ≡ r
-  rights_merged = merged_by cmp (λ l r m. read of_right m ≡ r) (λ r. read_all of_right Right (λ x. refl) r) (λ l. read_none of_right Left (λ x. refl) l) (λ x xs y ys m e h. h) (λ x xs y ys m e h. ap (λ l. y ∷ l) h) (λ x xs y ys m e h. ap (λ l. y ∷ l) h)
+  rights_merged =
+      merged_by cmp (λ l r m. read of_right m ≡ r) (λ r. read_all of_right Right (λ x. refl) r)
+      (λ l. read_none of_right Left (λ x. refl) l) (λ x xs y ys m e h. h) (λ x xs y ys m e h. ap (λ l. y ∷ l) h)
+      (λ x xs y ys m e h. ap (λ l. y ∷ l) h)

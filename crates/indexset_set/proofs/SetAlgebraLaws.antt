@@ -1,5 +1,7 @@
 -- The elements of set operations on two ascending lists.
-use Rattle.std.proofs.Common.{◌≡◌, zero, suc, ◌+◌, ◌⊎◌, inl, inr, Bool, true, false, not, cond, ◌&&◌, ◌||◌, ◌≤◌, if◌then◌else◌, List, [], ◌∷◌, ◌++◌, length, take, drop, filter, Ordering, refl, ap, sym, ◌∙◌, subst, arith}
+use Rattle.std.proofs.Common.{◌≡◌, zero, suc, ◌+◌, ◌⊎◌, inl, inr, Bool, true, false, not, cond}
+use Rattle.std.proofs.Common.{◌&&◌, ◌||◌, ◌≤◌, if◌then◌else◌, List, [], ◌∷◌, ◌++◌, length}
+use Rattle.std.proofs.Common.{take, drop, filter, Ordering, refl, ap, sym, ◌∙◌, subst, arith}
 use Rattle.std.specs.declared.cmp.Ordering.TheVariants.{Less, Equal, Greater}
 use Rattle.std.specs.Cmp.{IsTotalOrder}
 use Rattle.std.specs.List.{All, Contains, insert, list_any}
@@ -79,7 +81,10 @@ module _ {T : Type 0} (cmp : T → T → Ordering) (o : IsTotalOrder cmp) where
     has_put x =
         let i = rank cmp l v in let p = λ (y : T). is_eq (cmp y x) in
         ap (list_any p) put_absent
-        ∙ (list_any-append p (take i l) (v ∷ drop i l) ∙ (turn (list_any p (take i l)) (p v) (list_any p (drop i l)) ∙ ap (λ b. b || p v) (sym (list_any-append p (take i l) (drop i l)) ∙ ap (list_any p) (take-append-drop i l))))
+        ∙ (list_any-append p (take i l) (v ∷ drop i l)
+        ∙ (turn (list_any p (take i l)) (p v) (list_any p (drop i l))
+        ∙ ap (λ b. b || p v)
+        (sym (list_any-append p (take i l) (drop i l)) ∙ ap (list_any p) (take-append-drop i l))))
 
   module _ (l : List T) (up : IsAscending cmp l) (v : T) where
     pub keep_ascending : IsAscending cmp (keep cmp l v)
@@ -215,7 +220,9 @@ module _ {T : Type 0} (cmp : T → T → Ordering) (o : IsTotalOrder cmp) where
   unfolding symmetric_difference
   apart_ascending l r up = union_ascending (difference cmp l r) (difference cmp r l) (difference_ascending cmp l r up)
 
-  pub apart_members : (l r : List T) → IsAscending cmp l → (x : T) → has_equal cmp (symmetric_difference cmp l r) x ≡ ((has_equal cmp l x && not (has_equal cmp r x)) || (has_equal cmp r x && not (has_equal cmp l x)))
+  pub apart_members : (l r : List T) → IsAscending cmp l → (x : T)
+      → has_equal cmp (symmetric_difference cmp l r) x
+      ≡ ((has_equal cmp l x && not (has_equal cmp r x)) || (has_equal cmp r x && not (has_equal cmp l x)))
   unfolding symmetric_difference
   apart_members l r up x =
       union_members (difference cmp l r) (difference cmp r l) (difference_ascending cmp l r up) x ∙ (λ k. difference_members l r x k || difference_members r l x k)

@@ -1,5 +1,7 @@
 -- Set operations on two ascending lists, by their first items and by the merged list.
-use Rattle.std.proofs.Common.{◌≡◌, zero, suc, Option, None, Some, is_some, Bool, true, false, not, cond, ◌&&◌, if◌then◌else◌, List, [], ◌∷◌, ◌++◌, filter, map, Ordering, refl, ap, sym, ◌∙◌, subst, arith}
+use Rattle.std.proofs.Common.{◌≡◌, zero, suc, Option, None, Some, is_some, Bool, true}
+use Rattle.std.proofs.Common.{false, not, cond, ◌&&◌, if◌then◌else◌, List, [], ◌∷◌, ◌++◌}
+use Rattle.std.proofs.Common.{filter, map, Ordering, refl, ap, sym, ◌∙◌, subst, arith}
 use Rattle.std.specs.declared.cmp.Ordering.TheVariants.{Less, Equal, Greater}
 use Rattle.std.specs.Cmp.{IsTotalOrder}
 use Rattle.std.specs.List.{All, AllByRecursion, fold, list_all}

@@ -1,5 +1,7 @@
 -- Two ascending lists, one after the other.
-use Rattle.std.proofs.Common.{◌≡◌, ℕ, suc, ◌+◌, ◌-◌, ◌<◌, ◌≤◌, ◌↔◌, ◌⊎◌, true, false, List, [], ◌∷◌, ◌++◌, length, take, drop, get_or, Ordering, Some, slice_get, refl, ap, sym, ◌∙◌, inl, inr, subst, arith, length-append, append_assoc}
+use Rattle.std.proofs.Common.{◌≡◌, ℕ, suc, ◌+◌, ◌-◌, ◌<◌, ◌≤◌, ◌↔◌, ◌⊎◌, true, false, List, [], ◌∷◌}
+use Rattle.std.proofs.Common.{◌++◌, length, take, drop, get_or, Ordering, Some, slice_get, refl, ap}
+use Rattle.std.proofs.Common.{sym, ◌∙◌, inl, inr, subst, arith, length-append, append_assoc}
 use Rattle.std.specs.declared.cmp.Ordering.TheVariants.{Less}
 use Rattle.std.specs.Cmp.{IsTotalOrder}
 use Rattle.std.specs.List.{All, AllPairs, fold}
@@ -122,13 +124,17 @@ module _ {T : Type 0} (cmp : T → T → Ordering) (size : ℕ) where
     pub still_up : IsAscending cmp (concat (with_last size ns v) ++ rest)
     still_up = rw (joined_last size ns v (omega (arith, is.some, length-map ns (λ (n : List T). length n))), append_assoc (concat ns) (v ∷ []) rest) up
 
-  pub put_all_last : (ns : List (List T)) (xs : List T) → AreNodeLengths (node_lengths ns) size → IsAscending cmp (concat ns ++ xs) → fold (λ ms x. nodes_put cmp (node_list ms size) x) ns xs ≡ fold (with_last size) ns xs
+  pub put_all_last : (ns : List (List T)) (xs : List T) → AreNodeLengths (node_lengths ns) size
+      → IsAscending cmp (concat ns ++ xs)
+      → fold (λ ms x. nodes_put cmp (node_list ms size) x) ns xs ≡ fold (with_last size) ns xs
   put_all_last ns [] is up = refl
   put_all_last ns (x ∷ xs) is up =
       ap (λ ms. fold (λ ms x. nodes_put cmp (node_list ms size) x) ms xs) (put_last ns x xs is up)
       ∙ put_all_last (with_last size ns x) xs (cut_last size ns x is) (still_up ns x xs is up)
 
-  pub kept_all_last : (ns : List (List T)) (xs : List T) → AreNodeLengths (node_lengths ns) size → IsAscending cmp (concat ns ++ xs) → fold (λ ms x. nodes_kept cmp (node_list ms size) x) ns xs ≡ fold (with_last size) ns xs
+  pub kept_all_last : (ns : List (List T)) (xs : List T) → AreNodeLengths (node_lengths ns) size
+      → IsAscending cmp (concat ns ++ xs)
+      → fold (λ ms x. nodes_kept cmp (node_list ms size) x) ns xs ≡ fold (with_last size) ns xs
   kept_all_last ns [] is up = refl
   kept_all_last ns (x ∷ xs) is up =
       ap (λ ms. fold (λ ms x. nodes_kept cmp (node_list ms size) x) ms xs) (kept_last ns x xs is up)
@@ -163,14 +169,19 @@ module _ {T : Type 0} (cmp : T → T → Ordering) (size : ℕ) where
     taken_nodes = (taken.0, taken.1, taken.2 ∙ sym (put_all_last ns taken.0 is front_up))
 
   -- the nodes after all were inserted, or some
-  pub nodes_all : (s : NodeList T) (xs rest : List T) (ms : List (List T)) → size ≡ s.size → FoldsPrefix (λ ms x. nodes_put cmp (node_list ms size) x) s.nodes xs ms rest → rest ≡ [] → ms ≡ nodes_put_all cmp s xs
+  pub nodes_all : (s : NodeList T) (xs rest : List T) (ms : List (List T)) → size ≡ s.size
+      → FoldsPrefix (λ ms x. nodes_put cmp (node_list ms size) x) s.nodes xs ms rest → rest ≡ []
+      → ms ≡ nodes_put_all cmp s xs
   unfolding nodes_put_all
   nodes_all s xs rest ms same h none = rw (← same) (takes_all (λ ms x. nodes_put cmp (node_list ms size) x) s.nodes ms xs rest h none)
 
   pub puts_some : (s : NodeList T) (xs rest : List T) (ms : List (List T)) → size ≡ s.size → FoldsPrefix (λ ms x. nodes_put cmp (node_list ms size) x) s.nodes xs ms rest → PutsPrefix cmp s xs ms rest
   unfolding nodes_put_all
-  puts_some s xs rest ms same (front, is, made) =
-      (length front, rw (← same) (made ∙ ap (fold (λ ms x. nodes_put cmp (node_list ms size) x) s.nodes) (sym (ap (take (length front)) is ∙ take_at front rest (length front) refl))), sym (ap (drop (length front)) is ∙ drop_at front rest (length front) refl))
+  puts_some s xs rest ms same (front, is, made) = (
+    length front,
+    rw (← same) (made ∙ ap (fold (λ ms x. nodes_put cmp (node_list ms size) x) s.nodes) (sym (ap (take (length front)) is ∙ take_at front rest (length front) refl))),
+    sym (ap (drop (length front)) is ∙ drop_at front rest (length front) refl),
+  )
 
   -- v above the nodes ns and a run after them
   module _ (ns : List (List T)) (run : List T) (v : T) (is : AreNodeLengths (node_lengths ns) size) (up : IsAscending cmp (concat ns ++ (run ++ v ∷ []))) where
@@ -193,7 +204,8 @@ module _ {T : Type 0} (cmp : T → T → Ordering) (size : ℕ) where
     run_then_kept l is kept =
         ap (λ xs. l ++ xs) none ∙ (append-nil l ∙ (kept ∙ (ap (keep cmp (concat ms)) same ∙ ap (λ m. keep cmp m v) (ap concat moved ∙ joined_all_last size ns run is))))
 
-    pub run_then_nodes : (n : ℕ) (all : List (List T)) → n ≡ size → all ≡ nodes_kept cmp (node_list ms n) w → with_all_last size all others ≡ nodes_kept cmp (node_list (with_all_last size ns run) size) v
+    pub run_then_nodes : (n : ℕ) (all : List (List T)) → n ≡ size → all ≡ nodes_kept cmp (node_list ms n) w
+        → with_all_last size all others ≡ nodes_kept cmp (node_list (with_all_last size ns run) size) v
     unfolding with_all_last
     run_then_nodes n all sizes kept =
         ap (λ xs. fold (with_last size) all xs) none
@@ -229,7 +241,9 @@ module _ {T : Type 0} (cmp : T → T → Ordering) (o : IsTotalOrder cmp) (l : L
       let there : slice_get (l ++ run) (length (l ++ run) - 1) ≡ Some last = slice_get-right l run (length (l ++ run) - 1) (length run - 1) (omega (arith, inside, length-append l run)) ∙ is in
       rw (← append_assoc l run (v ∷ [])) (appended_ascending cmp (l ++ run) (v ∷ []) last v there refl o up one_up (less_from _ less))
 
-  pub joins_none : (run : List T) → length run ≡ 0 → (length l ≡ 0) ⊎ ((last : T) × (slice_get l (length l - 1) ≡ Some last) × (is_lt (cmp last v) ≡ true)) → IsAscending cmp (l ++ run) → IsAscending cmp (l ++ (run ++ v ∷ []))
+  pub joins_none : (run : List T) → length run ≡ 0
+      → (length l ≡ 0) ⊎ ((last : T) × (slice_get l (length l - 1) ≡ Some last) × (is_lt (cmp last v) ≡ true))
+      → IsAscending cmp (l ++ run) → IsAscending cmp (l ++ (run ++ v ∷ []))
   joins_none [] e (inl none) up = behind_none cmp l (v ∷ []) none one_up
   joins_none [] e (inr (last, is, less)) up = appended_ascending cmp l (v ∷ []) last v is refl o (subst (IsAscending cmp) (append-nil l) up) one_up (less_from _ less)
   joins_none (x ∷ run) e h up = absurd (omega arith)

@@ -40,7 +40,9 @@ module _ {T : Type 0} where
   picked_pairs R [] xs h = λ i j d lt inside. absurd (omega arith)
   picked_pairs R (b ∷ bs) [] h = λ i j d lt inside. absurd (omega arith)
   picked_pairs R (true ∷ bs) (x ∷ xs) h =
-      AllPairs-cons R x (items_where_true bs xs) (picked_all (R x) bs xs (λ k d lt. h 0 (suc k) d (omega arith) (omega arith))) (picked_pairs R bs xs (λ i j d lt inside. h (suc i) (suc j) d (omega arith) (omega arith)))
+      AllPairs-cons R x (items_where_true bs xs)
+      (picked_all (R x) bs xs (λ k d lt. h 0 (suc k) d (omega arith) (omega arith)))
+      (picked_pairs R bs xs (λ i j d lt inside. h (suc i) (suc j) d (omega arith) (omega arith)))
   picked_pairs R (false ∷ bs) (x ∷ xs) h = picked_pairs R bs xs (λ i j d lt inside. h (suc i) (suc j) d (omega arith) (omega arith))
 
   module _ {F : Type 0} (Q : F → T → Bool → F → Type 0) where
@@ -69,8 +71,11 @@ rest_ascending cmp (x ∷ xs) up i j d lt inside = up (suc i) (suc j) d (omega a
 module _ {T : Type 0} (cmp : T → T → Ordering) where
   pub moves_some : (l xs m rest : List T) → FoldsPrefix (put cmp) l xs m rest → MovesPrefix cmp l xs m rest
   unfolding put_all
-  moves_some l xs m rest (front, is, made) =
-      (length front, made ∙ ap (fold (put cmp) l) (sym (ap (take (length front)) is ∙ take_at front rest (length front) refl)), sym (ap (drop (length front)) is ∙ drop_at front rest (length front) refl))
+  moves_some l xs m rest (front, is, made) = (
+    length front,
+    made ∙ ap (fold (put cmp) l) (sym (ap (take (length front)) is ∙ take_at front rest (length front) refl)),
+    sym (ap (drop (length front)) is ∙ drop_at front rest (length front) refl),
+  )
 
   pub moved_all : (l xs m rest : List T) → FoldsPrefix (put cmp) l xs m rest → rest ≡ [] → m ≡ put_all cmp l xs
   unfolding put_all

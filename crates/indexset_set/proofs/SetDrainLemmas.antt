@@ -12,6 +12,9 @@ drained {steps = steps} W s run from whole = subst (λ z. DrainsIf steps W z run
 
 -- the result of a call for a whole run is that for the remaining items, if each run yields them in
 -- order
-pub made_of : {T C E : Type 0} (Z : Type 0) (P : C → List T → Type 0) (l : List T) (r : Result C E) → IfOk r (λ c. (s : List T) × ((s ≡ l) × GivesInOrder T × Z) × WholeRun (TakesFirst (λ x. x)) s (λ run. P c run.items)) → IfOk r (λ c. P c l)
+pub made_of : {T C E : Type 0} (Z : Type 0) (P : C → List T → Type 0) (l : List T) (r : Result C E)
+    → IfOk r
+    (λ c. (s : List T) × ((s ≡ l) × GivesInOrder T × Z) × WholeRun (TakesFirst (λ x. x)) s (λ run. P c run.items))
+    → IfOk r (λ c. P c l)
 made_of Z P l (Ok c) (s, is, whole) = subst (P c) ((is.1 whole.0 whole.0.seen).4 whole.2 ∙ (whole.1 ∙ is.0)) whole.3
 made_of Z P l (Err e) h = tt

@@ -1,5 +1,6 @@
 -- The ends of an ascending list: nothing is below the first, and nothing above the last.
-use Rattle.std.proofs.Common.{◌≡◌, ℕ, zero, suc, ◌+◌, ◌-◌, ◌<◌, Bool, true, false, cond, filter, List, [], ◌∷◌, ◌++◌, length, remove, get_or, slice_get, Some, Ordering, refl, ap, ◌∙◌, inl, inr, subst, arith}
+use Rattle.std.proofs.Common.{◌≡◌, ℕ, zero, suc, ◌+◌, ◌-◌, ◌<◌, Bool, true, false, cond, filter, List, [], ◌∷◌, ◌++◌}
+use Rattle.std.proofs.Common.{length, remove, get_or, slice_get, Some, Ordering, refl, ap, ◌∙◌, inl, inr, subst, arith}
 use Rattle.std.specs.Cmp.{IsTotalOrder}
 use Rattle.std.specs.List.{All}
 use Rattle.std.specs.Ordering.{is_lt, is_gt}

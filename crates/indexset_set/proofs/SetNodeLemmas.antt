@@ -11,7 +11,9 @@ use Rattle.indexset_set.specs.SetNodes.{spot_of, nodes_kept, nodes_put, nodes_un
 
 module _ {T Q : Type 0} (cmp : T → Q → Ordering) where
   -- a search that returns the place of w, which is v
-  pub spot_told : (ns : List (List T)) (v w : Q) (s : Spot) → w ≡ v → s.node ≡ node_for (λ x. cmp x w) ns → s.offset ≡ less_count (λ x. cmp x w) (node_at ns s.node) → s.found ≡ has_equal cmp (concat ns) v → s ≡ spot_of cmp ns v
+  pub spot_told : (ns : List (List T)) (v w : Q) (s : Spot) → w ≡ v → s.node ≡ node_for (λ x. cmp x w) ns
+      → s.offset ≡ less_count (λ x. cmp x w) (node_at ns s.node) → s.found ≡ has_equal cmp (concat ns) v
+      → s ≡ spot_of cmp ns v
   spot_told ns v w s same node offset found =
       let node' : s.node ≡ node_for (λ x. cmp x v) ns = node ∙ ap (λ u. node_for (λ x. cmp x u) ns) same in
       let offset' : s.offset ≡ less_count (λ x. cmp x v) (node_at ns (node_for (λ x. cmp x v) ns))
@@ -32,7 +34,12 @@ module _ {T Q : Type 0} (cmp : T → Q → Ordering) where
   tells_of s v w parted same spot node offset position told =
       let found = told_found cmp _ _ _ _ same parted _ position told in
       let gap = told_gap cmp _ _ _ _ same parted _ position told in
-      record { found = found; gap = gap; place = spot_told s.nodes v w spot same node offset (told_has_equal cmp _ _ _ _ found gap); position = position ∙ ap (λ u. less_count (λ x. cmp x u) (items s)) same }
+      record {
+        found = found;
+        gap = gap;
+        place = spot_told s.nodes v w spot same node offset (told_has_equal cmp _ _ _ _ found gap);
+        position = position ∙ ap (λ u. less_count (λ x. cmp x u) (items s)) same;
+      }
 
   module _ (s : NodeList T) (v : Q) where
     pub without_none : has_equal cmp (items s) v ≡ false → nodes_without cmp s v ≡ s.nodes

@@ -31,7 +31,9 @@ module _ {T : Type 0} (cmp : T → T → Ordering) (C : T → T → Type 0) (xs 
   }
 
   -- the result of a call for the clones
-  pub made_set : {E : Type 0} (cause : E) (size : ℕ) (r : Result (NodeList T) E) → IfOk r (λ s. items s ≡ fold (keep cmp) [] clones) → IfOk r (λ s. s.nodes ≡ nodes_kept_all cmp (node_list ([] ∷ []) size) clones)
+  pub made_set : {E : Type 0} (cause : E) (size : ℕ) (r : Result (NodeList T) E)
+      → IfOk r (λ s. items s ≡ fold (keep cmp) [] clones)
+      → IfOk r (λ s. s.nodes ≡ nodes_kept_all cmp (node_list ([] ∷ []) size) clones)
       → IfOk r (λ s. s.size ≡ size) → IfErr r (λ e. e ≡ cause) → MatchResult r (IsSetOf cmp C xs size) (λ e. e ≡ cause)
   made_set cause size (Ok s) elements nodes same_size refused = set_of size s elements nodes same_size
   made_set cause size (Err e) elements nodes same_size refused = refused

@@ -26,7 +26,10 @@ module _ {T : Type 0} (r : ℕ → Bool) where
   enumerate_append k (x ∷ xs) b =
       ap (λ l. (k, x) ∷ l) (enumerate_append (k + 1) xs b ∙ ap (λ n. enumerate_from (k + 1) xs ++ enumerate_from n b) {x = k + 1 + length xs} (omega arith))
 
-  at_parts : (k : ℕ) (a b : List T) → map (λ p. p.1) (filter (λ p. r p.0) (enumerate_from k (a ++ b))) ≡ map (λ p. p.1) (filter (λ p. r p.0) (enumerate_from k a)) ++ map (λ p. p.1) (filter (λ p. r p.0) (enumerate_from (k + length a) b))
+  at_parts : (k : ℕ) (a b : List T)
+      → map (λ p. p.1) (filter (λ p. r p.0) (enumerate_from k (a ++ b)))
+      ≡ map (λ p. p.1) (filter (λ p. r p.0) (enumerate_from k a))
+      ++ map (λ p. p.1) (filter (λ p. r p.0) (enumerate_from (k + length a) b))
   at_parts k a b =
       let both = enumerate_from (k + length a) b in
       ap (λ m. map (λ p. p.1) (filter (λ p. r p.0) m)) (enumerate_append k a b)
@@ -53,4 +56,10 @@ module _ {T : Type 0} (l : List T) where
       let all_between : reads (0 + length a) b ≡ b = all_at test (0 + length a) b (λ m low high. rw (at_position start end n m (omega arith)) (grind (arith, nat_tests))) in
       let none_after : reads (0 + length a + length b) d ≡ [] = none_at test (0 + length a + length b) d (λ m low high. rw (at_position start end n m (omega arith)) (grind (arith, nat_tests))) in
       sym (clipped l s e i j refl refl)
-      ∙ sym (ap (reads 0) (split_between l i j (omega arith)) ∙ (at_parts test 0 a (b ++ d) ∙ (ap (λ m. m ++ reads (0 + length a) (b ++ d)) none_before ∙ (at_parts test (0 + length a) b d ∙ (ap (λ m. m ++ reads (0 + length a + length b) d) all_between ∙ (ap (λ m. b ++ m) none_after ∙ append-nil b))))))
+      ∙ sym
+      (ap (reads 0) (split_between l i j (omega arith))
+      ∙ (at_parts test 0 a (b ++ d)
+      ∙ (ap (λ m. m ++ reads (0 + length a) (b ++ d)) none_before
+      ∙ (at_parts test (0 + length a) b d
+      ∙ (ap (λ m. m ++ reads (0 + length a + length b) d) all_between
+      ∙ (ap (λ m. b ++ m) none_after ∙ append-nil b))))))

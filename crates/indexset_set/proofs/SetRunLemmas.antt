@@ -1,5 +1,8 @@
 -- Elements that are inserted into one node, before its last element.
-use Rattle.std.proofs.Common.{◌≡◌, ℕ, suc, ◌+◌, ◌-◌, ◌<◌, ◌≤◌, ◌||◌, Bool, true, false, List, [], ◌∷◌, ◌++◌, length, take, drop, get_or, slice_set, slice_get, Some, Ordering, refl, sym, ap, ◌∙◌, subst, inl, inr, arith, length-append, length-take, append_assoc, length-set, get_or-set_same, get_or-set_other}
+use Rattle.std.proofs.Common.{◌≡◌, ℕ, suc, ◌+◌, ◌-◌, ◌<◌, ◌≤◌, ◌||◌, Bool, true, false, List, [], ◌∷◌}
+use Rattle.std.proofs.Common.{◌++◌, length, take, drop, get_or, slice_set, slice_get, Some, Ordering}
+use Rattle.std.proofs.Common.{refl, sym, ap, ◌∙◌, subst, inl, inr, arith, length-append, length-take}
+use Rattle.std.proofs.Common.{append_assoc, length-set, get_or-set_same, get_or-set_other}
 use Rattle.std.specs.declared.cmp.Ordering.TheVariants.{Less, Greater}
 use Rattle.std.specs.Cmp.{IsTotalOrder}
 use Rattle.std.specs.List.{All, AllWithin, HoldsAt, fold, insert, list_any}
@@ -13,7 +16,10 @@ use Rattle.std.proofs.lemmas.Option.{get_or_from_slice_get, slice_get_within}
 use Rattle.indexset_core.specs.Nodes.{ends_less, equal_at, concat, node_at, node_for, node_lengths}
 use Rattle.indexset_core.specs.Order.{IsAscending, above, below, has_equal, put, rank}
 use Rattle.indexset_core.specs.Parted.{less_count}
-use Rattle.indexset_core.proofs.CallerLemmas.{Parts, count_parts, ends_last, filter_back, filter_front, found_has_equal, found_put, front-is_lt, gap_has_equal, gap_put, joined_around, length-concat-mono, length-concat-more, less_from, located_found, located_gap, node_found, parted_by_item, place_for}
+use Rattle.indexset_core.proofs.CallerLemmas.{Parts, count_parts, ends_last, filter_back, filter_front}
+use Rattle.indexset_core.proofs.CallerLemmas.{found_has_equal, found_put, front-is_lt, gap_has_equal, gap_put}
+use Rattle.indexset_core.proofs.CallerLemmas.{joined_around, length-concat-mono, length-concat-more, less_from}
+use Rattle.indexset_core.proofs.CallerLemmas.{located_found, located_gap, node_found, parted_by_item, place_for}
 use Rattle.indexset_spine.specs.declared.spot.Spot.{Spot}
 use Rattle.indexset_spine.specs.NodeList.{AreNodeLengths, node_list, with_replaced}
 use Rattle.indexset_spine.specs.Edits.{FoldsPrefix, with_item_in}
@@ -118,7 +124,9 @@ module _ {T : Type 0} (cmp : T → T → Ordering) (o : IsTotalOrder cmp) where
           let grown = fold_grown cmp o (m ++ l ∷ []) (x ∷ []) up in
           let first = put_in m l x (goes 0 x (omega arith)) x_less size up (omega (arith, fits)) in
           ap (λ ms. fold (λ ms x. nodes_put cmp (node_list ms size) x) ms xs) (first ∙ ap (slice_set ns k) next)
-          ∙ (run_in (put cmp m x) xs l (subst (IsAscending cmp) next grown.up) (λ j d lt. goes (suc j) d (omega (arith, lt))) (λ j d lt. less (suc j) d (omega (arith, lt))) (omega (arith, fits, grown.most, ap (λ (u : List T). length u) next))
+          ∙ (run_in (put cmp m x) xs l (subst (IsAscending cmp) next grown.up)
+          (λ j d lt. goes (suc j) d (omega (arith, lt))) (λ j d lt. less (suc j) d (omega (arith, lt)))
+          (omega (arith, fits, grown.most, ap (λ (u : List T). length u) next))
           ∙ ap (λ u. slice_set ns k (fold (put cmp) u xs)) (sym next))
 
     -- and the result for all elements
@@ -188,7 +196,9 @@ module _ {T : Type 0} (cmp : T → T → Ordering) (o : IsTotalOrder cmp) where
         high_at : (j : ℕ) (d : T) → j < length after → cmp (get_or after j d) x ≡ Greater
         high_at j d lt =
             let u = node_at ns k in
-            let long : length (concat ns) ≡ length before + (length u + length after) = ap (λ (l : List T). length l) (joined_around ns k inside) ∙ omega (arith, length-append before (u ++ after), length-append u after) in
+            let long : length (concat ns) ≡ length before + (length u + length after) =
+            ap (λ (l : List T). length l) (joined_around ns k inside)
+            ∙ omega (arith, length-append before (u ++ after), length-append u after) in
             let at_last = item_in_node ns k inside (length u - 1) d (omega (arith, some)) in
             let at : get_or (concat ns) (length before + (length u + j)) d ≡ get_or after j d =
             ap (λ l. get_or l (length before + (length u + j)) d) (joined_around ns k inside) ∙ (get_or-append-add before (u ++ after) (length u + j) d ∙ get_or-append-add u after j d) in
@@ -218,7 +228,9 @@ module _ {T : Type 0} (cmp : T → T → Ordering) (o : IsTotalOrder cmp) where
         after_first : (j : ℕ) (d : T) → j < length run → (y : T) → cmp y first ≡ Less → cmp y (get_or run j d) ≡ Less
         after_first j d lt y h = elim (cases_lt 0 j) [
           | inl later ↦
-              let above_first : cmp first (get_or xs j d) ≡ Less = subst (λ u. cmp u (get_or xs j d) ≡ Less) (get_or_from_slice_get xs 0 first d begins) (order 0 j d later (omega (arith, lt, length-take count xs))) in
+              let above_first : cmp first (get_or xs j d) ≡ Less =
+              subst (λ u. cmp u (get_or xs j d) ≡ Less) (get_or_from_slice_get xs 0 first d begins)
+              (order 0 j d later (omega (arith, lt, length-take count xs))) in
               rw (read j d lt) (o.trans y first (get_or xs j d) h above_first)
           | inr at ↦ let e : j ≡ 0 = omega (arith, at) in rw (read j d lt, e, get_or_from_slice_get xs 0 first d begins) h
         ]
@@ -229,7 +241,9 @@ module _ {T : Type 0} (cmp : T → T → Ordering) (o : IsTotalOrder cmp) where
         pub taken_run : FoldsPrefix (put cmp) (concat ns) xs (concat (slice_set ns k (fold (put cmp) (node_at ns k) (take count xs)))) (drop count xs)
         taken_run = (run, sym (take-append-drop count xs), run_items run run_goes)
 
-        pub taken_run_nodes : length (node_at ns k) + count ≤ size → FoldsPrefix (λ ms x. nodes_put cmp (node_list ms size) x) ns xs (slice_set ns k (fold (put cmp) (node_at ns k) (take count xs))) (drop count xs)
+        pub taken_run_nodes : length (node_at ns k) + count ≤ size
+            → FoldsPrefix (λ ms x. nodes_put cmp (node_list ms size) x) ns xs
+            (slice_set ns k (fold (put cmp) (node_at ns k) (take count xs))) (drop count xs)
         taken_run_nodes room =
             let u = node_at ns k in
             let parts = last_parts u (some_last (get_or run 0 first) u (below_last 0 first begun)) in
@@ -237,7 +251,10 @@ module _ {T : Type 0} (cmp : T → T → Ordering) (o : IsTotalOrder cmp) where
             let l = parts.1 in
             let same : slice_set ns k (m ++ l ∷ []) ≡ ns = ap (slice_set ns k) (sym parts.2) ∙ set-get_or ns k [] in
             let node_order : IsAscending cmp (m ++ l ∷ []) = subst (IsAscending cmp) parts.2 (node_up ns k inside cmp up) in
-            let less : All (λ x. cmp x l ≡ Less) run = λ j d lt. subst (λ y. cmp (get_or run j d) y ≡ Less) (get_or_from_slice_get u (length u - 1) l l (last_is u m l parts.2)) (below_last j d lt l) in
+            let less : All (λ x. cmp x l ≡ Less) run =
+            λ j d lt.
+            subst (λ y. cmp (get_or run j d) y ≡ Less)
+            (get_or_from_slice_get u (length u - 1) l l (last_is u m l parts.2)) (below_last j d lt l) in
             let fits : length (m ++ l ∷ []) + length run ≤ size = omega (arith, room, length-take count xs, ap (λ (v : List T). length v) parts.2) in
             let puts : List (List T) → List (List T) = λ z. fold (λ ms x. nodes_put cmp (node_list ms size) x) z run in
             (run, sym (take-append-drop count xs), ap (λ v. slice_set ns k (fold (put cmp) v run)) parts.2 ∙ (sym (run_in size m run l node_order run_goes less fits) ∙ ap puts same))

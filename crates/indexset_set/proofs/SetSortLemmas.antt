@@ -1,6 +1,8 @@
 -- A stable sort of values, without all but the first of equal ones, gives the values that are
 -- inserted one by one.
-use Rattle.std.proofs.Common.{◌≡◌, Option, None, Some, Bool, true, false, not, cond, ◌&&◌, if◌then◌else◌, find, is_some, List, [], ◌∷◌, take, drop, filter, Ordering, Result, Ok, Err, IfOk, refl, ap, sym, ◌∙◌, subst, arith}
+use Rattle.std.proofs.Common.{◌≡◌, Option, None, Some, Bool, true, false, not, cond, ◌&&◌}
+use Rattle.std.proofs.Common.{if◌then◌else◌, find, is_some, List, [], ◌∷◌, take, drop, filter}
+use Rattle.std.proofs.Common.{Ordering, Result, Ok, Err, IfOk, refl, ap, sym, ◌∙◌, subst, arith}
 use Rattle.std.specs.declared.cmp.Ordering.TheVariants.{Less, Equal, Greater}
 use Rattle.std.specs.Cmp.{IsTotalOrder}
 use Rattle.std.specs.List.{dedup, dedup_from, fold}
@@ -80,11 +82,16 @@ module _ {T : Type 0} (cmp : T → T → Ordering) (o : IsTotalOrder cmp) where
   none_below : (x y : T) (l : List T) → cmp x y ≡ Less → IsUnder cmp y l → equal_element cmp (y ∷ l) x ≡ None
   none_below x y l e h = none_under x x (y ∷ l) (itself x) (e, under_map cmp x y (λ z less. o.trans x y z e less) l h)
 
-  tails : (x : T) (xs ys : List T) → IsUnder cmp x xs → IsUnder cmp x ys → ((v : T) → equal_element cmp (x ∷ xs) v ≡ equal_element cmp (x ∷ ys) v) → (v : T) → equal_element cmp xs v ≡ equal_element cmp ys v
-  tails x xs ys h k same v = elim (is_eq (cmp x v)) as (λ b. is_eq (cmp x v) ≡ b → cond b (Some x) (equal_element cmp xs v) ≡ cond b (Some x) (equal_element cmp ys v) → equal_element cmp xs v ≡ equal_element cmp ys v) [
-    | true ↦ λ e _. none_under x v xs (equal_is cmp o _ e) h ∙ sym (none_under x v ys (equal_is cmp o _ e) k)
-    | false ↦ λ _ s. s
-  ] refl (same v)
+  tails : (x : T) (xs ys : List T) → IsUnder cmp x xs → IsUnder cmp x ys
+      → ((v : T) → equal_element cmp (x ∷ xs) v ≡ equal_element cmp (x ∷ ys) v) → (v : T)
+      → equal_element cmp xs v ≡ equal_element cmp ys v
+  tails x xs ys h k same v =
+      elim (is_eq (cmp x v))
+      as (λ b. is_eq (cmp x v) ≡ b → cond b (Some x) (equal_element cmp xs v) ≡ cond b (Some x) (equal_element cmp ys v)
+      → equal_element cmp xs v ≡ equal_element cmp ys v) [
+        | true ↦ λ e _. none_under x v xs (equal_is cmp o _ e) h ∙ sym (none_under x v ys (equal_is cmp o _ e) k)
+        | false ↦ λ _ s. s
+      ] refl (same v)
 
   -- ascending lists that have the same elements are one
   same_elements : (l m : List T) → Up cmp l → Up cmp m → ((v : T) → equal_element cmp l v ≡ equal_element cmp m v) → l ≡ m
@@ -123,10 +130,14 @@ module _ {T : Type 0} (cmp : T → T → Ordering) (o : IsTotalOrder cmp) where
 
     found_kept : equal_element cmp (keep cmp l x) v ≡ option_or (equal_element cmp l v) (cond (is_eq (cmp x v)) (Some x) None)
     unfolding keep
-    found_kept = elim (has_equal cmp l x) as (λ b. has_equal cmp l x ≡ b → equal_element cmp (if b then l else put cmp l x) v ≡ option_or (equal_element cmp l v) (cond (is_eq (cmp x v)) (Some x) None)) [
-      | true ↦ λ has. found_there has (is_eq (cmp x v)) refl
-      | false ↦ λ none. found_put none
-    ] refl
+    found_kept =
+        elim (has_equal cmp l x)
+        as (λ b. has_equal cmp l x ≡ b
+        → equal_element cmp (if b then l else put cmp l x) v
+        ≡ option_or (equal_element cmp l v) (cond (is_eq (cmp x v)) (Some x) None)) [
+          | true ↦ λ has. found_there has (is_eq (cmp x v)) refl
+          | false ↦ λ none. found_put none
+        ] refl
 
   cond_or : {X : Type 0} (b : Bool) (x : X) (r : Option X) → option_or (cond b (Some x) None) r ≡ cond b (Some x) r
   cond_or true x r = refl
@@ -193,6 +204,9 @@ module _ {T : Type 0} (cmp : T → T → Ordering) (o : IsTotalOrder cmp) where
         (λ v. found_dedup ys v ∙ (found_stable xs ys stable v ∙ sym (found_all_kept [] xs none_ascend v)))
 
 -- the nodes of a list are those of the items, if these are the list
-pub nodes_of_items : {T E : Type 0} (cmp : T → T → Ordering) (s : NodeList T) (l : List T) (r : Result (NodeList T) E) → IfOk r (λ made. items made ≡ l) → IfOk r (λ made. made.nodes ≡ nodes_kept_all cmp s l) → IfOk r (λ made. made.nodes ≡ nodes_kept_all cmp s (items made))
+pub nodes_of_items : {T E : Type 0} (cmp : T → T → Ordering) (s : NodeList T) (l : List T)
+    (r : Result (NodeList T) E)
+    → IfOk r (λ made. items made ≡ l) → IfOk r (λ made. made.nodes ≡ nodes_kept_all cmp s l)
+    → IfOk r (λ made. made.nodes ≡ nodes_kept_all cmp s (items made))
 nodes_of_items cmp s l (Ok made) is nodes = nodes ∙ ap (nodes_kept_all cmp s) (sym is)
 nodes_of_items cmp s l (Err e) is nodes = tt

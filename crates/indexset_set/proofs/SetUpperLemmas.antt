@@ -15,7 +15,11 @@ module _ {X : Type 0} where
   find_parts p q other (x ∷ l) zero ps = rw (other x, ps.after 0 x (omega arith) (omega arith)) refl
   find_parts p q other (x ∷ l) (suc i) ps =
       let inside = ps.inside in
-      let rest : Parts p l i = record { inside = omega (arith, inside); before = λ k d low high. ps.before (suc k) d (omega arith) (omega arith); after = λ k d low high. ps.after (suc k) d (omega arith) (omega arith) } in
+      let rest : Parts p l i = record {
+        inside = omega (arith, inside);
+        before = λ k d low high. ps.before (suc k) d (omega arith) (omega arith);
+        after = λ k d low high. ps.after (suc k) d (omega arith) (omega arith);
+      } in
       rw (other x, ps.before 0 x (omega arith) (omega arith)) (find_parts p q other l i rest)
 
 not_le : (a : Ordering) → is_gt a ≡ not (is_le a)

@@ -55,7 +55,9 @@ module _ {T : Type 0} (cmp : T → T → Ordering) where
   -- x and more, merged with a list, where `after` is the merge of more
   abbrev pub merged_from : T → List T → (List T → List (MergeItem T)) → List T → List (MergeItem T)
   merged_from x more after [] = map Left (x ∷ more)
-  merged_from x more after (y ∷ ys) = match_ordering (cmp x y) (Left x ∷ after (y ∷ ys)) (Both x y ∷ after ys) (Right y ∷ merged_from x more after ys)
+  merged_from x more after (y ∷ ys) =
+      match_ordering (cmp x y) (Left x ∷ after (y ∷ ys)) (Both x y ∷ after ys)
+      (Right y ∷ merged_from x more after ys)
 
   -- the items of two lists, merged, each with the lists that have it
   abbrev pub merged : List T → List T → List (MergeItem T)

@@ -11,24 +11,28 @@ use Rattle.indexset_set.specs.SetNodes.{nodes_kept_all}
 
 -- clones that ascend are in nodes of the lengths of their sources' nodes; others are inserted one
 -- by one, unless an equal one is present
-pub record IsSetCopy {T : Type 0} (cmp : T → T → Ordering) (C : T → T → Type 0) (s copy : NodeList T) : Type 0 where
+pub record IsSetCopy {T : Type 0} (cmp : T → T → Ordering) (C : T → T → Type 0)
+    (s copy : NodeList T) : Type 0 where
   pub clones : List (List T)
   pub cloned : AllZip (AllZip C) s.nodes clones
   pub in_place : IsAscending cmp (concat clones) → copy.nodes ≡ clones
-  pub in_turn : (IsAscending cmp (concat clones) → ⊥) → copy.nodes ≡ nodes_kept_all cmp (node_list ([] ∷ []) s.size) (concat clones)
+  pub in_turn : (IsAscending cmp (concat clones) → ⊥)
+      → copy.nodes ≡ nodes_kept_all cmp (node_list ([] ∷ []) s.size) (concat clones)
   pub elements : items copy ≡ fold (keep cmp) [] (concat clones)
   pub size : copy.size ≡ s.size
 
 -- a copy with a clone of each element in its place if clones are equal to their sources, and the
 -- identical set if they are identical to them
-pub record IsSetClone {T : Type 0} (cmp : T → T → Ordering) (C : T → T → Type 0) (s copy : NodeList T) : Type 0 where
+pub record IsSetClone {T : Type 0} (cmp : T → T → Ordering) (C : T → T → Type 0)
+    (s copy : NodeList T) : Type 0 where
   pub copied : IsSetCopy cmp C s copy
   pub cloned : ((x y : T) → C x y → cmp x y ≡ Equal) → AllZip (AllZip C) s.nodes copy.nodes
   pub ok : AreIdentical C → copy ≡ s
 
 -- a set of clones of xs, inserted in order unless an equal one is present; its elements are xs if
 -- clones are identical to their sources
-pub record IsSetOf {T : Type 0} (cmp : T → T → Ordering) (C : T → T → Type 0) (xs : List T) (node_size : ℕ) (s : NodeList T) : Type 0 where
+pub record IsSetOf {T : Type 0} (cmp : T → T → Ordering) (C : T → T → Type 0) (xs : List T)
+    (node_size : ℕ) (s : NodeList T) : Type 0 where
   pub clones : List T
   pub cloned : AllZip C xs clones
   pub elements : items s ≡ fold (keep cmp) [] clones

@@ -31,8 +31,13 @@ module _ {T F : Type 0} where
 
     -- a step of the iterator: the closure is called for the elements up to the removed one, or for
     -- all
-    pub record ExtractsOne (f : Mut F (Bor T × Unit {0}) Bool) (s : ExtractIf T F g g' g'') (r : Option T) (t : ExtractIf T F g g' g'') : Type 0 where
-      pub extracted : Extracts (CalledOn f) (extract_pred s) (extract_items s) r (extract_pred t) (extract_items t)
+    pub record ExtractsOne (f : Mut F (Bor T × Unit {0}) Bool) (s : ExtractIf T F g g' g'')
+        (r : Option T) (t : ExtractIf T F g g' g'') : Type 0 where
+      pub extracted : Extracts (CalledOn f) (extract_pred s) (extract_items s) r
+          (extract_pred t) (extract_items t)
       pub same_set : (extract_set t).ghost_name ≡ (extract_set s).ghost_name
-      pub lengths : MatchOption r (node_lengths (extract_set t).now.nodes ≡ node_lengths (extract_set s).now.nodes) (λ _. node_lengths (extract_set t).now.nodes ≡ lengths_without (node_lengths (extract_set s).now.nodes) t.at.front)
+      pub lengths : MatchOption r
+          (node_lengths (extract_set t).now.nodes ≡ node_lengths (extract_set s).now.nodes)
+          (λ _. node_lengths (extract_set t).now.nodes
+          ≡ lengths_without (node_lengths (extract_set s).now.nodes) t.at.front)
       pub size : (extract_set t).now.size ≡ (extract_set s).now.size

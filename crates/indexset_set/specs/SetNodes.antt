@@ -5,13 +5,15 @@ use Rattle.std.specs.Ordering.{is_eq}
 use Rattle.std.specs.declared.cmp.Ordering.{Ordering}
 use Rattle.indexset_spine.specs.declared.spot.Spot.{Spot}
 use Rattle.indexset_core.specs.Nodes.{concat, node_at, node_for}
-use Rattle.indexset_spine.specs.NodeList.{NodeList, node_list, IsItemSpot, items, position_of, with_inserted, with_replaced, without_item}
+use Rattle.indexset_spine.specs.NodeList.{NodeList, node_list, IsItemSpot, items, position_of}
+use Rattle.indexset_spine.specs.NodeList.{with_inserted, with_replaced, without_item}
 use Rattle.indexset_core.specs.Order.{has_equal}
 use Rattle.indexset_core.specs.Parted.{less_count}
 
 -- ms are the nodes ns without the element at the position
 abbrev pub IsWithoutAt : {T : Type 0} → List (List T) → ℕ → List (List T) → Type 0
-IsWithoutAt ns i ms = (s : Spot) × IsItemSpot ns s × (position_of ns s ≡ i) × (ms ≡ without_item ns s)
+IsWithoutAt ns i ms =
+    (s : Spot) × IsItemSpot ns s × (position_of ns s ≡ i) × (ms ≡ without_item ns s)
 
 module _ {T : Type 0} where
   -- the spot of the first element that compares Equal, or its insertion point: in the first node
@@ -27,7 +29,9 @@ module _ {T : Type 0} where
 
   -- the nodes without the first element that compares Equal
   unfoldable pub nodes_unequal : (T → Ordering) → NodeList T → List (List T)
-  nodes_unequal answer s = if list_any (λ x. is_eq (answer x)) (items s) then without_item s.nodes (search_spot answer s.nodes) else s.nodes
+  nodes_unequal answer s =
+      if list_any (λ x. is_eq (answer x)) (items s)
+      then without_item s.nodes (search_spot answer s.nodes) else s.nodes
 
 -- elements are compared with v, which may be of another type
 module _ {T Q : Type 0} (cmp : T → Q → Ordering) where
@@ -42,11 +46,15 @@ module _ {T Q : Type 0} (cmp : T → Q → Ordering) where
 module _ {T : Type 0} (cmp : T → T → Ordering) where
   -- the nodes with v inserted, unless an equal element is present
   unfoldable pub nodes_kept : NodeList T → T → List (List T)
-  nodes_kept s v = if has_equal cmp (items s) v then s.nodes else with_inserted s.size s.nodes (spot_of cmp s.nodes v) v
+  nodes_kept s v =
+      if has_equal cmp (items s) v then s.nodes
+      else with_inserted s.size s.nodes (spot_of cmp s.nodes v) v
 
   -- the nodes with v inserted, replacing any equal element
   unfoldable pub nodes_put : NodeList T → T → List (List T)
-  nodes_put s v = if has_equal cmp (items s) v then with_replaced s.nodes (spot_of cmp s.nodes v) v else with_inserted s.size s.nodes (spot_of cmp s.nodes v) v
+  nodes_put s v =
+      if has_equal cmp (items s) v then with_replaced s.nodes (spot_of cmp s.nodes v) v
+      else with_inserted s.size s.nodes (spot_of cmp s.nodes v) v
 
   -- the nodes with each of xs inserted in order, unless an equal element is present
   unfoldable pub nodes_kept_all : NodeList T → List T → List (List T)

@@ -5,7 +5,8 @@ ghost use Rattle.std.specs.Map.Iter.{ShowsInOrder, deref};
 ghost use Rattle.indexset_spine.specs.NodeList.{items};
 ghost use Rattle.indexset_core.specs.Order.{IsAscending, has_equal};
 ghost use Rattle.indexset_set.specs.Merge.{merged};
-ghost use Rattle.indexset_set.specs.SetAlgebra.{difference, intersection, symmetric_difference, union};
+ghost use Rattle.indexset_set.specs.SetAlgebra.{difference, intersection};
+ghost use Rattle.indexset_set.specs.SetAlgebra.{symmetric_difference, union};
 
 mod difference_walk;
 mod intersection_walk;

@@ -1,5 +1,6 @@
 //! Calls that change many elements of a set at once.
-ghost use Rattle.std.specs.Prelude.{◌≡◌, ◌<◌, ◌≤◌, ◌↔◌, ◌++◌, true, false, IsTrue, take, [], IfOk, OnOk, IfErr, OnErr, IfSome, length, drop, slice_get};
+ghost use Rattle.std.specs.Prelude.{◌≡◌, ◌<◌, ◌≤◌, ◌↔◌, ◌++◌, true, false, IsTrue, take, []};
+ghost use Rattle.std.specs.Prelude.{IfOk, OnOk, IfErr, OnErr, IfSome, length, drop, slice_get};
 ghost use Rattle.std.specs.Fn.{CalledAt};
 ghost use Rattle.std.specs.List.{All};
 ghost use Rattle.std.specs.List.Retain.{IsFiltered};
@@ -190,7 +191,8 @@ impl<T: Ord + Drop> BTreeSet<T> {
         ensures some_left { OnErr result (0 < length (items other.new)) }
 
         // Nodes.
-        ensures nodes { FoldsPrefix (λ ns x. nodes_put T.cmp (node_list ns self.old.size) x) self.old.nodes
+        ensures nodes { FoldsPrefix (λ ns x. nodes_put T.cmp (node_list ns self.old.size) x)
+            self.old.nodes
             (items other.old) self.new.nodes (items other.new) }
         ensures size { self.new.size ≡ self.old.size }
         ensures other_size { other.new.size ≡ other.old.size }
@@ -216,7 +218,8 @@ impl<T: Ord + Drop> BTreeSet<T> {
         ensures other_unchanged { OnErr result (other.new ≡ other.old) }
 
         // Nodes.
-        ensures nodes { OnOk result (FoldsPrefix (λ ns x. nodes_put T.cmp (node_list ns self.old.size) x)
+        ensures nodes { OnOk result
+            (FoldsPrefix (λ ns x. nodes_put T.cmp (node_list ns self.old.size) x)
             self.old.nodes (items other.old) self.new.nodes (items other.new)) }
         ensures size { self.new.size ≡ self.old.size }
         ensures other_size { other.new.size ≡ other.old.size }

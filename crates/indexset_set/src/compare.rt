@@ -2,7 +2,9 @@
 ghost use Rattle.std.specs.Hash as fed;
 ghost use Rattle.std.specs.Hash.{on_Alike, items_Alike};
 ghost use Rattle.std.specs.Cmp.{on_equiv, on_total, on_per, on_po};
-ghost use Rattle.std.specs.Cmp.Lexicographic.{pointwise, slice_cmp, slice_partial_cmp, lists_equiv, lists_agrees, lists_total, lists_ties, lists_per, lists_po};
+ghost use Rattle.std.specs.Cmp.Lexicographic.{pointwise, slice_cmp, slice_partial_cmp};
+ghost use Rattle.std.specs.Cmp.Lexicographic.{lists_equiv, lists_agrees, lists_total};
+ghost use Rattle.std.specs.Cmp.Lexicographic.{lists_ties, lists_per, lists_po};
 ghost use Rattle.indexset_spine.specs.NodeList.{items};
 
 use super::BTreeSet;

@@ -1,10 +1,12 @@
 //! A cursor, which points at an element of a set or past the end.
-ghost use Rattle.std.specs.Prelude.{◌≡◌, ◌+◌, ◌-◌, ◌≤◌, ◌==◌, None, length, min, slice_get, if◌then◌else◌};
+ghost use Rattle.std.specs.Prelude.{◌≡◌, ◌+◌, ◌-◌, ◌≤◌, ◌==◌, None};
+ghost use Rattle.std.specs.Prelude.{length, min, slice_get, if◌then◌else◌};
 ghost use Rattle.std.specs.List.{count_by};
 ghost use Rattle.std.specs.Option.{option_copied};
 ghost use Rattle.indexset_core.specs.KeyRange.{IfBounded, is_before, is_up_to_end};
 ghost use Rattle.indexset_spine.specs.NodeList.{IsSpot, items, position_of};
-ghost use Rattle.indexset_set.specs.SetCursor.{item_at, previous_state, next_state, cursor_state_at};
+ghost use Rattle.indexset_set.specs.SetCursor.{item_at, previous_state};
+ghost use Rattle.indexset_set.specs.SetCursor.{next_state, cursor_state_at};
 ghost use Rattle.indexset_set.specs.SetProbes.{FindsInOrder};
 
 use super::BTreeSet;

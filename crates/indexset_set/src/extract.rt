@@ -32,13 +32,14 @@ pub struct ExtractIf<'a, T: Ord, F> {
 }
 
 impl<T: Ord + Drop> BTreeSet<T> {
-    ghost use Rattle.indexset_set.specs.SetExtract.{CalledOn, extract_items, extract_pred, extract_set};
+    ghost use Rattle.indexset_set.specs.SetExtract.{CalledOn, extract_items};
+    ghost use Rattle.indexset_set.specs.SetExtract.{extract_pred, extract_set};
 
     /// Returns an iterator that removes the elements of a range for which the closure returns true.
     ///
     /// The closure is called for each element within the range, in order. The start must not be
-    /// past the end, nor equal to it if both are excluded (see `base::key_range::bounds_are_ordered`).
-    /// It allocates nothing.
+    /// past the end, nor equal to it if both are excluded (see
+    /// `base::key_range::bounds_are_ordered`). It allocates nothing.
     ///
     /// # Examples
     ///
@@ -95,7 +96,8 @@ impl<T: Ord + Drop> BTreeSet<T> {
     // Removes the next element of a stretch for which the closure returns true, and returns it.
     fn extract<F: FnMut(&T) -> bool>(&mut self, at: &mut ExtractRange, pred: &mut F) -> Option<T>
         requires callable { F.IsAlwaysCallable pred.old }
-        requires at { IsExtractRange (node_lengths self.old.nodes) (length (items self.old)) at.old }
+        requires at { IsExtractRange (node_lengths self.old.nodes) (length (items self.old))
+            at.old }
 
         // Result.
         ensures extracted { Extracts (CalledOn F.FnMut) pred.old

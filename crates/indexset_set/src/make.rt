@@ -1,6 +1,7 @@
 //! The creation of sets.
 ghost use Rattle.indexset_core.specs.Clones.{AreIdentical};
-ghost use Rattle.std.specs.Prelude.{◌≡◌, ◌≤◌, false, IsTrue, List, [], ◌∷◌, IfOk, IfErr, OnOk, fold};
+ghost use Rattle.std.specs.Prelude.{◌≡◌, ◌≤◌, false, IsTrue, List};
+ghost use Rattle.std.specs.Prelude.{[], ◌∷◌, IfOk, IfErr, OnOk, fold};
 ghost use Rattle.std.specs.declared.cmp.Ordering.TheVariants.{Equal};
 ghost use Rattle.std.specs.List.{AllZip};
 ghost use Rattle.std.specs.Iterator.{IsFiniteIterable};
@@ -105,7 +106,8 @@ impl<T: Ord + Drop> BTreeSet<T> {
             × WholeRun I.IntoIter.next_gives it (λ run. items s ≡ fold (keep T.cmp) [] run.items)) }
         ensures nodes { IfOk result (λ s. (it : I.IntoIter) × I.into_iter_gives iter it
             × WholeRun I.IntoIter.next_gives it
-            (λ run. s.nodes ≡ nodes_kept_all T.cmp (node_list ([] ∷ []) DEFAULT_INNER_SIZE) run.items)) }
+            (λ run. s.nodes
+            ≡ nodes_kept_all T.cmp (node_list ([] ∷ []) DEFAULT_INNER_SIZE) run.items)) }
         ensures size { IfOk result (λ s. s.size ≡ DEFAULT_INNER_SIZE) }
         ensures refusal { IfErr result (λ e. e ≡ Refusal.Memory) }
     {

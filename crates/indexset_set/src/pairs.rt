@@ -1,5 +1,6 @@
 //! Calls on a set of pairs that write values.
-ghost use Rattle.std.specs.Prelude.{◌≡◌, ◌+◌, ◌<◌, ◌≤◌, Some, MatchOption, find, length, nat_lt, slice_get};
+ghost use Rattle.std.specs.Prelude.{◌≡◌, ◌+◌, ◌<◌, ◌≤◌, Some, MatchOption};
+ghost use Rattle.std.specs.Prelude.{find, length, nat_lt, slice_get};
 ghost use Rattle.std.specs.Map.Iter.{deref_pair_mut};
 ghost use Rattle.std.specs.Option.{option_copied_mut, option_map};
 ghost use Rattle.std.specs.Borrow.{sem};
@@ -21,7 +22,8 @@ use indexset_core::probe::Probe;
 use indexset_spine::extract_range::ExtractRange;
 
 impl<K: Ord, V> BTreeSet<Pair<K, V>> {
-    ghost use Rattle.indexset_set.specs.SetLends.{lends_value, lends_pair, lends_pair_if, lends_value_if};
+    ghost use Rattle.indexset_set.specs.SetLends.{lends_value, lends_pair};
+    ghost use Rattle.indexset_set.specs.SetLends.{lends_pair_if, lends_value_if};
 
     /// Returns a mutable reference to the value at a position, if any.
     ///
@@ -164,7 +166,8 @@ impl<K: Ord + Drop, V: Drop> BTreeSet<Pair<K, V>> {
         f: &mut F,
     ) -> Option<Pair<K, V>>
         requires callable { F.IsAlwaysCallable f.old }
-        requires at { IsExtractRange (node_lengths self.old.nodes) (length (items self.old)) at.old }
+        requires at { IsExtractRange (node_lengths self.old.nodes) (length (items self.old))
+            at.old }
 
         // Result.
         ensures extracted { Extracts (CalledOnPair F.FnMut) f.old

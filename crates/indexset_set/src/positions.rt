@@ -1,5 +1,6 @@
 //! Look-ups and removals by position.
-ghost use Rattle.std.specs.Prelude.{◌≡◌, ◌-◌, ◌<◌, ◌↔◌, ◌++◌, [], true, false, Some, IsSome, IfSome, MatchOption, length, take, drop, remove, slice_get};
+ghost use Rattle.std.specs.Prelude.{◌≡◌, ◌-◌, ◌<◌, ◌↔◌, ◌++◌, [], true, false, Some, IsSome};
+ghost use Rattle.std.specs.Prelude.{IfSome, MatchOption, length, take, drop, remove, slice_get};
 ghost use Rattle.std.specs.Option.{option_copied, option_to_list};
 ghost use Rattle.std.specs.List.{All};
 ghost use Rattle.std.specs.Ordering.{is_gt, is_lt};

@@ -45,7 +45,8 @@ impl<T: Ord + Drop> Extend<T> for BTreeSet<T> {
 }
 
 impl<'a, T: Ord + Copy + Drop + 'a> Extend<&'a T> for BTreeSet<T> {
-    ghost extend_gives = { λ s xs new. (items new ≡ fold (keep T.cmp) (items s) (map (λ x. x.now) xs))
+    ghost extend_gives = { λ s xs new.
+        (items new ≡ fold (keep T.cmp) (items s) (map (λ x. x.now) xs))
         × (new.size ≡ s.size) };
 
     fn extend<I: IntoIterator<Item = &'a T>>(&mut self, iter: I) -> Result<(), AllocError> {

@@ -1,5 +1,7 @@
 -- Items that are appended one by one or as a block.
-use Rattle.std.proofs.Common.{◌≡◌, ℕ, ◌+◌, ◌-◌, ◌/◌, ◌<◌, ◌≤◌, ◌==◌, Bool, true, false, not, filter, if◌then◌else◌, vec_len, List, [], ◌∷◌, ◌++◌, length, take, drop, get_or, slice_set, refl, sym, ap, ◌∙◌, arith, append_assoc, length-append, length-drop}
+use Rattle.std.proofs.Common.{◌≡◌, ℕ, ◌+◌, ◌-◌, ◌/◌, ◌<◌, ◌≤◌, ◌==◌, Bool, true, false, not, filter}
+use Rattle.std.proofs.Common.{if◌then◌else◌, vec_len, List, [], ◌∷◌, ◌++◌, length, take, drop, get_or}
+use Rattle.std.proofs.Common.{slice_set, refl, sym, ap, ◌∙◌, arith, append_assoc, length-append, length-drop}
 use Rattle.std.proofs.lemmas.List.{append-nil, length-set, get_or-set_same, length-take-le, map-set, set-set, take_more_set}
 use Rattle.std.proofs.lemmas.List.Edits.{insert_end}
 use Rattle.std.proofs.lemmas.List.Elements.{All-set}
@@ -18,7 +20,9 @@ use Rattle.indexset_spine.proofs.VecNodes.{length-vec_items, vec_items-set}
 
 module _ {X : Type 0} where
   -- the spot after the last item, after its node was halved
-  pub halved_end : (ns : List (List X)) (s t : Spot) → IsShortEnd (s.offset + 1) ns s → 2 ≤ length (node_at ns s.node) → t.node ≡ s.node + 1 → t.offset ≡ s.offset - length (node_at ns s.node) / 2 → IsShortEnd s.offset (with_halved ns s.node) t
+  pub halved_end : (ns : List (List X)) (s t : Spot) → IsShortEnd (s.offset + 1) ns s
+      → 2 ≤ length (node_at ns s.node) → t.node ≡ s.node + 1 → t.offset ≡ s.offset - length (node_at ns s.node) / 2
+      → IsShortEnd s.offset (with_halved ns s.node) t
   unfolding with_halved
   halved_end ns s t h two node offset =
       let n = node_at ns s.node in
@@ -35,7 +39,8 @@ module _ {X : Type 0} where
       }
 
   -- a last node that is short takes one more
-  short_last : (size : ℕ) (ns : List (List X)) (v : X) → 0 < length ns → length (node_at ns (length ns - 1)) < size → with_last size ns v ≡ slice_set ns (length ns - 1) (node_at ns (length ns - 1) ++ v ∷ [])
+  short_last : (size : ℕ) (ns : List (List X)) (v : X) → 0 < length ns → length (node_at ns (length ns - 1)) < size
+      → with_last size ns v ≡ slice_set ns (length ns - 1) (node_at ns (length ns - 1) ++ v ∷ [])
   unfolding with_item_in
   short_last size ns v some short =
       sym (put_short size ns (end_spot ns) v (omega arith) short) ∙ ap (slice_set ns (length ns - 1)) (insert_end (node_at ns (length ns - 1)) v)
@@ -83,7 +88,9 @@ module _ {X : Type 0} where
       ∙ (ap (λ i. slice_set ms i ((n ++ x ∷ []) ++ xs)) at ∙ ap (slice_set ms s.node) (append_assoc n (x ∷ []) xs)))))
 
   -- the lengths after xs is appended to a node
-  pub lengths-block : (ns : List (List X)) (k : ℕ) (xs : List X) → k < length ns → node_lengths (slice_set ns k (node_at ns k ++ xs)) ≡ slice_set (node_lengths ns) k (get_or (node_lengths ns) k 0 + length xs)
+  pub lengths-block : (ns : List (List X)) (k : ℕ) (xs : List X) → k < length ns
+      → node_lengths (slice_set ns k (node_at ns k ++ xs))
+      ≡ slice_set (node_lengths ns) k (get_or (node_lengths ns) k 0 + length xs)
   lengths-block ns k xs h =
       map-set (λ (n : List X). length n) ns k (node_at ns k ++ xs)
       ∙ ap (slice_set (node_lengths ns) k) (omega (arith, length-append (node_at ns k) xs, length-at ns k h))
@@ -124,13 +131,17 @@ module _ {X : Type 0} where
       rw e (record { last = omega arith; end = refl; short = omega (arith, node_bounded ns (length ns - 1) size (omega arith) is) })
 
   -- a spine that took xs
-  pub spine_all_last : (size total sum : ℕ) (ns : List (List X)) (xs : List X) → IsSpine (node_lengths ns) size total → sum ≡ total + length xs → IsSpine (node_lengths (fold (with_last size) ns xs)) size sum
+  pub spine_all_last : (size total sum : ℕ) (ns : List (List X)) (xs : List X)
+      → IsSpine (node_lengths ns) size total → sum ≡ total + length xs
+      → IsSpine (node_lengths (fold (with_last size) ns xs)) size sum
   spine_all_last size total sum ns xs is e =
       spine_of (fold (with_last size) ns xs) size sum (cut_all_last size ns xs is.is_cut)
       (omega (arith, e, is.total_is, length-concat ns, ap (λ (l : List X). length l) (joined_all_last size ns xs is.is_cut), length-append (concat ns) xs))
 
   -- the nodes as the code stores them
-  pub block_writes : {Z : Type 0} (vs : List (Vec X Z)) (k : ℕ) (u w : Vec X Z) (xs : List X) → k < length (vec_items vs) → u ≡ get_or vs k u → w.items ≡ u.items ++ xs → vec_items (slice_set vs k w) ≡ slice_set (vec_items vs) k (node_at (vec_items vs) k ++ xs)
+  pub block_writes : {Z : Type 0} (vs : List (Vec X Z)) (k : ℕ) (u w : Vec X Z) (xs : List X)
+      → k < length (vec_items vs) → u ≡ get_or vs k u → w.items ≡ u.items ++ xs
+      → vec_items (slice_set vs k w) ≡ slice_set (vec_items vs) k (node_at (vec_items vs) k ++ xs)
   block_writes vs k u w xs h at is = vec_items-set vs k w ∙ ap (slice_set (vec_items vs) k) (is ∙ ap (λ n. n ++ xs) (sym (node_is vs k u h at)))
 
 -- a node without its first items, if those before it are empty
@@ -150,7 +161,9 @@ module _ {X Z : Type 0} (vs : List (Vec X Z)) (k : ℕ) (u w : Vec X Z) (h : k <
   unfolding ns
   node_at_is = node_is vs k u inside at
 
-  pub takes_node : {B : Type 0} (f : B → X → B) (a b : B) → FoldsPrefix f a u.items b w.items → concat (take k (vec_items vs)) ≡ [] → FoldsPrefix f a (concat (vec_items vs)) b (concat (vec_items (slice_set vs k w)))
+  pub takes_node : {B : Type 0} (f : B → X → B) (a b : B) → FoldsPrefix f a u.items b w.items
+      → concat (take k (vec_items vs)) ≡ []
+      → FoldsPrefix f a (concat (vec_items vs)) b (concat (vec_items (slice_set vs k w)))
   unfolding ns
   takes_node f a b taken none =
       let bs = concat (drop (k + 1) ns) in
@@ -185,7 +198,10 @@ module _ {X Z : Type 0} where
   filter_lists : (vs : List (Vec X Z)) → vec_items (filter (λ v. not (vec_len v == 0)) vs) ≡ filter (λ n. not (length n == 0)) (vec_items vs)
   filter_lists [] = refl
   filter_lists (v ∷ vs) =
-      let shape : (b : Bool) → vec_items (if b then v ∷ filter (λ v. not (vec_len v == 0)) vs else filter (λ v. not (vec_len v == 0)) vs) ≡ (if b then v.items ∷ filter (λ n. not (length n == 0)) (vec_items vs) else filter (λ n. not (length n == 0)) (vec_items vs)) =
+      let shape : (b : Bool)
+      → vec_items (if b then v ∷ filter (λ v. not (vec_len v == 0)) vs else filter (λ v. not (vec_len v == 0)) vs)
+      ≡ (if b then v.items ∷ filter (λ n. not (length n == 0)) (vec_items vs)
+      else filter (λ n. not (length n == 0)) (vec_items vs)) =
       elim [ true ↦ ap (λ l. v.items ∷ l) (filter_lists vs) | false ↦ filter_lists vs ] in
       shape (not (vec_len v == 0)) ∙ ap (λ i. if not (i == 0) then v.items ∷ filter (λ n. not (length n == 0)) (vec_items vs) else filter (λ n. not (length n == 0)) (vec_items vs)) v.ok.0
 

@@ -1,6 +1,8 @@
 -- Items that are appended to a single empty node, in blocks.
 use native.Mathlib.Nat.{add-mul}
-use Rattle.std.proofs.Common.{◌≡◌, ℕ, zero, suc, ◌+◌, ◌-◌, ◌*◌, ◌/◌, ◌<◌, ◌≤◌, true, false, nat_lt, if◌then◌else◌, List, [], ◌∷◌, ◌++◌, length, take, drop, reverse, refl, sym, ap, ◌∙◌, subst, arith, append_assoc, length-append, length-drop}
+use Rattle.std.proofs.Common.{◌≡◌, ℕ, zero, suc, ◌+◌, ◌-◌, ◌*◌, ◌/◌, ◌<◌, ◌≤◌, true, false, nat_lt}
+use Rattle.std.proofs.Common.{if◌then◌else◌, List, [], ◌∷◌, ◌++◌, length, take, drop, reverse, refl}
+use Rattle.std.proofs.Common.{sym, ap, ◌∙◌, subst, arith, append_assoc, length-append, length-drop}
 use Rattle.std.proofs.lemmas.Bool.Decides.{nat_tests}
 use Rattle.std.proofs.lemmas.List.{drop-append-le, drop_at, length-take-le, map-append, reverse-append, take-append-drop, take_at}
 use Rattle.std.proofs.lemmas.List.Edits.{insert_end}
@@ -116,7 +118,9 @@ module _ {X Z : Type 0} where
   pub turned : (vs : List (Vec X Z)) → vec_items (reverse vs) ≡ reverse (vec_items vs)
   turned [] = refl
   turned (v ∷ vs) =
-      ap vec_items (reverse-append (v ∷ []) vs) ∙ (map-append (λ (w : Vec X Z). w.items) (reverse vs) (v ∷ []) ∙ (ap (λ l. l ++ v.items ∷ []) (turned vs) ∙ sym (reverse-append (v.items ∷ []) (vec_items vs))))
+      ap vec_items (reverse-append (v ∷ []) vs)
+      ∙ (map-append (λ (w : Vec X Z). w.items) (reverse vs) (v ∷ [])
+      ∙ (ap (λ l. l ++ v.items ∷ []) (turned vs) ∙ sym (reverse-append (v.items ∷ []) (vec_items vs))))
 
 pub less_one : (n half : ℕ) → 0 < n → n * half ≡ (n - 1) * half + half
 less_one n half some =

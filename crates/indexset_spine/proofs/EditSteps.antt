@@ -1,5 +1,7 @@
 -- The steps of an edit, on the nodes as the code stores them.
-use Rattle.std.proofs.Common.{◌≡◌, ℕ, suc, ◌+◌, ◌-◌, ◌/◌, ◌<◌, ◌≤◌, List, [], ◌∷◌, ◌++◌, length, take, drop, get_or, slice_set, nat_lt, true, false, Option, Some, None, refl, sym, ap, ◌∙◌, subst, arith, add-one, append_assoc, length-take, length-drop}
+use Rattle.std.proofs.Common.{◌≡◌, ℕ, suc, ◌+◌, ◌-◌, ◌/◌, ◌<◌, ◌≤◌, List, [], ◌∷◌, ◌++◌, length, take}
+use Rattle.std.proofs.Common.{drop, get_or, slice_set, nat_lt, true, false, Option, Some, None, refl, sym}
+use Rattle.std.proofs.Common.{ap, ◌∙◌, subst, arith, add-one, append_assoc, length-take, length-drop}
 use Rattle.std.proofs.lemmas.Bool.Decides.{nat_tests}
 use Rattle.std.proofs.lemmas.List.{length-set, length-append, set-get_or, set_split, set_at, get_or_at, get_or-set_same, drop_at, take_at, length-take-le}
 use Rattle.std.proofs.lemmas.List.Edits.{get_or-insert_at, get_or-insert_below}
@@ -53,7 +55,10 @@ module _ {X : Type 0} where
       rw (t, add-one) (set_split ns s.node (insert (node_at ns s.node) s.offset v) h)
 
   put_right : (ns : List (List X)) (s : Spot) (half : ℕ) (v : X) → s.node < length ns → half ≡ length (node_at ns s.node) / 2 → half < s.offset
-      → with_item_in (splice ns s.node (s.node + 1) (take half (node_at ns s.node) ∷ drop half (node_at ns s.node) ∷ [])) record { node = s.node + 1; offset = s.offset - half; found = s.found } v ≡ with_inserted (length (node_at ns s.node)) ns s v
+      → with_item_in
+      (splice ns s.node (s.node + 1) (take half (node_at ns s.node) ∷ drop half (node_at ns s.node) ∷ []))
+      record { node = s.node + 1; offset = s.offset - half; found = s.found } v
+      ≡ with_inserted (length (node_at ns s.node)) ns s v
   unfolding with_item_in with_inserted parts_with
   put_right ns s half v h is above =
       let n = node_at ns s.node in
@@ -83,7 +88,9 @@ module _ {X : Type 0} where
       rw (t, t') refl
 
 module _ {X Z : Type 0} where
-  pub put_writes : (vs : List (Vec X Z)) (s : Spot) (u w : Vec X Z) (v : X) → s.node < length (vec_items vs) → u ≡ get_or vs s.node u → w.items ≡ insert u.items s.offset v → vec_items (slice_set vs s.node w) ≡ with_item_in (vec_items vs) s v
+  pub put_writes : (vs : List (Vec X Z)) (s : Spot) (u w : Vec X Z) (v : X) → s.node < length (vec_items vs)
+      → u ≡ get_or vs s.node u → w.items ≡ insert u.items s.offset v
+      → vec_items (slice_set vs s.node w) ≡ with_item_in (vec_items vs) s v
   unfolding with_item_in
   put_writes vs s u w v h at is =
       let inside : s.node < length vs = omega (arith, length-vec_items vs) in
@@ -103,7 +110,10 @@ module _ {X Z : Type 0} where
   node_len vs k u h at = ap (λ (n : List X). length n) (node_is vs k u h at) ∙ sym u.ok.0
 
   -- a spot in a node that has room
-  pub room_puts : (vs : List (Vec X Z)) (s : Spot) (u w : Vec X Z) (size : ℕ) (v : X) → s.node < length (vec_items vs) → u ≡ get_or vs s.node u → w.items ≡ u.items → length (node_at (vec_items vs) s.node) < size → with_item_in (vec_items (slice_set vs s.node w)) s v ≡ with_inserted size (vec_items vs) s v
+  pub room_puts : (vs : List (Vec X Z)) (s : Spot) (u w : Vec X Z) (size : ℕ) (v : X)
+      → s.node < length (vec_items vs) → u ≡ get_or vs s.node u → w.items ≡ u.items
+      → length (node_at (vec_items vs) s.node) < size
+      → with_item_in (vec_items (slice_set vs s.node w)) s v ≡ with_inserted size (vec_items vs) s v
   room_puts vs s u w size v h at is short =
       ap (λ ns. with_item_in ns s v) (lists_kept vs s.node u w h at is) ∙ put_short size (vec_items vs) s v h short
 
@@ -140,7 +150,10 @@ module _ {X Z : Type 0} where
     unfolding with_halved
     halved_lists = cut_lists ∙ ap (λ i. splice ns s.node (s.node + 1) (take i (node_at ns s.node) ∷ drop i (node_at ns s.node) ∷ [])) half_of
 
-    pub right_puts : (half : ℕ) → half ≡ vec_len w → (v : X) → half < s.offset → with_item_in (vec_items (insert (slice_set vs s.node w) (s.node + 1) r)) record { node = s.node + 1; offset = s.offset - half; found = s.found } v ≡ with_inserted (length (node_at ns s.node)) ns s v
+    pub right_puts : (half : ℕ) → half ≡ vec_len w → (v : X) → half < s.offset
+        → with_item_in (vec_items (insert (slice_set vs s.node w) (s.node + 1) r))
+        record { node = s.node + 1; offset = s.offset - half; found = s.found } v
+        ≡ with_inserted (length (node_at ns s.node)) ns s v
     right_puts half is v above =
         rw is
         (ap (λ ms. with_item_in ms record { node = s.node + 1; offset = s.offset - vec_len w; found = s.found } v) cut_lists
@@ -155,7 +168,9 @@ module _ {X Z : Type 0} where
     pub right_room : 2 ≤ length (node_at ns s.node) → length u.items ≤ vec_capacity r → HoldsAt (λ v. vec_len v < vec_capacity v) (insert (slice_set vs s.node w) (s.node + 1) r) (s.node + 1)
     right_room two room d =
         let long = length-set vs s.node w in
-        let e : get_or (insert (slice_set vs s.node w) (s.node + 1) r) (s.node + 1) d ≡ r = get_or-insert_at (slice_set vs s.node w) (s.node + 1) r d (omega (arith, halved.node_in, length-vec_items vs)) in
+        let e : get_or (insert (slice_set vs s.node w) (s.node + 1) r) (s.node + 1) d ≡ r =
+        get_or-insert_at (slice_set vs s.node w) (s.node + 1) r d
+        (omega (arith, halved.node_in, length-vec_items vs)) in
         let n : vec_len r ≡ length (drop (length u.items / 2) u.items) = r.ok.0 ∙ ap (λ (l : List X). length l) halved.right in
         subst (λ (v : Vec X Z). vec_len v < vec_capacity v) (sym e) (omega (arith, n, room, two_in two, u.ok, length-drop (length u.items / 2) u.items))
 

@@ -40,4 +40,7 @@ module _ {X : Type 0} where
     pub end_offset : length (node_at ns (length ns - 1)) ≡ less_count answer (node_at ns (length ns - 1))
     end_offset =
         let n = node_at ns (length ns - 1) in
-        sym (count_parted (λ x. is_lt (answer x)) n (length n) (omega arith) (λ k d low high. ap is_lt (all_in_node (λ x. answer x ≡ Less) ns (length ns - 1) (omega (arith, some)) all k d high)) (λ k d low high. absurd (omega (arith, low, high))))
+        sym
+        (count_parted (λ x. is_lt (answer x)) n (length n) (omega arith) (λ k d low high.
+        ap is_lt (all_in_node (λ x. answer x ≡ Less) ns (length ns - 1) (omega (arith, some)) all k d high))
+        (λ k d low high. absurd (omega (arith, low, high))))

@@ -1,5 +1,7 @@
 -- A closure that is called for one item after another, up to the first that it selects.
-use Rattle.std.proofs.Common.{◌≡◌, ℕ, suc, ◌+◌, ◌-◌, ◌<◌, ◌≤◌, Bool, true, false, cond, List, [], ◌∷◌, ◌++◌, length, take, drop, get_or, slice_set, slice_get, remove, sum, Option, Some, None, IfSome, is_some, true≢false, refl, sym, ap, ◌∙◌, subst, arith, append_assoc, append-nil}
+use Rattle.std.proofs.Common.{◌≡◌, ℕ, suc, ◌+◌, ◌-◌, ◌<◌, ◌≤◌, Bool, true, false, cond, List, [], ◌∷◌, ◌++◌, length}
+use Rattle.std.proofs.Common.{take, drop, get_or, slice_set, slice_get, remove, sum, Option, Some, None, IfSome}
+use Rattle.std.proofs.Common.{is_some, true≢false, refl, sym, ap, ◌∙◌, subst, arith, append_assoc, append-nil}
 use Rattle.std.proofs.lemmas.List.{drop-drop, drop-set-lt, drop_at, drop_more, length-take-le, length-set, take-set, take_at, take_more_set}
 use Rattle.std.proofs.lemmas.Option.{get_or_from_slice_get, slice_get_within}
 use Rattle.std.proofs.lemmas.List.Edits.{length-remove, split_between}
@@ -82,7 +84,8 @@ module _ {X : Type 0} where
     }
 
     -- the closure returned true
-    pub picked : (t : S) (l : List X) (p j : ℕ) (x y : X) (u : S) → p < j → slice_get l p ≡ Some x → R t x true u y → Extracts R t (extract_state l p j) (Some y) u (extract_state (remove (slice_set l p y) p) p (j - 1))
+    pub picked : (t : S) (l : List X) (p j : ℕ) (x y : X) (u : S) → p < j → slice_get l p ≡ Some x → R t x true u y
+        → Extracts R t (extract_state l p j) (Some y) u (extract_state (remove (slice_set l p y) p) p (j - 1))
     picked t l p j x y u below is called =
         rw (goes_here l p j x below is y) (record {
           kept = [];
@@ -139,7 +142,13 @@ module _ {X : Type 0} where
       pub stretch_without : IsExtractRange (node_lengths (without_item asked s)) (length (concat (without_item asked s))) record { front = p; back = j - 1; node = s.node; start = p - s.offset }
       stretch_without = record {
         order = omega arith;
-        inside = omega (arith, asked_inside, asked_at, ap (λ (l : List X). length l) (joined_without asked s asked_spot), length-remove (concat asked) (position_of asked s) (omega (arith, asked_inside, asked_at)));
+        inside = omega (
+          arith,
+          asked_inside,
+          asked_at,
+          ap (λ (l : List X). length l) (joined_without asked s asked_spot),
+          length-remove (concat asked) (position_of asked s) (omega (arith, asked_inside, asked_at)),
+        );
         start = start_is ∙ ap sum (sym (starts_without asked s asked_spot ∙ ap (take s.node) same));
       }
 
@@ -150,7 +159,8 @@ match_both : {A B C D : Type 0} → (A → C) → (B → D) → (b : Bool) → M
 match_both f g = elim [ true ↦ f | false ↦ g ]
 
 -- a closure that was called through another
-module _ {S F X : Type 0} (now : S → F) (R : S → X → Bool → S → X → Type 0) (Q : F → X → Bool → F → X → Type 0) (says : (s : S) (x : X) (b : Bool) (t : S) (y : X) → R s x b t y → Q (now s) x b (now t) y) where
+module _ {S F X : Type 0} (now : S → F) (R : S → X → Bool → S → X → Type 0) (Q : F → X → Bool → F → X → Type 0)
+    (says : (s : S) (x : X) (b : Bool) (t : S) (y : X) → R s x b t y → Q (now s) x b (now t) y) where
   next_through : (s : S) (xs : List X) (r : Option X) (t : S) (kept rest : List X) → ExtractsNext R s xs r t kept rest → ExtractsNext Q (now s) xs r (now t) kept rest
   next_through s [] r t kept rest h = (h.0, ap now h.1, h.2, h.3)
   next_through s (x ∷ xs) r t kept rest (b, u, y, called, out) =
@@ -164,7 +174,11 @@ module _ {S X : Type 0} (R : S → X → Bool → S → X → Type 0) where
   next_fewer : (s : S) (xs : List X) (y : X) (t : S) (kept rest : List X) → ExtractsNext R s xs (Some y) t kept rest → length rest < length xs
   next_fewer s [] y t kept rest h = absurd (true≢false (ap is_some h.0))
   next_fewer s (x ∷ xs) y t kept rest (b, u, z, called, out) =
-      elim b as (λ b. MatchBool b ((Some y ≡ Some z) × (t ≡ u) × (kept ≡ []) × (rest ≡ xs)) ((ks : List X) × ExtractsNext R u xs (Some y) t ks rest × (kept ≡ z ∷ ks)) → length rest < length (x ∷ xs)) [
+      elim b
+      as (λ b.
+      MatchBool b ((Some y ≡ Some z) × (t ≡ u) × (kept ≡ []) × (rest ≡ xs))
+      ((ks : List X) × ExtractsNext R u xs (Some y) t ks rest × (kept ≡ z ∷ ks))
+      → length rest < length (x ∷ xs)) [
         | true ↦ λ h. omega (arith, ap (λ (l : List X). length l) h.3)
         | false ↦ λ h. let fewer = next_fewer u xs y t h.0 rest h.1 in omega arith
       ] out
@@ -211,7 +225,11 @@ module _ {S X : Type 0} (R : S → X → Bool → S → X → Type 0) (Same : X 
   next_stays s [] r t kept rest h = ap (λ l. l ++ rest) h.2 ∙ h.3
   next_stays s (x ∷ xs) r t kept rest (b, u, y, called, out) =
       let same = keeps s x b u y called in
-      elim b as (λ b. MatchBool b ((r ≡ Some y) × (t ≡ u) × (kept ≡ []) × (rest ≡ xs)) ((ks : List X) × ExtractsNext R u xs r t ks rest × (kept ≡ y ∷ ks)) → RetainsInTurn Stays tt (x ∷ xs) (kept ++ rest)) [
+      elim b
+      as (λ b.
+      MatchBool b ((r ≡ Some y) × (t ≡ u) × (kept ≡ []) × (rest ≡ xs))
+      ((ks : List X) × ExtractsNext R u xs r t ks rest × (kept ≡ y ∷ ks))
+      → RetainsInTurn Stays tt (x ∷ xs) (kept ++ rest)) [
         | true ↦ λ h. (false, tt, y, same, xs, all_stay xs, ap (λ l. l ++ rest) h.2 ∙ h.3)
         | false ↦ λ h. (true, tt, y, same, h.0 ++ rest, next_stays u xs r t h.0 rest h.1, ap (λ l. l ++ rest) h.2)
       ] out
@@ -222,7 +240,9 @@ module _ {S X : Type 0} (R : S → X → Bool → S → X → Type 0) (Same : X 
       let a = extract_state l i j in
       let b = extract_state m i' j' in
       let parts : RetainsInTurn Stays tt (a.stay ++ (a.unasked ++ a.after)) (a.stay ++ ((h.kept ++ b.unasked) ++ a.after)) =
-      both_stay a.stay a.stay (a.unasked ++ a.after) ((h.kept ++ b.unasked) ++ a.after) (all_stay a.stay) (both_stay a.unasked (h.kept ++ b.unasked) a.after a.after (next_stays s a.unasked r t h.kept b.unasked h.step) (all_stay a.after)) in
+      both_stay a.stay a.stay (a.unasked ++ a.after) ((h.kept ++ b.unasked) ++ a.after) (all_stay a.stay)
+      (both_stay a.unasked (h.kept ++ b.unasked) a.after a.after
+      (next_stays s a.unasked r t h.kept b.unasked h.step) (all_stay a.after)) in
       let whole : a.stay ++ ((h.kept ++ b.unasked) ++ a.after) ≡ m =
       ap (λ l. a.stay ++ l) (append_assoc h.kept b.unasked a.after)
       ∙ (sym (append_assoc a.stay h.kept (b.unasked ++ a.after))

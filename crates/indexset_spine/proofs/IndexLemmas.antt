@@ -1,5 +1,7 @@
 -- The index of a spine: the lengths of its nodes as sums, and what an edit does to them.
-use Rattle.std.proofs.Common.{◌≡◌, ℕ, suc, ◌+◌, ◌-◌, ◌/◌, ◌<◌, ◌≤◌, ◌==◌, ◌&&◌, Bool, true, false, not, filter, List, [], ◌∷◌, ◌++◌, length, sum, take, drop, get_or, slice_set, nat_lt, if◌then◌else◌, refl, sym, ap, ◌∙◌, arith, length-append, length-drop}
+use Rattle.std.proofs.Common.{◌≡◌, ℕ, suc, ◌+◌, ◌-◌, ◌/◌, ◌<◌, ◌≤◌, ◌==◌, ◌&&◌, Bool, true, false, not}
+use Rattle.std.proofs.Common.{filter, List, [], ◌∷◌, ◌++◌, length, sum, take, drop, get_or, slice_set}
+use Rattle.std.proofs.Common.{nat_lt, if◌then◌else◌, refl, sym, ap, ◌∙◌, arith, length-append, length-drop}
 use Rattle.std.proofs.lemmas.List.{take-map, take-append-le, take-take, length-take-le, map-set}
 use Rattle.std.proofs.lemmas.List.Edits.{length-insert, length-remove}
 use Rattle.std.specs.List.{splice, insert, remove}
@@ -14,7 +16,10 @@ use Rattle.indexset_spine.proofs.NodeListSplits.{joined_emptied}
 
 module _ {X : Type 0} where
   -- what the index finds is the spot of an item
-  pub spot_found : (ns : List (List X)) (i : ℕ) (s : Spot) → (s.node < length (node_lengths ns)) × (s.offset < get_or (node_lengths ns) s.node 0) × (prefix_sum (node_lengths ns) s.node + s.offset ≡ i) → IsItemSpot ns s × (position_of ns s ≡ i)
+  pub spot_found : (ns : List (List X)) (i : ℕ) (s : Spot)
+      → (s.node < length (node_lengths ns)) × (s.offset < get_or (node_lengths ns) s.node 0)
+      × (prefix_sum (node_lengths ns) s.node + s.offset ≡ i)
+      → IsItemSpot ns s × (position_of ns s ≡ i)
   spot_found ns i s h =
       let node_in : s.node < length ns = omega (arith, count-lengths ns, h.0) in
       (record { node_in = node_in; offset_in = omega (arith, length-at ns s.node node_in, h.1) }, omega (arith, prefix-concat ns s.node, h.2))
@@ -27,7 +32,9 @@ module _ {X : Type 0} where
       ∙ ap (slice_set (node_lengths ns) s.node) (omega (arith, length-insert (node_at ns s.node) s.offset v h.offset_in, length-at ns s.node h.node_in))
 
   -- a node with one item less
-  pub lengths-less : (ns : List (List X)) (s : Spot) → IsItemSpot ns s → node_lengths (slice_set ns s.node (remove (node_at ns s.node) s.offset)) ≡ slice_set (node_lengths ns) s.node (get_or (node_lengths ns) s.node 0 - 1)
+  pub lengths-less : (ns : List (List X)) (s : Spot) → IsItemSpot ns s
+      → node_lengths (slice_set ns s.node (remove (node_at ns s.node) s.offset))
+      ≡ slice_set (node_lengths ns) s.node (get_or (node_lengths ns) s.node 0 - 1)
   lengths-less ns s h =
       map-set (λ (n : List X). length n) ns s.node (remove (node_at ns s.node) s.offset)
       ∙ ap (slice_set (node_lengths ns) s.node) (omega (arith, length-remove (node_at ns s.node) s.offset h.offset_in, length-at ns s.node h.node_in))
@@ -70,7 +77,18 @@ module _ {X : Type 0} where
       omega (arith, length-append (take half n) (drop half n ++ []), length-append (drop half n) [], length-take-le half n (omega arith), length-drop half n) in
       let whole = ap (λ (l : List X). length l) (joined_around ns k h) in
       let cut = ap (λ (l : List X). length l) (concat-splice ns ps k (k + 1)) in
-      omega (arith, parts, whole, cut, length-append fs (n ++ bs), length-append n bs, length-append fs (concat ps ++ bs), length-append (concat ps) bs, length-concat ns, length-concat (splice ns k (k + 1) ps))
+      omega (
+        arith,
+        parts,
+        whole,
+        cut,
+        length-append fs (n ++ bs),
+        length-append n bs,
+        length-append fs (concat ps ++ bs),
+        length-append (concat ps) bs,
+        length-concat ns,
+        length-concat (splice ns k (k + 1) ps),
+      )
 
   pub emptied_keeps : (ns : List (List X)) (k : ℕ) → k < length ns → KeepsFirst k (length ns) ns (without_emptied ns k)
   unfolding without_emptied
@@ -110,7 +128,10 @@ module _ {X : Type 0} where
   -- the nodes that are not empty are not more
   filter_few : (test : List X → Bool) (ns : List (List X)) → length (filter test ns) ≤ length ns
   filter_few test [] = omega arith
-  filter_few test (n ∷ ns) = elim (test n) as (λ b. length (if b then n ∷ filter test ns else filter test ns) ≤ suc (length ns)) [ true ↦ omega (arith, filter_few test ns) | false ↦ omega (arith, filter_few test ns) ]
+  filter_few test (n ∷ ns) =
+      elim (test n)
+      as (λ b. length (if b then n ∷ filter test ns else filter test ns)
+      ≤ suc (length ns)) [ true ↦ omega (arith, filter_few test ns) | false ↦ omega (arith, filter_few test ns) ]
 
   one_few : (ns : List (List X)) (k : ℕ) → length ns ≤ k → 1 ≤ k → length (or_one_empty ns) ≤ k
   one_few [] k h one = omega arith

@@ -49,16 +49,25 @@ module _ {X : Type 0} where
       omega (arith, length-append (take k ns) (ps ++ drop (k + 1) ns), length-take-le k ns (omega arith), length-drop (k + 1) ns)
 
   -- a spot above half of a halved node is in the next one
-  pub halved_position : (ns : List (List X)) (k o half : ℕ) → k < length ns → half ≡ length (node_at ns k) / 2 → half ≤ o → length (concat (take (k + 1) (with_halved ns k))) + (o - half) ≡ length (concat (take k ns)) + o
+  pub halved_position : (ns : List (List X)) (k o half : ℕ) → k < length ns → half ≡ length (node_at ns k) / 2
+      → half ≤ o → length (concat (take (k + 1) (with_halved ns k))) + (o - half) ≡ length (concat (take k ns)) + o
   halved_position ns k o half h is above =
-      omega (arith, length-concat-more (with_halved ns k) k (omega (arith, halved_more ns k h)), ap (λ (ms : List (List X)). length (concat ms)) (halved_before ns k h), ap (λ (l : List X). length l) (halved_left ns k h), length-take-le (length (node_at ns k) / 2) (node_at ns k) (omega arith))
+      omega (
+        arith,
+        length-concat-more (with_halved ns k) k (omega (arith, halved_more ns k h)),
+        ap (λ (ms : List (List X)). length (concat ms)) (halved_before ns k h),
+        ap (λ (l : List X). length l) (halved_left ns k h),
+        length-take-le (length (node_at ns k) / 2) (node_at ns k) (omega arith),
+      )
 
   halved_right : (ns : List (List X)) (k : ℕ) → k < length ns → node_at (with_halved ns k) (k + 1) ≡ drop (length (node_at ns k) / 2) (node_at ns k)
   unfolding with_halved
   halved_right ns k h = let half : ℕ = length (node_at ns k) / 2 in get_right ns k (take half (node_at ns k)) (drop half (node_at ns k)) h []
 
   -- the spot after the node is halved
-  pub spot_right : (ns : List (List X)) (s : Spot) (half : ℕ) → IsSpot ns s → half ≡ length (node_at ns s.node) / 2 → half < s.offset → IsSpot (with_halved ns s.node) record { node = s.node + 1; offset = s.offset - half; found = s.found }
+  pub spot_right : (ns : List (List X)) (s : Spot) (half : ℕ) → IsSpot ns s → half ≡ length (node_at ns s.node) / 2
+      → half < s.offset
+      → IsSpot (with_halved ns s.node) record { node = s.node + 1; offset = s.offset - half; found = s.found }
   spot_right ns s half is e above = record {
     node_in = omega (arith, halved_more ns s.node is.node_in, is.node_in);
     offset_in = omega (arith, ap (λ (l : List X). length l) (halved_right ns s.node is.node_in), length-drop (length (node_at ns s.node) / 2) (node_at ns s.node), is.offset_in, e);

@@ -56,7 +56,9 @@ module _ {X : Type 0} where
     none_left mid front back f m b = ap (λ l. l ++ (concat (vec_items mid) ++ back)) (nil_from_length front f) ∙ (ap (λ l. l ++ back) (no_nodes mid m) ∙ nil_from_length back b)
 
     -- the next node becomes the front one
-    pub front_turn : (mid rest : List (Vec X Z)) (v : Vec X Z) (front now back all : List X) → now ≡ v.items → mid ≡ v ∷ rest → length front ≡ 0 → front ++ (concat (vec_items mid) ++ back) ≡ all → now ++ (concat (vec_items rest) ++ back) ≡ all
+    pub front_turn : (mid rest : List (Vec X Z)) (v : Vec X Z) (front now back all : List X) → now ≡ v.items
+        → mid ≡ v ∷ rest → length front ≡ 0 → front ++ (concat (vec_items mid) ++ back) ≡ all
+        → now ++ (concat (vec_items rest) ++ back) ≡ all
     front_turn mid rest v front now back all n m f e =
         ap (λ l. l ++ (concat (vec_items rest) ++ back)) n
         ∙ (sym (append_assoc v.items (concat (vec_items rest)) back)

@@ -1,5 +1,7 @@
 -- A node with other items, and one without its first items.
-use Rattle.std.proofs.Common.{◌≡◌, ℕ, ◌+◌, ◌-◌, ◌<◌, ◌≤◌, List, [], ◌∷◌, ◌++◌, length, take, drop, get_or, slice_set, vec_len, false, Ordering, refl, sym, ap, ◌∙◌, subst, arith, length-append, length-drop, length-take}
+use Rattle.std.proofs.Common.{◌≡◌, ℕ, ◌+◌, ◌-◌, ◌<◌, ◌≤◌, List, [], ◌∷◌, ◌++◌, length, take}
+use Rattle.std.proofs.Common.{drop, get_or, slice_set, vec_len, false, Ordering, refl, sym}
+use Rattle.std.proofs.Common.{ap, ◌∙◌, subst, arith, length-append, length-drop, length-take}
 use Rattle.std.specs.Cmp.{IsTotalOrder}
 use Rattle.std.specs.List.{All, HoldsAt, fold}
 use Rattle.std.specs.declared.cmp.Ordering.TheVariants.{Less}
@@ -43,7 +45,8 @@ module _ {X : Type 0} where
       filled = λ more. All-set (λ i. 1 ≤ i) (node_lengths ns) k (length m) some (is.filled (omega (arith, more, length-set (node_lengths ns) k (length m))));
     })
 
-    pub spine_set : (size total sum : ℕ) → 1 ≤ length m → length m ≤ size → IsSpine (node_lengths ns) size total → sum + length (node_at ns k) ≡ total + length m → IsSpine (node_lengths (slice_set ns k m)) size sum
+    pub spine_set : (size total sum : ℕ) → 1 ≤ length m → length m ≤ size → IsSpine (node_lengths ns) size total
+        → sum + length (node_at ns k) ≡ total + length m → IsSpine (node_lengths (slice_set ns k m)) size sum
     spine_set size total sum some low is e =
         let fs = concat (take k ns) in let bs = concat (drop (k + 1) ns) in let n = node_at ns k in
         let before = ap (λ (l : List X). length l) (joined_around ns k inside) in
@@ -147,7 +150,8 @@ module _ {X Z : Type 0} (cmp : X → X → Ordering) (o : IsTotalOrder cmp) (vs 
     pub other_items : (rest : List (List X)) → rest ≡ without_emptied (vec_items (slice_set ws 0 z)) 0 → concat rest ≡ drop count (concat os)
     other_items rest e = ap concat (other_after rest e) ∙ (joined_right os (behind count) (front_spot os count is.some_node is.within) ∙ ap (λ i. drop i (concat os)) position_is)
 
-    pub other_spine : (rest : List (List X)) → rest ≡ without_emptied (vec_items (slice_set ws 0 z)) 0 → (size total : ℕ) → IsSpine (node_lengths os) size total → IsSpine (node_lengths rest) size (total - count)
+    pub other_spine : (rest : List (List X)) → rest ≡ without_emptied (vec_items (slice_set ws 0 z)) 0
+        → (size total : ℕ) → IsSpine (node_lengths os) size total → IsSpine (node_lengths rest) size (total - count)
     other_spine rest e size total spine =
         subst (λ i. IsSpine (node_lengths rest) size (total - i)) position_is (rw (other_after rest e) (spine_right os (behind count) (front_spot os count is.some_node is.within) size total spine))
 
@@ -159,5 +163,7 @@ pub below_read : {X Z : Type 0} (cmp : X → X → Ordering) (s t : NodeList X) 
 below_read {X} cmp s t ns ws n m k count node from view view' node_is some from_is within below =
     let this : node_at s.nodes k ≡ node = sym (ap (λ (u : NodeList X). node_at u.nodes k) view) ∙ node_is in
     let those : take count (items t) ≡ take count from =
-    sym (ap (λ (u : NodeList X). take count (items u)) view') ∙ (sym (front_taken (vec_items ws) count some (omega (arith, within, ap (λ (l : List X). length l) from_is))) ∙ ap (take count) from_is) in
+    sym (ap (λ (u : NodeList X). take count (items u)) view')
+    ∙ (sym (front_taken (vec_items ws) count some (omega (arith, within, ap (λ (l : List X). length l) from_is)))
+    ∙ ap (take count) from_is) in
     rw (this, those) below

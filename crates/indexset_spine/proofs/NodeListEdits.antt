@@ -1,5 +1,7 @@
 -- The joined list after an edit at a spot, and that the nodes remain a cut.
-use Rattle.std.proofs.Common.{◌≡◌, ℕ, Bool, suc, ◌+◌, ◌-◌, ◌/◌, ◌<◌, ◌≤◌, ◌==◌, true, false, List, [], ◌∷◌, ◌++◌, length, take, drop, slice_set, slice_get, if◌then◌else◌, nat_lt, ◌&&◌, refl, sym, ap, ◌∙◌, subst, arith, length-append, add-one, length-take, length-drop}
+use Rattle.std.proofs.Common.{◌≡◌, ℕ, Bool, suc, ◌+◌, ◌-◌, ◌/◌, ◌<◌, ◌≤◌, ◌==◌, true, false, List, [], ◌∷◌}
+use Rattle.std.proofs.Common.{◌++◌, length, take, drop, slice_set, slice_get, if◌then◌else◌, nat_lt, ◌&&◌, refl}
+use Rattle.std.proofs.Common.{sym, ap, ◌∙◌, subst, arith, length-append, add-one, length-take, length-drop}
 use Rattle.std.proofs.lemmas.Bool.Decides.{nat_tests}
 use Rattle.std.proofs.lemmas.List.{append-nil, length-map, get_or-map, length-set, set-append_left, set-append_right, take-append-drop, length-take-le, set_split, nil_from_length}
 use Rattle.std.proofs.lemmas.List.Edits.{length-insert, length-remove, insert-append_left, insert-append_right, remove-append_left, remove-append_right}
@@ -45,7 +47,9 @@ module _ (ls ps : List ℕ) (k size : ℕ) (h : k < length ls) (is : AreNodeLeng
   cut_splice some low filled = record {
     two = is.two;
     some = some;
-    bounded = All-append (λ n. n ≤ size) (take k ls) (ps ++ drop (k + 1) ls) (All-take (λ n. n ≤ size) k ls is.bounded) (All-append (λ n. n ≤ size) ps (drop (k + 1) ls) low (All-drop (λ n. n ≤ size) (k + 1) ls is.bounded));
+    bounded =
+        All-append (λ n. n ≤ size) (take k ls) (ps ++ drop (k + 1) ls) (All-take (λ n. n ≤ size) k ls is.bounded)
+        (All-append (λ n. n ≤ size) ps (drop (k + 1) ls) low (All-drop (λ n. n ≤ size) (k + 1) ls is.bounded));
     filled = λ more. All-append (λ n. 1 ≤ n) (take k ls) (ps ++ drop (k + 1) ls) at_least_before (All-append (λ n. 1 ≤ n) ps (drop (k + 1) ls) (filled more) at_least_after);
   }
 
@@ -81,7 +85,10 @@ module _ {X : Type 0} where
       let half = length n / 2 in
       let cut : (b : Bool) → nat_lt half o ≡ b → size ≤ length n → P (if b then take half n ∷ insert (drop half n) (o - half) v ∷ [] else insert (take half n) o v ∷ drop half n ∷ []) =
       elim [ true ↦ λ e full. right full (grind (arith, nat_tests)) | false ↦ λ e full. left full (grind (arith, nat_tests)) ] in
-      let all : (b : Bool) → nat_lt (length n) size ≡ b → P (if b then insert n o v ∷ [] else if nat_lt half o then take half n ∷ insert (drop half n) (o - half) v ∷ [] else insert (take half n) o v ∷ drop half n ∷ []) =
+      let all : (b : Bool) → nat_lt (length n) size ≡ b
+      → P
+      (if b then insert n o v ∷ [] else if nat_lt half o then take half n ∷ insert (drop half n) (o - half) v ∷ []
+      else insert (take half n) o v ∷ drop half n ∷ []) =
       elim [ true ↦ λ e. room (grind (arith, nat_tests)) | false ↦ λ e. cut (nat_lt half o) refl (grind (arith, nat_tests)) ] in
       all (nat_lt (length n) size) refl
 
@@ -129,7 +136,13 @@ module _ {X : Type 0} where
       let lengths = parts_lengths size n s.offset v is.two bounded h.offset_in in
       let inside : s.node < length (node_lengths ns) = omega (arith, h.node_in, length-node_lengths ns) in
       let some : 1 ≤ length (splice (node_lengths ns) s.node (s.node + 1) (node_lengths ps)) =
-      omega (arith, parts_some size n s.offset v, length-node_lengths ps, length-append (take s.node (node_lengths ns)) (node_lengths ps ++ drop (s.node + 1) (node_lengths ns)), length-append (node_lengths ps) (drop (s.node + 1) (node_lengths ns))) in
+      omega (
+        arith,
+        parts_some size n s.offset v,
+        length-node_lengths ps,
+        length-append (take s.node (node_lengths ns)) (node_lengths ps ++ drop (s.node + 1) (node_lengths ns)),
+        length-append (node_lengths ps) (drop (s.node + 1) (node_lengths ns)),
+      ) in
       rw (node_lengths-splice ns ps s.node (s.node + 1)) (cut_splice (node_lengths ns) (node_lengths ps) s.node size inside is some (λ i d lt. (lengths i d lt).1) (λ _ i d lt. (lengths i d lt).0))
 
   pub spine_of : (ns : List (List X)) (size total : ℕ) → AreNodeLengths (node_lengths ns) size → total ≡ length (concat ns) → IsSpine (node_lengths ns) size total
@@ -148,7 +161,8 @@ module _ {X : Type 0} where
       let e : length (concat ns) ≡ length (fs ++ (n ++ bs)) = ap (λ (l : List X). length l) (joined_around ns s.node h.node_in) in
       omega (arith, e, h.offset_in, length-append fs (n ++ bs), length-append n bs)
 
-  pub spine_inserted : (size total : ℕ) (ns : List (List X)) (s : Spot) (v : X) → IsSpot ns s → IsSpine (node_lengths ns) size total → IsSpine (node_lengths (with_inserted size ns s v)) size (total + 1)
+  pub spine_inserted : (size total : ℕ) (ns : List (List X)) (s : Spot) (v : X) → IsSpot ns s
+      → IsSpine (node_lengths ns) size total → IsSpine (node_lengths (with_inserted size ns s v)) size (total + 1)
   spine_inserted size total ns s v h is =
       let more : length (concat (with_inserted size ns s v)) ≡ length (insert (concat ns) (position_of ns s) v) = ap (λ (l : List X). length l) (joined_inserted size ns s v h) in
       spine_of (with_inserted size ns s v) size (total + 1) (cut_inserted size ns s v h is.is_cut)
@@ -181,7 +195,10 @@ module _ {X : Type 0} where
       let fs = concat (take s.node ns) in let bs = concat (drop (s.node + 1) ns) in let n = node_at ns s.node in
       let goes : fs ++ (remove n s.offset ++ bs) ≡ remove (concat ns) (position_of ns s) =
       sym (remove_mid fs n bs s.offset h.offset_in) ∙ ap (λ l. remove l (position_of ns s)) (sym (joined_around ns s.node h.node_in)) in
-      elim ((length n == 1) && nat_lt 1 (length ns)) as (λ b. (length n == 1) && nat_lt 1 (length ns) ≡ b → concat (if b then remove ns s.node else slice_set ns s.node (remove n s.offset)) ≡ remove (concat ns) (position_of ns s)) [
+      elim ((length n == 1) && nat_lt 1 (length ns))
+      as (λ b. (length n == 1) && nat_lt 1 (length ns) ≡ b
+      → concat (if b then remove ns s.node else slice_set ns s.node (remove n s.offset))
+      ≡ remove (concat ns) (position_of ns s)) [
         | true ↦ λ e.
             let one : length n ≡ 1 = grind (arith, nat_tests) in
             let none : remove n s.offset ≡ [] = nil_from_length (remove n s.offset) (omega (arith, h.offset_in, length-remove n s.offset h.offset_in)) in
@@ -198,17 +215,32 @@ module _ {X : Type 0} where
       let bounded : length n ≤ size = node_bounded ns s.node size h.node_in is in
       let less : length m + 1 ≡ length n = length-remove n s.offset h.offset_in in
       let long : (ps : List ℕ) → length (splice (node_lengths ns) s.node (s.node + 1) ps) ≡ s.node + (length ps + (length (node_lengths ns) - (s.node + 1))) =
-      λ ps. omega (arith, inside, length-append (take s.node (node_lengths ns)) (ps ++ drop (s.node + 1) (node_lengths ns)), length-append ps (drop (s.node + 1) (node_lengths ns)), length-take s.node (node_lengths ns), length-drop (s.node + 1) (node_lengths ns)) in
-      elim ((length n == 1) && nat_lt 1 (length ns)) as (λ b. (length n == 1) && nat_lt 1 (length ns) ≡ b → AreNodeLengths (node_lengths (if b then remove ns s.node else slice_set ns s.node m)) size) [
+      λ ps. omega (
+        arith,
+        inside,
+        length-append (take s.node (node_lengths ns)) (ps ++ drop (s.node + 1) (node_lengths ns)),
+        length-append ps (drop (s.node + 1) (node_lengths ns)),
+        length-take s.node (node_lengths ns),
+        length-drop (s.node + 1) (node_lengths ns),
+      ) in
+      elim ((length n == 1) && nat_lt 1 (length ns))
+      as (λ b. (length n == 1) && nat_lt 1 (length ns) ≡ b
+      → AreNodeLengths (node_lengths (if b then remove ns s.node else slice_set ns s.node m)) size) [
         | true ↦ λ e.
             let more : 1 < length ns = grind (arith, nat_tests) in
             let same : node_lengths (remove ns s.node) ≡ splice (node_lengths ns) s.node (s.node + 1) [] = rw (← add-one) (node_lengths-splice ns [] s.node (s.node + 1)) in
             rw same (cut_splice (node_lengths ns) [] s.node size inside is (omega (arith, more, long [], length-node_lengths ns)) (All-nil (λ i. i ≤ size)) (λ _. All-nil (λ i. 1 ≤ i)))
         | false ↦ λ e.
-            let same : node_lengths (slice_set ns s.node m) ≡ splice (node_lengths ns) s.node (s.node + 1) (length m ∷ []) = ap node_lengths (rw add-one (set_split ns s.node m h.node_in)) ∙ node_lengths-splice ns (m ∷ []) s.node (s.node + 1) in
+            let same : node_lengths (slice_set ns s.node m)
+            ≡ splice (node_lengths ns) s.node (s.node + 1) (length m ∷ []) =
+            ap node_lengths (rw add-one (set_split ns s.node m h.node_in))
+            ∙ node_lengths-splice ns (m ∷ []) s.node (s.node + 1) in
             let left : 2 ≤ length (splice (node_lengths ns) s.node (s.node + 1) (length m ∷ [])) → 1 ≤ length m = λ more.
             let two : 1 < length ns = omega (arith, more, long (length m ∷ []), length-node_lengths ns, inside) in grind (arith, nat_tests) in
-            rw same (cut_splice (node_lengths ns) (length m ∷ []) s.node size inside is (omega (arith, long (length m ∷ []))) (all_one (λ i. i ≤ size) (length m) (omega arith)) (λ more. all_one (λ i. 1 ≤ i) (length m) (left more)))
+            rw same
+            (cut_splice (node_lengths ns) (length m ∷ []) s.node size inside is
+            (omega (arith, long (length m ∷ []))) (all_one (λ i. i ≤ size) (length m) (omega arith))
+            (λ more. all_one (λ i. 1 ≤ i) (length m) (left more)))
       ] refl
 
   pub spine_without : (size total : ℕ) (ns : List (List X)) (s : Spot) → IsItemSpot ns s → IsSpine (node_lengths ns) size total → IsSpine (node_lengths (without_item ns s)) size (total - 1)

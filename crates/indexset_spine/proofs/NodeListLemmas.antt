@@ -1,5 +1,7 @@
 -- Places in a list that is partitioned into nodes.
-use Rattle.std.proofs.Common.{◌≡◌, ℕ, zero, suc, ◌+◌, ◌-◌, ◌<◌, ◌≤◌, List, [], ◌∷◌, ◌++◌, length, sum, take, get_or, slice_set, slice_get, Some, nat_lt, max, Bool, true, false, if◌then◌else◌, refl, sym, ap, ◌∙◌, arith, length-append, subst}
+use Rattle.std.proofs.Common.{◌≡◌, ℕ, zero, suc, ◌+◌, ◌-◌, ◌<◌, ◌≤◌, List, [], ◌∷◌, ◌++◌, length}
+use Rattle.std.proofs.Common.{sum, take, get_or, slice_set, slice_get, Some, nat_lt, max, Bool, true}
+use Rattle.std.proofs.Common.{false, if◌then◌else◌, refl, sym, ap, ◌∙◌, arith, length-append, subst}
 use Rattle.std.proofs.lemmas.List.{length-set, set-append_left, set-append_right}
 use Rattle.std.proofs.lemmas.List.Sums.{sum_by-cons}
 use Rattle.std.proofs.lemmas.Bool.Decides.{nat_tests}
@@ -27,7 +29,9 @@ few_nodes (n ∷ m ∷ ls) size h = let all = sum-filled (n ∷ m ∷ ls) (h.fil
 
 module _ {X : Type 0} where
   -- a write at a spot
-  pub set_spot : (ns : List (List X)) (i k o : ℕ) (w : X) → i ≡ length (concat (take k ns)) + o → o < length (get_or ns k []) → k < length ns → set_joined ns i w ≡ slice_set ns k (slice_set (get_or ns k []) o w)
+  pub set_spot : (ns : List (List X)) (i k o : ℕ) (w : X) → i ≡ length (concat (take k ns)) + o
+      → o < length (get_or ns k []) → k < length ns
+      → set_joined ns i w ≡ slice_set ns k (slice_set (get_or ns k []) o w)
   unfolding set_joined
   set_spot [] i k o w at inside lt = absurd (omega arith)
   set_spot (n ∷ ns) i zero o w at inside lt =
@@ -56,7 +60,9 @@ module _ {X : Type 0} where
   -- the nodes as the code stores them
   module _ {Z : Type 0} where
     -- the same, at a spot of the spine s
-    pub spot_reads : (vs : List (Vec X Z)) (n : ℕ) (s : NodeList X) (p : Spot) (v : Vec X Z) (x : X) → node_list (vec_items vs) n ≡ s → IsItemSpot s.nodes p → v ≡ get_or vs p.node v → x ≡ get_or v.items p.offset x → slice_get (items s) (position_of s.nodes p) ≡ Some x
+    pub spot_reads : (vs : List (Vec X Z)) (n : ℕ) (s : NodeList X) (p : Spot) (v : Vec X Z) (x : X)
+        → node_list (vec_items vs) n ≡ s → IsItemSpot s.nodes p → v ≡ get_or vs p.node v → x ≡ get_or v.items p.offset x
+        → slice_get (items s) (position_of s.nodes p) ≡ Some x
     spot_reads vs n s p v x e h at is =
         let q = subst (λ (t : NodeList X). IsItemSpot t.nodes p) (sym e) h in
         let lt : p.node < length vs = omega (arith, q.node_in, length-vec_items vs) in
@@ -84,7 +90,8 @@ module _ {X : Type 0} where
           ap (λ ns. node_list ns n) (a ∙ b) ∙ ap (λ (t : NodeList X). with_item_at t i w) view
 
       -- it keeps what holds of the spine
-      pub spot_keeps : (total : ℕ) (index : List ℕ) → IsIndexed (node_lengths (vec_items vs)) n total index → IsIndexed (node_lengths (vec_items (slice_set vs p.node (with_item v p.offset w)))) n total index
+      pub spot_keeps : (total : ℕ) (index : List ℕ) → IsIndexed (node_lengths (vec_items vs)) n total index
+          → IsIndexed (node_lengths (vec_items (slice_set vs p.node (with_item v p.offset w)))) n total index
       spot_keeps total index is =
           let same : node_lengths (vec_items (slice_set vs p.node (with_item v p.offset w))) ≡ node_lengths (vec_items vs) =
           ap node_lengths (vec_items-set vs p.node (with_item v p.offset w))

@@ -1,5 +1,7 @@
 -- The nodes before a spot and those from it on, joined, and that each is a cut.
-use Rattle.std.proofs.Common.{◌≡◌, ℕ, zero, suc, ◌+◌, ◌-◌, ◌<◌, ◌≤◌, ◌==◌, ◌&&◌, Bool, true, false, not, cond, filter, List, [], ◌∷◌, ◌++◌, length, take, drop, nat_lt, if◌then◌else◌, refl, sym, ap, ◌∙◌, subst, arith, length-append, length-take, length-drop, add-one}
+use Rattle.std.proofs.Common.{◌≡◌, ℕ, zero, suc, ◌+◌, ◌-◌, ◌<◌, ◌≤◌, ◌==◌, ◌&&◌, Bool, true, false, not, cond}
+use Rattle.std.proofs.Common.{filter, List, [], ◌∷◌, ◌++◌, length, take, drop, nat_lt, if◌then◌else◌, refl}
+use Rattle.std.proofs.Common.{sym, ap, ◌∙◌, subst, arith, length-append, length-take, length-drop, add-one}
 use Rattle.std.proofs.lemmas.Bool.Decides.{nat_tests}
 use Rattle.std.proofs.lemmas.List.{append-nil, length-map, get_or-map, take_at, drop_all, take-append-le, drop-append-le, nil_from_length, length-take-le}
 use Rattle.std.proofs.lemmas.List.Elements.{All-cons, All-nil, All-append, All-take, All-drop, All-map, All-same, All-filter, All-weaker, filter_passes}
@@ -49,17 +51,24 @@ module _ {X : Type 0} where
   Low size n = length n ≤ size
 
   -- if only the k-th may be empty, the nodes are a cut without it
-  cut_emptied : (ns : List (List X)) (k size : ℕ) → k < length ns → 2 ≤ size → All (Low size) ns → All Filled (take k ns) → All Filled (drop (k + 1) ns) → AreNodeLengths (node_lengths (without_emptied ns k)) size
+  cut_emptied : (ns : List (List X)) (k size : ℕ) → k < length ns → 2 ≤ size → All (Low size) ns
+      → All Filled (take k ns) → All Filled (drop (k + 1) ns)
+      → AreNodeLengths (node_lengths (without_emptied ns k)) size
   unfolding without_emptied
   cut_emptied ns k size h two low before after =
       let len : List X → ℕ = λ n. length n in
-      elim ((length (node_at ns k) == 0) && nat_lt 1 (length ns)) as (λ b. (length (node_at ns k) == 0) && nat_lt 1 (length ns) ≡ b → AreNodeLengths (node_lengths (if b then remove ns k else ns)) size) [
+      elim ((length (node_at ns k) == 0) && nat_lt 1 (length ns))
+      as (λ b. (length (node_at ns k) == 0) && nat_lt 1 (length ns) ≡ b
+      → AreNodeLengths (node_lengths (if b then remove ns k else ns)) size) [
         | true ↦ λ e.
             let more : 1 < length ns = grind (arith, nat_tests) in
             rw (← add-one) (record {
               two = two;
               some = omega (arith, length-map (take k ns ++ drop (k + 1) ns) len, length-append (take k ns) (drop (k + 1) ns), length-take k ns, length-drop (k + 1) ns, h, more);
-              bounded = All-map (λ i. i ≤ size) len (take k ns ++ drop (k + 1) ns) (All-append (Low size) (take k ns) (drop (k + 1) ns) (All-take (Low size) k ns low) (All-drop (Low size) (k + 1) ns low));
+              bounded =
+                  All-map (λ i. i ≤ size) len (take k ns ++ drop (k + 1) ns)
+                  (All-append (Low size) (take k ns) (drop (k + 1) ns) (All-take (Low size) k ns low)
+                  (All-drop (Low size) (k + 1) ns low));
               filled = λ _. All-map (λ i. 1 ≤ i) len (take k ns ++ drop (k + 1) ns) (All-append Filled (take k ns) (drop (k + 1) ns) before after);
             })
         | false ↦ λ e. record {
@@ -69,7 +78,10 @@ module _ {X : Type 0} where
           filled = λ more.
               let two_nodes : 1 < length ns = omega (arith, length-map ns len, more) in
               let some : 1 ≤ length (node_at ns k) = grind (arith, nat_tests) in
-              All-map (λ i. 1 ≤ i) len ns (All-same Filled ns (take k ns ++ node_at ns k ∷ drop (k + 1) ns) (around ns k h) (All-append Filled (take k ns) (node_at ns k ∷ drop (k + 1) ns) before (All-cons Filled (node_at ns k) (drop (k + 1) ns) some after)));
+              All-map (λ i. 1 ≤ i) len ns
+              (All-same Filled ns (take k ns ++ node_at ns k ∷ drop (k + 1) ns) (around ns k h)
+              (All-append Filled (take k ns) (node_at ns k ∷ drop (k + 1) ns) before
+              (All-cons Filled (node_at ns k) (drop (k + 1) ns) some after)));
         }
       ] refl
 
@@ -128,7 +140,10 @@ module _ {X : Type 0} where
           let n = node_at ns s.node in
           let none : drop (s.node + 1) front ≡ [] = drop_all (s.node + 1) front (omega (arith, long, length-append (take s.node ns) (take s.offset n ∷ []))) in
           cut_emptied front s.node size last_in is.two
-          (All-append (Low size) (take s.node ns) (take s.offset n ∷ []) (All-take (Low size) s.node ns (low_all ns size is)) (All-cons (Low size) (take s.offset n) [] (omega (arith, node_low, length-take s.offset n)) (All-nil (Low size))))
+          (All-append (Low size) (take s.node ns) (take s.offset n ∷ [])
+          (All-take (Low size) s.node ns (low_all ns size is))
+          (All-cons (Low size) (take s.offset n) [] (omega (arith, node_low, length-take s.offset n))
+          (All-nil (Low size))))
           (All-same Filled (take s.node front) (take s.node ns) (take_at (take s.node ns) (take s.offset n ∷ []) s.node long) (filled_before ns size is s.node h.node_in))
           (All-same Filled (drop (s.node + 1) front) [] none (All-nil Filled))
 

@@ -15,14 +15,18 @@ module _ {X : Type 0} (ns : List (List X)) where
   last_filled size (suc k) is some last = node_filled ns (suc k) size (omega arith) (omega arith) is
 
   -- the spot of the last item
-  pub last_spot_in : (size : ℕ) (p : Spot) → AreNodeLengths (node_lengths ns) size → 0 < length (concat ns) → p.node + 1 ≡ length ns → p.offset ≡ length (node_at ns p.node) - 1 → IsItemSpot ns p × (position_of ns p ≡ length (concat ns) - 1)
+  pub last_spot_in : (size : ℕ) (p : Spot) → AreNodeLengths (node_lengths ns) size → 0 < length (concat ns)
+      → p.node + 1 ≡ length ns → p.offset ≡ length (node_at ns p.node) - 1
+      → IsItemSpot ns p × (position_of ns p ≡ length (concat ns) - 1)
   last_spot_in size p is some last at =
       let filled = last_filled size p.node is some last in
       let whole = last_before ns p.node (length (node_at ns p.node)) last refl in
       (record { node_in = omega arith; offset_in = omega arith }, omega arith)
 
 -- the end of the last node of a spine
-pub spine_end : {X Z : Type 0} (vs : List (Vec X Z)) (size : ℕ) (s : NodeList X) → node_list (vec_items vs) size ≡ s → (k o : ℕ) (v : Vec X Z) → k + 1 ≡ length vs → v ≡ get_or vs k v → o ≡ length v.items → length (concat (take k s.nodes)) + o ≡ length (items s)
+pub spine_end : {X Z : Type 0} (vs : List (Vec X Z)) (size : ℕ) (s : NodeList X) → node_list (vec_items vs) size ≡ s
+    → (k o : ℕ) (v : Vec X Z) → k + 1 ≡ length vs → v ≡ get_or vs k v → o ≡ length v.items
+    → length (concat (take k s.nodes)) + o ≡ length (items s)
 spine_end vs size s view k o v last at end =
     let here = node_read vs k v (omega arith) at [] in
     subst (λ (t : NodeList _). length (concat (take k t.nodes)) + o ≡ length (items t)) view (last_before (vec_items vs) k o (omega (arith, length-vec_items vs)) (end ∙ ap (λ l. length l) (sym here)))

@@ -1,5 +1,7 @@
 -- Items that are inserted into a list in order, replacing equal ones.
-use Rattle.std.proofs.Common.{◌≡◌, ℕ, suc, ◌+◌, ◌-◌, ◌<◌, ◌≤◌, List, [], ◌∷◌, ◌++◌, length, get_or, take, drop, reverse, true, false, slice_get, Some, MatchOption, Ordering, refl, sym, ap, ◌∙◌, subst, arith, length-append, length-take, append_assoc}
+use Rattle.std.proofs.Common.{◌≡◌, ℕ, suc, ◌+◌, ◌-◌, ◌<◌, ◌≤◌, List, [], ◌∷◌, ◌++◌, length, get_or, take}
+use Rattle.std.proofs.Common.{drop, reverse, true, false, slice_get, Some, MatchOption, Ordering, refl}
+use Rattle.std.proofs.Common.{sym, ap, ◌∙◌, subst, arith, length-append, length-take, append_assoc}
 use Rattle.std.specs.declared.cmp.Ordering.TheVariants.{Less, Equal, Greater}
 use Rattle.std.specs.Cmp.{IsTotalOrder}
 use Rattle.std.specs.List.{All, HoldsAt, fold}
@@ -15,7 +17,9 @@ use Rattle.std.proofs.lemmas.List.Sums.{fold-append}
 use Rattle.indexset_core.specs.Nodes.{equal_at, concat, node_at}
 use Rattle.indexset_core.specs.Order.{IsAscending, above, below, put, rank}
 use Rattle.indexset_core.specs.Parted.{less_count}
-use Rattle.indexset_core.proofs.CallerLemmas.{Parts, count_parts, found_ascending, found_put, front-is_lt, gap_ascending, gap_put, joined_around, less_from, located_found, located_gap, offset-le, parted_by_item, slice_get-right}
+use Rattle.indexset_core.proofs.CallerLemmas.{Parts, count_parts, found_ascending, found_put, front-is_lt}
+use Rattle.indexset_core.proofs.CallerLemmas.{gap_ascending, gap_put, joined_around, less_from, located_found}
+use Rattle.indexset_core.proofs.CallerLemmas.{located_gap, offset-le, parted_by_item, slice_get-right}
 
 -- an item after all others of an ascending list
 module _ {T : Type 0} (cmp : T → T → Ordering) (m : List T) (x : T) (up : IsAscending cmp (m ++ x ∷ [])) where
@@ -70,7 +74,8 @@ module _ {T : Type 0} (cmp : T → T → Ordering) where
   fold_behind : (m r : List T) (b : T) → All (λ y. cmp y b ≡ Less) m → All (λ y. cmp y b ≡ Less) r → fold (put cmp) m (r ++ b ∷ []) ≡ fold (put cmp) m r ++ b ∷ []
   fold_behind m r b h g = fold-append (put cmp) m r (b ∷ []) ∙ put_behind (fold (put cmp) m r) b (fold_each (λ y. cmp y b ≡ Less) m r h g)
 
-  fold_over : (m r : List T) (a b : T) → cmp a b ≡ Equal → All (λ y. cmp y b ≡ Less) m → All (λ y. cmp y b ≡ Less) r → All (λ y. cmp a y ≡ Greater) r → fold (put cmp) (m ++ a ∷ []) (r ++ b ∷ []) ≡ fold (put cmp) m r ++ b ∷ []
+  fold_over : (m r : List T) (a b : T) → cmp a b ≡ Equal → All (λ y. cmp y b ≡ Less) m → All (λ y. cmp y b ≡ Less) r
+      → All (λ y. cmp a y ≡ Greater) r → fold (put cmp) (m ++ a ∷ []) (r ++ b ∷ []) ≡ fold (put cmp) m r ++ b ∷ []
   fold_over m r a b e h g up =
       fold-append (put cmp) (m ++ a ∷ []) r (b ∷ [])
       ∙ (ap (λ z. put cmp z b) (fold_before m r a up)
@@ -106,7 +111,9 @@ module _ {T : Type 0} (cmp : T → T → Ordering) (o : IsTotalOrder cmp) where
   next_out : (l out : List T) (x : T) → (l ++ x ∷ []) ++ reverse out ≡ l ++ reverse (out ++ x ∷ [])
   next_out l out x = append_assoc l (x ∷ []) (reverse out) ∙ ap (λ z. l ++ z) (sym (reverse-append out (x ∷ [])))
 
-  module _ (u r out whole : List T) (is : IsMerging cmp u r out whole) (answer : Ordering) (told : ForSome (slice_get r (length r - 1)) (λ b. MatchOption (slice_get u (length u - 1)) (answer ≡ Less) (λ a. answer ≡ cmp a b))) where
+  module _ (u r out whole : List T) (is : IsMerging cmp u r out whole) (answer : Ordering)
+      (told : ForSome (slice_get r (length r - 1))
+      (λ b. MatchOption (slice_get u (length u - 1)) (answer ≡ Less) (λ a. answer ≡ cmp a b))) where
     -- the comparison is that of the last items
     answer_is : (m r' : List T) (a b : T) → u ≡ m ++ a ∷ [] → r ≡ r' ++ b ∷ [] → answer ≡ cmp a b
     answer_is m r' a b e f = (rw (last_is u m a e) at (told b (last_is r r' b f)))
@@ -129,7 +136,10 @@ module _ {T : Type 0} (cmp : T → T → Ordering) (o : IsTotalOrder cmp) where
         let less : cmp parts.1 b ≡ Less = sym (answer_is parts.0 r' parts.1 b split f) ∙ e in
         let before = front_less cmp parts.0 parts.1 (rw split at is.order) in
         subst (All (λ y. cmp y b ≡ Less)) (sym parts.2)
-        (All-append (λ y. cmp y b ≡ Less) parts.0 (parts.1 ∷ []) (All-weaker (λ y. cmp y parts.1 ≡ Less) (λ y. cmp y b ≡ Less) (λ y h. o.trans y parts.1 b h less) parts.0 before) (All-cons (λ y. cmp y b ≡ Less) parts.1 [] less (All-nil (λ y. cmp y b ≡ Less))))
+        (All-append (λ y. cmp y b ≡ Less) parts.0 (parts.1 ∷ [])
+        (All-weaker (λ y. cmp y parts.1 ≡ Less) (λ y. cmp y b ≡ Less) (λ y h. o.trans y parts.1 b h less) parts.0
+        before)
+        (All-cons (λ y. cmp y b ≡ Less) parts.1 [] less (All-nil (λ y. cmp y b ≡ Less))))
 
     -- the last item of the run moves
     pub merged_less : answer ≡ Less → (r' : List T) (b : T) → r ≡ r' ++ b ∷ [] → IsMerging cmp u r' (out ++ b ∷ []) whole
@@ -138,7 +148,12 @@ module _ {T : Type 0} (cmp : T → T → Ordering) (o : IsTotalOrder cmp) where
         record {
           order = is.order;
           run_order = front_up cmp r' b run_up;
-          same = sym (next_out (fold (put cmp) u r') out b) ∙ (ap (λ z. z ++ reverse out) (sym (fold_behind cmp u r' b (all_less r' b f e u refl) (front_less cmp r' b run_up)) ∙ ap (fold (put cmp) u) (sym f)) ∙ is.same);
+          same =
+              sym (next_out (fold (put cmp) u r') out b)
+              ∙ (ap (λ z. z ++ reverse out)
+              (sym (fold_behind cmp u r' b (all_less r' b f e u refl) (front_less cmp r' b run_up))
+              ∙ ap (fold (put cmp) u) (sym f))
+              ∙ is.same);
         }
 
     -- the last item of the list moves
@@ -148,7 +163,10 @@ module _ {T : Type 0} (cmp : T → T → Ordering) (o : IsTotalOrder cmp) where
         let high : cmp a parts.1 ≡ Greater = sym (answer_is m parts.0 a parts.1 f parts.2) ∙ e in
         let before = front_less cmp parts.0 parts.1 (rw parts.2 at is.run_order) in
         let all : All (λ y. cmp a y ≡ Greater) r = subst (All (λ y. cmp a y ≡ Greater)) (sym parts.2)
-        (All-append (λ y. cmp a y ≡ Greater) parts.0 (parts.1 ∷ []) (All-weaker (λ y. cmp y parts.1 ≡ Less) (λ y. cmp a y ≡ Greater) (λ y h. over y a (o.trans y parts.1 a h (under a parts.1 high))) parts.0 before) (All-cons (λ y. cmp a y ≡ Greater) parts.1 [] high (All-nil (λ y. cmp a y ≡ Greater)))) in
+        (All-append (λ y. cmp a y ≡ Greater) parts.0 (parts.1 ∷ [])
+        (All-weaker (λ y. cmp y parts.1 ≡ Less) (λ y. cmp a y ≡ Greater)
+        (λ y h. over y a (o.trans y parts.1 a h (under a parts.1 high))) parts.0 before)
+        (All-cons (λ y. cmp a y ≡ Greater) parts.1 [] high (All-nil (λ y. cmp a y ≡ Greater)))) in
         record {
           order = front_up cmp m a (rw f at is.order);
           run_order = is.run_order;
@@ -167,7 +185,12 @@ module _ {T : Type 0} (cmp : T → T → Ordering) (o : IsTotalOrder cmp) where
         record {
           order = front_up cmp m a up;
           run_order = front_up cmp r' b run_up;
-          same = sym (next_out (fold (put cmp) m r') out b) ∙ (ap (λ z. z ++ reverse out) (sym (fold_over cmp m r' a b tied less run_less all) ∙ (ap (λ z. fold (put cmp) z (r' ++ b ∷ [])) (sym f) ∙ ap (fold (put cmp) u) (sym g))) ∙ is.same);
+          same =
+              sym (next_out (fold (put cmp) m r') out b)
+              ∙ (ap (λ z. z ++ reverse out)
+              (sym (fold_over cmp m r' a b tied less run_less all)
+              ∙ (ap (λ z. fold (put cmp) z (r' ++ b ∷ [])) (sym f) ∙ ap (fold (put cmp) u) (sym g)))
+              ∙ is.same);
         }
 
   -- the first items of an ascending list
@@ -177,7 +200,9 @@ module _ {T : Type 0} (cmp : T → T → Ordering) (o : IsTotalOrder cmp) where
       (up i j d lt (omega (arith, inside, length-take n xs)))
 
   -- as many as are below the last item of another list
-  pub taken_below : (l xs : List T) (last : T) (n m : ℕ) → IsAscending cmp xs → n ≡ less_count (λ x. cmp x last) (take m xs) → slice_get l (length l - 1) ≡ Some last → All (λ x. HoldsAt (λ y. cmp x y ≡ Less) l (length l - 1)) (take n xs)
+  pub taken_below : (l xs : List T) (last : T) (n m : ℕ) → IsAscending cmp xs
+      → n ≡ less_count (λ x. cmp x last) (take m xs) → slice_get l (length l - 1) ≡ Some last
+      → All (λ x. HoldsAt (λ y. cmp x y ≡ Less) l (length l - 1)) (take n xs)
   taken_below l xs last n m up count is k d lt e =
       let up_m = taken_up xs m up in
       let parts : Parts (λ x. is_lt (cmp x last)) (take m xs) n = rw count (count_parts is_lt front-is_lt (λ x. cmp x last) (take m xs) (parted_by_item cmp o (take m xs) up_m last)) in
@@ -199,11 +224,19 @@ module _ {T : Type 0} (cmp : T → T → Ordering) (o : IsTotalOrder cmp) where
         | true ↦ λ e.
             let there = located_found cmp l v i parted refl e in
             let is = found_put cmp l v i o up there in
-            record { up = subst (IsAscending cmp) (sym is) (found_ascending cmp l v i o up there); least = omega (arith, ap (λ (m : List T). length m) is, length-set l i v); most = omega (arith, ap (λ (m : List T). length m) is, length-set l i v) }
+            record {
+              up = subst (IsAscending cmp) (sym is) (found_ascending cmp l v i o up there);
+              least = omega (arith, ap (λ (m : List T). length m) is, length-set l i v);
+              most = omega (arith, ap (λ (m : List T). length m) is, length-set l i v);
+            }
         | false ↦ λ e.
             let gap = located_gap cmp l v i parted refl e in
             let is = gap_put cmp l v i gap in
-            record { up = subst (IsAscending cmp) (sym is) (gap_ascending cmp l v i o gap up); least = omega (arith, ap (λ (m : List T). length m) is, length-insert l i v gap.inside); most = omega (arith, ap (λ (m : List T). length m) is, length-insert l i v gap.inside) }
+            record {
+              up = subst (IsAscending cmp) (sym is) (gap_ascending cmp l v i o gap up);
+              least = omega (arith, ap (λ (m : List T). length m) is, length-insert l i v gap.inside);
+              most = omega (arith, ap (λ (m : List T). length m) is, length-insert l i v gap.inside);
+            }
       ] refl
 
   pub fold_grown : (l xs : List T) → IsAscending cmp l → IsGrown l (length xs) (fold (put cmp) l xs)

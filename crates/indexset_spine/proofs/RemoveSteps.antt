@@ -1,5 +1,7 @@
 -- Removals from the nodes, as the code stores them.
-use Rattle.std.proofs.Common.{◌≡◌, ℕ, suc, ◌+◌, ◌<◌, ◌≤◌, ◌==◌, ◌&&◌, true, false, List, [], ◌++◌, length, take, drop, get_or, slice_set, slice_get, Some, nat_lt, if◌then◌else◌, refl, sym, ap, ◌∙◌, subst, arith}
+use Rattle.std.proofs.Common.{◌≡◌, ℕ, suc, ◌+◌, ◌<◌, ◌≤◌, ◌==◌, ◌&&◌, true, false, List, []}
+use Rattle.std.proofs.Common.{◌++◌, length, take, drop, get_or, slice_set, slice_get, Some}
+use Rattle.std.proofs.Common.{nat_lt, if◌then◌else◌, refl, sym, ap, ◌∙◌, subst, arith}
 use Rattle.std.proofs.lemmas.Bool.Decides.{nat_tests}
 use Rattle.std.proofs.lemmas.List.{length-set, get_or-set_same, take-set, drop-set-lt, take-map, drop-map, map-append}
 use Rattle.std.proofs.lemmas.List.Edits.{length-remove}
@@ -77,7 +79,9 @@ module _ {X Z : Type 0} where
       ∙ (ap (λ n. slice_set (vec_items vs) s.node (slice_set n s.offset w)) (sym (node_is vs s.node u here.node_in at))
       ∙ ap (λ (t : NodeList X). slice_set t.nodes s.node (slice_set (node_at t.nodes s.node) s.offset w)) e)
 
-  pub item_read : (vs : List (Vec X Z)) (size : ℕ) (t : NodeList X) (s : Spot) (u : Vec X Z) (x : X) → node_list (vec_items vs) size ≡ t → IsItemSpot t.nodes s → u ≡ get_or vs s.node u → x ≡ get_or u.items s.offset x
+  pub item_read : (vs : List (Vec X Z)) (size : ℕ) (t : NodeList X) (s : Spot) (u : Vec X Z) (x : X)
+      → node_list (vec_items vs) size ≡ t → IsItemSpot t.nodes s → u ≡ get_or vs s.node u
+      → x ≡ get_or u.items s.offset x
       → slice_get (concat t.nodes) (position_of t.nodes s) ≡ Some x
   item_read vs size t s u x e h at is =
       let here = item_spot_in (vec_items vs) size t s e h in

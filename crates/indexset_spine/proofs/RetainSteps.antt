@@ -1,5 +1,7 @@
 -- A closure that is called for each item in order, in one node after another.
-use Rattle.std.proofs.Common.{◌≡◌, ℕ, suc, ◌+◌, ◌<◌, ◌≤◌, Bool, true, false, not, cond, filter, ◌==◌, List, [], ◌∷◌, ◌++◌, length, take, drop, get_or, set, swap, refl, sym, ap, ◌∙◌, subst, arith, append_assoc, append-nil, length-append}
+use Rattle.std.proofs.Common.{◌≡◌, ℕ, suc, ◌+◌, ◌<◌, ◌≤◌, Bool, true, false, not, cond, filter, ◌==◌}
+use Rattle.std.proofs.Common.{List, [], ◌∷◌, ◌++◌, length, take, drop, get_or, set, swap, refl, sym}
+use Rattle.std.proofs.Common.{ap, ◌∙◌, subst, arith, append_assoc, append-nil, length-append}
 use Rattle.std.proofs.lemmas.List.{length-set, get_or-set_same, take-set-le, take_more_set, drop-set-lt, drop_more, drop_all}
 use Rattle.std.proofs.lemmas.List.Elements.{All-cons}
 use Rattle.std.proofs.lemmas.Grind.{drop_more_same}
@@ -128,7 +130,8 @@ module _ {S X Z C : Type 0} (R : S → X → Bool → S → X → Type 0) (G : C
         left = ap vec_items is ∙ (parts b ∙ ap (λ b. cond b (w.items ∷ filter some_in later.each) (filter some_in later.each)) said.1);
       }
 
-  pub all_emptied : AsksNode → (c : C) (vs ws : List (Vec X Z)) → RetainsInTurn G c vs ws → length ws ≡ 0 → (v : Vec X Z) → v.items ≡ [] → RetainsNodes R (state c) (vec_items vs) (vec_items (ws ++ v ∷ []))
+  pub all_emptied : AsksNode → (c : C) (vs ws : List (Vec X Z)) → RetainsInTurn G c vs ws → length ws ≡ 0
+      → (v : Vec X Z) → v.items ≡ [] → RetainsNodes R (state c) (vec_items vs) (vec_items (ws ++ v ∷ []))
   unfolding without_all_emptied
   all_emptied asks c vs [] h none v empty =
       let ask = keeps_some asks c vs [] h in

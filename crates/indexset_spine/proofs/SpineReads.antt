@@ -71,11 +71,17 @@ all_less answer (x ∷ xs) parted ends =
     (λ k d low high. front-is_lt _ _ (parted k (n - 1) d (omega (arith, high)) (omega arith)) (last d)) (λ k d low high. absurd (omega (arith, low, high))))
 
 -- if the last node's last item compares Less, the search ends in that node
-last_named : {X : Type 0} (answer : X → Ordering) (ns : List (List X)) → 1 ≤ length ns → (2 ≤ length ns → All (λ n. 1 ≤ n) (node_lengths ns)) → IsParted answer (concat ns) → ends_less answer (node_at ns (length ns - 1)) ≡ true → length ns - 1 ≡ node_for answer ns
+last_named : {X : Type 0} (answer : X → Ordering) (ns : List (List X)) → 1 ≤ length ns
+    → (2 ≤ length ns → All (λ n. 1 ≤ n) (node_lengths ns)) → IsParted answer (concat ns)
+    → ends_less answer (node_at ns (length ns - 1)) ≡ true → length ns - 1 ≡ node_for answer ns
 last_named answer ns some filled parted ends =
     let none : length ns - 1 < length ns - 1 → HoldsAt (λ n. ends_less answer n ≡ false) ns (length ns - 1) = λ lt. absurd (omega (arith, lt)) in
     elim (cases_lt 1 (length ns)) [
-      | inl two ↦ node_found answer ns (length ns - 1) some (omega arith) (λ k d low high. ends_until answer ns (filled (omega (arith, two))) parted (length ns - 1) (omega arith) ends k d low (omega (arith, high))) none
+      | inl two ↦
+          node_found answer ns (length ns - 1) some (omega arith) (λ k d low high.
+          ends_until answer ns (filled (omega (arith, two))) parted (length ns - 1) (omega arith) ends k d low
+          (omega (arith, high)))
+          none
       | inr one ↦ node_found answer ns (length ns - 1) some (omega arith) (λ k d low high. absurd (omega (arith, high, one))) none
     ]
 
@@ -87,7 +93,9 @@ read_named {X} vs size s view is answer k v found = read_node vs size s view is 
 -- and in node k, if the last item of the node before it compares Less, and its own does not or it
 -- is the last node
 pub sought : {X Z : Type 0} (answer : X → Ordering) (vs : List (Vec X Z)) → (2 ≤ length vs → All (λ n. 1 ≤ n) (node_lengths (vec_items vs))) → IsParted answer (concat (vec_items vs))
-    → (k : ℕ) → k < length vs → 1 ≤ k → (v : Vec X Z) → v ≡ get_or vs (k - 1) v → ends_less answer v.items ≡ true → (k + 1 < length vs → HoldsAt (λ n. ends_less answer n ≡ false) (vec_items vs) k) → k ≡ node_for answer (vec_items vs)
+    → (k : ℕ) → k < length vs → 1 ≤ k → (v : Vec X Z) → v ≡ get_or vs (k - 1) v → ends_less answer v.items ≡ true
+    → (k + 1 < length vs → HoldsAt (λ n. ends_less answer n ≡ false) (vec_items vs) k)
+    → k ≡ node_for answer (vec_items vs)
 sought answer vs filled parted k inside some v at ends here =
     let ns = vec_items vs in let long = length-vec_items vs in
     let before : ends_less answer (get_or ns (k - 1) []) ≡ true = rw (node_read vs (k - 1) v (omega arith) at []) ends in
@@ -103,11 +111,16 @@ read_last {X} vs size s view is answer parted k v last at ends =
     let inside : k < length vs = omega (arith, last, is.some, long, counted) in
     let same : k ≡ length (vec_items vs) - 1 = omega (arith, last, long) in
     let there : ends_less answer (node_at (vec_items vs) (length (vec_items vs) - 1)) ≡ true = rw (← same) (rw (node_read vs k v inside at []) ends) in
-    let named = last_named answer (vec_items vs) (omega (arith, is.some, counted)) (λ two. is.filled (omega (arith, two, counted))) (subst (λ (t : NodeList X). IsParted answer (items t)) (sym view) parted) there in
+    let named =
+    last_named answer (vec_items vs) (omega (arith, is.some, counted))
+    (λ two. is.filled (omega (arith, two, counted)))
+    (subst (λ (t : NodeList X). IsParted answer (items t)) (sym view) parted) there in
     read_node vs size s view is answer k v (same ∙ named) at
 
 -- and no item follows them
-pub none_after : {X : Type 0} (answer : X → Ordering) (s : NodeList X) (k : ℕ) (n : List X) → NodeFound answer s k n → IsParted answer (items s) → ends_less answer n ≡ true → false ≡ equal_at answer (items s) (length (concat (take k s.nodes)) + length n)
+pub none_after : {X : Type 0} (answer : X → Ordering) (s : NodeList X) (k : ℕ) (n : List X) → NodeFound answer s k n
+    → IsParted answer (items s) → ends_less answer n ≡ true
+    → false ≡ equal_at answer (items s) (length (concat (take k s.nodes)) + length n)
 none_after answer s k n here parted ends =
     let all = all_less answer n (node_parted answer s k n here parted) ends in
     sym (equal_none answer n (length n) (slice_get_past n (length n) (omega arith))) ∙ told answer s k n here parted (length n) all

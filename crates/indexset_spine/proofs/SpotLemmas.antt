@@ -29,7 +29,9 @@ module _ {X : Type 0} where
   first_of ((x ∷ xs) ∷ ns) filled = refl
 
   -- after the end of a node comes the first item of the next
-  pub joined_next : (ns : List (List X)) (k o : ℕ) → k < length ns → o ≤ length (node_at ns k) → (suc k < length ns → 1 ≤ length (node_at ns (suc k))) → slice_get (node_at ns k) o ≡ None → slice_get (concat ns) (length (concat (take k ns)) + o) ≡ slice_get (node_at ns (suc k)) 0
+  pub joined_next : (ns : List (List X)) (k o : ℕ) → k < length ns → o ≤ length (node_at ns k)
+      → (suc k < length ns → 1 ≤ length (node_at ns (suc k))) → slice_get (node_at ns k) o ≡ None
+      → slice_get (concat ns) (length (concat (take k ns)) + o) ≡ slice_get (node_at ns (suc k)) 0
   joined_next [] k o lt le filled h = absurd (omega arith)
   joined_next (n ∷ ns) zero o lt le filled h =
       let at : 0 + o ≡ length n + 0 = omega (arith, none_end n o le h) in

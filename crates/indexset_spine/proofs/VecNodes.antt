@@ -18,8 +18,11 @@ module _ {X Z : Type 0} where
   pub node_read : (vs : List (Vec X Z)) (k : ℕ) (v : Vec X Z) → k < length vs → v ≡ get_or vs k v → (d : List X) → get_or (vec_items vs) k d ≡ v.items
   node_read = nodes.node_read (λ v. v.items)
 
-  pub more_read : (vs : List (Vec X Z)) (k : ℕ) (v : Vec X Z) → k < length vs → v ≡ get_or vs k v → length (concat (take (k + 1) (vec_items vs))) ≡ length (concat (take k (vec_items vs))) + length v.items
+  pub more_read : (vs : List (Vec X Z)) (k : ℕ) (v : Vec X Z) → k < length vs → v ≡ get_or vs k v
+      → length (concat (take (k + 1) (vec_items vs))) ≡ length (concat (take k (vec_items vs))) + length v.items
   more_read = nodes.more_read (λ v. v.items)
 
-  pub item_read : (vs : List (Vec X Z)) (k o : ℕ) (v : Vec X Z) (x : X) → k < length vs → o < length v.items → v ≡ get_or vs k v → x ≡ get_or v.items o x → slice_get (concat (vec_items vs)) (length (concat (take k (vec_items vs))) + o) ≡ Some x
+  pub item_read : (vs : List (Vec X Z)) (k o : ℕ) (v : Vec X Z) (x : X) → k < length vs → o < length v.items
+      → v ≡ get_or vs k v → x ≡ get_or v.items o x
+      → slice_get (concat (vec_items vs)) (length (concat (take k (vec_items vs))) + o) ≡ Some x
   item_read = nodes.item_read (λ v. v.items)

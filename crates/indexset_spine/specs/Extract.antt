@@ -18,7 +18,8 @@ module _ {X : Type 0} where
 
   -- R is called from state s to t for the items up to the removed one, or for all, and those before
   -- it stay, as R leaves them
-  pub record Extracts {S : Type 0} (R : S → X → Bool → S → X → Type 0) (s : S) (a : ExtractState X) (r : Option X) (t : S) (b : ExtractState X) : Type 0 where
+  pub record Extracts {S : Type 0} (R : S → X → Bool → S → X → Type 0) (s : S)
+      (a : ExtractState X) (r : Option X) (t : S) (b : ExtractState X) : Type 0 where
     pub kept : List X
     pub step : ExtractsNext R s a.unasked r t kept b.unasked
     pub stays : b.stay ≡ a.stay ++ kept

@@ -1,5 +1,7 @@
 -- A list partitioned into nodes.
-use Rattle.std.specs.Prelude.{◌≡◌, ℕ, ◌+◌, ◌-◌, ◌/◌, ◌<◌, ◌≤◌, ◌==◌, ◌&&◌, true, false, List, [], ◌∷◌, length, sum, take, drop, refl, slice_set, insert, remove, if◌then◌else◌, nat_lt}
+use Rattle.std.specs.Prelude.{◌≡◌, ℕ, ◌+◌, ◌-◌, ◌/◌, ◌<◌, ◌≤◌, ◌==◌, ◌&&◌, true}
+use Rattle.std.specs.Prelude.{false, List, [], ◌∷◌, length, sum, take, drop, refl}
+use Rattle.std.specs.Prelude.{slice_set, insert, remove, if◌then◌else◌, nat_lt}
 use Rattle.std.specs.List.{All, fold, splice}
 use Rattle.std.specs.Coded.{Coded, code_by, coded×, coded_ℕ, coded_list}
 use Rattle.indexset_core.specs.Nodes.{concat, node_at}
@@ -38,7 +40,9 @@ module _ {X : Type 0} where
   node_list ns n = record { nodes = ns; size = n }
 
   abbrev pub node_list_code : Coded X → Coded (NodeList X)
-  node_list_code c = code_by (List (List X) × ℕ) (coded× (coded_list (coded_list c)) coded_ℕ) (λ s. (s.nodes, s.size)) (λ p. node_list p.0 p.1) (λ _. refl)
+  node_list_code c =
+      code_by (List (List X) × ℕ) (coded× (coded_list (coded_list c)) coded_ℕ)
+      (λ s. (s.nodes, s.size)) (λ p. node_list p.0 p.1) (λ _. refl)
 
   -- the list of a set, or of a spine
   abbrev pub items : NodeList X → List X
@@ -71,11 +75,16 @@ module _ {X : Type 0} where
 
   -- the nodes with v inserted at the spot
   unfoldable pub with_inserted : ℕ → List (List X) → Spot → X → List (List X)
-  with_inserted size ns s v = splice ns s.node (s.node + 1) (parts_with size (node_at ns s.node) s.offset v)
+  with_inserted size ns s v =
+      splice ns s.node (s.node + 1) (parts_with size (node_at ns s.node) s.offset v)
 
   -- the spot after the last item
   abbrev pub end_spot : List (List X) → Spot
-  end_spot ns = record { node = length ns - 1; offset = length (node_at ns (length ns - 1)); found = false }
+  end_spot ns = record {
+    node = length ns - 1;
+    offset = length (node_at ns (length ns - 1));
+    found = false;
+  }
 
   -- the nodes with v inserted after the last item
   abbrev pub with_last : ℕ → List (List X) → X → List (List X)

@@ -9,5 +9,6 @@ abbrev pub lends_at : (T : RattleType) → MutBor (NodeList T.Denot) → ℕ →
 lends_at T s i r = Lends (the_row T) T s r (with_item_at s.now i)
 
 -- the same if r is a reference; if it is `None`, the spine stays the same
-abbrev pub lends_item : (T : RattleType) → MutBor (NodeList T.Denot) → ℕ → Option (MutBor T.Denot) → Fml
+abbrev pub lends_item : (T : RattleType) → MutBor (NodeList T.Denot) → ℕ
+    → Option (MutBor T.Denot) → Fml
 lends_item T s i r = LendsIf (the_row T) T s r (with_item_at s.now i) s.now

@@ -3,7 +3,8 @@ ghost use Rattle.std.specs.Prelude.{◌≡◌, ◌+◌, ◌<◌, ◌≤◌, IsTr
 ghost use Rattle.std.specs.List.{All};
 ghost use Rattle.indexset_core.specs.Digits.{digits};
 ghost use Rattle.indexset_core.specs.Parted.{IsParted, less_count};
-ghost use Rattle.indexset_core.specs.Nodes.{ends_less, equal_at, concat, node_lengths, node_for, vec_items};
+ghost use Rattle.indexset_core.specs.Nodes.{ends_less, equal_at, concat};
+ghost use Rattle.indexset_core.specs.Nodes.{node_lengths, node_for, vec_items};
 
 use indexset_core::probe::Probe;
 

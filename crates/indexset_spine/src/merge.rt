@@ -1,5 +1,7 @@
 //! The merge of two ascending lists: the items of the second replace equal ones of the first.
-ghost use Rattle.std.specs.Prelude.{◌≡◌, ◌+◌, ◌-◌, ◌<◌, ◌≤◌, [], ◌++◌, IfOk, OnOk, IfErr, OnErr, MatchOption, length, take, drop, slice_get, vec_len, vec_capacity};
+ghost use Rattle.std.specs.Prelude.{◌≡◌, ◌+◌, ◌-◌, ◌<◌, ◌≤◌, [], ◌++◌, IfOk};
+ghost use Rattle.std.specs.Prelude.{OnOk, IfErr, OnErr, MatchOption, length};
+ghost use Rattle.std.specs.Prelude.{take, drop, slice_get, vec_len, vec_capacity};
 ghost use Rattle.std.specs.List.{All, HoldsAt, fold};
 ghost use Rattle.std.specs.Option.{ForSome};
 ghost use Rattle.std.specs.declared.cmp.Ordering.TheVariants.{Less};
@@ -68,7 +70,8 @@ fn merge_back<T: Ord + Drop>(items: &mut Vec<T>, run: &mut Vec<T>, merged: &mut 
     requires room { vec_len items.old + vec_len run.old ≤ vec_capacity merged.old }
     ensures merged { items.new.items ++ merged.new.items
         ≡ fold (put T.cmp) items.old.items run.old.items }
-    ensures length_bound { vec_len items.new + vec_len merged.new ≤ vec_len items.old + vec_len run.old }
+    ensures length_bound { vec_len items.new + vec_len merged.new
+        ≤ vec_len items.old + vec_len run.old }
     ensures capacity { vec_capacity items.new ≡ vec_capacity items.old }
 {
     while !run.is_empty() {

@@ -1,13 +1,16 @@
 //! A list partitioned into nodes.
-ghost use Rattle.std.specs.Prelude.{◌≡◌, ◌+◌, ◌<◌, ◌≤◌, ◌^◌, IsTrue, Some, length, max, sum, take, slice_get, MatchOption};
+ghost use Rattle.std.specs.Prelude.{◌≡◌, ◌+◌, ◌<◌, ◌≤◌, ◌^◌, IsTrue, Some, length};
+ghost use Rattle.std.specs.Prelude.{max, sum, take, slice_get, MatchOption};
 ghost use Rattle.std.specs.Option.{option_copied, option_copied_mut};
 ghost use Rattle.std.specs.Borrow.{sem};
 ghost use Rattle.std.specs.List.{between};
-ghost use Rattle.std.specs.Map.Iter.{ShowsInOrder, ShowsInReverse, GivesInOrder, GivesInReverse, deref};
+ghost use Rattle.std.specs.Map.Iter.{ShowsInOrder, ShowsInReverse};
+ghost use Rattle.std.specs.Map.Iter.{GivesInOrder, GivesInReverse, deref};
 ghost use Rattle.indexset_core.specs.Digits.{digits};
 ghost use Rattle.indexset_core.specs.Parted.{IsParted, less_count};
 ghost use Rattle.indexset_core.specs.Nodes.{node_at, node_for, equal_at, node_lengths, vec_items};
-ghost use Rattle.indexset_spine.specs.NodeList.{items, AreNodeLengths, IsSpot, IsItemSpot, position_of};
+ghost use Rattle.indexset_spine.specs.NodeList.{items, AreNodeLengths, IsSpot};
+ghost use Rattle.indexset_spine.specs.NodeList.{IsItemSpot, position_of};
 ghost use Rattle.indexset_spine.specs.Lengths.{node_of};
 
 mod append;

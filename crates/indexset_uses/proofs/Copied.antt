@@ -24,11 +24,21 @@ module _ {T : Type 0} (cmp : T → T → Ordering) (C : T → T → Type 0) wher
     at_end way = arrived way.nodes way.events way.copied way.cloned way.led
 
     -- another event
-    module _ (law : (ns ks mid new : List (List T)) (e f : ChangeEvent T) → AreCopies cmp C ns ks → IsEventClone C e f → step cmp ns e ≡ Some mid → IsClonedStep cmp C ks (unassigned f) new → AreCopies cmp C mid new) (new : List (List T)) (f : ChangeEvent T) (fs : List (ChangeEvent T)) (made : IsClonedStep cmp C ms (unassigned f) new) where
+    module _
+        (law : (ns ks mid new : List (List T)) (e f : ChangeEvent T) → AreCopies cmp C ns ks → IsEventClone C e f
+        → step cmp ns e ≡ Some mid → IsClonedStep cmp C ks (unassigned f) new → AreCopies cmp C mid new)
+        (new : List (List T)) (f : ChangeEvent T) (fs : List (ChangeEvent T))
+        (made : IsClonedStep cmp C ms (unassigned f) new) where
       stepped : (ns : List (List T)) (es : List (ChangeEvent T)) → AreCopies cmp C ns ms → AllZip (IsEventClone C) es (f ∷ fs) → replay cmp ns es ≡ Some after → IsOnTheWay after new fs
       stepped ns [] copied cloned led = absurd cloned
       stepped ns (e ∷ es) copied cloned led =
-          option_and_then_some (λ r. replay cmp r es) (step cmp ns e) after led (λ mid first rest. record { nodes = mid; events = es; copied = law ns ms mid new e f copied cloned.0 first made; cloned = cloned.1; led = rest })
+          option_and_then_some (λ r. replay cmp r es) (step cmp ns e) after led (λ mid first rest. record {
+            nodes = mid;
+            events = es;
+            copied = law ns ms mid new e f copied cloned.0 first made;
+            cloned = cloned.1;
+            led = rest;
+          })
 
       pub one_more : IsOnTheWay after ms (f ∷ fs) → IsOnTheWay after new fs
       one_more way = stepped way.nodes way.events way.copied way.cloned way.led

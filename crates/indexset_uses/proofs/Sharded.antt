@@ -1,5 +1,7 @@
 -- Filtering by key commutes with commands.
-use Rattle.std.proofs.Common.{◌≡◌, ℕ, suc, ◌+◌, Bool, true, false, cond, List, [], ◌∷◌, ◌++◌, length, map, get_or, take, drop, Ordering, not, refl, ap, sym, ◌∙◌, subst, arith, append-nil, append_assoc, length-append, slice_set, add-one}
+use Rattle.std.proofs.Common.{◌≡◌, ℕ, suc, ◌+◌, Bool, true, false, cond, List, [], ◌∷◌, ◌++◌, length}
+use Rattle.std.proofs.Common.{map, get_or, take, drop, Ordering, not, refl, ap, sym, ◌∙◌, subst}
+use Rattle.std.proofs.Common.{arith, append-nil, append_assoc, length-append, slice_set, add-one}
 use Rattle.std.specs.declared.cmp.Ordering.TheVariants.{Less, Equal, Greater}
 use Rattle.std.proofs.lemmas.List.Elements.{filter-append, filter_passes, All-append, All-filter}
 use Rattle.std.proofs.lemmas.List.Kept.{AllPairs-filter}
@@ -11,7 +13,10 @@ use Rattle.std.specs.Ordering.{is_lt, is_eq, is_gt, ordering_reverse}
 use Rattle.std.specs.Cmp.{IsTotalOrder}
 use Rattle.indexset_core.specs.Nodes.{concat, equal_at}
 use Rattle.indexset_core.specs.Order.{IsAscending, below, above, rank, put, without, IsGapFor, unequal}
-use Rattle.indexset_core.proofs.CallerLemmas.{located_found, located_gap, found_ascending, found_put, gap_at, gap_ascending, gap_put, gap_without, parted_by_item, filter_front, filter_back, equal_from, less_from, Parts, count_parted, count_parts, front-is_lt, concat-append, joined_around}
+use Rattle.indexset_core.proofs.CallerLemmas.{located_found, located_gap, found_ascending, found_put, gap_at}
+use Rattle.indexset_core.proofs.CallerLemmas.{gap_ascending, gap_put, gap_without, parted_by_item, filter_front}
+use Rattle.indexset_core.proofs.CallerLemmas.{filter_back, equal_from, less_from, Parts, count_parted}
+use Rattle.indexset_core.proofs.CallerLemmas.{count_parts, front-is_lt, concat-append, joined_around}
 use Rattle.indexset_uses.specs.Shards.{after_command, after_commands, not_above, parts, subject, IsOwner}
 use Rattle.indexset_uses.specs.declared.shards.Command.{Command}
 use Rattle.indexset_uses.specs.declared.shards.Command.TheVariants.{Put, Cut}
@@ -53,8 +58,12 @@ module _ {T : Type 0} (cmp : T → T → Ordering) (o : IsTotalOrder cmp) where
 
   whole : (l : List T) (v : T) (i : ℕ) → IsGapFor cmp l v i → below cmp l v ++ above cmp l v ≡ l
   whole l v i gap =
-      let front : below cmp l v ≡ take i l = filter_front (λ x. is_lt (cmp x v)) l i gap.inside (λ k d low high. ap is_lt (gap.below_before k d low high)) (λ k d low high. ap is_lt (gap.above_after k d low high)) in
-      let back : above cmp l v ≡ drop i l = filter_back (λ x. is_gt (cmp x v)) l i gap.inside (λ k d low high. ap is_gt (gap.below_before k d low high)) (λ k d low high. ap is_gt (gap.above_after k d low high)) in
+      let front : below cmp l v ≡ take i l =
+      filter_front (λ x. is_lt (cmp x v)) l i gap.inside (λ k d low high. ap is_lt (gap.below_before k d low high))
+      (λ k d low high. ap is_lt (gap.above_after k d low high)) in
+      let back : above cmp l v ≡ drop i l =
+      filter_back (λ x. is_gt (cmp x v)) l i gap.inside (λ k d low high. ap is_gt (gap.below_before k d low high))
+      (λ k d low high. ap is_gt (gap.above_after k d low high)) in
       rw (front, back) (take-append-drop i l)
 
   around_gap : (l : List T) → IsAscending cmp l → (v : T) → All (λ x. is_eq (cmp x v) ≡ false) l → IsGapFor cmp l v (rank cmp l v)
@@ -66,7 +75,9 @@ module _ {T : Type 0} (cmp : T → T → Ordering) (o : IsTotalOrder cmp) where
       let k = count_by (λ x. is_lt (cmp x b)) l in
       let at : Parts (λ x. is_lt (cmp x b)) l k = count_parts is_lt front-is_lt (λ x. cmp x b) l (parted_by_item cmp o l up b) in
       let front : filter (λ x. is_lt (cmp x b)) l ≡ take k l = filter_front (λ x. is_lt (cmp x b)) l k at.inside at.before at.after in
-      let back : filter (λ x. not (is_lt (cmp x b))) l ≡ drop k l = filter_back (λ x. not (is_lt (cmp x b))) l k at.inside (λ i d low high. ap not (at.before i d low high)) (λ i d low high. ap not (at.after i d low high)) in
+      let back : filter (λ x. not (is_lt (cmp x b))) l ≡ drop k l =
+      filter_back (λ x. not (is_lt (cmp x b))) l k at.inside (λ i d low high. ap not (at.before i d low high))
+      (λ i d low high. ap not (at.after i d low high)) in
       rw (front, back) (take-append-drop k l)
 
   -- a test that has the same result for equal items
@@ -86,7 +97,10 @@ module _ {T : Type 0} (cmp : T → T → Ordering) (o : IsTotalOrder cmp) where
         let low : filter p (below cmp l v) ≡ below cmp (filter p l) v = filter_swap p (λ x. is_lt (cmp x v)) l in
         let high : filter p (above cmp l v) ≡ above cmp (filter p l) v = filter_swap p (λ x. is_gt (cmp x v)) l in
         filter-append p (below cmp l v) (v ∷ above cmp l v)
-        ∙ elim (p v) as (λ c. p v ≡ c → filter p (below cmp l v) ++ cond c (v ∷ filter p (above cmp l v)) (filter p (above cmp l v)) ≡ cond c (below cmp (filter p l) v ++ v ∷ above cmp (filter p l) v) (filter p l)) [
+        ∙ elim (p v)
+        as (λ c. p v ≡ c
+        → filter p (below cmp l v) ++ cond c (v ∷ filter p (above cmp l v)) (filter p (above cmp l v))
+        ≡ cond c (below cmp (filter p l) v ++ v ∷ above cmp (filter p l) v) (filter p l)) [
           | true ↦ λ e. rw (low, high) refl
           | false ↦ λ e. rw (low, high) (whole (filter p l) v (rank cmp (filter p l) v) (gap_left l up v e))
         ] refl
@@ -124,7 +138,10 @@ module _ {T : Type 0} (cmp : T → T → Ordering) (o : IsTotalOrder cmp) where
       let rest = filter (λ x. not (is_lt (cmp x b))) l in
       ap (λ more. filter (λ x. is_lt (cmp x b)) l ++ more) (parts_joined bs rest (AllPairs-filter (λ x y. cmp x y ≡ Less) (λ x. not (is_lt (cmp x b))) l up)) ∙ two_parts l up b
 
-  pub parts_kept : (bs l : List T) → IsAscending cmp l → (cs : List (Command T)) → map (λ (p : List T × List (Command T)). after_commands cmp p.0 p.1) (zip (parts cmp (λ x. x) bs l) (parts cmp subject bs cs)) ≡ parts cmp (λ x. x) bs (after_commands cmp l cs)
+  pub parts_kept : (bs l : List T) → IsAscending cmp l → (cs : List (Command T))
+      → map (λ (p : List T × List (Command T)). after_commands cmp p.0 p.1)
+      (zip (parts cmp (λ x. x) bs l) (parts cmp subject bs cs))
+      ≡ parts cmp (λ x. x) bs (after_commands cmp l cs)
   parts_kept [] l up cs = refl
   parts_kept (b ∷ bs) l up cs =
       let upper = λ (x : T). not (is_lt (cmp x b)) in
@@ -135,11 +152,16 @@ module _ {T : Type 0} (cmp : T → T → Ordering) (o : IsTotalOrder cmp) where
 
 -- a list between two others, whose items are less than a value before it and greater after it
 module _ {T : Type 0} (cmp : T → T → Ordering) (v : T) (front s back : List T) (less : All (λ x. cmp x v ≡ Less) front) (more : All (λ x. cmp x v ≡ Greater) back) where
-  around_filter : (test : Ordering → Bool) → filter (λ x. test (cmp x v)) (front ++ (s ++ back)) ≡ filter (λ x. test (cmp x v)) front ++ (filter (λ x. test (cmp x v)) s ++ filter (λ x. test (cmp x v)) back)
+  around_filter : (test : Ordering → Bool)
+      → filter (λ x. test (cmp x v)) (front ++ (s ++ back))
+      ≡ filter (λ x. test (cmp x v)) front ++ (filter (λ x. test (cmp x v)) s ++ filter (λ x. test (cmp x v)) back)
   around_filter test = filter-append (λ x. test (cmp x v)) front (s ++ back) ∙ ap (λ ys. filter (λ x. test (cmp x v)) front ++ ys) (filter-append (λ x. test (cmp x v)) s back)
 
   all_front : (test : Ordering → Bool) → test Less ≡ true → filter (λ x. test (cmp x v)) front ≡ front
-  all_front test e = filter_front (λ x. test (cmp x v)) front (length front) (omega arith) (λ k d low high. ap test (less k d high) ∙ e) (λ k d low high. absurd (omega arith)) ∙ take_all (length front) front (omega arith)
+  all_front test e =
+      filter_front (λ x. test (cmp x v)) front (length front) (omega arith)
+      (λ k d low high. ap test (less k d high) ∙ e) (λ k d low high. absurd (omega arith))
+      ∙ take_all (length front) front (omega arith)
 
   none_front : (test : Ordering → Bool) → test Less ≡ false → filter (λ x. test (cmp x v)) front ≡ []
   none_front test e = filter_front (λ x. test (cmp x v)) front 0 (omega arith) (λ k d low high. absurd (omega arith)) (λ k d low high. ap test (less k d high) ∙ e)
@@ -158,7 +180,18 @@ module _ {T : Type 0} (cmp : T → T → Ordering) (v : T) (front s back : List 
 
   pub around_put : front ++ (put cmp s v ++ back) ≡ put cmp (front ++ (s ++ back)) v
   unfolding put
-  around_put = rw (around_filter is_lt, around_filter is_gt, all_front is_lt refl, none_front is_gt refl, none_back is_lt refl, all_back is_gt refl, append-nil (below cmp s v)) (ap (λ ys. front ++ ys) (append_assoc (below cmp s v) (v ∷ above cmp s v) back) ∙ sym (append_assoc front (below cmp s v) (v ∷ (above cmp s v ++ back))))
+  around_put =
+      rw (
+        around_filter is_lt,
+        around_filter is_gt,
+        all_front is_lt refl,
+        none_front is_gt refl,
+        none_back is_lt refl,
+        all_back is_gt refl,
+        append-nil (below cmp s v),
+      )
+      (ap (λ ys. front ++ ys) (append_assoc (below cmp s v) (v ∷ above cmp s v) back)
+      ∙ sym (append_assoc front (below cmp s v) (v ∷ (above cmp s v ++ back))))
 
   pub around_cut : front ++ (without cmp s v ++ back) ≡ without cmp (front ++ (s ++ back)) v
   unfolding unequal
@@ -172,13 +205,24 @@ module _ {T : Type 0} (cmp : T → T → Ordering) (shards : List (List T)) (k :
   changed s = ap (λ (ss : List (List T)). concat ss) (set_split shards k s owner.inside) ∙ (concat-append (take k shards) (s ∷ drop (suc k) shards) ∙ rw add-one refl)
 
   pub owner_put : concat (slice_set shards k (put cmp (get_or shards k []) v)) ≡ put cmp (concat shards) v
-  owner_put = changed (put cmp (get_or shards k []) v) ∙ (around_put cmp v (concat (take k shards)) (get_or shards k []) (concat (drop (k + 1) shards)) owner.below owner.above ∙ ap (λ l. put cmp l v) (sym (joined_around shards k owner.inside)))
+  owner_put =
+      changed (put cmp (get_or shards k []) v)
+      ∙ (around_put cmp v (concat (take k shards)) (get_or shards k []) (concat (drop (k + 1) shards)) owner.below
+      owner.above
+      ∙ ap (λ l. put cmp l v) (sym (joined_around shards k owner.inside)))
 
   pub owner_cut : concat (slice_set shards k (without cmp (get_or shards k []) v)) ≡ without cmp (concat shards) v
-  owner_cut = changed (without cmp (get_or shards k []) v) ∙ (around_cut cmp v (concat (take k shards)) (get_or shards k []) (concat (drop (k + 1) shards)) owner.below owner.above ∙ ap (λ l. without cmp l v) (sym (joined_around shards k owner.inside)))
+  owner_cut =
+      changed (without cmp (get_or shards k []) v)
+      ∙ (around_cut cmp v (concat (take k shards)) (get_or shards k []) (concat (drop (k + 1) shards)) owner.below
+      owner.above
+      ∙ ap (λ l. without cmp l v) (sym (joined_around shards k owner.inside)))
 
 pub one_for_two : {T : Type 0} (low high : List (List T)) (first second : List T) → concat (low ++ first ∷ second ∷ high) ≡ concat (low ++ (first ++ second) ∷ high)
-one_for_two low high first second = concat-append low (first ∷ second ∷ high) ∙ (ap (λ ys. concat low ++ ys) (sym (append_assoc first second (concat high))) ∙ sym (concat-append low ((first ++ second) ∷ high)))
+one_for_two low high first second =
+    concat-append low (first ∷ second ∷ high)
+    ∙ (ap (λ ys. concat low ++ ys) (sym (append_assoc first second (concat high)))
+    ∙ sym (concat-append low ((first ++ second) ∷ high)))
 
 -- the shard that routing by the borders finds has the item
 module _ {T : Type 0} (cmp : T → T → Ordering) (o : IsTotalOrder cmp) where

@@ -26,7 +26,9 @@ module _ {T : Type 0} (cmp : T → T → Ordering) where
   -- the elements of each shard, where each border is the first key of the next shard
   abbrev pub parts : {X : Type 0} → (X → T) → List T → List X → List (List X)
   parts key [] xs = xs ∷ []
-  parts key (b ∷ borders) xs = filter (λ x. is_lt (cmp (key x) b)) xs ∷ parts key borders (filter (λ x. not (is_lt (cmp (key x) b))) xs)
+  parts key (b ∷ borders) xs =
+      filter (λ x. is_lt (cmp (key x) b)) xs
+      ∷ parts key borders (filter (λ x. not (is_lt (cmp (key x) b))) xs)
 
   -- the number of borders that are at most v
   abbrev pub not_above : List T → T → ℕ

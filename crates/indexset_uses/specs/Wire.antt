@@ -1,6 +1,7 @@
 -- The texts of the sides of a market.
 use Rattle.std.specs.Prelude.{⊤}
-use Rattle.std.proofs.Common.{◌≡◌, Bool, true, false, cond, List, ℕ, Option, None, Some, refl, subst}
+use Rattle.std.proofs.Common.{◌≡◌, Bool, true, false, cond, List}
+use Rattle.std.proofs.Common.{ℕ, Option, None, Some, refl, subst}
 use lib.Chars.{codes}
 use Rattle.std.specs.Str.{bytes_eq}
 use Rattle.std.proofs.lemmas.Slice.Eq.{bytes_eq-Decides}
@@ -14,7 +15,9 @@ side_text Sell = codes "sell"
 
 -- the side that has this text
 abbrev pub side_of : List ℕ → Option Side
-side_of text = cond (bytes_eq text (codes "buy")) (Some Buy) (cond (bytes_eq text (codes "sell")) (Some Sell) None)
+side_of text =
+    cond (bytes_eq text (codes "buy")) (Some Buy)
+    (cond (bytes_eq text (codes "sell")) (Some Sell) None)
 
 pub side_told : (s : Side) → ⊤ → side_of (side_text s) ≡ Some s
 side_told Buy h = refl
@@ -23,9 +26,12 @@ side_told Sell h = refl
 pub side_sound : (text : List ℕ) (s : Side) → side_of text ≡ Some s → (text ≡ side_text s) × ⊤
 side_sound text s e = at (bytes_eq text (codes "buy")) (bytes_eq text (codes "sell")) refl refl e
   where
-    at : (a b : Bool) → bytes_eq text (codes "buy") ≡ a → bytes_eq text (codes "sell") ≡ b → cond a (Some Buy) (cond b (Some Sell) None) ≡ Some s → (text ≡ side_text s) × ⊤
-    at true b is _ e = let same : Buy ≡ s = cc in subst (λ q. (text ≡ side_text q) × ⊤) same ((bytes_eq-Decides text (codes "buy")).0 is, tt)
-    at false true _ is e = let same : Sell ≡ s = cc in subst (λ q. (text ≡ side_text q) × ⊤) same ((bytes_eq-Decides text (codes "sell")).0 is, tt)
+    at : (a b : Bool) → bytes_eq text (codes "buy") ≡ a → bytes_eq text (codes "sell") ≡ b
+        → cond a (Some Buy) (cond b (Some Sell) None) ≡ Some s → (text ≡ side_text s) × ⊤
+    at true b is _ e = let same : Buy ≡ s = cc in
+        subst (λ q. (text ≡ side_text q) × ⊤) same ((bytes_eq-Decides text (codes "buy")).0 is, tt)
+    at false true _ is e = let same : Sell ≡ s = cc in
+        subst (λ q. (text ≡ side_text q) × ⊤) same ((bytes_eq-Decides text (codes "sell")).0 is, tt)
     at false false _ _ e = let none : (let n : Option Side = None in n) ≡ Some s = e in cc
 
 pub side_word : (s : Side) → ⊤ → is_word (side_text s) ≡ true

@@ -1,7 +1,9 @@
 //! A change log: the events that a replica of a tree needs.
 ghost use Rattle.std.specs.Prelude.{◌≡◌, ◌+◌, ◌≤◌, length, true, Some, IfOk, IfErr, OnErr, OnOk};
 ghost use Rattle.std.specs.Ordering.{nat_cmp};
-ghost use Rattle.indexset.specs.Words.{IsNumberedFrom, by_key, checked_put_events, concat, keep, pair, put, put_events, refusal_for, removal_events, replay, value_of, without};
+ghost use Rattle.indexset.specs.Words.{IsNumberedFrom, by_key, checked_put_events};
+ghost use Rattle.indexset.specs.Words.{concat, keep, pair, put, put_events, refusal_for};
+ghost use Rattle.indexset.specs.Words.{removal_events, replay, value_of, without};
 
 use indexset::base::pair::Pair;
 use indexset::base::refusal::{Refusal, Refused};

@@ -1,8 +1,10 @@
 //! Replicas of trees: the events of a call, applied in order.
 ghost use Rattle.indexset_core.specs.Clones.{AreIdentical};
-ghost use Rattle.std.specs.Prelude.{◌≡◌, ◌+◌, ◌-◌, ◌<◌, ◌≤◌, List, length, slice_get, take, unwrap_or, Some, IfErr, IfSome, OnErr, OnOk};
+ghost use Rattle.std.specs.Prelude.{◌≡◌, ◌+◌, ◌-◌, ◌<◌, ◌≤◌, List, length, slice_get};
+ghost use Rattle.std.specs.Prelude.{take, unwrap_or, Some, IfErr, IfSome, OnErr, OnOk};
 ghost use Rattle.std.specs.List.{AllZip};
-ghost use Rattle.indexset.specs.Words.{apply_refusal, replay, AreClonesEqual, AreCopies, IsEventClone};
+ghost use Rattle.indexset.specs.Words.{apply_refusal, replay, AreClonesEqual};
+ghost use Rattle.indexset.specs.Words.{AreCopies, IsEventClone};
 
 use indexset::base::refusal::Refusal;
 use indexset::cdc::change::ChangeEvent;

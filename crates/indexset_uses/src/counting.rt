@@ -1,5 +1,6 @@
 //! Counts of the elements of two sets, and of the comparisons of a search.
-ghost use Rattle.std.specs.Prelude.{◌≡◌, ◌+◌, ◌≤◌, ◌^◌, length, position, None, Some, IfSome, IfNone, IfOk, IfErr};
+ghost use Rattle.std.specs.Prelude.{◌≡◌, ◌+◌, ◌≤◌, ◌^◌, length, position};
+ghost use Rattle.std.specs.Prelude.{None, Some, IfSome, IfNone, IfOk, IfErr};
 ghost use Rattle.std.specs.Ordering.{is_eq, nat_cmp};
 ghost use Rattle.indexset.specs.Words.{digits, intersection, items, rank, union};
 

@@ -1,5 +1,6 @@
 //! An order book: bids and asks, each a set of prices.
-ghost use Rattle.std.specs.Prelude.{◌≡◌, ◌-◌, ◌≤◌, ◌<◌, ◌^◌, [], length, min, slice_get, drop, sum, take, Some, IfSome, OnSome, IfNone};
+ghost use Rattle.std.specs.Prelude.{◌≡◌, ◌-◌, ◌≤◌, ◌<◌, ◌^◌, [], length, min, slice_get};
+ghost use Rattle.std.specs.Prelude.{drop, sum, take, Some, IfSome, OnSome, IfNone};
 ghost use Rattle.std.specs.List.{All};
 ghost use Rattle.indexset.specs.Words.{items};
 

@@ -3,7 +3,8 @@ ghost use Rattle.std.specs.Prelude.{◌≡◌, ◌⊎◌, false, length, Some, I
 ghost use Rattle.std.specs.Option.{option_copied};
 ghost use Rattle.std.specs.Ordering.{nat_cmp};
 ghost use Rattle.std.specs.Cmp.Lexicographic.{slice_cmp};
-ghost use Rattle.indexset.specs.Words.{by_key, has_key, concat, key_removal_events, pair, put, put_events, refusal_for, value_of, without_key};
+ghost use Rattle.indexset.specs.Words.{by_key, has_key, concat, key_removal_events, pair};
+ghost use Rattle.indexset.specs.Words.{put, put_events, refusal_for, value_of, without_key};
 
 use crate::copies::apply_all;
 use indexset::base::Text;

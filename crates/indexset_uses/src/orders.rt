@@ -1,7 +1,9 @@
 //! Orders by customer: a multimap.
 ghost use Rattle.std.specs.Prelude.{◌≡◌, ℕ, false, length, nat_eq, IfErr, OnOk, OnErr};
 ghost use Rattle.std.specs.Ordering.{is_eq, nat_cmp};
-ghost use Rattle.indexset.specs.Words.{by_number, equal_pair, inserted_pair, insertion_refusal, concat, pair_removal_events, pairs_of, put, refusal_for, without_first};
+ghost use Rattle.indexset.specs.Words.{by_number, equal_pair, inserted_pair};
+ghost use Rattle.indexset.specs.Words.{insertion_refusal, concat, pair_removal_events};
+ghost use Rattle.indexset.specs.Words.{pairs_of, put, refusal_for, without_first};
 
 use indexset::base::multipair::MultiPair;
 use indexset::base::refusal::{Refusal, Refused};

@@ -1,5 +1,6 @@
 //! Prices: a map from items to prices.
-ghost use Rattle.std.specs.Prelude.{◌≡◌, ◌+◌, ◌-◌, ◌^◌, Some, None, IfErr, IfOk, OnErr, length, min, unwrap_or};
+ghost use Rattle.std.specs.Prelude.{◌≡◌, ◌+◌, ◌-◌, ◌^◌, Some, None, IfErr};
+ghost use Rattle.std.specs.Prelude.{IfOk, OnErr, length, min, unwrap_or};
 ghost use Rattle.std.specs.Ordering.{nat_cmp};
 ghost use Rattle.std.specs.declared.ops.Bound.TheVariants.{Excluded, Unbounded};
 ghost use Rattle.indexset.specs.declared.base.refusal.Refusal.TheVariants.{Memory};

@@ -1,6 +1,7 @@
 //! Shards: a map that is divided by key, where each part has the commands of its keys. Each
 //! function is a theorem that a router, a leader or a reader of such a map uses.
-ghost use Rattle.std.specs.Prelude.{◌≡◌, ◌+◌, ◌<◌, ℕ, List, [], ◌∷◌, ◌++◌, get_or, length, map, slice_get, slice_set, take};
+ghost use Rattle.std.specs.Prelude.{◌≡◌, ◌+◌, ◌<◌, ℕ, List, [], ◌∷◌, ◌++◌, get_or};
+ghost use Rattle.std.specs.Prelude.{length, map, slice_get, slice_set, take};
 ghost use Rattle.std.specs.Cmp.{IsTotalOrder};
 ghost use Rattle.std.specs.List.{zip};
 ghost use Rattle.indexset.specs.Words.{concat, put, rank, without, IsAscending};

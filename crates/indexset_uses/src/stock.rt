@@ -2,7 +2,8 @@
 ghost use Rattle.std.specs.Prelude.{◌≡◌, ◌⊎◌, length, Some, IfErr, OnOk};
 ghost use Rattle.std.specs.Ordering.{nat_cmp};
 ghost use Rattle.std.specs.Cmp.Lexicographic.{slice_cmp};
-ghost use Rattle.indexset.specs.Words.{by_key, concat, key_removal_events, pair, put, put_events, refusal_for, value_of, without_key};
+ghost use Rattle.indexset.specs.Words.{by_key, concat, key_removal_events, pair, put};
+ghost use Rattle.indexset.specs.Words.{put_events, refusal_for, value_of, without_key};
 
 use crate::copies::apply_all;
 use indexset::base::Text;

@@ -1,10 +1,14 @@
 //! Maps whose keys are `String`s. A clone of a `String` has the same bytes, but is another value.
 //! So the contracts describe the contents of the map and the numbers of the events, and describe
 //! the items of events as clones.
-ghost use Rattle.std.specs.Prelude.{◌≡◌, ◌+◌, ◌≤◌, ◌⊎◌, ℕ, List, length, false, map, unwrap_or, None, Some, IfErr, IfOk, OnOk, OnErr, string_bytes};
+ghost use Rattle.std.specs.Prelude.{◌≡◌, ◌+◌, ◌≤◌, ◌⊎◌, ℕ, List, length, false, map, unwrap_or};
+ghost use Rattle.std.specs.Prelude.{None, Some, IfErr, IfOk, OnOk, OnErr, string_bytes};
 ghost use Rattle.std.specs.List.{AllZip};
 ghost use Rattle.std.specs.String.{string_cmp};
-ghost use Rattle.indexset.specs.Words.{by_key, has_key, concat, key_removal_events, apply_refusal, numbered_from, pair, put, put_events, refusal_for, unassigned, value_of, without_key, AreCopies, IsClonedStep, IsEventClone, IsNumberedFrom};
+ghost use Rattle.indexset.specs.Words.{by_key, has_key, concat, key_removal_events};
+ghost use Rattle.indexset.specs.Words.{apply_refusal, numbered_from, pair, put, put_events};
+ghost use Rattle.indexset.specs.Words.{refusal_for, unassigned, value_of, without_key};
+ghost use Rattle.indexset.specs.Words.{AreCopies, IsClonedStep, IsEventClone, IsNumberedFrom};
 
 use crate::copies::apply_all;
 use indexset::base::Text;

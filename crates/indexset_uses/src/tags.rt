@@ -1,8 +1,11 @@
 //! An index from tags to the names of documents: a logged multimap.
-ghost use Rattle.std.specs.Prelude.{◌≡◌, ◌+◌, ℕ, List, nat_eq, false, length, true, is_some, Some, IfErr, IfOk, OnOk, OnErr};
+ghost use Rattle.std.specs.Prelude.{◌≡◌, ◌+◌, ℕ, List, nat_eq, false, length};
+ghost use Rattle.std.specs.Prelude.{true, is_some, Some, IfErr, IfOk, OnOk, OnErr};
 ghost use Rattle.std.specs.Ordering.{is_eq, nat_cmp};
 ghost use Rattle.std.specs.Cmp.Lexicographic.{pointwise, slice_cmp};
-ghost use Rattle.indexset.specs.Words.{by_number, entries, equal_pair, inserted_pair, insertion_refusal, concat, pair_removal_events, pairs_of, put, refusal_for, replay, without_first, IsNumberedFrom};
+ghost use Rattle.indexset.specs.Words.{by_number, entries, equal_pair, inserted_pair};
+ghost use Rattle.indexset.specs.Words.{insertion_refusal, concat, pair_removal_events, pairs_of};
+ghost use Rattle.indexset.specs.Words.{put, refusal_for, replay, without_first, IsNumberedFrom};
 
 use indexset::base::Text;
 use indexset::base::multipair::MultiPair;

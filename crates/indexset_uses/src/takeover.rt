@@ -2,7 +2,8 @@
 ghost use Rattle.std.specs.Prelude.{◌≡◌, ◌<◌, ◌≤◌, [], length, take, unwrap_or, Some, IfErr, IfOk};
 ghost use Rattle.std.specs.List.{All};
 ghost use Rattle.std.specs.Ordering.{nat_cmp};
-ghost use Rattle.indexset.specs.Words.{IsPrefix, IsDelivered, IsEventLog, nodes_refusal, replay, vec_items};
+ghost use Rattle.indexset.specs.Words.{IsPrefix, IsDelivered, IsEventLog};
+ghost use Rattle.indexset.specs.Words.{nodes_refusal, replay, vec_items};
 
 use crate::change_log::Numbers;
 use indexset::base::refusal::Refusal;

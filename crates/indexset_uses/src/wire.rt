@@ -1,6 +1,7 @@
 //! Events that are sent as lines of text, with items of a type of our own.
 ghost use Rattle.std.specs.Prelude.{◌≡◌, ⊤, Some, IfOk, refl};
-ghost use Rattle.indexset_uses.specs.Wire.{side_item, side_of, side_sound, side_text, side_told, side_word};
+ghost use Rattle.indexset_uses.specs.Wire.{side_item, side_of, side_sound};
+ghost use Rattle.indexset_uses.specs.Wire.{side_text, side_told, side_word};
 
 use indexset::base::pair::Pair;
 use indexset::cdc::change::ChangeEvent;

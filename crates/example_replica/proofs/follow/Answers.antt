@@ -14,7 +14,9 @@ loop-event-preserved c =
     let i = c.loop-event.event-index in
     let event = c.event-item.result in
     let more : take (i + 1) events ≡ take i events ++ (event ∷ []) = rw (add-one, take-suc events i event c.loop-event-test.true) (ap (λ e. take i events ++ (e ∷ [])) (sym c.event-item.is)) in
-    let one : replay cmp c.loop-event.copy.nodes (event ∷ []) ≡ Some c.apply.new.self.nodes = ap (λ made. option_and_then (λ ns. Some ns) made) {x = step cmp c.loop-event.copy.nodes event} (c.in_ok-apply.ensures.step (search rules)) in
+    let one : replay cmp c.loop-event.copy.nodes (event ∷ []) ≡ Some c.apply.new.self.nodes =
+    ap (λ made. option_and_then (λ ns. Some ns) made) {x = step cmp c.loop-event.copy.nodes event}
+    (c.in_ok-apply.ensures.step (search rules)) in
     ap (replay cmp first) more
     ∙ (c.replay_in_parts.ensures first (take i events) (event ∷ [])
     ∙ (ap (λ made. option_and_then (λ middle. replay cmp middle (event ∷ [])) made) {x = replay cmp first (take i events)} c.loop-event.invariant ∙ one))

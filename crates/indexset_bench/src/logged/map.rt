@@ -36,7 +36,8 @@ impl<K: Ord + Clone + Drop, V: Clone + Drop, Node: NodeLike<Pair<K, V>>> Logged
     ghost use Rattle.std.below.core.specs.declared.int.u64.TheConstants.{MAX};
     ghost use Rattle.indexset_core.specs.Nodes.{concat};
     ghost use Rattle.indexset_core.specs.declared.pair.Pair.{Pair};
-    ghost use Rattle.indexset_bench.specs.LoggedMap.{logged_map_reply, logged_map_after, logged_map_events, logged_map_left};
+    ghost use Rattle.indexset_bench.specs.LoggedMap.{logged_map_reply, logged_map_after};
+    ghost use Rattle.indexset_bench.specs.LoggedMap.{logged_map_events, logged_map_left};
 
     type Item = Pair<K, V>;
 

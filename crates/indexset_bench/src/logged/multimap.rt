@@ -35,7 +35,9 @@ impl<K: Ord + Clone + Drop, V: Eq + Clone + Drop, Node: NodeLike<MultiPair<K, V>
     ghost use Rattle.std.below.core.specs.declared.int.u64.TheConstants.{MAX};
     ghost use Rattle.indexset_core.specs.Nodes.{concat};
     ghost use Rattle.indexset_core.specs.declared.multipair.MultiPair.{MultiPair};
-    ghost use Rattle.indexset_bench.specs.LoggedMulti.{MultiState, logged_multi_reply, logged_multi_after, logged_multi_events, logged_multi_left, lacks_pair_number};
+    ghost use Rattle.indexset_bench.specs.LoggedMulti.{MultiState, logged_multi_reply};
+    ghost use Rattle.indexset_bench.specs.LoggedMulti.{logged_multi_after, logged_multi_events};
+    ghost use Rattle.indexset_bench.specs.LoggedMulti.{logged_multi_left, lacks_pair_number};
 
     type Item = MultiPair<K, V>;
 

@@ -31,7 +31,8 @@ impl<T: Ord + Clone + Drop, Node: NodeLike<T>> Logged for BTreeSet<T, Node> {
     ghost use Rattle.std.specs.Prelude.{◌≡◌, ◌+◌, List, length, nat_lt};
     ghost use Rattle.std.below.core.specs.declared.int.u64.TheConstants.{MAX};
     ghost use Rattle.indexset_core.specs.Nodes.{concat};
-    ghost use Rattle.indexset_bench.specs.LoggedSet.{logged_set_reply, logged_set_after, logged_set_events, logged_set_left};
+    ghost use Rattle.indexset_bench.specs.LoggedSet.{logged_set_reply, logged_set_after};
+    ghost use Rattle.indexset_bench.specs.LoggedSet.{logged_set_events, logged_set_left};
 
     type Item = T;
 

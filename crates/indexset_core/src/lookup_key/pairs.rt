@@ -2,7 +2,8 @@
 ghost use Rattle.std.specs.Cmp.Lexicographic.{nat_list_cmp_total, slice_cmp};
 ghost use Rattle.std.specs.Ordering.{nat_cmp};
 ghost use Rattle.indexset_core.specs.ByteOrder.{acts_by_view, one_by_view};
-ghost use Rattle.indexset_core.specs.LookupKey.{acts_as_itself, acts_by, acts_on, acts_on_numbered, one_as_itself, one_by, one_on};
+ghost use Rattle.indexset_core.specs.LookupKey.{acts_as_itself, acts_by, acts_on};
+ghost use Rattle.indexset_core.specs.LookupKey.{acts_on_numbered, one_as_itself, one_by, one_on};
 
 use super::{LookupKey, UniqueKey};
 use crate::by_bytes::{ByBytes, compare_bytes};
@@ -65,7 +66,8 @@ impl<K: Ord, V> LookupKey<MultiPair<K, V>> for &K {
 impl<K: ByBytes, V> LookupKey<Pair<K, V>> for &str {
     ghost order = { λ p q. slice_cmp nat_cmp (K.bytes p.key) q.now };
 
-    ghost acts_as_key = { acts_on (λ p. p.key) (acts_by_view nat_list_cmp_total K.bytes (λ q. q.now) K.ordered_by_bytes) };
+    ghost acts_as_key = { acts_on (λ p. p.key)
+        (acts_by_view nat_list_cmp_total K.bytes (λ q. q.now) K.ordered_by_bytes) };
 
     fn cmp_item(&self, item: &Pair<K, V>) -> Ordering {
         compare_bytes(item.key.bytes(), (*self).as_bytes())
@@ -73,13 +75,15 @@ impl<K: ByBytes, V> LookupKey<Pair<K, V>> for &str {
 }
 
 impl<K: ByBytes, V> UniqueKey<Pair<K, V>> for &str {
-    ghost equals_at_most_one = { one_on (λ p. p.key) (one_by_view nat_list_cmp_total K.bytes (λ q. q.now) K.ordered_by_bytes) };
+    ghost equals_at_most_one = { one_on (λ p. p.key)
+        (one_by_view nat_list_cmp_total K.bytes (λ q. q.now) K.ordered_by_bytes) };
 }
 
 impl<K: ByBytes, V> LookupKey<MultiPair<K, V>> for &str {
     ghost order = { λ p q. slice_cmp nat_cmp (K.bytes p.key) q.now };
 
-    ghost acts_as_key = { acts_on_numbered (acts_by_view nat_list_cmp_total K.bytes (λ q. q.now) K.ordered_by_bytes) };
+    ghost acts_as_key = { acts_on_numbered
+        (acts_by_view nat_list_cmp_total K.bytes (λ q. q.now) K.ordered_by_bytes) };
 
     fn cmp_item(&self, item: &MultiPair<K, V>) -> Ordering {
         compare_bytes(item.key.bytes(), (*self).as_bytes())
@@ -89,7 +93,8 @@ impl<K: ByBytes, V> LookupKey<MultiPair<K, V>> for &str {
 impl<K: ByBytes, V> LookupKey<Pair<K, V>> for &[u8] {
     ghost order = { λ p q. slice_cmp nat_cmp (K.bytes p.key) q.now };
 
-    ghost acts_as_key = { acts_on (λ p. p.key) (acts_by_view nat_list_cmp_total K.bytes (λ q. q.now) K.ordered_by_bytes) };
+    ghost acts_as_key = { acts_on (λ p. p.key)
+        (acts_by_view nat_list_cmp_total K.bytes (λ q. q.now) K.ordered_by_bytes) };
 
     fn cmp_item(&self, item: &Pair<K, V>) -> Ordering {
         compare_bytes(item.key.bytes(), *self)
@@ -97,13 +102,15 @@ impl<K: ByBytes, V> LookupKey<Pair<K, V>> for &[u8] {
 }
 
 impl<K: ByBytes, V> UniqueKey<Pair<K, V>> for &[u8] {
-    ghost equals_at_most_one = { one_on (λ p. p.key) (one_by_view nat_list_cmp_total K.bytes (λ q. q.now) K.ordered_by_bytes) };
+    ghost equals_at_most_one = { one_on (λ p. p.key)
+        (one_by_view nat_list_cmp_total K.bytes (λ q. q.now) K.ordered_by_bytes) };
 }
 
 impl<K: ByBytes, V> LookupKey<MultiPair<K, V>> for &[u8] {
     ghost order = { λ p q. slice_cmp nat_cmp (K.bytes p.key) q.now };
 
-    ghost acts_as_key = { acts_on_numbered (acts_by_view nat_list_cmp_total K.bytes (λ q. q.now) K.ordered_by_bytes) };
+    ghost acts_as_key = { acts_on_numbered
+        (acts_by_view nat_list_cmp_total K.bytes (λ q. q.now) K.ordered_by_bytes) };
 
     fn cmp_item(&self, item: &MultiPair<K, V>) -> Ordering {
         compare_bytes(item.key.bytes(), *self)

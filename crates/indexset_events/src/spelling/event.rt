@@ -3,7 +3,9 @@ ghost use Rattle.std.specs.Prelude.{◌≡◌};
 ghost use Rattle.std.specs.Fmt.{decimal};
 ghost use Rattle.std.specs.Option.{option_and_then};
 ghost use Rattle.std.specs.Result.{result_ok};
-ghost use Rattle.indexset_events.specs.EventText.{EventInRange, change_reading, event_reading, merge_reading, named_reading, node_reading, place_reading, rest_reading, word_reading};
+ghost use Rattle.indexset_events.specs.EventText.{EventInRange, change_reading, event_reading};
+ghost use Rattle.indexset_events.specs.EventText.{merge_reading, named_reading, node_reading};
+ghost use Rattle.indexset_events.specs.EventText.{place_reading, rest_reading, word_reading};
 ghost use Rattle.indexset_events.specs.Spelling.{behind, number_of};
 
 use super::Spelled;

@@ -3,7 +3,10 @@ ghost use Rattle.std.specs.Prelude.{◌^◌, ◌<◌, refl};
 ghost use lib.Signed.{mag};
 ghost use Rattle.std.specs.Fmt.{decimal, signed_decimal};
 ghost use Rattle.indexset_events.specs.Spelling.{number_below, number_of, signed_below};
-ghost use Rattle.indexset_events.specs.Spelling.Laws.{below_item, below_sound, below_told, below_word, number_sound, number_told, signed_item, signed_sound, signed_told, signed_word};
+ghost use Rattle.indexset_events.specs.Spelling.Laws.{below_item, below_sound, below_told};
+ghost use Rattle.indexset_events.specs.Spelling.Laws.{below_word, number_sound, number_told};
+ghost use Rattle.indexset_events.specs.Spelling.Laws.{signed_item, signed_sound};
+ghost use Rattle.indexset_events.specs.Spelling.Laws.{signed_told, signed_word};
 
 use super::{Spelled, Word};
 use crate::parts::{read_number, signed_text};

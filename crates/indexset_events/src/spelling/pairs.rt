@@ -1,7 +1,10 @@
 //! The texts of pairs: the key, a colon and the value, then the number of a numbered pair.
 ghost use Rattle.std.specs.Prelude.{◌^◌, ◌<◌};
-ghost use Rattle.indexset_events.specs.EventText.{multi_pair_reading, multi_pair_text, pair_reading, pair_text};
-ghost use Rattle.indexset_events.specs.EventText.Laws.{multi_item, multi_output, multi_sound, multi_told, pair_item, pair_output, pair_sound, pair_told};
+ghost use Rattle.indexset_events.specs.EventText.{multi_pair_reading, multi_pair_text};
+ghost use Rattle.indexset_events.specs.EventText.{pair_reading, pair_text};
+ghost use Rattle.indexset_events.specs.EventText.Laws.{multi_item, multi_output};
+ghost use Rattle.indexset_events.specs.EventText.Laws.{multi_sound, multi_told, pair_item};
+ghost use Rattle.indexset_events.specs.EventText.Laws.{pair_output, pair_sound, pair_told};
 
 use super::{Spelled, Word};
 use crate::parts::{after, cut, read_number};
@@ -17,9 +20,11 @@ impl<K: Word + Drop, V: Word + Drop> Spelled for Pair<K, V> {
 
     ghost shown = { pair_output K.spelling V.spelling K.shown V.shown };
 
-    ghost told = { pair_told K.spelling V.spelling K.in_range V.in_range K.reading V.reading K.told V.told K.whole };
+    ghost told = { pair_told K.spelling V.spelling K.in_range V.in_range K.reading V.reading
+        K.told V.told K.whole };
 
-    ghost sound = { pair_sound K.spelling V.spelling K.in_range V.in_range K.reading V.reading K.sound V.sound };
+    ghost sound = { pair_sound K.spelling V.spelling K.in_range V.in_range K.reading V.reading
+        K.sound V.sound };
 
     ghost apart = { pair_item K.spelling V.spelling K.in_range V.in_range K.whole V.whole };
 
@@ -45,9 +50,11 @@ impl<K: Word + Drop, V: Word + Drop> Spelled for MultiPair<K, V> {
 
     ghost shown = { multi_output K.spelling V.spelling K.shown V.shown };
 
-    ghost told = { multi_told K.spelling V.spelling K.in_range V.in_range K.reading V.reading K.told V.told K.whole V.whole };
+    ghost told = { multi_told K.spelling V.spelling K.in_range V.in_range K.reading V.reading
+        K.told V.told K.whole V.whole };
 
-    ghost sound = { multi_sound K.spelling V.spelling K.in_range V.in_range K.reading V.reading K.sound V.sound };
+    ghost sound = { multi_sound K.spelling V.spelling K.in_range V.in_range K.reading V.reading
+        K.sound V.sound };
 
     ghost apart = { multi_item K.spelling V.spelling K.in_range V.in_range K.whole V.whole };
 

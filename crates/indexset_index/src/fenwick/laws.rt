@@ -1,7 +1,8 @@
 //! Laws on the definitions that the contracts of this crate use. Each function does nothing; its
 //! contract is the law, for all values.
 ghost use Rattle.std.specs.Prelude.{◌≡◌, ◌+◌, ◌-◌, ◌*◌, ◌^◌, ◌<◌, ◌≤◌, ℕ, List, length, count_ones};
-ghost use Rattle.indexset_index.specs.Fenwick.{lowbit, prefix_sum, cell_of, cell_in, lengths_of, IsFenwickOf};
+ghost use Rattle.indexset_index.specs.Fenwick.{lowbit, prefix_sum, cell_of};
+ghost use Rattle.indexset_index.specs.Fenwick.{cell_in, lengths_of, IsFenwickOf};
 
 /// `lowbit` is the value of the lowest one bit.
 ///

@@ -1,5 +1,6 @@
 //! Updates of the sums of blocks of nodes, after a node was inserted or removed.
-ghost use Rattle.std.specs.Prelude.{◌≡◌, ◌+◌, ◌-◌, ◌*◌, ◌^◌, ◌<◌, ◌≤◌, ℕ, insert, length, map, remove, sum, slice_index};
+ghost use Rattle.std.specs.Prelude.{◌≡◌, ◌+◌, ◌-◌, ◌*◌, ◌^◌, ◌<◌, ◌≤◌, ℕ, insert};
+ghost use Rattle.std.specs.Prelude.{length, map, remove, sum, slice_index};
 ghost use Rattle.indexset_core.specs.Nodes.{node_lengths};
 ghost use Rattle.indexset_index.specs.Blocks.{block_count, block_sums};
 ghost use Rattle.indexset_index.specs.Fenwick.{prefix_sum, lengths_of, IsFenwick};

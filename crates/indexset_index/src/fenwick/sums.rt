@@ -1,5 +1,6 @@
 //! Sums of the first lengths, and the search for a position.
-ghost use Rattle.std.specs.Prelude.{◌≡◌, ℕ, ◌+◌, ◌<◌, ◌≤◌, ◌/◌, ◌^◌, List, length, sum, slice_index, count_ones, MatchOption};
+ghost use Rattle.std.specs.Prelude.{◌≡◌, ℕ, ◌+◌, ◌<◌, ◌≤◌, ◌/◌, ◌^◌, List, length};
+ghost use Rattle.std.specs.Prelude.{sum, slice_index, count_ones, MatchOption};
 ghost use Rattle.indexset_core.specs.Digits.{digits};
 ghost use Rattle.indexset_index.specs.Fenwick.{IsFenwickOf, prefix_sum};
 

@@ -1,5 +1,6 @@
 //! Updates of the cells of an index.
-ghost use Rattle.std.specs.Prelude.{◌≡◌, ◌+◌, ◌-◌, ◌<◌, ◌≤◌, ◌^◌, length, sum, slice_index, slice_set};
+ghost use Rattle.std.specs.Prelude.{◌≡◌, ◌+◌, ◌-◌, ◌<◌, ◌≤◌, ◌^◌};
+ghost use Rattle.std.specs.Prelude.{length, sum, slice_index, slice_set};
 ghost use Rattle.indexset_index.specs.Fenwick.{lowbit, prefix_sum, lengths_of, IsFenwick};
 
 /// Returns cell `end`: the sum of the last of the lengths, and of further ones, `more`.

@@ -1,10 +1,12 @@
 //! The pairs of the first and the last key, and calls that remove them.
-ghost use Rattle.std.specs.Prelude.{◌≡◌, ◌↔◌, ◌-◌, ◌<◌, ◌≤◌, [], length, slice_get, false, IfOk, OnOk, IfErr, OnErr, IsOk, IfSome, IsSome};
+ghost use Rattle.std.specs.Prelude.{◌≡◌, ◌↔◌, ◌-◌, ◌<◌, ◌≤◌, [], length, slice_get, false};
+ghost use Rattle.std.specs.Prelude.{IfOk, OnOk, IfErr, OnErr, IsOk, IfSome, IsSome};
 ghost use Rattle.std.specs.Option.{option_map};
 ghost use Rattle.indexset_core.specs.Nodes.{concat};
 ghost use Rattle.indexset_core.specs.Order.{above, below};
 ghost use Rattle.indexset_core.specs.Pairs.{by_key, entry_of, pair_keys};
-ghost use Rattle.indexset_log.specs.Changed.{Changed, Fits, PairEvents, first_removal, last_removal, refusal_of};
+ghost use Rattle.indexset_log.specs.Changed.{Changed, Fits, PairEvents};
+ghost use Rattle.indexset_log.specs.Changed.{first_removal, last_removal, refusal_of};
 
 use super::BTreeMap;
 use indexset_core::node::NodeLike;

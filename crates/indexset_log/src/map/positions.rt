@@ -1,5 +1,6 @@
 //! Ranks and positions of keys, and the pairs at positions.
-ghost use Rattle.std.specs.Prelude.{◌≡◌, ◌+◌, ◌<◌, ◌≤◌, true, if◌then◌else◌, None, Some, IfSome, find, length, slice_get};
+ghost use Rattle.std.specs.Prelude.{◌≡◌, ◌+◌, ◌<◌, ◌≤◌, true, if◌then◌else◌};
+ghost use Rattle.std.specs.Prelude.{None, Some, IfSome, find, length, slice_get};
 ghost use Rattle.std.specs.List.{AllWithin, count_by};
 ghost use Rattle.std.specs.Map.Iter.{ShowsInOrder, ShowsInReverse};
 ghost use Rattle.std.specs.Option.{option_map};
@@ -9,7 +10,8 @@ ghost use Rattle.indexset_core.specs.KeyRange.{IfBounded, in_positions, is_befor
 ghost use Rattle.indexset_core.specs.Digits.{digits};
 ghost use Rattle.indexset_core.specs.Nodes.{concat};
 ghost use Rattle.indexset_core.specs.Order.{IsAscending};
-ghost use Rattle.indexset_core.specs.Pairs.{by_key, entry_of, has_key, key_rank, pair_of, pair_deref};
+ghost use Rattle.indexset_core.specs.Pairs.{by_key, entry_of, has_key};
+ghost use Rattle.indexset_core.specs.Pairs.{key_rank, pair_of, pair_deref};
 ghost use Rattle.indexset_core.specs.Parted.{IsParted};
 
 use super::BTreeMap;
@@ -52,7 +54,8 @@ impl<K: Ord + Clone + Drop, V: Clone + Drop, Node: NodeLike<Pair<K, V>>> BTreeMa
     /// # Examples
     ///
     /// ```
-    /// let mut prices: map::BTreeMap<String, u64, Vec<Pair<String, u64>>> = map::BTreeMap::new(alloc);
+    /// let mut prices: map::BTreeMap<String, u64, Vec<Pair<String, u64>>> =
+    ///     map::BTreeMap::new(alloc);
     /// prices.insert(String::from_str(alloc, "pear")?, 120)?;
     /// let mut sought = ByKey::new(&"pear");
     /// assert!(rt; prices.get_key_value_by(&mut sought).is_some_and(|(_, price)| *price == 120));

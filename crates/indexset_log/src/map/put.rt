@@ -1,9 +1,11 @@
 //! Insertion of pairs.
-ghost use Rattle.std.specs.Prelude.{◌≡◌, true, Some, IfOk, OnOk, IfErr, OnErr, IsOk, IfSome, is_none};
+ghost use Rattle.std.specs.Prelude.{◌≡◌, true, Some, IfOk, OnOk, IfErr};
+ghost use Rattle.std.specs.Prelude.{OnErr, IsOk, IfSome, is_none};
 ghost use Rattle.std.specs.Option.{option_map};
 ghost use Rattle.indexset_core.specs.Nodes.{concat};
 ghost use Rattle.indexset_core.specs.Pairs.{by_key, has_key, pair, value_of};
-ghost use Rattle.indexset_log.specs.Changed.{Changed, PairEvents, checked_put_change, put_change, refusal_of};
+ghost use Rattle.indexset_log.specs.Changed.{Changed, PairEvents, checked_put_change};
+ghost use Rattle.indexset_log.specs.Changed.{put_change, refusal_of};
 ghost use Rattle.indexset_log.specs.Keys.{KeepsOthers};
 
 use super::BTreeMap;

@@ -1,9 +1,11 @@
 //! The first and the last item, and calls that remove them.
-ghost use Rattle.std.specs.Prelude.{◌≡◌, ◌↔◌, ◌-◌, ◌<◌, ◌≤◌, [], length, slice_get, false, IfOk, OnOk, IfErr, OnErr, IsOk, IfSome, IsSome, MatchOption};
+ghost use Rattle.std.specs.Prelude.{◌≡◌, ◌↔◌, ◌-◌, ◌<◌, ◌≤◌, [], length, slice_get, false, IfOk};
+ghost use Rattle.std.specs.Prelude.{OnOk, IfErr, OnErr, IsOk, IfSome, IsSome, MatchOption};
 ghost use Rattle.std.specs.Option.{option_copied};
 ghost use Rattle.indexset_core.specs.Nodes.{concat, IsLawful};
 ghost use Rattle.indexset_core.specs.Order.{above, below};
-ghost use Rattle.indexset_log.specs.Changed.{Changed, Fits, ItemEvents, first_removal, last_removal, refusal_of};
+ghost use Rattle.indexset_log.specs.Changed.{Changed, Fits, ItemEvents};
+ghost use Rattle.indexset_log.specs.Changed.{first_removal, last_removal, refusal_of};
 ghost use Rattle.indexset_events.specs.Ends.{IsItemAt};
 
 use super::BTreeSet;

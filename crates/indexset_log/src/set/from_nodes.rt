@@ -1,5 +1,6 @@
 //! Construction of sets from nodes.
-ghost use Rattle.std.specs.Prelude.{◌≡◌, ◌≤◌, ◌<◌, length, map, None, Some, MatchOption, IfOk, OnOk, IfErr};
+ghost use Rattle.std.specs.Prelude.{◌≡◌, ◌≤◌, ◌<◌, length, map, None};
+ghost use Rattle.std.specs.Prelude.{Some, MatchOption, IfOk, OnOk, IfErr};
 ghost use Rattle.std.specs.Option.{unwrap_or};
 ghost use Rattle.indexset_core.specs.Nodes.{concat, node_lengths};
 ghost use Rattle.indexset_events.specs.Attach.{nodes_refusal};

@@ -57,7 +57,8 @@ impl<T: Ord + Clone + Drop> BTreeSet<T, Vec<T>> {
     /// # Examples
     ///
     /// ```
-    /// let tree: set::BTreeSet<u64, Vec<u64>> = set::BTreeSet::from(alloc, vec![in alloc; 15, 5]?)?;
+    /// let tree: set::BTreeSet<u64, Vec<u64>> =
+    ///     set::BTreeSet::from(alloc, vec![in alloc; 15, 5]?)?;
     /// assert!(rt; tree.iter().copied().eq([5, 15]));
     /// ```
     ///

@@ -1,5 +1,6 @@
 //! Ranks, positions and the items at them.
-ghost use Rattle.std.specs.Prelude.{◌≡◌, ◌+◌, ◌<◌, ◌≤◌, true, None, Some, IfErr, IfOk, IfSome, MatchOption, length, map, position, slice_get, take};
+ghost use Rattle.std.specs.Prelude.{◌≡◌, ◌+◌, ◌<◌, ◌≤◌, true, None, Some, IfErr, IfOk, IfSome};
+ghost use Rattle.std.specs.Prelude.{MatchOption, length, map, position, slice_get, take};
 ghost use Rattle.std.specs.List.{AllWithin, count_by};
 ghost use Rattle.std.specs.Map.Iter.{ShowsInOrder, ShowsInReverse, deref};
 ghost use Rattle.std.specs.Option.{option_copied};

@@ -1,9 +1,11 @@
 //! Insertion of items.
-ghost use Rattle.std.specs.Prelude.{◌≡◌, ◌+◌, ◌/◌, ◌≤◌, [], length, Some, None, IfOk, OnOk, IfErr, OnErr, IsOk, IfSome, is_none, not, true};
+ghost use Rattle.std.specs.Prelude.{◌≡◌, ◌+◌, ◌/◌, ◌≤◌, [], length, Some, None, IfOk};
+ghost use Rattle.std.specs.Prelude.{OnOk, IfErr, OnErr, IsOk, IfSome, is_none, not, true};
 ghost use Rattle.indexset_core.specs.Nodes.{concat, IsLawful};
 ghost use Rattle.indexset_core.specs.Order.{equal_element, has_equal};
 ghost use Rattle.indexset_log.specs.InsertPlan.{IsInsertPlan, IsPlanned, count_for, is_present};
-ghost use Rattle.indexset_log.specs.Changed.{Changed, ItemEvents, checked_put_change, put_change, refusal_of};
+ghost use Rattle.indexset_log.specs.Changed.{Changed, ItemEvents, checked_put_change};
+ghost use Rattle.indexset_log.specs.Changed.{put_change, refusal_of};
 ghost use Rattle.indexset_events.specs.Clones.{AreTableEvents};
 ghost use Rattle.indexset_log.specs.Edits.{after_put};
 ghost use Rattle.indexset_events.specs.Table.{put_events};

@@ -1,11 +1,13 @@
 //! The items between two bounds, or between two places.
-ghost use Rattle.std.specs.Prelude.{◌≡◌, ◌+◌, ◌-◌, ◌*◌, ◌<◌, ◌≤◌, IfSome, IsTrue, Some, length, List};
+ghost use Rattle.std.specs.Prelude.{◌≡◌, ◌+◌, ◌-◌, ◌*◌, ◌<◌, ◌≤◌};
+ghost use Rattle.std.specs.Prelude.{IfSome, IsTrue, Some, length, List};
 ghost use Rattle.std.specs.Iterator.{UpTo, at_most};
 ghost use Rattle.std.specs.Iterator.SizeHint.{IsWithinCount};
 ghost use Rattle.std.specs.List.{between, count_by};
 ghost use Rattle.std.specs.Map.Iter.{TakesFirst, TakesLast, ShowsInOrder, ShowsInReverse, deref};
 ghost use Rattle.std.specs.Range.Bound.{bound_map};
-ghost use Rattle.indexset_core.specs.KeyRange.{IfBounded, are_ordered, in_range, is_before, is_up_to_end};
+ghost use Rattle.indexset_core.specs.KeyRange.{IfBounded, are_ordered, in_range};
+ghost use Rattle.indexset_core.specs.KeyRange.{is_before, is_up_to_end};
 ghost use Rattle.indexset_core.specs.Digits.{digits};
 ghost use Rattle.indexset_core.specs.Nodes.{concat, node_at};
 ghost use Rattle.indexset_core.specs.Parted.{IsParted, less_count, not_greater_count};

@@ -1,11 +1,13 @@
 //! The events of a removal.
-ghost use Rattle.std.specs.Prelude.{◌≡◌, ℕ, ◌+◌, ◌<◌, ◌≤◌, length, remove, slice_get, Some, IfOk, IfErr, IfSome};
+ghost use Rattle.std.specs.Prelude.{◌≡◌, ℕ, ◌+◌, ◌<◌, ◌≤◌, length, remove};
+ghost use Rattle.std.specs.Prelude.{slice_get, Some, IfOk, IfErr, IfSome};
 ghost use Rattle.indexset_core.specs.Nodes.{node_at};
 ghost use Rattle.indexset_events.specs.Clones.{IsEventClone, AreTableEvents};
 ghost use Rattle.indexset_events.specs.Merging.{merge_after, item_removed};
 ghost use Rattle.indexset_events.specs.Nodes.{last_of};
 ghost use Rattle.indexset_events.specs.Replay.{assigned};
-ghost use Rattle.indexset_events.specs.Table.{count_with, merge_event, removal_event, place_removal_events};
+ghost use Rattle.indexset_events.specs.Table.{count_with, merge_event};
+ghost use Rattle.indexset_events.specs.Table.{removal_event, place_removal_events};
 
 use super::BTreeSet;
 use crate::log::Log;

@@ -1,8 +1,10 @@
 //! Calls that remove items.
-ghost use Rattle.std.specs.Prelude.{◌≡◌, ℕ, ◌+◌, ◌/◌, ◌<◌, ◌≤◌, [], length, set, remove, slice_get, Some, None, false, IfOk, OnOk, IfErr, OnErr, IsOk, IfSome};
+ghost use Rattle.std.specs.Prelude.{◌≡◌, ℕ, ◌+◌, ◌/◌, ◌<◌, ◌≤◌, [], length, set, remove, slice_get};
+ghost use Rattle.std.specs.Prelude.{Some, None, false, IfOk, OnOk, IfErr, OnErr, IsOk, IfSome};
 ghost use Rattle.indexset_core.specs.Nodes.{concat, node_at, IsLawful};
 ghost use Rattle.indexset_core.specs.Order.{equal_element, has_equal};
-ghost use Rattle.indexset_log.specs.Changed.{Changed, Fits, ItemEvents, refusal_of, removal_change, place_removal};
+ghost use Rattle.indexset_log.specs.Changed.{Changed, Fits, ItemEvents, refusal_of};
+ghost use Rattle.indexset_log.specs.Changed.{removal_change, place_removal};
 ghost use Rattle.indexset_events.specs.Clones.{AreTableEvents};
 ghost use Rattle.indexset_log.specs.Edits.{after_place_removal};
 ghost use Rattle.indexset_events.specs.Merging.{are_small, merge_after};

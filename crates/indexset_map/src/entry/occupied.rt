@@ -7,7 +7,8 @@ use indexset_spine::spot::Spot;
 use std::mem;
 
 impl<'a, K: Ord, V> OccupiedEntry<'a, K, V> {
-    ghost use Rattle.indexset_map.specs.Entry.{Occupied, entry_key, entry_pair, entry_value, entry_lends, occupied_lends, with_entry_value};
+    ghost use Rattle.indexset_map.specs.Entry.{Occupied, entry_key, entry_pair, entry_value};
+    ghost use Rattle.indexset_map.specs.Entry.{entry_lends, occupied_lends, with_entry_value};
 
     /// Returns the stored key.
     ///
@@ -114,7 +115,8 @@ impl<'a, K: Ord, V> OccupiedEntry<'a, K, V> {
 }
 
 impl<'a, K: Ord + Drop, V: Drop> OccupiedEntry<'a, K, V> {
-    ghost use Rattle.indexset_map.specs.Entry.{Occupied, entry_pair, entry_value, map_without_entry};
+    ghost use Rattle.indexset_map.specs.Entry.{Occupied, entry_pair};
+    ghost use Rattle.indexset_map.specs.Entry.{entry_value, map_without_entry};
 
     /// Removes the pair and returns the stored key and the value.
     ///

@@ -1,10 +1,13 @@
 //! The first and the last pair, and calls that remove them.
-ghost use Rattle.std.specs.Prelude.{◌≡◌, ◌↔◌, ◌-◌, ◌<◌, ◌≤◌, [], length, slice_get, false, IfOk, OnOk, IfErr, OnErr, IsOk, IfSome, IsSome};
+ghost use Rattle.std.specs.Prelude.{◌≡◌, ◌↔◌, ◌-◌, ◌<◌, ◌≤◌, [], length, slice_get, false};
+ghost use Rattle.std.specs.Prelude.{IfOk, OnOk, IfErr, OnErr, IsOk, IfSome, IsSome};
 ghost use Rattle.std.specs.Option.{option_map};
 ghost use Rattle.indexset_core.specs.Nodes.{concat};
 ghost use Rattle.indexset_core.specs.Order.{above, below};
 ghost use Rattle.indexset_core.specs.Pairs.{pair_keys};
-ghost use Rattle.indexset_multi.specs.Changed.{MultiFits, MultiChanged, MultiPairEvents, first_pair_removal, last_pair_removal, multi_refusal_of};
+ghost use Rattle.indexset_multi.specs.Changed.{MultiFits, MultiChanged};
+ghost use Rattle.indexset_multi.specs.Changed.{MultiPairEvents, first_pair_removal};
+ghost use Rattle.indexset_multi.specs.Changed.{last_pair_removal, multi_refusal_of};
 ghost use Rattle.indexset_multi.specs.Keys.{entries, key_and_value};
 
 use super::BTreeMultiMap;
@@ -23,7 +26,8 @@ impl<K: Ord + Clone + Drop, V: Eq + Clone + Drop, Node: NodeLike<MultiPair<K, V>
     /// # Examples
     ///
     /// ```
-    /// let mut tags: multimap::BTreeMultiMap<u64, u64, Vec<MultiPair<u64, u64>>> = multimap::BTreeMultiMap::new(alloc);
+    /// let mut tags: multimap::BTreeMultiMap<u64, u64, Vec<MultiPair<u64, u64>>> =
+    ///     multimap::BTreeMultiMap::new(alloc);
     /// for (tag, document) in [(1, 100), (1, 101), (2, 100)] {
     ///     tags.insert(tag, document)?;
     /// }
@@ -49,7 +53,8 @@ impl<K: Ord + Clone + Drop, V: Eq + Clone + Drop, Node: NodeLike<MultiPair<K, V>
     /// # Examples
     ///
     /// ```
-    /// let mut tags: multimap::BTreeMultiMap<u64, u64, Vec<MultiPair<u64, u64>>> = multimap::BTreeMultiMap::new(alloc);
+    /// let mut tags: multimap::BTreeMultiMap<u64, u64, Vec<MultiPair<u64, u64>>> =
+    ///     multimap::BTreeMultiMap::new(alloc);
     /// for (tag, document) in [(2, 100), (2, 101), (1, 100)] {
     ///     tags.insert(tag, document)?;
     /// }
@@ -79,7 +84,8 @@ impl<K: Ord + Clone + Drop, V: Eq + Clone + Drop, Node: NodeLike<MultiPair<K, V>
     /// # Examples
     ///
     /// ```
-    /// let mut tags: multimap::BTreeMultiMap<u64, u64, Vec<MultiPair<u64, u64>>> = multimap::BTreeMultiMap::new(alloc);
+    /// let mut tags: multimap::BTreeMultiMap<u64, u64, Vec<MultiPair<u64, u64>>> =
+    ///     multimap::BTreeMultiMap::new(alloc);
     /// for (tag, document) in [(2, 100), (1, 100), (1, 101)] {
     ///     tags.insert(tag, document)?;
     /// }
@@ -101,7 +107,8 @@ impl<K: Ord + Clone + Drop, V: Eq + Clone + Drop, Node: NodeLike<MultiPair<K, V>
         // Result.
         ensures answer { IfOk result (λ r.
             r.0 ≡ option_map key_and_value (slice_get (concat self.old.nodes) 0)) }
-        ensures events { IfOk result (λ r. MultiPairEvents K.cmp K.is_clone V.is_clone self.old self.new
+        ensures events { IfOk result
+            (λ r. MultiPairEvents K.cmp K.is_clone V.is_clone self.old self.new
             (first_pair_removal K.cmp self.old) r.1.items) }
 
         // Contents.
@@ -128,7 +135,8 @@ impl<K: Ord + Clone + Drop, V: Eq + Clone + Drop, Node: NodeLike<MultiPair<K, V>
     /// # Examples
     ///
     /// ```
-    /// let mut tags: multimap::BTreeMultiMap<u64, u64, Vec<MultiPair<u64, u64>>> = multimap::BTreeMultiMap::new(alloc);
+    /// let mut tags: multimap::BTreeMultiMap<u64, u64, Vec<MultiPair<u64, u64>>> =
+    ///     multimap::BTreeMultiMap::new(alloc);
     /// for (tag, document) in [(1, 100), (1, 101), (2, 100)] {
     ///     tags.insert(tag, document)?;
     /// }
@@ -175,7 +183,8 @@ impl<K: Ord + Clone + Drop, V: Eq + Clone + Drop, Node: NodeLike<MultiPair<K, V>
     /// # Examples
     ///
     /// ```
-    /// let mut tags: multimap::BTreeMultiMap<u64, u64, Vec<MultiPair<u64, u64>>> = multimap::BTreeMultiMap::new(alloc);
+    /// let mut tags: multimap::BTreeMultiMap<u64, u64, Vec<MultiPair<u64, u64>>> =
+    ///     multimap::BTreeMultiMap::new(alloc);
     /// for (tag, document) in [(1, 100), (1, 101), (2, 100)] {
     ///     tags.insert(tag, document)?;
     /// }
@@ -197,7 +206,8 @@ impl<K: Ord + Clone + Drop, V: Eq + Clone + Drop, Node: NodeLike<MultiPair<K, V>
         // Result.
         ensures answer { IfOk result (λ r. r.0 ≡ option_map key_and_value
             (slice_get (concat self.old.nodes) (length (concat self.old.nodes) - 1))) }
-        ensures events { IfOk result (λ r. MultiPairEvents K.cmp K.is_clone V.is_clone self.old self.new
+        ensures events { IfOk result
+            (λ r. MultiPairEvents K.cmp K.is_clone V.is_clone self.old self.new
             (last_pair_removal K.cmp self.old) r.1.items) }
 
         // Contents.
@@ -224,7 +234,8 @@ impl<K: Ord + Clone + Drop, V: Eq + Clone + Drop, Node: NodeLike<MultiPair<K, V>
     /// # Examples
     ///
     /// ```
-    /// let mut tags: multimap::BTreeMultiMap<u64, u64, Vec<MultiPair<u64, u64>>> = multimap::BTreeMultiMap::new(alloc);
+    /// let mut tags: multimap::BTreeMultiMap<u64, u64, Vec<MultiPair<u64, u64>>> =
+    ///     multimap::BTreeMultiMap::new(alloc);
     /// for (tag, document) in [(2, 100), (1, 100), (2, 101)] {
     ///     tags.insert(tag, document)?;
     /// }

@@ -1,5 +1,6 @@
 //! Construction of multimaps from nodes.
-ghost use Rattle.std.specs.Prelude.{◌≡◌, ◌≤◌, true, false, map, None, MatchOption, IfOk, OnOk, IfErr};
+ghost use Rattle.std.specs.Prelude.{◌≡◌, ◌≤◌, true, false, map, None};
+ghost use Rattle.std.specs.Prelude.{MatchOption, IfOk, OnOk, IfErr};
 ghost use Rattle.std.specs.Option.{unwrap_or};
 ghost use Rattle.indexset_core.specs.Nodes.{concat};
 ghost use Rattle.indexset_multi.specs.Attach.{free_number, has_greatest, pair_nodes_refusal};
@@ -25,8 +26,10 @@ impl<K: Ord + Clone + Drop, V: Eq + Clone + Drop, Node: NodeLike<MultiPair<K, V>
     /// # Examples
     ///
     /// ```
-    /// let nodes = vec![in alloc; vec![in alloc; MultiPair::new(1, 100, 0), MultiPair::new(1, 101, 4)]?]?;
-    /// let tags: multimap::BTreeMultiMap<u64, u64, Vec<MultiPair<u64, u64>>> = multimap::BTreeMultiMap::from_nodes(nodes, 64, 7)?;
+    /// let nodes =
+    ///     vec![in alloc; vec![in alloc; MultiPair::new(1, 100, 0), MultiPair::new(1, 101, 4)]?]?;
+    /// let tags: multimap::BTreeMultiMap<u64, u64, Vec<MultiPair<u64, u64>>> =
+    ///     multimap::BTreeMultiMap::from_nodes(nodes, 64, 7)?;
     /// assert!(rt; tags.count(&1) == 2 && tags.events_issued() == 7);
     /// ```
     ///

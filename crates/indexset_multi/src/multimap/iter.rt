@@ -96,7 +96,8 @@ impl<K: Ord + Clone + Drop, V: Eq + Clone + Drop, Node: NodeLike<MultiPair<K, V>
     /// A loop over a reference to the multimap uses the same iterator.
     ///
     /// ```
-    /// let mut tags: multimap::BTreeMultiMap<u64, u64, Vec<MultiPair<u64, u64>>> = multimap::BTreeMultiMap::new(alloc);
+    /// let mut tags: multimap::BTreeMultiMap<u64, u64, Vec<MultiPair<u64, u64>>> =
+    ///     multimap::BTreeMultiMap::new(alloc);
     /// tags.insert(1, 100)?;
     /// tags.insert(1, 101)?;
     /// let mut documents = 0u64;

@@ -3,9 +3,11 @@ ghost use Rattle.std.specs.Prelude.{◌≡◌, ◌+◌, ◌==◌, false, is_err,
 ghost use Rattle.std.specs.Option.{option_map};
 ghost use Rattle.indexset_core.specs.MultiPairs.{numbered_pair};
 ghost use Rattle.indexset_core.specs.Nodes.{concat};
-ghost use Rattle.indexset_multi.specs.Changed.{IsAdded, IsInserted, MultiChanged, MultiPairEvents, addition, addition_refusal, insertion};
+ghost use Rattle.indexset_multi.specs.Changed.{IsAdded, IsInserted, MultiChanged, MultiPairEvents};
+ghost use Rattle.indexset_multi.specs.Changed.{addition, addition_refusal, insertion};
 ghost use Rattle.indexset_multi.specs.Keys.{equal_pair, kept_number};
-ghost use Rattle.indexset_multi.specs.Tree.{insertion_refusal, inserted_pair, lacks_number, pair_next_after};
+ghost use Rattle.indexset_multi.specs.Tree.{insertion_refusal, inserted_pair};
+ghost use Rattle.indexset_multi.specs.Tree.{lacks_number, pair_next_after};
 
 use super::BTreeMultiMap;
 use indexset_core::multipair::MultiPair;
@@ -27,7 +29,8 @@ impl<K: Ord + Clone + Drop, V: Eq + Clone + Drop, Node: NodeLike<MultiPair<K, V>
     /// # Examples
     ///
     /// ```
-    /// let mut tags: multimap::BTreeMultiMap<u64, u64, Vec<MultiPair<u64, u64>>> = multimap::BTreeMultiMap::new(alloc);
+    /// let mut tags: multimap::BTreeMultiMap<u64, u64, Vec<MultiPair<u64, u64>>> =
+    ///     multimap::BTreeMultiMap::new(alloc);
     /// let (old, events) = tags.insert_cdc(1, 100)?;
     /// assert!(rt; old.is_none() && events.len() == 1);
     /// ```
@@ -51,7 +54,8 @@ impl<K: Ord + Clone + Drop, V: Eq + Clone + Drop, Node: NodeLike<MultiPair<K, V>
         ensures answer { IfOk result (λ r.
             r.0 ≡ option_map (λ p. p.value) (equal_pair K.cmp V.eq
             (concat self.old.nodes) key value)) }
-        ensures events { IfOk result (λ r. MultiPairEvents K.cmp K.is_clone V.is_clone self.old self.new
+        ensures events { IfOk result
+            (λ r. MultiPairEvents K.cmp K.is_clone V.is_clone self.old self.new
             (insertion K.cmp V.eq self.old key value) r.1.items) }
 
         // Contents.
@@ -81,7 +85,8 @@ impl<K: Ord + Clone + Drop, V: Eq + Clone + Drop, Node: NodeLike<MultiPair<K, V>
     /// # Examples
     ///
     /// ```
-    /// let mut tags: multimap::BTreeMultiMap<u64, u64, Vec<MultiPair<u64, u64>>> = multimap::BTreeMultiMap::new(alloc);
+    /// let mut tags: multimap::BTreeMultiMap<u64, u64, Vec<MultiPair<u64, u64>>> =
+    ///     multimap::BTreeMultiMap::new(alloc);
     /// for (tag, document) in [(1, 100), (1, 101), (2, 100)] {
     ///     tags.insert(tag, document)?;
     /// }
@@ -126,7 +131,8 @@ impl<K: Ord + Clone + Drop, V: Eq + Clone + Drop, Node: NodeLike<MultiPair<K, V>
     /// # Examples
     ///
     /// ```
-    /// let mut tags: multimap::BTreeMultiMap<u64, u64, Vec<MultiPair<u64, u64>>> = multimap::BTreeMultiMap::new(alloc);
+    /// let mut tags: multimap::BTreeMultiMap<u64, u64, Vec<MultiPair<u64, u64>>> =
+    ///     multimap::BTreeMultiMap::new(alloc);
     /// let events = tags.push_cdc(1, 100)?;
     /// assert!(rt; events.len() == 1 && tags.len() == 1);
     /// ```
@@ -174,7 +180,8 @@ impl<K: Ord + Clone + Drop, V: Eq + Clone + Drop, Node: NodeLike<MultiPair<K, V>
     /// # Examples
     ///
     /// ```
-    /// let mut scores: multimap::BTreeMultiMap<u64, u64, Vec<MultiPair<u64, u64>>> = multimap::BTreeMultiMap::new(alloc);
+    /// let mut scores: multimap::BTreeMultiMap<u64, u64, Vec<MultiPair<u64, u64>>> =
+    ///     multimap::BTreeMultiMap::new(alloc);
     /// for (round, score) in [(1, 100), (1, 100), (2, 50)] {
     ///     scores.push(round, score)?;
     /// }

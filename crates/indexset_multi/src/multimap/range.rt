@@ -176,7 +176,8 @@ impl<K: Ord + Clone + Drop, V: Eq + Clone + Drop, Node: NodeLike<MultiPair<K, V>
     /// # Examples
     ///
     /// ```
-    /// let mut tags: multimap::BTreeMultiMap<u64, u64, Vec<MultiPair<u64, u64>>> = multimap::BTreeMultiMap::new(alloc);
+    /// let mut tags: multimap::BTreeMultiMap<u64, u64, Vec<MultiPair<u64, u64>>> =
+    ///     multimap::BTreeMultiMap::new(alloc);
     /// tags.insert(1, 100)?;
     /// assert!(rt; tags.get(&1).eq([(&1, &100)]) && tags.get(&2).len() == 0);
     /// ```
@@ -201,7 +202,8 @@ impl<K: Ord + Clone + Drop, V: Eq + Clone + Drop, Node: NodeLike<MultiPair<K, V>
     /// # Examples
     ///
     /// ```
-    /// let mut tags: multimap::BTreeMultiMap<u64, u64, Vec<MultiPair<u64, u64>>> = multimap::BTreeMultiMap::new(alloc);
+    /// let mut tags: multimap::BTreeMultiMap<u64, u64, Vec<MultiPair<u64, u64>>> =
+    ///     multimap::BTreeMultiMap::new(alloc);
     /// for (tag, document) in [(1, 100), (1, 101), (2, 100)] {
     ///     tags.insert(tag, document)?;
     /// }
@@ -230,7 +232,8 @@ impl<K: Ord + Clone + Drop, V: Eq + Clone + Drop, Node: NodeLike<MultiPair<K, V>
     ///
     /// ```
     /// // The pairs of the keys from 10 on that are below 20.
-    /// let mut tags: multimap::BTreeMultiMap<u64, u64, Vec<MultiPair<u64, u64>>> = multimap::BTreeMultiMap::new(alloc);
+    /// let mut tags: multimap::BTreeMultiMap<u64, u64, Vec<MultiPair<u64, u64>>> =
+    ///     multimap::BTreeMultiMap::new(alloc);
     /// for (tag, document) in [(5, 1), (10, 1), (10, 2), (20, 1)] {
     ///     tags.insert(tag, document)?;
     /// }

@@ -1,14 +1,19 @@
 //! Calls that remove pairs.
-ghost use Rattle.std.specs.Prelude.{◌≡◌, ◌+◌, ◌<◌, ◌≤◌, [], drop, length, false, find, slice_get, None, Some, MatchOption, IfOk, OnOk, IfErr, OnErr, IsOk};
+ghost use Rattle.std.specs.Prelude.{◌≡◌, ◌+◌, ◌<◌, ◌≤◌, [], drop, length, false, find, slice_get};
+ghost use Rattle.std.specs.Prelude.{None, Some, MatchOption, IfOk, OnOk, IfErr, OnErr, IsOk};
 ghost use Rattle.std.specs.Option.{option_map};
 ghost use Rattle.indexset_core.specs.MultiPairs.{by_number};
 ghost use Rattle.indexset_core.specs.Nodes.{concat};
 ghost use Rattle.indexset_events.specs.Clones.{AreTableEvents};
 ghost use Rattle.indexset_log.specs.Tree.{IsTree, refusal_for};
-ghost use Rattle.indexset_multi.specs.Changed.{MultiFits, KeepsOtherPairs, MultiChanged, MultiPairEvents, equal_removal, multi_refusal_of, some_removal};
-ghost use Rattle.indexset_multi.specs.Keys.{equal_pair, first_pair, key_and_value, pairs_of, without_first};
+ghost use Rattle.indexset_multi.specs.Changed.{MultiFits, KeepsOtherPairs, MultiChanged};
+ghost use Rattle.indexset_multi.specs.Changed.{MultiPairEvents, equal_removal};
+ghost use Rattle.indexset_multi.specs.Changed.{multi_refusal_of, some_removal};
+ghost use Rattle.indexset_multi.specs.Keys.{equal_pair, first_pair, key_and_value};
+ghost use Rattle.indexset_multi.specs.Keys.{pairs_of, without_first};
 ghost use Rattle.indexset_multi.specs.Places.{IsItemPlaceInNodes, placed_item};
-ghost use Rattle.indexset_multi.specs.Tree.{IsMultiPairClone, after_pair_removal, pair_removal_events};
+ghost use Rattle.indexset_multi.specs.Tree.{IsMultiPairClone, after_pair_removal};
+ghost use Rattle.indexset_multi.specs.Tree.{pair_removal_events};
 
 use super::BTreeMultiMap;
 use indexset_core::lookup_key::LookupKey;
@@ -30,7 +35,8 @@ impl<K: Ord + Clone + Drop, V: Eq + Clone + Drop, Node: NodeLike<MultiPair<K, V>
     /// # Examples
     ///
     /// ```
-    /// let mut tags: multimap::BTreeMultiMap<u64, u64, Vec<MultiPair<u64, u64>>> = multimap::BTreeMultiMap::new(alloc);
+    /// let mut tags: multimap::BTreeMultiMap<u64, u64, Vec<MultiPair<u64, u64>>> =
+    ///     multimap::BTreeMultiMap::new(alloc);
     /// for (tag, document) in [(1, 100), (1, 101), (2, 100)] {
     ///     tags.insert(tag, document)?;
     /// }
@@ -53,7 +59,8 @@ impl<K: Ord + Clone + Drop, V: Eq + Clone + Drop, Node: NodeLike<MultiPair<K, V>
         // Result.
         ensures answer { IfOk result (λ r.
             r.0 ≡ option_map key_and_value (first_pair Q.order (concat self.old.nodes) key)) }
-        ensures events { IfOk result (λ r. MultiPairEvents K.cmp K.is_clone V.is_clone self.old self.new
+        ensures events { IfOk result
+            (λ r. MultiPairEvents K.cmp K.is_clone V.is_clone self.old self.new
             (some_removal K.cmp Q.order self.old key) r.1.items) }
 
         // Contents.
@@ -83,7 +90,8 @@ impl<K: Ord + Clone + Drop, V: Eq + Clone + Drop, Node: NodeLike<MultiPair<K, V>
     /// # Examples
     ///
     /// ```
-    /// let mut tags: multimap::BTreeMultiMap<u64, u64, Vec<MultiPair<u64, u64>>> = multimap::BTreeMultiMap::new(alloc);
+    /// let mut tags: multimap::BTreeMultiMap<u64, u64, Vec<MultiPair<u64, u64>>> =
+    ///     multimap::BTreeMultiMap::new(alloc);
     /// for (tag, document) in [(1, 100), (1, 101), (2, 100)] {
     ///     tags.insert(tag, document)?;
     /// }
@@ -130,7 +138,8 @@ impl<K: Ord + Clone + Drop, V: Eq + Clone + Drop, Node: NodeLike<MultiPair<K, V>
     /// # Examples
     ///
     /// ```
-    /// let mut tags: multimap::BTreeMultiMap<u64, u64, Vec<MultiPair<u64, u64>>> = multimap::BTreeMultiMap::new(alloc);
+    /// let mut tags: multimap::BTreeMultiMap<u64, u64, Vec<MultiPair<u64, u64>>> =
+    ///     multimap::BTreeMultiMap::new(alloc);
     /// for (tag, document) in [(1, 100), (1, 101), (2, 100)] {
     ///     tags.insert(tag, document)?;
     /// }
@@ -154,7 +163,8 @@ impl<K: Ord + Clone + Drop, V: Eq + Clone + Drop, Node: NodeLike<MultiPair<K, V>
         // Result.
         ensures answer { IfOk result (λ r. r.0 ≡ option_map key_and_value
             (equal_pair Q.order V.eq (concat self.old.nodes) key value.now)) }
-        ensures events { IfOk result (λ r. MultiPairEvents K.cmp K.is_clone V.is_clone self.old self.new
+        ensures events { IfOk result
+            (λ r. MultiPairEvents K.cmp K.is_clone V.is_clone self.old self.new
             (equal_removal K.cmp Q.order V.eq self.old key value.now) r.1.items) }
 
         // Contents.
@@ -186,7 +196,8 @@ impl<K: Ord + Clone + Drop, V: Eq + Clone + Drop, Node: NodeLike<MultiPair<K, V>
     /// # Examples
     ///
     /// ```
-    /// let mut tags: multimap::BTreeMultiMap<u64, u64, Vec<MultiPair<u64, u64>>> = multimap::BTreeMultiMap::new(alloc);
+    /// let mut tags: multimap::BTreeMultiMap<u64, u64, Vec<MultiPair<u64, u64>>> =
+    ///     multimap::BTreeMultiMap::new(alloc);
     /// tags.insert(1, 100)?;
     /// let removed = tags.remove(&1, &100)?;
     /// assert!(rt; removed == Some((1, 100)) && !tags.contains_key(&1));
@@ -225,10 +236,14 @@ impl<K: Ord + Clone + Drop, V: Eq + Clone + Drop, Node: NodeLike<MultiPair<K, V>
         // Memory.
         ensures no_event { (equal_removal K.cmp Q.order V.eq self.old key value.now).events ≡ []
             → IsOk result }
-        ensures no_memory { length (equal_removal K.cmp Q.order V.eq self.old key value.now).events ≤ 1
-            → MultiFits self.old (equal_removal K.cmp Q.order V.eq self.old key value.now) → IsOk result }
+        ensures no_memory { length
+            (equal_removal K.cmp Q.order V.eq self.old key value.now).events
+            ≤ 1
+            → MultiFits self.old (equal_removal K.cmp Q.order V.eq self.old key value.now)
+            → IsOk result }
         ensures never { Node.allocates ≡ false
-            → MultiFits self.old (equal_removal K.cmp Q.order V.eq self.old key value.now) → IsOk result }
+            → MultiFits self.old (equal_removal K.cmp Q.order V.eq self.old key value.now)
+            → IsOk result }
     {
         let place = self.equal_place(&key, value);
         self.take(place)
@@ -264,7 +279,8 @@ impl<K: Ord + Clone + Drop, V: Eq + Clone + Drop, Node: NodeLike<MultiPair<K, V>
         // Result.
         ensures answer { IfOk result (λ r. r.0 ≡ option_map key_and_value
             (placed_item self.old.nodes place)) }
-        ensures events { IfOk result (λ r. AreTableEvents (IsMultiPairClone K.is_clone V.is_clone) self.old.next
+        ensures events { IfOk result
+            (λ r. AreTableEvents (IsMultiPairClone K.is_clone V.is_clone) self.old.next
             (pair_removal_events K.cmp self.old.size self.old.nodes
             (placed_item self.old.nodes place)) r.1.items) }
 

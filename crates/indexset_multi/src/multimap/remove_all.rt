@@ -1,9 +1,11 @@
 //! Removal of all pairs of a key.
-ghost use Rattle.std.specs.Prelude.{◌≡◌, [], length, false, true, is_some, IfOk, OnOk, IfErr, OnErr, IsOk};
+ghost use Rattle.std.specs.Prelude.{◌≡◌, [], length, false, true, is_some};
+ghost use Rattle.std.specs.Prelude.{IfOk, OnOk, IfErr, OnErr, IsOk};
 ghost use Rattle.std.specs.Option.{option_map};
 ghost use Rattle.indexset_core.specs.Nodes.{concat};
 ghost use Rattle.indexset_log.specs.Tree.{refusal_for};
-ghost use Rattle.indexset_multi.specs.Changed.{AreRemoved, RemovalEvents, multi_refusal_of, some_removal};
+ghost use Rattle.indexset_multi.specs.Changed.{AreRemoved, RemovalEvents};
+ghost use Rattle.indexset_multi.specs.Changed.{multi_refusal_of, some_removal};
 ghost use Rattle.indexset_multi.specs.Keys.{first_pair, key_and_value, pairs_of, without_pairs_of};
 ghost use Rattle.indexset_multi.specs.Appended.{AppendsEvents};
 ghost use Rattle.indexset_multi.specs.Tree.{IsMultiPairClone, after_pair_removal, first_events};
@@ -26,7 +28,8 @@ impl<K: Ord + Clone + Drop, V: Eq + Clone + Drop, Node: NodeLike<MultiPair<K, V>
     /// # Examples
     ///
     /// ```
-    /// let mut tags: multimap::BTreeMultiMap<u64, u64, Vec<MultiPair<u64, u64>>> = multimap::BTreeMultiMap::new(alloc);
+    /// let mut tags: multimap::BTreeMultiMap<u64, u64, Vec<MultiPair<u64, u64>>> =
+    ///     multimap::BTreeMultiMap::new(alloc);
     /// for (tag, document) in [(1, 100), (1, 101), (2, 100)] {
     ///     tags.insert(tag, document)?;
     /// }
@@ -72,7 +75,8 @@ impl<K: Ord + Clone + Drop, V: Eq + Clone + Drop, Node: NodeLike<MultiPair<K, V>
     /// # Examples
     ///
     /// ```
-    /// let mut tags: multimap::BTreeMultiMap<u64, u64, Vec<MultiPair<u64, u64>>> = multimap::BTreeMultiMap::new(alloc);
+    /// let mut tags: multimap::BTreeMultiMap<u64, u64, Vec<MultiPair<u64, u64>>> =
+    ///     multimap::BTreeMultiMap::new(alloc);
     /// for (tag, document) in [(1, 100), (1, 101), (2, 100)] {
     ///     tags.insert(tag, document)?;
     /// }
@@ -95,7 +99,8 @@ impl<K: Ord + Clone + Drop, V: Eq + Clone + Drop, Node: NodeLike<MultiPair<K, V>
         // Result.
         ensures count { IfOk result (λ r.
             r.0 ≡ length (pairs_of Q.order (concat self.old.nodes) key)) }
-        ensures events { IfOk result (λ r. RemovalEvents K.cmp Q.order K.is_clone V.is_clone self.old self.new
+        ensures events { IfOk result
+            (λ r. RemovalEvents K.cmp Q.order K.is_clone V.is_clone self.old self.new
             key r.1.items) }
 
         // Contents.
@@ -107,7 +112,8 @@ impl<K: Ord + Clone + Drop, V: Eq + Clone + Drop, Node: NodeLike<MultiPair<K, V>
         // Failure.
         ensures refusal { IfErr result (λ e. e.cause ≡ multi_refusal_of self.new
             (some_removal K.cmp Q.order self.new key)) }
-        ensures told_before { IfErr result (λ e. RemovalEvents K.cmp Q.order K.is_clone V.is_clone self.old
+        ensures told_before { IfErr result
+            (λ e. RemovalEvents K.cmp Q.order K.is_clone V.is_clone self.old
             self.new key e.value.items) }
 
         // Memory.

@@ -4,7 +4,8 @@ ghost use Rattle.std.specs.Borrow.{Bor};
 ghost use Rattle.std.specs.Iterator.{Drains, IsFinite};
 ghost use Rattle.std.specs.List.{AllZip};
 ghost use Rattle.indexset_core.specs.declared.refusal.Refusal.TheVariants.{Memory};
-ghost use Rattle.indexset_set.specs.SetAlgebra.{difference, intersection, symmetric_difference, union};
+ghost use Rattle.indexset_set.specs.SetAlgebra.{difference, intersection};
+ghost use Rattle.indexset_set.specs.SetAlgebra.{symmetric_difference, union};
 ghost use Rattle.indexset_set.specs.SetCopy.{IsSetOf};
 ghost use Rattle.indexset_spine.specs.NodeList.{items};
 

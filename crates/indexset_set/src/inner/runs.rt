@@ -1,5 +1,6 @@
 //! Values in ascending order, gathered in a run that is appended by blocks.
-ghost use Rattle.std.specs.Prelude.{◌≡◌, [], ◌∷◌, ◌++◌, None, true, false, ◌<◌, IsTrue, IfOk, IfSome, OnOk, IfErr, OnErr, vec_len, vec_capacity};
+ghost use Rattle.std.specs.Prelude.{◌≡◌, [], ◌∷◌, ◌++◌, None, true, false, ◌<◌, IsTrue};
+ghost use Rattle.std.specs.Prelude.{IfOk, IfSome, OnOk, IfErr, OnErr, vec_len, vec_capacity};
 ghost use Rattle.indexset_core.specs.Order.{IsAscending};
 ghost use Rattle.indexset_spine.specs.NodeList.{items, with_all_last};
 

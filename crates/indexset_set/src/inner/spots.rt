@@ -1,11 +1,14 @@
 //! Calls by spots: they read and edit where a search has ended, with no second search.
-ghost use Rattle.std.specs.Prelude.{◌≡◌, ◌+◌, ◌-◌, ◌<◌, ◌≤◌, IsTrue, Some, IfOk, OnOk, IfErr, OnErr, MatchOption, insert, length, remove, slice_get, sum, take};
+ghost use Rattle.std.specs.Prelude.{◌≡◌, ◌+◌, ◌-◌, ◌<◌, ◌≤◌, IsTrue, Some, IfOk};
+ghost use Rattle.std.specs.Prelude.{OnOk, IfErr, OnErr, MatchOption, insert};
+ghost use Rattle.std.specs.Prelude.{length, remove, slice_get, sum, take};
 ghost use Rattle.std.specs.List.{count_by};
 ghost use Rattle.indexset_core.specs.KeyRange.{IfBounded, is_before};
 ghost use Rattle.indexset_core.specs.Digits.{digits};
 ghost use Rattle.indexset_core.specs.Nodes.{node_lengths};
 ghost use Rattle.indexset_core.specs.Order.{IsAscending, IsGapFor};
-ghost use Rattle.indexset_spine.specs.NodeList.{items, AreNodeLengths, IsItemSpot, IsSpot, position_of, with_inserted, without_item};
+ghost use Rattle.indexset_spine.specs.NodeList.{items, AreNodeLengths, IsItemSpot, IsSpot};
+ghost use Rattle.indexset_spine.specs.NodeList.{position_of, with_inserted, without_item};
 ghost use Rattle.indexset_spine.specs.Lengths.{node_of};
 ghost use Rattle.indexset_set.specs.SetProbes.{FindsInOrder, IsSearchResult};
 

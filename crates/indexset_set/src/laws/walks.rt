@@ -1,7 +1,8 @@
 //! Laws of iterators, ranges, splits and set operations, for every ascending list and every lawful
 //! order, and so for the results of a set's calls. Each function does nothing; its contract is the
 //! law.
-ghost use Rattle.std.specs.Prelude.{◌≡◌, ℕ, ◌+◌, ◌-◌, ◌⊎◌, ◌&&◌, ◌||◌, Bool, not, List, [], ◌++◌, Option, None, length, map, filter, true, false};
+ghost use Rattle.std.specs.Prelude.{◌≡◌, ℕ, ◌+◌, ◌-◌, ◌⊎◌, ◌&&◌, ◌||◌, Bool, not, List, []};
+ghost use Rattle.std.specs.Prelude.{◌++◌, Option, None, length, map, filter, true, false};
 ghost use Rattle.std.specs.declared.cmp.Ordering.{Ordering};
 ghost use Rattle.std.specs.declared.ops.Bound.{Bound};
 ghost use Rattle.std.specs.Cmp.{IsTotalOrder};
@@ -10,7 +11,8 @@ ghost use Rattle.std.specs.Map.Iter.{TakesFirst, TakesLast, deref};
 ghost use Rattle.std.specs.Ordering.{is_lt};
 ghost use Rattle.indexset_core.specs.KeyRange.{in_positions, is_at_position};
 ghost use Rattle.indexset_core.specs.Order.{IsAscending, below, has_equal};
-ghost use Rattle.indexset_set.specs.SetAlgebra.{difference, intersection, symmetric_difference, union};
+ghost use Rattle.indexset_set.specs.SetAlgebra.{difference, intersection};
+ghost use Rattle.indexset_set.specs.SetAlgebra.{symmetric_difference, union};
 ghost use Rattle.indexset_set.specs.SetRanges.{not_below};
 ghost use Rattle.indexset_core.specs.DoubleEnded.{IsDoubleEnded, Calls, back_items, front_items};
 

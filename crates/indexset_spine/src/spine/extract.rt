@@ -21,7 +21,8 @@ impl<T: Drop> Spine<T> {
         f: &mut F,
     ) -> Option<T>
         requires callable { F.IsAlwaysCallable f.old }
-        requires at { IsExtractRange (node_lengths self.old.nodes) (length (items self.old)) at.old }
+        requires at { IsExtractRange (node_lengths self.old.nodes) (length (items self.old))
+            at.old }
 
         // Result.
         ensures extracted { Extracts (CalledAtMut F.FnMut) f.old

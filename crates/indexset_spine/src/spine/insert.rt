@@ -1,8 +1,11 @@
 //! Calls that insert an item.
-ghost use Rattle.std.specs.Prelude.{◌≡◌, ◌+◌, ◌^◌, ◌<◌, ◌≤◌, IsTrue, IfOk, OnOk, IfErr, OnErr, IfSome, length, sum, drop, insert, slice_get, vec_len, vec_capacity};
+ghost use Rattle.std.specs.Prelude.{◌≡◌, ◌+◌, ◌^◌, ◌<◌, ◌≤◌, IsTrue, IfOk, OnOk};
+ghost use Rattle.std.specs.Prelude.{IfErr, OnErr, IfSome, length, sum, drop};
+ghost use Rattle.std.specs.Prelude.{insert, slice_get, vec_len, vec_capacity};
 ghost use Rattle.std.specs.List.{HoldsAt};
 ghost use Rattle.indexset_core.specs.Nodes.{node_at, node_lengths, vec_items};
-ghost use Rattle.indexset_spine.specs.NodeList.{items, IsItemSpot, IsSpot, position_of, with_inserted, without_item, first_spot};
+ghost use Rattle.indexset_spine.specs.NodeList.{items, IsItemSpot, IsSpot, position_of};
+ghost use Rattle.indexset_spine.specs.NodeList.{with_inserted, without_item, first_spot};
 ghost use Rattle.indexset_spine.specs.Edits.{IsShortEnd, with_item_in, with_halved};
 
 use super::Spine;

@@ -1,5 +1,6 @@
 //! The merge of items of another spine into a node.
-ghost use Rattle.std.specs.Prelude.{◌≡◌, ◌+◌, ◌-◌, ◌<◌, ◌≤◌, OnOk, IfErr, OnErr, length, take, drop, slice_set};
+ghost use Rattle.std.specs.Prelude.{◌≡◌, ◌+◌, ◌-◌, ◌<◌, ◌≤◌, OnOk, IfErr};
+ghost use Rattle.std.specs.Prelude.{OnErr, length, take, drop, slice_set};
 ghost use Rattle.std.specs.List.{All, HoldsAt, fold};
 ghost use Rattle.std.specs.declared.cmp.Ordering.TheVariants.{Less};
 ghost use Rattle.indexset_core.specs.Nodes.{node_at};

@@ -1,7 +1,8 @@
 //! The removal and the replacement of an item.
 ghost use Rattle.std.specs.Prelude.{◌≡◌, ◌<◌, false, Some, length, remove, slice_get, slice_set};
 ghost use Rattle.indexset_core.specs.Nodes.{node_at, node_lengths, vec_items};
-ghost use Rattle.indexset_spine.specs.NodeList.{items, IsItemSpot, position_of, without_item, with_replaced};
+ghost use Rattle.indexset_spine.specs.NodeList.{items, IsItemSpot, position_of};
+ghost use Rattle.indexset_spine.specs.NodeList.{without_item, with_replaced};
 ghost use Rattle.indexset_spine.specs.Edits.{without_emptied};
 
 use super::Spine;

@@ -1,11 +1,14 @@
 //! Idioms of std's `BTreeMap`.
-ghost use Rattle.std.specs.Prelude.{◌≡◌, if◌then◌else◌, ◌==◌, ◌&&◌, ◌+◌, ◌-◌, ◌^◌, [], ◌∷◌, not, nat_lt, IsTrue, Some, drop, length, min, slice_get, take, unwrap_or, MatchOption, OnOk, IfOk};
+ghost use Rattle.std.specs.Prelude.{◌≡◌, if◌then◌else◌, ◌==◌, ◌&&◌, ◌+◌, ◌-◌, ◌^◌, []};
+ghost use Rattle.std.specs.Prelude.{◌∷◌, not, nat_lt, IsTrue, Some, drop, length, min};
+ghost use Rattle.std.specs.Prelude.{slice_get, take, unwrap_or, MatchOption, OnOk, IfOk};
 ghost use Rattle.std.specs.Cmp.Lexicographic.{pointwise, slice_cmp};
 ghost use Rattle.std.specs.List.{All, filter, list_any};
 ghost use Rattle.std.specs.Option.{option_map};
 ghost use Rattle.std.specs.Ordering.{nat_cmp};
 ghost use Rattle.std.specs.declared.ops.Bound.TheVariants.{Included, Excluded, Unbounded};
-ghost use Rattle.indexset.specs.Words.{has_key, pair_keys, pair_values, pairs_within, put_value, set_value, value_of, without_key};
+ghost use Rattle.indexset.specs.Words.{has_key, pair_keys, pair_values, pairs_within};
+ghost use Rattle.indexset.specs.Words.{put_value, set_value, value_of, without_key};
 
 use indexset::base::Text;
 use indexset::base::refusal::{Refusal, Refused};

@@ -3,7 +3,8 @@ ghost use Rattle.std.specs.Prelude.{◌≡◌, ◌≤◌, ◌-◌, [], ◌∷◌
 ghost use Rattle.std.specs.List.{filter, fold, list_any};
 ghost use Rattle.std.specs.Ordering.{nat_cmp};
 ghost use Rattle.std.specs.declared.ops.Bound.TheVariants.{Included, Excluded, Unbounded};
-ghost use Rattle.indexset.specs.Words.{difference, has_equal, in_range, intersection, items, keep, put, rank, without};
+ghost use Rattle.indexset.specs.Words.{difference, has_equal, in_range, intersection};
+ghost use Rattle.indexset.specs.Words.{items, keep, put, rank, without};
 
 use indexset::base::refusal::{Refusal, Refused};
 use indexset::{BTreeSet, Range};

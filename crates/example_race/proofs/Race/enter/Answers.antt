@@ -22,7 +22,10 @@ invariant_of-self-2 c =
         subst (λ events. IsNumberedFrom 0 events) (sym whole) (c.numbered_in_parts.ensures 0 kept added before.numbered.0 after),
         grind (arith, common_steps, whole, as_many, c.in_ok-told.ensures.changed.next, before.numbered.1),
       );
-      replayed = ap (λ events. replay (by_number nat_cmp) [] events) whole ∙ (c.replay_in_parts.ensures [] kept added ∙ (ap (option_and_then (λ nodes. replay (by_number nat_cmp) nodes added)) before.replayed ∙ led));
+      replayed =
+          ap (λ events. replay (by_number nat_cmp) [] events) whole
+          ∙ (c.replay_in_parts.ensures [] kept added
+          ∙ (ap (option_and_then (λ nodes. replay (by_number nat_cmp) nodes added)) before.replayed ∙ led));
       copied = record {
         within = grind (arith, common_steps, whole, before.copied.within);
         nodes = ap (replay (by_number nat_cmp) []) (ap (take (before.copy.next - 0)) whole ∙ first) ∙ before.copied.nodes;

@@ -1,6 +1,8 @@
 use Rattle.std.proofs.Common.{◌/◌, [], ◌∷◌, ◌++◌, length, refl, ap, subst, sym, arith, length-append, rules, ◌∙◌}
 use Rattle.std.specs.Vec.Iter.{into_iter_items}
-use Rattle.indexset_bench.proofs.LoggedRuns.{LogSoFar, clones_to_first, few_after, few_from_none, more_log, next_command, no_log, replay_to_first, table_to_first, told_copies, told_next, told_numbered, told_replayed, tree_to_first}
+use Rattle.indexset_bench.proofs.LoggedRuns.{LogSoFar, clones_to_first, few_after, few_from_none, more_log}
+use Rattle.indexset_bench.proofs.LoggedRuns.{next_command, no_log, replay_to_first, table_to_first, told_copies}
+use Rattle.indexset_bench.proofs.LoggedRuns.{told_next, told_numbered, told_replayed, tree_to_first}
 use Rattle.indexset_bench.proofs.CommandRuns.{replies_to_first, held_after_first, first_commands, count_of_replies, count_of_done, further}
 use Rattle.indexset_bench.proofs.logged_run.run_logged.Goals as goal
 
@@ -24,10 +26,20 @@ loop-command-preserved g c =
     let now = c.loop-command.tree in
     let after = c.answer.new.tree in
     let done = c.in_default.ensures in
-    let log = more_log g.L.Item.Ord.cmp tree.left tree.events tree.cloned tree.clones c.args.tree.now (tree.nodes c.args.tree.now) (tree.next c.args.tree.now) now after (tree.nodes now) (tree.nodes after) (tree.next now) (tree.next after) (length c.loop-command.replies.items) c.loop-command.yielded c.in-Some.command c.loop-command.events.items c.answer.new.events.items before.log done.clones done.events done.table done.at_most_three_events done.next done.tree in
+    let log =
+    more_log g.L.Item.Ord.cmp tree.left tree.events tree.cloned tree.clones c.args.tree.now
+    (tree.nodes c.args.tree.now) (tree.next c.args.tree.now) now after (tree.nodes now) (tree.nodes after)
+    (tree.next now) (tree.next after) (length c.loop-command.replies.items) c.loop-command.yielded c.in-Some.command
+    c.loop-command.events.items c.answer.new.events.items before.log done.clones done.events done.table
+    done.at_most_three_events done.next done.tree in
     record {
       so_far = further before.so_far c.in-Some.command (into_iter_items c.next.new.self) (tree.state after) c.answer.new.replies.items next done.told done.state;
-      log = subst (λ n. LogSoFar g.L.Item.Ord.cmp tree.left tree.events tree.cloned tree.clones c.args.tree.now after (tree.nodes c.args.tree.now) (tree.nodes after) (tree.next c.args.tree.now) (tree.next after) n (c.loop-command.yielded ++ c.in-Some.command ∷ []) c.answer.new.events.items) (sym (ap (λ q. length q) done.told ∙ length-append c.loop-command.replies.items _)) log;
+      log =
+          subst (λ n.
+          LogSoFar g.L.Item.Ord.cmp tree.left tree.events tree.cloned tree.clones c.args.tree.now after
+          (tree.nodes c.args.tree.now) (tree.nodes after) (tree.next c.args.tree.now) (tree.next after) n
+          (c.loop-command.yielded ++ c.in-Some.command ∷ []) c.answer.new.events.items)
+          (sym (ap (λ q. length q) done.told ∙ length-append c.loop-command.replies.items _)) log;
       dense = λ s. c.answer.ensures.dense (before.dense s);
       left = omega (arith, ap length next);
       size = cc;
@@ -48,7 +60,11 @@ pub returns-in-Err-clause-refused : goal.returns-in-Err-clause-refused
 returns-in-Err-clause-refused g c = λ other.
     let why = c.in-Err.ensures.refusal other in
     let far = c.loop-command.invariant.so_far in
-    let next = next_command c.loop-command.yielded (into_iter_items c.next.new.self) c.args.commands.items c.in-Some.command (length c.answer.new.replies.items) (ap (λ r. c.loop-command.yielded ++ r) (sym c.in-Some.ensures.steps.0) ∙ far.given) (ap (λ q. length q) c.in-Err.ensures.untold ∙ count_of_done far) in
+    let next =
+    next_command c.loop-command.yielded (into_iter_items c.next.new.self) c.args.commands.items c.in-Some.command
+    (length c.answer.new.replies.items)
+    (ap (λ r. c.loop-command.yielded ++ r) (sym c.in-Some.ensures.steps.0) ∙ far.given)
+    (ap (λ q. length q) c.in-Err.ensures.untold ∙ count_of_done far) in
     (why.0, rw (next, c.in-Err.ensures.unchanged) why.1)
 
 pub returns-clause-replies : goal.returns-clause-replies

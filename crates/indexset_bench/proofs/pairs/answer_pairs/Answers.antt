@@ -25,8 +25,17 @@ returns-in_ok-old-in-Put g c =
     let replied : c.reply_to_put.result ≡ change_reply g.T.Ord.cmp old (Put c.in-Put.key c.in-Put.value) = c.reply_to_put.ensures ∙ ap (λ o. option_map_or OldValue o New) done.answer in
     let events : c.deref.result.now ≡ told_events g.T.Ord.cmp old (Put c.in-Put.key c.in-Put.value) = c.deref.ensures.value ∙ done.events.events (g.met.T.Key.identical, g.met.T.Key.identical) in
     rw c.in-Put.is (record {
-      pairs = on_ok_any last.result (tree_led (by_key g.T.Ord.cmp) old c.insert_cdc.new.self (pair_events g.T.Ord.cmp old (Put c.in-Put.key c.in-Put.value)) done.changed.table done.changed.size done.changed.next);
-      told = on_ok_weaker last.result (subst (Appends _ _) (λ i. echo_text c.args.echo ++ (reply_ended g.T.Key.texts (replied i) ++ lines_for (event_text g.T.Key.texts) (events i)))) last.ensures.told;
+      pairs =
+          on_ok_any last.result
+          (tree_led (by_key g.T.Ord.cmp) old c.insert_cdc.new.self
+          (pair_events g.T.Ord.cmp old (Put c.in-Put.key c.in-Put.value)) done.changed.table done.changed.size
+          done.changed.next);
+      told =
+          on_ok_weaker last.result
+          (subst (Appends _ _)
+          (λ i. echo_text c.args.echo
+          ++ (reply_ended g.T.Key.texts (replied i) ++ lines_for (event_text g.T.Key.texts) (events i))))
+          last.ensures.told;
       memory_refused = λ e. write_not_memory (sym (rw e at last.ensures.fault));
       numbers_refused = λ e. write_not_numbers (sym (rw e at last.ensures.fault));
       only_changes = λ e. write_not_memory (sym (rw e at last.ensures.fault));
@@ -38,16 +47,26 @@ pub returns-in_ok-out-in-Cut-clause-pairs : goal.returns-in_ok-out-in-Cut-clause
 returns-in_ok-out-in-Cut-clause-pairs g c =
     let old = c.args.pairs.now in
     let done = c.in_ok-out-in-Cut.ensures in
-    rw c.in-Cut.is (on_ok_any c.write_change-in-Cut.result (tree_led (by_key g.T.Ord.cmp) old c.remove_cdc.new.self (pair_events g.T.Ord.cmp old (Cut c.in-Cut.key)) done.changed.table done.changed.size done.changed.next))
+    rw c.in-Cut.is
+    (on_ok_any c.write_change-in-Cut.result
+    (tree_led (by_key g.T.Ord.cmp) old c.remove_cdc.new.self (pair_events g.T.Ord.cmp old (Cut c.in-Cut.key))
+    done.changed.table done.changed.size done.changed.next))
 
 pub returns-in_ok-out-in-Cut-clause-told : goal.returns-in_ok-out-in-Cut-clause-told
 returns-in_ok-out-in-Cut-clause-told g c =
     let old = c.args.pairs.now in
     let done = c.in_ok-out-in-Cut.ensures in
     let last = c.write_change-in-Cut in
-    let replied : c.reply_to_cut.result ≡ change_reply g.T.Ord.cmp old (Cut c.in-Cut.key) = c.reply_to_cut.ensures ∙ ap (λ o. option_map_or (λ entry. GoneValue entry.1) o Nothing) done.answer ∙ gone_reply (pair_of g.T.Ord.cmp (concat old.nodes) c.in-Cut.key) in
+    let replied : c.reply_to_cut.result ≡ change_reply g.T.Ord.cmp old (Cut c.in-Cut.key) =
+    c.reply_to_cut.ensures ∙ ap (λ o. option_map_or (λ entry. GoneValue entry.1) o Nothing) done.answer
+    ∙ gone_reply (pair_of g.T.Ord.cmp (concat old.nodes) c.in-Cut.key) in
     let events : c.deref-in-Cut.result.now ≡ told_events g.T.Ord.cmp old (Cut c.in-Cut.key) = c.deref-in-Cut.ensures.value ∙ done.events.events (g.met.T.Key.identical, g.met.T.Key.identical) in
-    rw c.in-Cut.is (on_ok_weaker last.result (subst (Appends _ _) (λ i. echo_text c.args.echo ++ (reply_ended g.T.Key.texts (replied i) ++ lines_for (event_text g.T.Key.texts) (events i)))) last.ensures.told)
+    rw c.in-Cut.is
+    (on_ok_weaker last.result
+    (subst (Appends _ _)
+    (λ i. echo_text c.args.echo
+    ++ (reply_ended g.T.Key.texts (replied i) ++ lines_for (event_text g.T.Key.texts) (events i))))
+    last.ensures.told)
 
 pub returns-in_ok-out-in-Cut-clause-memory_refused : goal.returns-in_ok-out-in-Cut-clause-memory_refused
 returns-in_ok-out-in-Cut-clause-memory_refused g c e = write_not_memory (sym (rw e at c.write_change-in-Cut.ensures.fault))

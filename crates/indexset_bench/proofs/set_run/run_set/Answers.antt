@@ -18,7 +18,9 @@ loop-command-preserved g c =
     let before = c.loop-command.invariant in
     let next = c.in-Some.ensures.steps.0 in
     record {
-      so_far = further_cloned before.so_far c.in-Some.command (into_iter_items c.next.new.self) (items c.answer.new.set) c.answer.new.replies.items next c.in_default.ensures.cloned c.in_default.ensures.told c.in_default.ensures.ok;
+      so_far =
+          further_cloned before.so_far c.in-Some.command (into_iter_items c.next.new.self) (items c.answer.new.set)
+          c.answer.new.replies.items next c.in_default.ensures.cloned c.in_default.ensures.told c.in_default.ensures.ok;
       left = omega (arith, ap length next);
       size = cc;
     }

@@ -9,4 +9,6 @@ use Rattle.indexset_bench.proofs.write.write_node.Given as goal
 
 abbrev pub invariant-loop-pair : goal.invariant-loop-pair
 invariant-loop-pair g l =
-    shadow (Utf8 l.lead) × (l.lead ≡ lead_after (take l.pair-index l.node)) × Appends (g.W.Write.contents l.fn.writer) (g.W.Write.contents l.writer) (join_with_byte 32 (map (pair_text g.T.Key.texts) (take l.pair-index l.node)))
+    shadow (Utf8 l.lead) × (l.lead ≡ lead_after (take l.pair-index l.node))
+    × Appends (g.W.Write.contents l.fn.writer) (g.W.Write.contents l.writer)
+    (join_with_byte 32 (map (pair_text g.T.Key.texts) (take l.pair-index l.node)))

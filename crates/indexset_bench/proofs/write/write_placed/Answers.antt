@@ -24,4 +24,9 @@ returns-clause-told g c =
     let both = Appends-trans _ _ _ (event_head texts c.args.id c.args.word.now c.args.max.now ++ codes " ") (pair_text texts c.args.value.now) apart value in
     let before = Appends-trans _ _ _ (event_head texts c.args.id c.args.word.now c.args.max.now ++ codes " " ++ pair_text texts c.args.value.now) (codes " ") both gap in
     let line = Appends-trans _ _ _ (event_head texts c.args.id c.args.word.now c.args.max.now ++ codes " " ++ pair_text texts c.args.value.now ++ codes " ") (decimal c.args.index) before index in
-    on_ok_weaker c.write_bytes-4.result (Appends-trans _ _ _ (event_head texts c.args.id c.args.word.now c.args.max.now ++ codes " " ++ pair_text texts c.args.value.now ++ codes " " ++ decimal c.args.index) (10 ∷ []) line) end
+    on_ok_weaker c.write_bytes-4.result
+    (Appends-trans _ _ _
+    (event_head texts c.args.id c.args.word.now c.args.max.now ++ codes " " ++ pair_text texts c.args.value.now
+    ++ codes " " ++ decimal c.args.index)
+    (10 ∷ []) line)
+    end

@@ -6,7 +6,9 @@ use Rattle.indexset_core.specs.Pairs.{by_key, pair}
 use Rattle.indexset_events.specs.Table.{put_events}
 use Rattle.indexset_log.specs.Tree.{refusal_for}
 use Rattle.indexset_ffi.specs.declared.status.TheConstants.{NO, YES, MEMORY, NONE, HELD, NUMBERS, UNFIT}
-use Rattle.indexset_c.proofs.StatusLemmas.{IsRefused, for_events, is_refused, not_at, not_least, not_most, refused_not_done, refused_not_no, refused_not_none, refused_not_unfit, refused_not_yes, refused_status}
+use Rattle.indexset_c.proofs.StatusLemmas.{IsRefused, for_events, is_refused, not_at, not_least}
+use Rattle.indexset_c.proofs.StatusLemmas.{not_most, refused_not_done, refused_not_no, refused_not_none}
+use Rattle.indexset_c.proofs.StatusLemmas.{refused_not_unfit, refused_not_yes, refused_status}
 use Rattle.indexset_c.proofs.log_edits.indexset_log_insert.Goals.{in-Ok+then-write, in-Ok+else-write, in-Err}
 use Rattle.indexset_c.proofs.log_edits.indexset_log_insert.Goals as goal
 
@@ -37,7 +39,12 @@ returns-then-events-lt3 c =
       unwritten = λ h. refl;
       unchanged = λ h. (refl, refl, c.put.ensures);
       cause = record { memory = λ h. not_at 6 UNFIT MEMORY refl refl h; numbers = λ h. not_at 6 UNFIT NUMBERS refl refl h };
-      status = ((λ h. not_at 6 UNFIT NONE refl refl h, λ h. absurd (none-some _ (sym h))), (λ h. ((λ e. absurd (none-some _ (sym e))), c.if-events-lt3.true), λ h. refl), leb-true 6 UNFIT refl, λ h. not_at 6 UNFIT HELD refl refl h);
+      status = (
+        (λ h. not_at 6 UNFIT NONE refl refl h, λ h. absurd (none-some _ (sym h))),
+        (λ h. ((λ e. absurd (none-some _ (sym e))), c.if-events-lt3.true), λ h. refl),
+        leb-true 6 UNFIT refl,
+        λ h. not_at 6 UNFIT HELD refl refl h,
+      );
     }
 
 pub returns : goal.returns
@@ -57,7 +64,12 @@ returns c =
             unwritten = λ h. absurd (h w.status-is);
             unchanged = λ h. not_least s NO MEMORY w.status-is refl h;
             cause = record { memory = λ h. not_at s NO MEMORY w.status-is refl h; numbers = λ h. not_at s NO NUMBERS w.status-is refl h };
-            status = ((λ h. not_at s NO NONE w.status-is refl h, λ h. absurd (none-some _ (sym h))), (λ h. not_at s NO UNFIT w.status-is refl h, λ h. absurd (omega (arith, c.if-events-lt3.false, h.1))), rw w.status-is (leb-true NO UNFIT refl), λ h. not_at s NO HELD w.status-is refl h);
+            status = (
+              (λ h. not_at s NO NONE w.status-is refl h, λ h. absurd (none-some _ (sym h))),
+              (λ h. not_at s NO UNFIT w.status-is refl h, λ h. absurd (omega (arith, c.if-events-lt3.false, h.1))),
+              rw w.status-is (leb-true NO UNFIT refl),
+              λ h. not_at s NO HELD w.status-is refl h,
+            );
           }
       | in-Ok+else-write w ↦
           let e = w.in-Ok.ensures in let told : c.match-insert_told.told ≡ n = w.told-is ∙ e.event_count in
@@ -70,11 +82,18 @@ returns c =
             unwritten = λ h. w.before-is ∙ w.write.ensures.unwritten w.if-write.false;
             unchanged = λ h. not_least s YES MEMORY w.status-is refl h;
             cause = record { memory = λ h. not_at s YES MEMORY w.status-is refl h; numbers = λ h. not_at s YES NUMBERS w.status-is refl h };
-            status = ((λ h. not_at s YES NONE w.status-is refl h, λ h. absurd (none-some _ (sym h))), (λ h. not_at s YES UNFIT w.status-is refl h, λ h. absurd (omega (arith, c.if-events-lt3.false, h.1))), rw w.status-is (leb-true YES UNFIT refl), λ h. not_at s YES HELD w.status-is refl h);
+            status = (
+              (λ h. not_at s YES NONE w.status-is refl h, λ h. absurd (none-some _ (sym h))),
+              (λ h. not_at s YES UNFIT w.status-is refl h, λ h. absurd (omega (arith, c.if-events-lt3.false, h.1))),
+              rw w.status-is (leb-true YES UNFIT refl),
+              λ h. not_at s YES HELD w.status-is refl h,
+            );
           }
       | in-Err w ↦
           let e = w.in-Err.ensures in
-          let r : IsRefused s (refusal_for m.next n) = is_refused s w.of_refusal-status.result w.in-Err.cause (refusal_for m.next n) w.status-is e.refusal (for_events m.next n) w.of_refusal-status.ensures.memory w.of_refusal-status.ensures.numbers in
+          let r : IsRefused s (refusal_for m.next n) =
+          is_refused s w.of_refusal-status.result w.in-Err.cause (refusal_for m.next n) w.status-is e.refusal
+          (for_events m.next n) w.of_refusal-status.ensures.memory w.of_refusal-status.ensures.numbers in
           record {
             before = (λ h. refused_not_yes s _ r h, λ h. refused_not_no s _ r h);
             ok = λ h. refused_not_done s _ r h;
@@ -84,6 +103,11 @@ returns c =
             unwritten = λ h. w.before-is;
             unchanged = λ h. (w.told-is, e.unwritten, (new ∙ ap Some e.unchanged));
             cause = record { memory = r.memory; numbers = r.numbers };
-            status = ((λ h. refused_not_none s _ r h, λ h. absurd (none-some _ (sym h))), (λ h. refused_not_unfit s _ r h, λ h. absurd (omega (arith, c.if-events-lt3.false, h.1))), refused_status s _ r, r.not_held);
+            status = (
+              (λ h. refused_not_none s _ r h, λ h. absurd (none-some _ (sym h))),
+              (λ h. refused_not_unfit s _ r h, λ h. absurd (omega (arith, c.if-events-lt3.false, h.1))),
+              refused_status s _ r,
+              r.not_held,
+            );
           }
     ])

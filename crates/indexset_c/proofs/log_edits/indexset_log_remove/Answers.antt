@@ -51,7 +51,11 @@ returns c =
       | in-Ok+then-write w ↦
           let e = w.in-Ok.ensures in let told : c.match-remove_told.told ≡ n = w.told-is ∙ e.event_count in
           record {
-            found = (λ h. sym e.found ∙ w.write.ensures.found w.if-write.true ∙ ap Some (sym w.out-is), λ h. not_at s YES NO w.status-is refl h, λ none enough. absurd (none-some _ (sym none ∙ (sym e.found ∙ w.write.ensures.found w.if-write.true))));
+            found = (
+              λ h. sym e.found ∙ w.write.ensures.found w.if-write.true ∙ ap Some (sym w.out-is),
+              λ h. not_at s YES NO w.status-is refl h,
+              λ none enough. absurd (none-some _ (sym none ∙ (sym e.found ∙ w.write.ensures.found w.if-write.true))),
+            );
             rest = λ h. rw new e.changed.contents;
             changed = λ h. rw new e.changed;
             contains = (λ h. absurd (none-some _ (sym h ∙ new)), λ h. absurd (none-some _ (sym h)));
@@ -59,7 +63,12 @@ returns c =
             at_most_three_events = rw w.told-is e.at_most_three_events;
             unchanged = λ h. absurd (h w.status-is);
             cause = record { memory = λ h. not_at s YES MEMORY w.status-is refl h; numbers = λ h. not_at s YES NUMBERS w.status-is refl h };
-            status = ((λ h. not_at s YES UNFIT w.status-is refl h, λ h. absurd (omega (arith, c.if-events-lt3.false, h.1))), rw w.status-is (leb-true YES UNFIT refl), (λ h. not_at s YES NONE w.status-is refl h), (λ h. not_at s YES HELD w.status-is refl h));
+            status = (
+              (λ h. not_at s YES UNFIT w.status-is refl h, λ h. absurd (omega (arith, c.if-events-lt3.false, h.1))),
+              rw w.status-is (leb-true YES UNFIT refl),
+              (λ h. not_at s YES NONE w.status-is refl h),
+              (λ h. not_at s YES HELD w.status-is refl h),
+            );
           }
       | in-Ok+else-write w ↦
           let e = w.in-Ok.ensures in let told : c.match-remove_told.told ≡ n = w.told-is ∙ e.event_count in
@@ -73,11 +82,18 @@ returns c =
             at_most_three_events = rw w.told-is e.at_most_three_events;
             unchanged = λ h. ((w.out-is ∙ w.write.ensures.unwritten w.if-write.false), (w.told-is ∙ gone.0), (e.events ∙ rw zero refl), (new ∙ ap Some gone.1));
             cause = record { memory = λ h. not_at s NO MEMORY w.status-is refl h; numbers = λ h. not_at s NO NUMBERS w.status-is refl h };
-            status = ((λ h. not_at s NO UNFIT w.status-is refl h, λ h. absurd (omega (arith, c.if-events-lt3.false, h.1))), rw w.status-is (leb-true NO UNFIT refl), (λ h. not_at s NO NONE w.status-is refl h), (λ h. not_at s NO HELD w.status-is refl h));
+            status = (
+              (λ h. not_at s NO UNFIT w.status-is refl h, λ h. absurd (omega (arith, c.if-events-lt3.false, h.1))),
+              rw w.status-is (leb-true NO UNFIT refl),
+              (λ h. not_at s NO NONE w.status-is refl h),
+              (λ h. not_at s NO HELD w.status-is refl h),
+            );
           }
       | in-Err w ↦
           let e = w.in-Err.ensures in
-          let r : IsRefused s (refusal_for m.next n) = is_refused s w.of_refusal-status.result w.in-Err.cause (refusal_for m.next n) w.status-is e.refusal (for_events m.next n) w.of_refusal-status.ensures.memory w.of_refusal-status.ensures.numbers in
+          let r : IsRefused s (refusal_for m.next n) =
+          is_refused s w.of_refusal-status.result w.in-Err.cause (refusal_for m.next n) w.status-is e.refusal
+          (for_events m.next n) w.of_refusal-status.ensures.memory w.of_refusal-status.ensures.numbers in
           record {
             found = (λ h. refused_not_yes s _ r h, λ h. refused_not_no s _ r h, λ none enough. absurd (false≢true (e.no_event none)));
             rest = λ h. refused_not_done s _ r h;

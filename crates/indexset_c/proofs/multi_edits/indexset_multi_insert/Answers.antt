@@ -47,7 +47,9 @@ returns c =
     let m = c.deref_mut.result.now in let k = c.args.key in let v = c.args.value in let s = c.match-insert_new.status in let new = c.put-2.ensures in
     let same : c.deref.result.now ≡ m = c.deref.ensures ∙ sym c.deref_mut.ensures.value in
     let was : Some m ≡ c.args.multi.now.slot.value = ap Some c.deref_mut.ensures.value ∙ c.in-Some.ensures.taken in
-    let absent : is_some (equal_pair nat_cmp nat_eq (concat m.nodes) k v) ≡ false = sym (ap (λ (t : MultiTree ℕ ℕ). is_some (equal_pair nat_cmp nat_eq (concat t.nodes) k v)) same) ∙ sym c.has_pair.ensures ∙ c.if-has_pair.false in
+    let absent : is_some (equal_pair nat_cmp nat_eq (concat m.nodes) k v) ≡ false =
+    sym (ap (λ (t : MultiTree ℕ ℕ). is_some (equal_pair nat_cmp nat_eq (concat t.nodes) k v)) same)
+    ∙ sym c.has_pair.ensures ∙ c.if-has_pair.false in
     rw (← was) (elim c.match-insert_new.branch [
       | in-Ok w ↦
           let e = w.in-Ok.ensures in
@@ -64,7 +66,10 @@ returns c =
           }
       | in-Err w ↦
           let e = w.in-Err.ensures in
-          let r : IsRefused s (insertion_refusal nat_cmp nat_eq m k v) = is_refused s w.of_refusal-status.result w.in-Err.cause (insertion_refusal nat_cmp nat_eq m k v) w.status-is e.refusal (for_insertion nat_eq m k v) w.of_refusal-status.ensures.memory w.of_refusal-status.ensures.numbers in
+          let r : IsRefused s (insertion_refusal nat_cmp nat_eq m k v) =
+          is_refused s w.of_refusal-status.result w.in-Err.cause (insertion_refusal nat_cmp nat_eq m k v)
+          w.status-is e.refusal (for_insertion nat_eq m k v) w.of_refusal-status.ensures.memory
+          w.of_refusal-status.ensures.numbers in
           record {
             contains = (λ h. refused_not_no s _ r h, λ h. absurd (false≢true (sym absent ∙ h)));
             ok = λ h. refused_not_yes s _ r h;

@@ -36,7 +36,10 @@ returns c =
       | in-Ok w ↦
           let e = w.in-Ok.ensures in
           record {
-            last = λ h. ap (λ (o : Option (MultiTree ℕ ℕ)). key_values (numbered_pairs o) k) new ∙ (ap (λ l. pair_values (entries l)) e.added.last ∙ value_last (pairs_of nat_cmp (concat m.nodes) k) (numbered_pair k v m.pair_next));
+            last =
+                λ h. ap (λ (o : Option (MultiTree ℕ ℕ)). key_values (numbered_pairs o) k) new
+                ∙ (ap (λ l. pair_values (entries l)) e.added.last
+                ∙ value_last (pairs_of nat_cmp (concat m.nodes) k) (numbered_pair k v m.pair_next));
             others = λ h other apart. ap (λ (o : Option (MultiTree ℕ ℕ)). pairs_of nat_cmp (numbered_pairs o) other) new ∙ e.added.others other apart;
             unchanged = λ h. absurd (h w.status-is);
             none = (λ h. not_at s YES NONE w.status-is refl h, λ h. absurd (none-some _ (sym h)));
@@ -46,7 +49,10 @@ returns c =
           }
       | in-Err w ↦
           let e = w.in-Err.ensures in
-          let r : IsRefused s (addition_refusal nat_cmp m k v) = is_refused s w.of_refusal-status.result w.in-Err.refused.cause (addition_refusal nat_cmp m k v) w.status-is e.refusal (for_insertion (λ _ _. false) m k v) w.of_refusal-status.ensures.memory w.of_refusal-status.ensures.numbers in
+          let r : IsRefused s (addition_refusal nat_cmp m k v) =
+          is_refused s w.of_refusal-status.result w.in-Err.refused.cause (addition_refusal nat_cmp m k v)
+          w.status-is e.refusal (for_insertion (λ _ _. false) m k v) w.of_refusal-status.ensures.memory
+          w.of_refusal-status.ensures.numbers in
           record {
             last = λ h. refused_not_yes s _ r h;
             others = λ h. refused_not_yes s _ r h;

@@ -58,7 +58,9 @@ returns c =
           }
       | in-Err w ↦
           let e = w.in-Err.ensures in
-          let r : IsRefused s (refusal_for m.next n) = is_refused s w.of_refusal-status.result w.in-Err.cause (refusal_for m.next n) w.status-is e.refusal (for_events m.next n) w.of_refusal-status.ensures.memory w.of_refusal-status.ensures.numbers in
+          let r : IsRefused s (refusal_for m.next n) =
+          is_refused s w.of_refusal-status.result w.in-Err.cause (refusal_for m.next n) w.status-is e.refusal
+          (for_events m.next n) w.of_refusal-status.ensures.memory w.of_refusal-status.ensures.numbers in
           record {
             absent = (λ h. refused_not_no s _ r h, λ h. absurd (false≢true (e.no_event (ap (pair_removal_events nat_cmp m.size m.nodes) h))));
             ok = λ h. refused_not_yes s _ r h;

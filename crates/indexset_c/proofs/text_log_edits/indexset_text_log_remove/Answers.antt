@@ -14,7 +14,9 @@ returns-clause-at_most_three_events c =
     elim c.match-remove.branch [
       | in-Ok-Some w ↦
           let e = w.in-Ok-Some.ensures in let is = w.told-is in
-          let few = few_kept c.remove.new.self m.tree made (e.ok (λ none. none-some _ (sym none ∙ w.in-Ok-Some.field-0-is))) (e.changed (λ none. none-some _ (sym none ∙ w.in-Ok-Some.field-0-is))).at_most_three_events in
+          let few =
+          few_kept c.remove.new.self m.tree made (e.ok (λ none. none-some _ (sym none ∙ w.in-Ok-Some.field-0-is)))
+          (e.changed (λ none. none-some _ (sym none ∙ w.in-Ok-Some.field-0-is))).at_most_three_events in
           let many : w.told.result ≡ length c.remove.new.self.told = w.told.ensures ∙ ap (λ (u : ToldTree). length u.told) w.deref.ensures in
           omega (arith, few, is, many)
       | in-Ok-None w ↦ let is = w.told-is in omega (arith, is)

@@ -12,7 +12,12 @@ begins g c = ap drain_items c.into_iter-item-iterator.ensures.into_iter_gives �
 
 -- what the iterator leaves of the list
 kept : (g : Over) (c : After-drop-item-iterator g) → drain_kept c.next.new.self ≡ take c.args.index c.args.items.now.items
-kept g c = ap drain_kept c.in-None.ensures.steps.1 ∙ (c.loop-item.invariant.keeps.1 ∙ (ap drain_kept c.into_iter-item-iterator.ensures.into_iter_gives ∙ (c.drain-item-items.ensures.kept ∙ tail_left c.args.items.now.items c.args.index (length c.args.items.now.items) refl)))
+kept g c =
+    ap drain_kept c.in-None.ensures.steps.1
+    ∙ (c.loop-item.invariant.keeps.1
+    ∙ (ap drain_kept c.into_iter-item-iterator.ensures.into_iter_gives
+    ∙ (c.drain-item-items.ensures.kept
+    ∙ tail_left c.args.items.now.items c.args.index (length c.args.items.now.items) refl)))
 
 pub loop-item-init : goal.loop-item-init
 loop-item-init g c = record {
@@ -34,8 +39,15 @@ loop-item-preserved g c =
       callable = c.in-Some.ensures.goes.keeps;
       finite = tt;
       keeps = (step.1.0 ∙ at.keeps.0, step.1.1 ∙ at.keeps.1);
-      moved = moved_on c.loop-item.other.items c.push.new.self.items (drain_items c.loop-item.item-iterator) (drain_items c.next.new.self) (c.args.other.now.items ++ drain_items c.into_iter-item-iterator.result) c.in-Some.item c.push.ensures.items step.0 at.moved;
-      room = omega (arith, room_on c.loop-item.other.items c.push.new.self.items (drain_items c.loop-item.item-iterator) (drain_items c.next.new.self) c.in-Some.item c.push.ensures.items step.0, at.room);
+      moved =
+          moved_on c.loop-item.other.items c.push.new.self.items (drain_items c.loop-item.item-iterator)
+          (drain_items c.next.new.self) (c.args.other.now.items ++ drain_items c.into_iter-item-iterator.result)
+          c.in-Some.item c.push.ensures.items step.0 at.moved;
+      room = omega (
+        arith,
+        room_on c.loop-item.other.items c.push.new.self.items (drain_items c.loop-item.item-iterator) (drain_items c.next.new.self) c.in-Some.item c.push.ensures.items step.0,
+        at.room,
+      );
     }
 
 pub returns-clause-left : goal.returns-clause-left
@@ -43,5 +55,7 @@ returns-clause-left g c = let k = kept g (goal.at.returns-clause-left g c).After
 
 pub returns-clause-moved : goal.returns-clause-moved
 returns-clause-moved g c =
-    moved_all c.loop-item.other.items (drain_items c.loop-item.item-iterator) (c.args.other.now.items ++ drain_items c.into_iter-item-iterator.result) c.in-None.ensures.steps.0 c.loop-item.invariant.moved
+    moved_all c.loop-item.other.items (drain_items c.loop-item.item-iterator)
+    (c.args.other.now.items ++ drain_items c.into_iter-item-iterator.result) c.in-None.ensures.steps.0
+    c.loop-item.invariant.moved
     ∙ ap (λ l. c.args.other.now.items ++ l) (begins g (goal.at.returns-clause-moved g c).After-into_iter-item-iterator)

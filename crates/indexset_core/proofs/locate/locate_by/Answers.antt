@@ -12,14 +12,17 @@ use Rattle.indexset_core.proofs.locate.locate_by.Goals.{After-items_of-items, Af
 use Rattle.indexset_core.proofs.locate.locate_by.Goals as goal
 
 -- the end of the search
-told : {X : Type 0} (answer : X → Ordering) (ns : List (List X)) (k i : ℕ) → k ≡ node_for answer ns → i ≡ less_count answer (node_at ns k) → equal_at answer (node_at ns k) i ≡ true → Ok (k, i) ≡ located answer ns
+told : {X : Type 0} (answer : X → Ordering) (ns : List (List X)) (k i : ℕ) → k ≡ node_for answer ns
+    → i ≡ less_count answer (node_at ns k) → equal_at answer (node_at ns k) i ≡ true → Ok (k, i) ≡ located answer ns
 told answer ns k i at offset here = rw (← at, ← offset, here) refl
 
-untold : {X : Type 0} (answer : X → Ordering) (ns : List (List X)) (k i : ℕ) → k ≡ node_for answer ns → i ≡ less_count answer (node_at ns k) → equal_at answer (node_at ns k) i ≡ false → Err (k, i) ≡ located answer ns
+untold : {X : Type 0} (answer : X → Ordering) (ns : List (List X)) (k i : ℕ) → k ≡ node_for answer ns
+    → i ≡ less_count answer (node_at ns k) → equal_at answer (node_at ns k) i ≡ false → Err (k, i) ≡ located answer ns
 untold answer ns k i at offset other = rw (← at, ← offset, other) refl
 
 -- the node that the search reads
-read : (g : Over) (c : After-items_of-items g) → let ns = map g.R.NodeItems.list c.args.nodes.now in (c.node_by-node.result < length ns) × (c.items_of-items.result.now ≡ node_at ns c.node_by-node.result)
+read : (g : Over) (c : After-items_of-items g) → let ns = map g.R.NodeItems.list c.args.nodes.now in
+    (c.node_by-node.result < length ns) × (c.items_of-items.result.now ≡ node_at ns c.node_by-node.result)
 read g c =
     let some : 1 ≤ length c.args.nodes.now = grind (arith, common_steps) in
     let r = searched (g.P.Probe.answer c.args.probe.now) g.R.NodeItems.list c.args.nodes.now c.node_by-node.result c.index-nodes-node.result some c.node_by-node.ensures.node c.index-nodes-node.is in
@@ -41,7 +44,9 @@ module _ (g : Over) (c : After-place_in-offset g) where
   equal : c.place_in-offset.result.1 ≡ equal_at (g.P.Probe.answer c.args.probe.now) (node_at (map g.R.NodeItems.list c.args.nodes.now) c.node_by-node.result) c.place_in-offset.result.0
   equal = rw (c.node_by-node.ensures.fixed, r.1) at c.place_in-offset.ensures.found
 
-  few : (size : ℕ) → All (λ n. n ≤ size) (node_lengths (map g.R.NodeItems.list c.args.nodes.now)) → g.P.Probe.asked c.place_in-offset.new.probe ≤ g.P.Probe.asked c.args.probe.now + (digits (length c.args.nodes.now) + digits size + 1)
+  few : (size : ℕ) → All (λ n. n ≤ size) (node_lengths (map g.R.NodeItems.list c.args.nodes.now))
+      → g.P.Probe.asked c.place_in-offset.new.probe
+      ≤ g.P.Probe.asked c.args.probe.now + (digits (length c.args.nodes.now) + digits size + 1)
   few size small =
       let short : length c.items_of-items.result.now ≤ size = rw r.1 (small_at (map g.R.NodeItems.list c.args.nodes.now) size c.node_by-node.result r.0 small) in
       omega (arith, c.node_by-node.ensures.comparisons, c.place_in-offset.ensures.comparisons, digits-mono _ _ short)

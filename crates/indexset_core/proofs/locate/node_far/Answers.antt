@@ -6,11 +6,15 @@ use Rattle.indexset_core.proofs.locate.node_far.Goals as goal
 
 pub overflow_sub-node : goal.overflow_sub-node
 overflow_sub-node g c =
-    rw c.items_of-node.ensures (node_some (g.P.Probe.answer c.args.probe.now) g.R.NodeItems.list c.args.nodes.now _ c.index-nodes-middle.result (omega arith) c.index-nodes-middle.is (c.requires.filled (omega arith)))
+    rw c.items_of-node.ensures
+    (node_some (g.P.Probe.answer c.args.probe.now) g.R.NodeItems.list c.args.nodes.now _ c.index-nodes-middle.result
+    (omega arith) c.index-nodes-middle.is (c.requires.filled (omega arith)))
 
 pub bounds-node-node : goal.bounds-node-node
 bounds-node-node g c =
-    let some = node_some (g.P.Probe.answer c.args.probe.now) g.R.NodeItems.list c.args.nodes.now _ c.index-nodes-middle.result (omega arith) c.index-nodes-middle.is (c.requires.filled (omega arith)) in
+    let some =
+    node_some (g.P.Probe.answer c.args.probe.now) g.R.NodeItems.list c.args.nodes.now _ c.index-nodes-middle.result
+    (omega arith) c.index-nodes-middle.is (c.requires.filled (omega arith)) in
     rw c.items_of-node.ensures (omega arith)
 
 pub loop-low-preserved-then-is_lt : goal.loop-low-preserved-then-is_lt

@@ -12,11 +12,15 @@ use Rattle.indexset_core.proofs.locate.node_near.Goals as goal
 
 pub overflow_sub-node : goal.overflow_sub-node
 overflow_sub-node g c =
-    rw c.items_of-node.ensures (node_some (g.P.Probe.answer c.args.probe.now) g.R.NodeItems.list c.args.nodes.now _ c.index-nodes-middle.result (omega arith) c.index-nodes-middle.is (c.requires.filled (omega arith)))
+    rw c.items_of-node.ensures
+    (node_some (g.P.Probe.answer c.args.probe.now) g.R.NodeItems.list c.args.nodes.now _ c.index-nodes-middle.result
+    (omega arith) c.index-nodes-middle.is (c.requires.filled (omega arith)))
 
 pub bounds-node-node : goal.bounds-node-node
 bounds-node-node g c =
-    let some = node_some (g.P.Probe.answer c.args.probe.now) g.R.NodeItems.list c.args.nodes.now _ c.index-nodes-middle.result (omega arith) c.index-nodes-middle.is (c.requires.filled (omega arith)) in
+    let some =
+    node_some (g.P.Probe.answer c.args.probe.now) g.R.NodeItems.list c.args.nodes.now _ c.index-nodes-middle.result
+    (omega arith) c.index-nodes-middle.is (c.requires.filled (omega arith)) in
     rw c.items_of-node.ensures (omega arith)
 
 pub loop-left-preserved : goal.loop-left-preserved
@@ -28,7 +32,9 @@ loop-left-preserved g c =
     let filled = c.requires.filled (omega arith) in
     let some = node_some answer list nodes _ node (omega arith) c.index-nodes-middle.is filled in
     let end : end_answer answer (list node) ≡ answer c.index-node-node.result = end_is answer (list node) _ some (rw c.items_of-node.ensures at c.index-node-node.is) in
-    let read : get_or front (at.low + at.left / 2) (list node) ≡ list node = get_or-take (length nodes - 1) (map list nodes) _ (list node) (omega arith) ∙ node_read list nodes _ node (omega arith) c.index-nodes-middle.is (list node) in
+    let read : get_or front (at.low + at.left / 2) (list node) ≡ list node =
+    get_or-take (length nodes - 1) (map list nodes) _ (list node) (omega arith)
+    ∙ node_read list nodes _ node (omega arith) c.index-nodes-middle.is (list node) in
     let goes : c.choose-low.result ≡ cond (is_lt (answer c.index-node-node.result)) (at.low + at.left / 2 + at.left % 2) at.low = cc in
     let kept : c.choose-equal.result ≡ cond (is_eq (answer c.index-node-node.result)) (at.low + at.left / 2) at.equal = cc in
     let parted = front_parted answer (map list nodes) (length nodes - 1) filled c.requires.parted in
@@ -50,7 +56,9 @@ returns-clause-node g c =
     let long : length front ≡ length nodes - 1 = length-take-le _ (map list nodes) (omega (arith, length-map nodes list)) in
     let done : at.low + at.left ≡ at.low = omega arith in
     let met = equal_met (end_answer answer) front at.low at.equal (rw done at at.invariant.equal) in
-    let found : at.low ≡ node_for answer (map list nodes) = end_found answer (map list nodes) (length nodes - 1) at.low (omega (arith, length-map nodes list)) (omega (arith, length-map nodes list)) (rw done at at.invariant.narrowed) in
+    let found : at.low ≡ node_for answer (map list nodes) =
+    end_found answer (map list nodes) (length nodes - 1) at.low (omega (arith, length-map nodes list))
+    (omega (arith, length-map nodes list)) (rw done at at.invariant.narrowed) in
     c.choose.ensures ∙ (rw long at met ∙ found)
 
 pub returns-clause-comparisons : goal.returns-clause-comparisons

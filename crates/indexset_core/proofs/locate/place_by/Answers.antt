@@ -9,7 +9,8 @@ use Rattle.indexset_core.proofs.locate.place_by.Goals.{After-items_of-items}
 use Rattle.indexset_core.proofs.locate.place_by.Goals as goal
 
 -- the node that the search reads
-read : (g : Over) (c : After-items_of-items g) → let ns = map g.R.NodeItems.list c.args.nodes.now in (c.node_by-node.result < length ns) × (c.items_of-items.result.now ≡ node_at ns c.node_by-node.result)
+read : (g : Over) (c : After-items_of-items g) → let ns = map g.R.NodeItems.list c.args.nodes.now in
+    (c.node_by-node.result < length ns) × (c.items_of-items.result.now ≡ node_at ns c.node_by-node.result)
 read g c =
     let some : 1 ≤ length c.args.nodes.now = grind (arith, common_steps) in
     let r = searched (g.P.Probe.answer c.args.probe.now) g.R.NodeItems.list c.args.nodes.now c.node_by-node.result c.index-nodes-node.result some c.node_by-node.ensures.node c.index-nodes-node.is in

@@ -14,7 +14,11 @@ returns-then-count-len-clause-left g c =
 pub returns-then-count-len-clause-moved : goal.returns-then-count-len-clause-moved
 returns-then-count-len-clause-moved g c =
     let ok = c.append.ensures.succeeds (omega (arith, c.requires.room, c.len.ensures, c.if-count-len.true)) in
-    rw ok at c.append.ensures.items ∙ ap (λ l. c.args.other.now.items ++ l) (sym (take_all c.args.count c.args.items.now.items (omega (arith, c.len.ensures, c.if-count-len.true, c.args.items.now.ok))))
+    rw ok at c.append.ensures.items
+    ∙ ap (λ l. c.args.other.now.items ++ l)
+    (sym
+    (take_all c.args.count c.args.items.now.items
+    (omega (arith, c.len.ensures, c.if-count-len.true, c.args.items.now.ok))))
 
 -- the iterator's items at the start
 begins : (g : Over) (c : After-into_iter-item-iterator g) → drain_items c.into_iter-item-iterator.result ≡ take c.args.count c.args.items.now.items
@@ -49,9 +53,19 @@ loop-item-preserved g c =
       callable = tt;
       finite = tt;
       keeps = (step.2.0 ∙ at.keeps.0, step.2.1 ∙ at.keeps.1, step.2.2 ∙ at.keeps.2);
-      moved = moved_on c.loop-item.other.items c.push_reserved.new.self.items (drain_items c.loop-item.item-iterator) (drain_items c.next.new.self) (c.args.other.now.items ++ drain_items c.into_iter-item-iterator.result) c.in-Some.item c.push_reserved.ensures.items step.0 at.moved;
+      moved =
+          moved_on c.loop-item.other.items c.push_reserved.new.self.items (drain_items c.loop-item.item-iterator)
+          (drain_items c.next.new.self) (c.args.other.now.items ++ drain_items c.into_iter-item-iterator.result)
+          c.in-Some.item c.push_reserved.ensures.items step.0 at.moved;
       same = c.push_reserved.ensures.capacity ∙ at.same;
-      room = omega (arith, room_on c.loop-item.other.items c.push_reserved.new.self.items (drain_items c.loop-item.item-iterator) (drain_items c.next.new.self) c.in-Some.item c.push_reserved.ensures.items step.0, at.room, c.push_reserved.ensures.capacity, c.loop-item.other.ok, c.push_reserved.new.self.ok);
+      room = omega (
+        arith,
+        room_on c.loop-item.other.items c.push_reserved.new.self.items (drain_items c.loop-item.item-iterator) (drain_items c.next.new.self) c.in-Some.item c.push_reserved.ensures.items step.0,
+        at.room,
+        c.push_reserved.ensures.capacity,
+        c.loop-item.other.ok,
+        c.push_reserved.new.self.ok,
+      );
     }
 
 pub returns-clause-left : goal.returns-clause-left
@@ -59,7 +73,9 @@ returns-clause-left g c = let k = kept g (goal.at.returns-clause-left g c).After
 
 pub returns-clause-moved : goal.returns-clause-moved
 returns-clause-moved g c =
-    moved_all c.loop-item.other.items (drain_items c.loop-item.item-iterator) (c.args.other.now.items ++ drain_items c.into_iter-item-iterator.result) c.in-None.ensures.steps.0 c.loop-item.invariant.moved
+    moved_all c.loop-item.other.items (drain_items c.loop-item.item-iterator)
+    (c.args.other.now.items ++ drain_items c.into_iter-item-iterator.result) c.in-None.ensures.steps.0
+    c.loop-item.invariant.moved
     ∙ ap (λ l. c.args.other.now.items ++ l) (begins g (goal.at.returns-clause-moved g c).After-into_iter-item-iterator)
 
 pub returns-clause-capacity : goal.returns-clause-capacity

@@ -32,9 +32,19 @@ loop-item-preserved g c =
       callable = tt;
       finite = tt;
       keeps = (step.2.0 ∙ at.keeps.0, step.2.1 ∙ at.keeps.1, step.2.2 ∙ at.keeps.2);
-      moved = moved_on c.loop-item.other.items c.push_reserved.new.self.items (drain_items c.loop-item.item-iterator) (drain_items c.next.new.self) (c.args.other.now.items ++ drain_items c.into_iter-item-iterator.result) c.in-Some.item c.push_reserved.ensures.items step.0 at.moved;
+      moved =
+          moved_on c.loop-item.other.items c.push_reserved.new.self.items (drain_items c.loop-item.item-iterator)
+          (drain_items c.next.new.self) (c.args.other.now.items ++ drain_items c.into_iter-item-iterator.result)
+          c.in-Some.item c.push_reserved.ensures.items step.0 at.moved;
       same = c.push_reserved.ensures.capacity ∙ at.same;
-      room = omega (arith, room_on c.loop-item.other.items c.push_reserved.new.self.items (drain_items c.loop-item.item-iterator) (drain_items c.next.new.self) c.in-Some.item c.push_reserved.ensures.items step.0, at.room, c.push_reserved.ensures.capacity, c.loop-item.other.ok, c.push_reserved.new.self.ok);
+      room = omega (
+        arith,
+        room_on c.loop-item.other.items c.push_reserved.new.self.items (drain_items c.loop-item.item-iterator) (drain_items c.next.new.self) c.in-Some.item c.push_reserved.ensures.items step.0,
+        at.room,
+        c.push_reserved.ensures.capacity,
+        c.loop-item.other.ok,
+        c.push_reserved.new.self.ok,
+      );
     }
 
 -- what the iterator leaves of the list
@@ -43,7 +53,12 @@ module _ (g : Over) (c : After-drop-item-iterator g) where
   ends = c.in-None.ensures.steps.1
 
   kept : drain_kept c.next.new.self ≡ take c.args.index c.args.items.now.items
-  kept = ap drain_kept ends ∙ (c.loop-item.invariant.keeps.1 ∙ (ap drain_kept c.into_iter-item-iterator.ensures.into_iter_gives ∙ (c.drain-item-items.ensures.kept ∙ tail_left c.args.items.now.items c.args.index (vec_len c.args.items.now) (omega (arith, c.args.items.now.ok)))))
+  kept =
+      ap drain_kept ends
+      ∙ (c.loop-item.invariant.keeps.1
+      ∙ (ap drain_kept c.into_iter-item-iterator.ensures.into_iter_gives
+      ∙ (c.drain-item-items.ensures.kept
+      ∙ tail_left c.args.items.now.items c.args.index (vec_len c.args.items.now) (omega (arith, c.args.items.now.ok)))))
 
   capacity : drain_capacity c.next.new.self ≡ vec_capacity c.args.items.now
   capacity = ap drain_capacity ends ∙ (c.loop-item.invariant.keeps.2 ∙ (ap drain_capacity c.into_iter-item-iterator.ensures.into_iter_gives ∙ c.drain-item-items.ensures.capacity))
@@ -56,7 +71,9 @@ returns-clause-left g c =
 
 pub returns-clause-moved : goal.returns-clause-moved
 returns-clause-moved g c =
-    moved_all c.loop-item.other.items _ _ c.in-None.ensures.steps.0 c.loop-item.invariant.moved ∙ ap (λ l. c.args.other.now.items ++ l) (begins g (goal.at.returns-clause-moved g c).After-into_iter-item-iterator)
+    moved_all c.loop-item.other.items _ _ c.in-None.ensures.steps.0 c.loop-item.invariant.moved
+    ∙ ap (λ l. c.args.other.now.items ++ l)
+    (begins g (goal.at.returns-clause-moved g c).After-into_iter-item-iterator)
 
 pub returns-clause-capacity : goal.returns-clause-capacity
 returns-clause-capacity g c =

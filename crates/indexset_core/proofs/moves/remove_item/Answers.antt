@@ -18,7 +18,11 @@ loop-at-preserved g c =
     let one_less = length-remove c.args.items.now.items c.args.index c.requires in
     let turned = rw c.as_mut_slice.ensures.value at c.rotate_left.ensures.after in
     record {
-      turned = λ d. rw c.as_mut_slice.ensures.value (turn c.loop-at.items (remove c.args.items.now.items c.args.index) c.rotate_left.new.self _ c.loop-at.at c.min.result (c.loop-at.at + c.min.result + 1 - c.loop-at.at)
+      turned =
+          λ d.
+          rw c.as_mut_slice.ensures.value
+          (turn c.loop-at.items (remove c.args.items.now.items c.args.index) c.rotate_left.new.self _ c.loop-at.at
+          c.min.result (c.loop-at.at + c.min.result + 1 - c.loop-at.at)
           (omega arith) (c.loop-at.invariant.turned d) (omega (arith, one_less, c.min.ensures, c.loop-at-test.true, c.len-last.ensures, c.args.items.now.ok)) turned);
       count = c.loop-at.invariant.count;
       within = omega (arith, c.min.ensures, c.loop-at-test.true);

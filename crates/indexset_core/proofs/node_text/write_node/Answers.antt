@@ -25,12 +25,24 @@ loop-item-preserved g c =
     let x = c.item-item.result in
     let front = Some (if c.args.is_first then codes "[" else codes " [") ++? items_shown shown (take c.loop-item.item-index c.args.items.now) in
     let item : DisplaysOnOk took c.loop-item.f (Ok tt) (before_item c.loop-item.is_first_item ++? shown x) c.fmt.new.f = elim c.if-not-is_first_item.branch [
-      | then-not-is_first_item+in_ok-write_str-2 w ↦ behind_comma took c.loop-item.f c.if-not-is_first_item.f c.fmt.new.f c.loop-item.is_first_item (shown x) w.if-not-is_first_item.true (subst (λ f. DisplaysOnOk took c.loop-item.f (Ok tt) (Some (codes ", ")) f) (sym w.f-is) w.in_ok-write_str-2.ensures.writes) c.in_ok-fmt.ensures.writes
-      | else-not-is_first_item w ↦ behind_nothing took c.loop-item.f c.if-not-is_first_item.f c.fmt.new.f c.loop-item.is_first_item (shown x) w.if-not-is_first_item.false w.f-is c.in_ok-fmt.ensures.writes
+      | then-not-is_first_item+in_ok-write_str-2 w ↦
+          behind_comma took c.loop-item.f c.if-not-is_first_item.f c.fmt.new.f c.loop-item.is_first_item (shown x)
+          w.if-not-is_first_item.true
+          (subst (λ f. DisplaysOnOk took c.loop-item.f (Ok tt) (Some (codes ", ")) f) (sym w.f-is)
+          w.in_ok-write_str-2.ensures.writes)
+          c.in_ok-fmt.ensures.writes
+      | else-not-is_first_item w ↦
+          behind_nothing took c.loop-item.f c.if-not-is_first_item.f c.fmt.new.f c.loop-item.is_first_item (shown x)
+          w.if-not-is_first_item.false w.f-is c.in_ok-fmt.ensures.writes
     ] in
     let behind = subst (λ b. DisplaysOnOk took c.loop-item.f (Ok tt) (before_item b ++? shown x) c.fmt.new.f) i.first item in
     record {
-      written = subst (λ o. DisplaysOnOk took c.args.f.now (Ok tt) o c.fmt.new.f) (items_more shown (Some (if c.args.is_first then codes "[" else codes " [")) c.args.items.now c.loop-item.item-index x c.loop-item-test.true c.item-item.is) (then_shown took c.args.f.now c.loop-item.f c.fmt.new.f (Ok tt) front (before_item (c.loop-item.item-index == 0) ++? shown x) i.written behind);
+      written =
+          subst (λ o. DisplaysOnOk took c.args.f.now (Ok tt) o c.fmt.new.f)
+          (items_more shown (Some (if c.args.is_first then codes "[" else codes " [")) c.args.items.now
+          c.loop-item.item-index x c.loop-item-test.true c.item-item.is)
+          (then_shown took c.args.f.now c.loop-item.f c.fmt.new.f (Ok tt) front
+          (before_item (c.loop-item.item-index == 0) ++? shown x) i.written behind);
       first = sym (grind arith);
     }
 
@@ -40,5 +52,11 @@ returns g c =
     let shown = g.T.Display.output in
     let front = Some (if c.args.is_first then codes "[" else codes " [") in
     let all : take c.loop-item.item-index c.args.items.now ≡ c.args.items.now = take_all c.loop-item.item-index c.args.items.now c.loop-item-test.false in
-    let whole = then_shown took c.args.f.now c.loop-item.f c.write_str-2.new.self c.write_str-2.result (front ++? items_shown shown (take c.loop-item.item-index c.args.items.now)) (Some (codes "]")) c.loop-item.invariant.written c.write_str-2.ensures.writes in
-    subst (λ o. DisplaysOnOk took c.args.f.now c.write_str-2.result o c.write_str-2.new.self) (shown_assoc front (items_shown shown (take c.loop-item.item-index c.args.items.now)) (Some (codes "]")) ∙ ap (λ l. front ++? (items_shown shown l ++? Some (codes "]"))) all) whole
+    let whole =
+    then_shown took c.args.f.now c.loop-item.f c.write_str-2.new.self c.write_str-2.result
+    (front ++? items_shown shown (take c.loop-item.item-index c.args.items.now)) (Some (codes "]"))
+    c.loop-item.invariant.written c.write_str-2.ensures.writes in
+    subst (λ o. DisplaysOnOk took c.args.f.now c.write_str-2.result o c.write_str-2.new.self)
+    (shown_assoc front (items_shown shown (take c.loop-item.item-index c.args.items.now)) (Some (codes "]"))
+    ∙ ap (λ l. front ++? (items_shown shown l ++? Some (codes "]"))) all)
+    whole

@@ -30,7 +30,11 @@ pub overflow_sub-result : goal.overflow_sub-result
 overflow_sub-result g c = omega (arith, c.first_greater.ensures.count, count_by-le-length (λ x. is_le (g.T.Ord.cmp x c.new-else-from_start.result.0)) c.args.items.now)
 
 pub overflow_sub-result-else-from_start-2 : goal.overflow_sub-result-else-from_start-2
-overflow_sub-result-else-from_start-2 g c = omega (arith, c.first_not_less-else-from_start-2.ensures.count, count_by-le-length (λ x. is_lt (g.T.Ord.cmp x c.new-else-from_start-2.result.0)) c.args.items.now)
+overflow_sub-result-else-from_start-2 g c = omega (
+  arith,
+  c.first_not_less-else-from_start-2.ensures.count,
+  count_by-le-length (λ x. is_lt (g.T.Ord.cmp x c.new-else-from_start-2.result.0)) c.args.items.now,
+)
 
 pub returns-in-Unbounded : goal.returns-in-Unbounded
 returns-in-Unbounded g c = rw c.in-Unbounded.is

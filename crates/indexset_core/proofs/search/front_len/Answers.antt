@@ -8,7 +8,9 @@ pub loop-low-preserved-then-comes_first : goal.loop-low-preserved-then-comes_fir
 loop-low-preserved-then-comes_first g c =
     let at = c.loop-low in let or_equal = not (g.row.OR_EQUAL == 0) in
     record {
-      narrowed = narrowed_right (comes_first or_equal) (front-comes_first or_equal) (g.P.Probe.answer c.args.probe.now) c.args.items.now c.requires at.low at.high (omega arith) at.invariant.narrowed _ c.index-items-middle.is cc;
+      narrowed =
+          narrowed_right (comes_first or_equal) (front-comes_first or_equal) (g.P.Probe.answer c.args.probe.now)
+          c.args.items.now c.requires at.low at.high (omega arith) at.invariant.narrowed _ c.index-items-middle.is cc;
       fixed = cc;
       comparisons = omega (arith, digits-right at.low at.high (omega arith));
     }
@@ -17,7 +19,9 @@ pub loop-low-preserved : goal.loop-low-preserved
 loop-low-preserved g c =
     let at = c.loop-low in let or_equal = not (g.row.OR_EQUAL == 0) in
     record {
-      narrowed = narrowed_left (comes_first or_equal) (front-comes_first or_equal) (g.P.Probe.answer c.args.probe.now) c.args.items.now c.requires at.low at.high (omega arith) at.invariant.narrowed _ c.index-items-middle.is cc;
+      narrowed =
+          narrowed_left (comes_first or_equal) (front-comes_first or_equal) (g.P.Probe.answer c.args.probe.now)
+          c.args.items.now c.requires at.low at.high (omega arith) at.invariant.narrowed _ c.index-items-middle.is cc;
       fixed = cc;
       comparisons = omega (arith, digits-left at.low at.high (omega arith));
     }

@@ -18,12 +18,23 @@ returns-then-items-size-clause-refusal g c =
 
 pub returns-then-not-is_ascending-clause-refusal : goal.returns-then-not-is_ascending-clause-refusal
 returns-then-not-is_ascending-clause-refusal g c =
-    rw (refused_unsorted g.T.Ord.cmp c.args.size [] c.args.items.now (full g (goal.at.returns-then-not-is_ascending-clause-refusal g c).In-Some) (omega arith) (sym c.is_ascending.ensures ∙ c.if-not-is_ascending.true)) refl
+    rw
+    (refused_unsorted g.T.Ord.cmp c.args.size [] c.args.items.now
+    (full g (goal.at.returns-then-not-is_ascending-clause-refusal g c).In-Some) (omega arith)
+    (sym c.is_ascending.ensures ∙ c.if-not-is_ascending.true))
+    refl
 
 pub returns-then-not-ends_below-clause-refusal : goal.returns-then-not-ends_below-clause-refusal
 returns-then-not-ends_below-clause-refusal g c =
-    follow_told g.T.Ord.cmp g.met.T.Ord.total c.args.size c.args.before.now c.args.items.now c.in-Some.first.now c.ends_below.result (full g (goal.at.returns-then-not-ends_below-clause-refusal g c).In-Some) (omega arith) c.requires (sym c.is_ascending.ensures ∙ c.if-not-is_ascending.false) (sym c.in-Some.ensures.value) c.ends_below.ensures ∙ rw c.if-not-ends_below.true refl
+    follow_told g.T.Ord.cmp g.met.T.Ord.total c.args.size c.args.before.now c.args.items.now c.in-Some.first.now
+    c.ends_below.result (full g (goal.at.returns-then-not-ends_below-clause-refusal g c).In-Some) (omega arith)
+    c.requires (sym c.is_ascending.ensures ∙ c.if-not-is_ascending.false) (sym c.in-Some.ensures.value)
+    c.ends_below.ensures
+    ∙ rw c.if-not-ends_below.true refl
 
 pub returns-clause-good : goal.returns-clause-good
 returns-clause-good g c =
-    follow_told g.T.Ord.cmp g.met.T.Ord.total c.args.size c.args.before.now c.args.items.now c.in-Some.first.now c.ends_below.result (full g (goal.at.returns-clause-good g c).In-Some) (omega arith) c.requires (sym c.is_ascending.ensures ∙ c.if-not-is_ascending.false) (sym c.in-Some.ensures.value) c.ends_below.ensures ∙ rw c.if-not-ends_below.false refl
+    follow_told g.T.Ord.cmp g.met.T.Ord.total c.args.size c.args.before.now c.args.items.now c.in-Some.first.now
+    c.ends_below.result (full g (goal.at.returns-clause-good g c).In-Some) (omega arith) c.requires
+    (sym c.is_ascending.ensures ∙ c.if-not-is_ascending.false) (sym c.in-Some.ensures.value) c.ends_below.ensures
+    ∙ rw c.if-not-ends_below.false refl

@@ -17,21 +17,34 @@ returns-in_err-shifted c =
     let bs = c.args.text.now in
     let i = c.loop-at.at in
     let is : IsInRange 48 57 (get_or bs i 0) = (omega (arith, c.if-byte-lt48.false), omega (arith, c.if-byte-gt57.false)) in
-    reads_none bs c.from_residual.result c.from_residual.ensures (λ all. too_large bs i (omega arith) _ (omega (arith, c.in_err-shifted.ensures, c.loop-at.invariant.1, value_more bs i (omega arith) is)))
+    reads_none bs c.from_residual.result c.from_residual.ensures (λ all.
+    too_large bs i (omega arith) _
+    (omega (arith, c.in_err-shifted.ensures, c.loop-at.invariant.1, value_more bs i (omega arith) is)))
 
 pub returns-in_err-value : goal.returns-in_err-value
 returns-in_err-value c =
     let bs = c.args.text.now in
     let i = c.loop-at.at in
     let is : IsInRange 48 57 (get_or bs i 0) = (omega (arith, c.if-byte-lt48.false), omega (arith, c.if-byte-gt57.false)) in
-    reads_none bs c.from_residual-in_err-value.result c.from_residual-in_err-value.ensures (λ all. too_large bs i (omega arith) _ (omega (arith, c.in_err-value.ensures, c.in_ok-shifted.ensures, c.loop-at.invariant.1, value_more bs i (omega arith) is)))
+    reads_none bs c.from_residual-in_err-value.result c.from_residual-in_err-value.ensures (λ all.
+    too_large bs i (omega arith) _
+    (omega (
+      arith,
+      c.in_err-value.ensures,
+      c.in_ok-shifted.ensures,
+      c.loop-at.invariant.1,
+      value_more bs i (omega arith) is,
+    )))
 
 pub loop-at-preserved : goal.loop-at-preserved
 loop-at-preserved c =
     let bs = c.args.text.now in
     let i = c.loop-at.at in
-    let is : IsInRange 48 57 (get_or bs i 0) = (omega (arith, c.if-byte-lt48.false), omega (arith, c.if-byte-gt57.false)) in
-    (all_more bs i (omega arith) is c.loop-at.invariant.0, omega (arith, c.in_ok-value.ensures, c.in_ok-shifted.ensures, c.loop-at.invariant.1, value_more bs i (omega arith) is), omega (arith, c.in_ok-value.ensures))
+    let is : IsInRange 48 57 (get_or bs i 0) = (omega (arith, c.if-byte-lt48.false), omega (arith, c.if-byte-gt57.false)) in (
+      all_more bs i (omega arith) is c.loop-at.invariant.0,
+      omega (arith, c.in_ok-value.ensures, c.in_ok-shifted.ensures, c.loop-at.invariant.1, value_more bs i (omega arith) is),
+      omega (arith, c.in_ok-value.ensures),
+    )
 
 pub returns : goal.returns
 returns c =

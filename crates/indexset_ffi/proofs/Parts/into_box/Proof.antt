@@ -1,6 +1,12 @@
 -- `into_box` returns a box that owns what the parts own.
 use Rattle.indexset_core.proofs.CallerLemmas.{some_held}
-use Rattle.indexset_ffi.proofs.Steps.{proved_at, token, B, R, args, boxed_at, box_ty, box_out, box_in, box_typed, ptr_typed, parts_typed, parts_out, parts_row, Stays, says, stay_dropped, walk_of, ends_at, heard, nothing, only, calls_at_last, lasts, triple_of, framed, ptr_val, alloc_all, pass_all, free_all, look_at, get, get_in, sets, env, enter, stop, fld, of_opd, and_then, no_more, first, blocks, exec, returns, whole, sub, ‵, raw, ◌⊛◌, some, later, prop, at_ret, ◌$◌, ◌∵◌, !, qed, move, drop, use1, split, split3, join, pick, rewrite, regoal, fsplit, fjoin, feq_i, suffices, await, done}
+use Rattle.indexset_ffi.proofs.Steps.{proved_at, token, B, R, args, boxed_at, box_ty, box_out, box_in, box_typed}
+use Rattle.indexset_ffi.proofs.Steps.{ptr_typed, parts_typed, parts_out, parts_row, Stays, says, stay_dropped, walk_of}
+use Rattle.indexset_ffi.proofs.Steps.{ends_at, heard, nothing, only, calls_at_last, lasts, triple_of, framed, ptr_val}
+use Rattle.indexset_ffi.proofs.Steps.{alloc_all, pass_all, free_all, look_at, get, get_in, sets, env, enter, stop, fld}
+use Rattle.indexset_ffi.proofs.Steps.{of_opd, and_then, no_more, first, blocks, exec, returns, whole, sub, ‵, raw, ◌⊛◌}
+use Rattle.indexset_ffi.proofs.Steps.{some, later, prop, at_ret, ◌$◌, ◌∵◌, !, qed, move, drop, use1, split, split3}
+use Rattle.indexset_ffi.proofs.Steps.{join, pick, rewrite, regoal, fsplit, fjoin, feq_i, suffices, await, done}
 use Rattle.indexset_ffi.specs.contracts.Parts.into_box as f
 use Rattle.indexset_ffi.specs.Holds.{holds}
 use Rattle.indexset_ffi.proofs.Parts.into_box.Statement.{statement}
@@ -49,7 +55,9 @@ into_box_spec 𝓤 𝓛 𝓜 𝓡 wired X A LX LA g d drops met gone =
     first ! $ blocks ! $ sets ! (of_opd ! (get ! refl)) refl fits $
     move ! (2 ∷ 0 ∷ []) $ join ! $ move ! (1 ∷ 0 ∷ []) $ join ! $ move ! (2 ∷ []) $ feq_i ! (List Val) (ptr_val v.at ∷ []) (ptr_val v.at ∷ []) refl $ fjoin ! $
     move ! (2 ∷ 0 ∷ []) $ fjoin ! $ move ! (2 ∷ 0 ∷ []) $ join ! $ join ! $ use1 𝓛 (raw (G.pre z)) (id⊢ 𝓤 _) $
-    calls_at_last ! (framed 𝓤 𝓛.H 𝓜 𝓣) G (closed.met 𝓤 𝓛 𝓜 𝓡 (code.calls-std::boxed::Box::from_raw 𝓡.env wired) X A LX LA g d drops met gone) z (and_then ! (get ! refl) (and_then ! (get ! refl) (no_more !))) (λ u.
+    calls_at_last ! (framed 𝓤 𝓛.H 𝓜 𝓣) G
+    (closed.met 𝓤 𝓛 𝓜 𝓡 (code.calls-std::boxed::Box::from_raw 𝓡.env wired) X A LX LA g d drops met gone) z
+    (and_then ! (get ! refl) (and_then ! (get ! refl) (no_more !))) (λ u.
     use1 𝓛 (later (some (λ (r : (B E).Denot). (alive ⊛ ‵ ((B E).own_val r (u ∷ []))) ⊛
     some (λ ws. ‵ (lasts (closes.ended X A g d drops) κs z.0.3 ws) ⊛ (raw (fact 𝓤 (r.value ≡ x)) ⊛ raw (fact 𝓤 (r.alloc ≡ a))))))) (id⊢ 𝓤 _) $
     await ! tt $ pick ! (λ r. split ! $ move ! (1 ∷ []) $ pick ! (λ ws. split3 ! $ drop ! $ heard ! _ (λ same. drop ! $ split ! $ move ! (1 ∷ []) $

@@ -1,5 +1,9 @@
 -- `none` returns parts that own only the handle of their allocator.
-use Rattle.indexset_ffi.proofs.Steps.{proved_at, handle_tells, P, args, boxed_at, parts_word, parts_typed, parts_in, parts_row, Stays, says, stay_dropped, walk_of, ends_at, Goes-dropped, nothing, null_ptr, alloc_all, pass_all, free_all, look_at, get, sets, enter, lit, of_opd, and_then, no_more, returns, agg, ‵, raw, ◌⊛◌, prop, ◌$◌, ◌∵◌, !, qed, move, drop, split, join, regoal, fsplit, fjoin, suffices, done}
+use Rattle.indexset_ffi.proofs.Steps.{proved_at, handle_tells, P, args, boxed_at, parts_word, parts_typed, parts_in}
+use Rattle.indexset_ffi.proofs.Steps.{parts_row, Stays, says, stay_dropped, walk_of, ends_at, Goes-dropped, nothing}
+use Rattle.indexset_ffi.proofs.Steps.{null_ptr, alloc_all, pass_all, free_all, look_at, get, sets, enter, lit}
+use Rattle.indexset_ffi.proofs.Steps.{of_opd, and_then, no_more, returns, agg, ‵, raw, ◌⊛◌, prop, ◌$◌, ◌∵◌, !, qed}
+use Rattle.indexset_ffi.proofs.Steps.{move, drop, split, join, regoal, fsplit, fjoin, suffices, done}
 use Rattle.indexset_ffi.specs.contracts.Parts.none as f
 use Rattle.indexset_ffi.proofs.Parts.none.Statement.{statement}
 use Rattle.indexset_ffi.proofs.Parts.none.Code as code

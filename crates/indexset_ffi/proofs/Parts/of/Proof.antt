@@ -1,5 +1,12 @@
 -- `of` takes a box apart, and the parts own what the box owned.
-use Rattle.indexset_ffi.proofs.Steps.{proved_at, token, handle_tells, B, R, P, boxed_at, dropping, box_out, box_in, word, box_typed, ptr_typed, parts_word, parts_typed, parts_in, parts_row, Stays, says, stay_dropped, walk_of, ends_at, heard, nothing, only, calls_at, lasts, triple_of, framed, Ptr, RawPtr, alloc_all, pass_all, free_all, look_at, get, get_in, sets, lands_as, enter, stop, fld, of_opd, and_then, no_more, returns, whole, sub, agg, ‵, raw, ◌⊛◌, some, later, prop, ◌$◌, ◌∵◌, !, qed, move, drop, use1, split, split3, join, pick, rewrite, regoal, fsplit, fjoin, fpick, feq_l, suffices, await, done}
+use Rattle.indexset_ffi.proofs.Steps.{proved_at, token, handle_tells, B, R, P, boxed_at, dropping, box_out}
+use Rattle.indexset_ffi.proofs.Steps.{box_in, word, box_typed, ptr_typed, parts_word, parts_typed, parts_in}
+use Rattle.indexset_ffi.proofs.Steps.{parts_row, Stays, says, stay_dropped, walk_of, ends_at, heard, nothing}
+use Rattle.indexset_ffi.proofs.Steps.{only, calls_at, lasts, triple_of, framed, Ptr, RawPtr, alloc_all, pass_all}
+use Rattle.indexset_ffi.proofs.Steps.{free_all, look_at, get, get_in, sets, lands_as, enter, stop, fld, of_opd}
+use Rattle.indexset_ffi.proofs.Steps.{and_then, no_more, returns, whole, sub, agg, ‵, raw, ◌⊛◌, some, later}
+use Rattle.indexset_ffi.proofs.Steps.{prop, ◌$◌, ◌∵◌, !, qed, move, drop, use1, split, split3, join, pick}
+use Rattle.indexset_ffi.proofs.Steps.{rewrite, regoal, fsplit, fjoin, fpick, feq_l, suffices, await, done}
 use Rattle.indexset_ffi.specs.contracts.Parts.of as f
 use Rattle.indexset_ffi.proofs.Parts.of.Statement.{statement}
 use Rattle.indexset_ffi.proofs.Parts.of.Code as code
@@ -40,7 +47,10 @@ of_spec 𝓤 𝓛 𝓜 𝓡 wired X A LX LA g d drops dx met gone let_go =
     sets ! (of_opd ! (get ! refl)) refl (box_typed E hv b o fits) $
     -- [the box; nothing; the tokens; the facts on lifetimes]
     fjoin ! $ move ! (1 ∷ 0 ∷ []) $ join ! $ join ! $ use1 𝓛 (raw (G.pre z)) (id⊢ 𝓤 _) $
-    calls_at ! (framed 𝓤 𝓛.H 𝓜 𝓣) G (opened.met 𝓤 𝓛 𝓜 𝓡 (code.calls-std::boxed::Box::into_raw_with_allocator 𝓡.env wired) X A LX LA g d drops dx met gone let_go) z (and_then ! (get ! refl) (no_more !)) (λ u.
+    calls_at ! (framed 𝓤 𝓛.H 𝓜 𝓣) G
+    (opened.met 𝓤 𝓛 𝓜 𝓡 (code.calls-std::boxed::Box::into_raw_with_allocator 𝓡.env wired) X A LX LA g d drops dx met
+    gone let_go)
+    z (and_then ! (get ! refl) (no_more !)) (λ u.
     use1 𝓛 (later (some (λ (r : Ptr × A.Denot). (alive ⊛ ‵ ((Tuple (RawPtr ∷ P E ∷ [])).own_val r (u ∷ []))) ⊛
     some (λ ws. ‵ (lasts (opens.ended X A g d drops dx) κs (v, tt) ws) ⊛ (raw (fact 𝓤 (r.1 ≡ a)) ⊛ ‵ (box_owns (token E.al a) (R E) r.0 v.value)))))) (id⊢ 𝓤 _) $
     await ! tt $ pick ! (λ r. split ! $ move ! (1 ∷ []) $ pick ! (λ ws. split3 ! $ drop ! $ heard ! _ (λ same.

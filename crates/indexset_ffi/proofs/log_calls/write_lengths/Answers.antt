@@ -13,7 +13,10 @@ loop-count-preserved c =
     let next : IsNext walk n node c.next.new.self = next_is walk n node c.next.new.self (sym i.walked ∙ c.in-Some.ensures.steps) in
     let inside = next.inside in let test = c.loop-count-test.true in let long = i.long in let kept = length-set c.loop-count.out n len in
     let there : slice_get (node_lengths (vec_items walk)) n ≡ Some len =
-    slice_get-map (λ m. length m) (vec_items walk) n ∙ ap (option_map (λ m. length m)) (slice_get-map (λ v. v.items) walk n ∙ ap (option_map (λ v. v.items)) next.there) ∙ ap Some (sym (c.len.ensures ∙ node.ok.0)) in
+    slice_get-map (λ m. length m) (vec_items walk) n
+    ∙ ap (option_map (λ m. length m))
+    (slice_get-map (λ v. v.items) walk n ∙ ap (option_map (λ v. v.items)) next.there)
+    ∙ ap Some (sym (c.len.ensures ∙ node.ok.0)) in
     record {
       inside = omega (arith, inside);
       room = omega (arith, test, kept);

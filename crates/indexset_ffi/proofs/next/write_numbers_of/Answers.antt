@@ -13,6 +13,14 @@ loop-i-preserved g c =
     record {
       many = length-set c.loop-i.keys i k ∙ at.many;
       long = length-set c.loop-i.values i w ∙ at.long;
-      keyed = ap (λ l. slice_set l i k) at.keyed ∙ written_more (map key_of run) c.args.keys.now i k (answer_read key_of run i v k inside (c.key.ensures ∙ ap key_of c.index-run-i.is)) (omega (arith, few, fewer, test));
-      valued = ap (λ l. slice_set l i w) at.valued ∙ written_more (map value_of run) c.args.values.now i w (answer_read value_of run i u w inside (c.value.ensures ∙ ap value_of c.index-run-i-in-loop-i.is)) (omega (arith, few, fewer, test));
+      keyed =
+          ap (λ l. slice_set l i k) at.keyed
+          ∙ written_more (map key_of run) c.args.keys.now i k
+          (answer_read key_of run i v k inside (c.key.ensures ∙ ap key_of c.index-run-i.is))
+          (omega (arith, few, fewer, test));
+      valued =
+          ap (λ l. slice_set l i w) at.valued
+          ∙ written_more (map value_of run) c.args.values.now i w
+          (answer_read value_of run i u w inside (c.value.ensures ∙ ap value_of c.index-run-i-in-loop-i.is))
+          (omega (arith, few, fewer, test));
     }

@@ -34,7 +34,10 @@ loop-count-preserved c =
       long = length-set c.loop-count.lengths n (length c.as_bytes-stored.result.now) ∙ long;
       many = length-set c.loop-count.values n w ∙ many;
       walked = next.left;
-      measured = ap (λ l. slice_set l n (length c.as_bytes-stored.result.now)) i.measured ∙ written_more (key_lengths walk) c.args.lengths.now n (length c.as_bytes-stored.result.now) sized (omega (arith, test, least));
+      measured =
+          ap (λ l. slice_set l n (length c.as_bytes-stored.result.now)) i.measured
+          ∙ written_more (key_lengths walk) c.args.lengths.now n (length c.as_bytes-stored.result.now) sized
+          (omega (arith, test, least));
       valued = ap (λ l. slice_set l n w) i.valued ∙ written_more (pair_values walk) c.args.values.now n w value_there (omega (arith, test, least));
       used = omega (arith, told, used, wide, size, sum);
       wide = ap length over ∙ length-over (concat (take (n + 1) (pair_keys walk))) b;

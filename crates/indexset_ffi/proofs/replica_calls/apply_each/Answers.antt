@@ -8,5 +8,8 @@ loop-count-preserved c =
     let es = c.args.events.now in let n = c.loop-count.count in let test = c.loop-count-test.true in let few = c.if-status-gt-YES.false in
     record {
       inside = omega (arith, test);
-      applied = applied_more c.args.replica.now c.loop-count.replica c.apply_record-status.new.replica es n _ (slice_get-get_or es n _ test) c.loop-count.invariant.applied (c.apply_record-status.ensures.ok (omega (arith, few)));
+      applied =
+          applied_more c.args.replica.now c.loop-count.replica c.apply_record-status.new.replica es n _
+          (slice_get-get_or es n _ test) c.loop-count.invariant.applied
+          (c.apply_record-status.ensures.ok (omega (arith, few)));
     }

@@ -24,7 +24,8 @@ pub returns-in-Ok-clause-ok : goal.returns-in-Ok-clause-ok
 returns-in-Ok-clause-ok c at =
     let change = c.in-Some.change in let r = c.args.replica.now in
     let number : c.inner.result ≡ event_number change = c.inner.ensures ∙ ap (λ i. i.0) c.id.ensures in
-    turn_applied r c.args.event.now change (sym c.in-Some.ensures) c.apply.new.self c.in-Ok.ensures.fits (c.in-Ok.ensures.step (λ x y h. λ i. record { key = h.0 i; value = h.1 i })) c.in-Ok.ensures.next
+    turn_applied r c.args.event.now change (sym c.in-Some.ensures) c.apply.new.self c.in-Ok.ensures.fits
+    (c.in-Ok.ensures.step (λ x y h. λ i. record { key = h.0 i; value = h.1 i })) c.in-Ok.ensures.next
 
 pub returns-in-Ok-clause-fits : goal.returns-in-Ok-clause-fits
 returns-in-Ok-clause-fits c at =

@@ -33,7 +33,10 @@ loop-count-preserved c =
       room = omega (arith, test);
       long = length-set c.loop-count.lengths n (length c.as_bytes-stored.result.now) ∙ long;
       walked = next.left;
-      measured = ap (λ l. slice_set l n (length c.as_bytes-stored.result.now)) i.measured ∙ written_more (key_lengths walk) c.args.lengths.now n (length c.as_bytes-stored.result.now) sized (omega (arith, test));
+      measured =
+          ap (λ l. slice_set l n (length c.as_bytes-stored.result.now)) i.measured
+          ∙ written_more (key_lengths walk) c.args.lengths.now n (length c.as_bytes-stored.result.now) sized
+          (omega (arith, test));
       used = omega (arith, told, used, wide, size, many);
       wide = ap length over ∙ length-over (concat (take (n + 1) (pair_keys walk))) b;
       bytes = over;

@@ -9,5 +9,8 @@ loop-i-preserved g c =
     let i = c.loop-i.i in let x = c.args.answer in let least = c.min-count.ensures in let test = c.loop-i-test.true in
     record {
       long = length-set c.loop-i.out i x ∙ c.loop-i.invariant.long;
-      done = ap (λ l. slice_set l i x) c.loop-i.invariant.done ∙ written_more (replicate c.args.asked x) c.args.out.now i x (same_at c.args.asked x i (omega (arith, least, test))) (omega (arith, least, test));
+      done =
+          ap (λ l. slice_set l i x) c.loop-i.invariant.done
+          ∙ written_more (replicate c.args.asked x) c.args.out.now i x
+          (same_at c.args.asked x i (omega (arith, least, test))) (omega (arith, least, test));
     }

@@ -15,7 +15,9 @@ loop-event_number-preserved g c =
     let p = pair c.in-Some.event_number.now c.in-Some.event.now in
     let next : c.loop-event_number.event_number-iterator ≡ p ∷ c.next.new.self = search rules in
     let size : vec_len c.loop-event_number.lines ≡ length lines = search rules in
-    let here : c.in-Some.event_number.now ≡ n = number_ahead c.checked_sub.result c.in-Some.event_number.now c.args.number (length lines) c.checked_sub.ensures (c.if-ne.ensures ∙ ap (λ k. not (option_eq eqb c.checked_sub.result (Some k))) (c.len.ensures ∙ size)) in
+    let here : c.in-Some.event_number.now ≡ n =
+    number_ahead c.checked_sub.result c.in-Some.event_number.now c.args.number (length lines) c.checked_sub.ensures
+    (c.if-ne.ensures ∙ ap (λ k. not (option_eq eqb c.checked_sub.result (Some k))) (c.len.ensures ∙ size)) in
     let line : c.in_ok-line.line.items ≡ event_text g.T.Key.texts c.in-Some.event.now = search rules in
     let pushed : c.push.new.self.items ≡ lines ++ c.in_ok-line.line ∷ [] = search rules in
     let shown = ap (map (λ l. l.items)) pushed ∙ map_push (λ l. l.items) lines c.in_ok-line.line ∙ ap (λ t. map (λ l. l.items) lines ++ t ∷ []) line in

@@ -4,7 +4,11 @@ use Rattle.indexset_follow.proofs.EventLines.{event_sound, event_told}
 use Rattle.indexset_follow.proofs.laws.event_meaning_is_spelling.Goals as goal
 
 pub returns-clause-spelled : goal.returns-clause-spelled
-returns-clause-spelled g c = λ line e fit. ((λ told. (event_sound g.T.Key.texts g.met.T.Key.words line e told).0), (λ is. ap (event_of g.T.Key.texts) is ∙ event_told g.T.Key.texts g.met.T.Key.words e fit))
+returns-clause-spelled g c =
+    λ line e fit. (
+      (λ told. (event_sound g.T.Key.texts g.met.T.Key.words line e told).0),
+      (λ is. ap (event_of g.T.Key.texts) is ∙ event_told g.T.Key.texts g.met.T.Key.words e fit),
+    )
 
 pub returns-clause-fits : goal.returns-clause-fits
 returns-clause-fits g c = λ line e told. (event_sound g.T.Key.texts g.met.T.Key.words line e told).1

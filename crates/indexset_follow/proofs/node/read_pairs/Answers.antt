@@ -12,7 +12,11 @@ returns-in-None-clause-pairs g c =
     let rest = c.in-Some.rest.now in
     let cut : cut_at 32 c.loop-word.left.now ≡ Some (word, rest) = search rules in
     let none : pair_of g.T.Key.texts word ≡ None = search rules in
-    sym (c.loop-word.invariant ∙ ap (option_map (λ ps. c.loop-word.items.items ++ ps)) (ap (pairs_of g.T.Key.texts) (cut_words c.loop-word.left.now word rest cut) ∙ pairs_none g.T.Key.texts word (words rest) none))
+    sym
+    (c.loop-word.invariant
+    ∙ ap (option_map (λ ps. c.loop-word.items.items ++ ps))
+    (ap (pairs_of g.T.Key.texts) (cut_words c.loop-word.left.now word rest cut)
+    ∙ pairs_none g.T.Key.texts word (words rest) none))
 
 pub loop-word-preserved : goal.loop-word-preserved
 loop-word-preserved g c =

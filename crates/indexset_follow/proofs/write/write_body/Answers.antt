@@ -26,4 +26,7 @@ returns-clause-told g c =
     let before = c.loop-node.invariant in
     let none : g.N.WalkNodes.rest c.loop-node.walk ≡ [] = search rules in
     let all : before.0 ≡ g.N.WalkNodes.rest c.args.nodes = sym (append-nil before.0) ∙ ap (λ l. before.0 ++ l) (sym none) ∙ before.1 in
-    subst (λ ns. Appends (g.W.Write.contents c.args.writer.now) (g.W.Write.contents c.loop-node.writer) (ended (mark_line (Start c.args.next c.args.done)) ++ lines_for (node_line g.T.Key.texts) ns)) all before.2
+    subst (λ ns.
+    Appends (g.W.Write.contents c.args.writer.now) (g.W.Write.contents c.loop-node.writer)
+    (ended (mark_line (Start c.args.next c.args.done)) ++ lines_for (node_line g.T.Key.texts) ns))
+    all before.2

@@ -21,7 +21,13 @@ returns-in_err-put-clause-cause g c clean =
     rw (is.1, is.2) (cause_before old was _ _ _ _
     (λ broken. ap (λ (v : View). v.is_broken) (sym staged) ∙ broken)
     (faults_since _ _ _ c.loop-at.invariant.quiet.counts)
-    (λ refused. (c.loop-at.at, c.index-lines-at.result, omega arith, sym c.index-lines-at.is, too_long (was.reals 0) (c.args.next + c.loop-at.at) c.index-lines-at.result.items plain (λ stored. refused (rw row stored))))
+    (λ refused. (
+      c.loop-at.at,
+      c.index-lines-at.result,
+      omega arith,
+      sym c.index-lines-at.is,
+      too_long (was.reals 0) (c.args.next + c.loop-at.at) c.index-lines-at.result.items plain (λ stored. refused (rw row stored)),
+    ))
     c.in_err-put.field-0.0 failed)
 
 pub loop-at-preserved : goal.loop-at-preserved

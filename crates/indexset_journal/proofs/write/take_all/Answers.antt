@@ -16,7 +16,12 @@ returns-then-not-branch-clause-ok g c clean =
     let writes = c.rows.invariant.writes (clean_before was mid c.seek.ensures.quiet.clean before) in
     record {
       this = none_left was mid new (order_of (was.shape 0)) sought ended;
-      rest = writes_on old mid new (writes_on old was mid writes (places was mid 0 (was.trees 0) (sought ∙ ap (with_cursor was 0) (all_sought (order_of (was.shape 0)) (was.trees 0))))) (writes_any mid new mid.trees mid.cursors ended.1);
+      rest =
+          writes_on old mid new
+          (writes_on old was mid writes
+          (places was mid 0 (was.trees 0)
+          (sought ∙ ap (with_cursor was 0) (all_sought (order_of (was.shape 0)) (was.trees 0)))))
+          (writes_any mid new mid.trees mid.cursors ended.1);
     }
 
 pub rows-preserved : goal.rows-preserved

@@ -25,7 +25,9 @@ returns-clause-tells g c =
     let first : c.in_ok-first.first.items ≡ c.args.line.now = search rules in
     let all : c.insert.new.self.items ≡ c.in_ok-first.first ∷ c.in_ok-lines.lines.items = search rules in
     let second : c.in-Some.second ≡ s.held.next + 1 = search rules in
-    let rest : texts c.in_ok-lines.lines.items ≡ map (event_text g.T.Key.texts) (consecutive (s.held.next + 1) s.early) = c.in_ok-lines.ensures.lines ∙ ap (λ n. map (event_text g.T.Key.texts) (consecutive n s.early)) second in
+    let rest : texts c.in_ok-lines.lines.items
+    ≡ map (event_text g.T.Key.texts) (consecutive (s.held.next + 1) s.early) =
+    c.in_ok-lines.ensures.lines ∙ ap (λ n. map (event_text g.T.Key.texts) (consecutive n s.early)) second in
     ap (λ ls. take (step_count g.T.Ord.cmp s e) (texts ls)) all
     ∙ (λ i. take (step_count g.T.Ord.cmp s e) ((first ∙ told) i ∷ rest i))
     ∙ take-map (event_text g.T.Key.texts) (step_count g.T.Ord.cmp s e) (e ∷ consecutive (s.held.next + 1) s.early)

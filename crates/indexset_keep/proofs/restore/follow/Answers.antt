@@ -14,5 +14,7 @@ loop-line-preserved g c =
     let lines = c.args.lines.now in
     let item = c.line-item.result in
     let read : c.answer_line.new.follower ≡ after_line g.T.Ord.cmp g.T.Key.texts c.loop-line.follower item.items = search rules in
-    let more : texts (take (i + 1) lines) ≡ texts (take i lines) ++ item.items ∷ [] = map_more (λ v. v.items) lines i item (omega (arith, c.loop-line-test.true)) ∙ ap (λ v. texts (take i lines) ++ v.items ∷ []) (sym c.line-item.is) in
+    let more : texts (take (i + 1) lines) ≡ texts (take i lines) ++ item.items ∷ [] =
+    map_more (λ v. v.items) lines i item (omega (arith, c.loop-line-test.true))
+    ∙ ap (λ v. texts (take i lines) ++ v.items ∷ []) (sym c.line-item.is) in
     next_follower g.T.Ord.cmp g.T.Key.texts (texts (take i lines)) (texts (take (i + 1) lines)) item.items c.loop-line.follower c.answer_line.new.follower c.loop-line.invariant read more

@@ -31,10 +31,21 @@ loop-i-preserved c =
       | in-Some+in-Ok+else-own-found w ↦
           let read : seal_read item.items ≡ Some w.in-Some.found = search rules in
           let own = sym w.if-own-found.false ∙ w.in-Ok.ensures.seal ∙ ap (λ ls. seal_of c.loop-i.seal (texts ls)) (between_is lines c.loop-i.from i c.loop-i.invariant.0) in
-          rw (w.seal-is, w.from-is) (omega arith, before ∙ seal_right c.loop-i.seal behind item.items rest w.in-Some.found read own ∙ ap (λ ls. seal_after w.in-Some.found ls rest) (sym (none_behind lines i item c.index-lines-i.is c.loop-i-test.true)))
+          rw (w.seal-is, w.from-is) (
+            omega arith,
+            before ∙ seal_right c.loop-i.seal behind item.items rest w.in-Some.found read own
+                ∙ ap (λ ls. seal_after w.in-Some.found ls rest)
+                (sym (none_behind lines i item c.index-lines-i.is c.loop-i-test.true)),
+          )
       | in_default w ↦
           let read : seal_read item.items ≡ None = search rules in
-          rw (w.seal-is, w.from-is) (omega (arith, c.loop-i.invariant.0), before ∙ seal_none c.loop-i.seal behind item.items rest read ∙ ap (λ ls. seal_after c.loop-i.seal ls rest) (sym (behind_lines lines i item c.index-lines-i.is c.loop-i-test.true c.loop-i.from c.loop-i.invariant.0)))
+          rw (w.seal-is, w.from-is) (
+            omega (arith, c.loop-i.invariant.0),
+            before ∙ seal_none c.loop-i.seal behind item.items rest read
+                ∙ ap (λ ls. seal_after c.loop-i.seal ls rest)
+                (sym
+                (behind_lines lines i item c.index-lines-i.is c.loop-i-test.true c.loop-i.from c.loop-i.invariant.0)),
+          )
     ]
 
 pub returns-then-from-lines-clause-seal : goal.returns-then-from-lines-clause-seal
@@ -42,7 +53,13 @@ returns-then-from-lines-clause-seal c =
     let i = c.loop-i.i in
     let lines = c.args.lines.now in
     let behind = texts (drop c.loop-i.from (take i lines)) in
-    let none : length behind ≡ 0 = omega (arith, length-map (drop c.loop-i.from (take i lines)) (λ v. v.items), length-drop c.loop-i.from (take i lines), ap length (take_all i lines c.loop-i-test.false), c.if-from-lines.true) in
+    let none : length behind ≡ 0 = omega (
+      arith,
+      length-map (drop c.loop-i.from (take i lines)) (λ v. v.items),
+      length-drop c.loop-i.from (take i lines),
+      ap length (take_all i lines c.loop-i-test.false),
+      c.if-from-lines.true,
+    ) in
     c.loop-i.invariant.1 ∙ ap (λ ls. seal_after c.loop-i.seal behind (texts ls)) (drop_all i lines c.loop-i-test.false) ∙ seal_closed c.loop-i.seal behind none
 
 pub returns-else-from-lines-clause-damaged : goal.returns-else-from-lines-clause-damaged
@@ -50,5 +67,13 @@ returns-else-from-lines-clause-damaged c same =
     let i = c.loop-i.i in
     let lines = c.args.lines.now in
     let behind = texts (drop c.loop-i.from (take i lines)) in
-    let some : 0 < length behind = omega (arith, length-map (drop c.loop-i.from (take i lines)) (λ v. v.items), length-drop c.loop-i.from (take i lines), ap length (take_all i lines c.loop-i-test.false), c.if-from-lines.false, c.loop-i.invariant.0, c.loop-i.auto.i-end) in
+    let some : 0 < length behind = omega (
+      arith,
+      length-map (drop c.loop-i.from (take i lines)) (λ v. v.items),
+      length-drop c.loop-i.from (take i lines),
+      ap length (take_all i lines c.loop-i-test.false),
+      c.if-from-lines.false,
+      c.loop-i.invariant.0,
+      c.loop-i.auto.i-end,
+    ) in
     c.loop-i.invariant.1 ∙ ap (λ ls. seal_after c.loop-i.seal behind (texts ls)) (drop_all i lines c.loop-i-test.false) ∙ seal_lacking c.loop-i.seal behind some

@@ -19,7 +19,9 @@ loop-line-preserved c =
     let front = ended (seal_line c.args.seal) in
     let all = c.push-in-loop-line.new.self.items in
     let grown : all ≡ (text ++ item.items) ++ 10 ∷ [] = search rules in
-    let more : texts (take (i + 1) lines) ≡ texts (take i lines) ++ item.items ∷ [] = map_more (λ v. v.items) lines i item (omega (arith, c.loop-line-test.true)) ∙ ap (λ v. texts (take i lines) ++ v.items ∷ []) (sym c.line-item.is) in
+    let more : texts (take (i + 1) lines) ≡ texts (take i lines) ++ item.items ∷ [] =
+    map_more (λ v. v.items) lines i item (omega (arith, c.loop-line-test.true))
+    ∙ ap (λ v. texts (take i lines) ++ v.items ∷ []) (sym c.line-item.is) in
     let before = front ++ lines_for (λ line. line) (texts (take i lines)) in
     let both : sip.write hasher all ≡ sip.write sip.initial (front ++ lines_for (λ line. line) (texts (take (i + 1) lines))) =
     ap (sip.write hasher) (grown ∙ append_assoc text item.items (10 ∷ []))

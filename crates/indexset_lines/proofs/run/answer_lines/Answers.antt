@@ -15,12 +15,15 @@ loop-init g c = (start _ _ _ _ _ _ refl, refl, refl)
 pub returns-in_err-is_used_up-clause-read_failed : goal.returns-in_err-is_used_up-clause-read_failed
 returns-in_err-is_used_up-clause-read_failed g c failed =
     let stops = c.in_err-is_used_up.ensures.err in
-    stopped _ _ _ _ _ (g.R.Read.remaining c.next_line.new.reader) _ _ (g.W.Write.contents c.next_line.new.writer) _ c.next_line.new.line.items c.loop.invariant.0 HasNoEnd stops.0 stops.1 c.next_line.ensures.unwritten
+    stopped _ _ _ _ _ (g.R.Read.remaining c.next_line.new.reader) _ _ (g.W.Write.contents c.next_line.new.writer) _
+    c.next_line.new.line.items c.loop.invariant.0 HasNoEnd stops.0 stops.1 c.next_line.ensures.unwritten
 
 pub returns-in_err-is_used_up-clause-memory_refused : goal.returns-in_err-is_used_up-clause-memory_refused
 returns-in_err-is_used_up-clause-memory_refused g c refused =
     let stops = c.in_err-is_used_up.ensures.err in
-    stopped _ _ _ _ _ (g.R.Read.remaining c.next_line.new.reader) _ _ (g.W.Write.contents c.next_line.new.writer) _ c.next_line.new.line.items c.loop.invariant.0 IsLinePart (StopsAt-of_All c.next_line.new.line.items 10 stops.0) stops.1 c.next_line.ensures.unwritten
+    stopped _ _ _ _ _ (g.R.Read.remaining c.next_line.new.reader) _ _ (g.W.Write.contents c.next_line.new.writer) _
+    c.next_line.new.line.items c.loop.invariant.0 IsLinePart (StopsAt-of_All c.next_line.new.line.items 10 stops.0)
+    stops.1 c.next_line.ensures.unwritten
 
 pub returns-in_err-is_at_end-clause-read_failed : goal.returns-in_err-is_at_end-clause-read_failed
 returns-in_err-is_at_end-clause-read_failed g c failed = unread _ _ _ _ _ (g.R.Read.remaining c.is_at_end.new.reader) _ _ _ c.loop.invariant.0 c.is_at_end.ensures.unread
@@ -37,32 +40,43 @@ pub returns-in_err-answer-in-Whole-clause-memory_refused : goal.returns-in_err-a
 returns-in_err-answer-in-Whole-clause-memory_refused g c refused =
     let told = c.in_err-answer-in-Whole.was ∙ (sym (failed c.from_residual-in_err-answer-in-Whole.result _ c.from_residual-in_err-answer-in-Whole.ensures) ∙ refused) in
     let kept = Keeps-trans _ _ _ c.next_line.ensures.unwritten (c.answer.ensures.memory_refused told) in
-    unanswered _ _ _ _ _ (g.R.Read.remaining c.next_line.new.reader) _ _ _ _ c.next_line.new.line.items c.loop.invariant.0 (Whole c.in-Whole.is_used_up) (whole_not_end c.in-Whole.is_used_up) (rw c.in-Whole.is at c.in_ok-is_used_up.ensures.ok) kept
+    unanswered _ _ _ _ _ (g.R.Read.remaining c.next_line.new.reader) _ _ _ _ c.next_line.new.line.items
+    c.loop.invariant.0 (Whole c.in-Whole.is_used_up) (whole_not_end c.in-Whole.is_used_up)
+    (rw c.in-Whole.is at c.in_ok-is_used_up.ensures.ok) kept
 
 pub returns-in_err-answer-in-Whole-clause-numbers_refused : goal.returns-in_err-answer-in-Whole-clause-numbers_refused
 returns-in_err-answer-in-Whole-clause-numbers_refused g c refused =
     let told = c.in_err-answer-in-Whole.was ∙ (sym (failed c.from_residual-in_err-answer-in-Whole.result _ c.from_residual-in_err-answer-in-Whole.ensures) ∙ refused) in
     let kept = Keeps-trans _ _ _ c.next_line.ensures.unwritten (c.answer.ensures.numbers_refused told) in
-    lacking _ _ _ _ _ (g.R.Read.remaining c.next_line.new.reader) _ _ _ _ c.next_line.new.line.items c.loop.invariant.0 g.A.Answers.lacks_numbers (Whole c.in-Whole.is_used_up) c.deref.result.now (whole_not_end c.in-Whole.is_used_up) c.deref.ensures.value
+    lacking _ _ _ _ _ (g.R.Read.remaining c.next_line.new.reader) _ _ _ _ c.next_line.new.line.items
+    c.loop.invariant.0 g.A.Answers.lacks_numbers (Whole c.in-Whole.is_used_up) c.deref.result.now
+    (whole_not_end c.in-Whole.is_used_up) c.deref.ensures.value
     (rw c.in-Whole.is at c.in_ok-is_used_up.ensures.ok) kept (c.answer.ensures.no_numbers told)
 
 pub returns-in-Last-clause-given_answered : goal.returns-in-Last-clause-given_answered
 returns-in-Last-clause-given_answered g c =
     on_ok_weaker c.answer_cut.result
-    (all_but_end _ _ _ _ _ (g.R.Read.remaining c.next_line.new.reader) _ _ (g.W.Write.contents c.answer_cut.new.writer) _ c.next_line.new.line.items (flushed _ _ _ _ _ _ _ _ _ c.loop.invariant.0 c.next_line.ensures.unwritten)
+    (all_but_end _ _ _ _ _ (g.R.Read.remaining c.next_line.new.reader) _ _
+    (g.W.Write.contents c.answer_cut.new.writer) _ c.next_line.new.line.items
+    (flushed _ _ _ _ _ _ _ _ _ c.loop.invariant.0 c.next_line.ensures.unwritten)
     (g.A.Answers.cut_reply c.args.answers.now) c.in_ok-is_used_up.field-0 c.deref-in-Last.result.now c.in-Last.is c.deref-in-Last.ensures.value c.in_ok-is_used_up.ensures.ok)
     (rw c.loop.invariant.2 at c.answer_cut.ensures.told)
 
 pub returns-in-Last-clause-numbers_refused : goal.returns-in-Last-clause-numbers_refused
 returns-in-Last-clause-numbers_refused g c refused =
     let kept = Keeps-trans _ _ _ c.next_line.ensures.unwritten (c.answer_cut.ensures.numbers_refused refused) in
-    lacking _ _ _ _ _ (g.R.Read.remaining c.next_line.new.reader) _ _ _ _ c.next_line.new.line.items c.loop.invariant.0 g.A.Answers.lacks_numbers Last c.deref-in-Last.result.now last_not_end c.deref-in-Last.ensures.value
+    lacking _ _ _ _ _ (g.R.Read.remaining c.next_line.new.reader) _ _ _ _ c.next_line.new.line.items
+    c.loop.invariant.0 g.A.Answers.lacks_numbers Last c.deref-in-Last.result.now last_not_end
+    c.deref-in-Last.ensures.value
     (rw c.in-Last.is at c.in_ok-is_used_up.ensures.ok) kept (c.answer_cut.ensures.no_numbers refused)
 
 pub loop-preserved : goal.loop-preserved
 loop-preserved g c =
     let far = flushed _ _ _ _ _ _ _ _ _ c.loop.invariant.0 c.next_line.ensures.unwritten in
-    let told = further _ _ _ _ _ (g.R.Read.remaining c.next_line.new.reader) _ _ (g.W.Write.contents c.answer.new.writer) (g.A.Answers.state c.loop.answers) c.next_line.new.line.items far c.in_ok-is_used_up.field-0 c.in-Whole.is_used_up c.deref.result.now (g.A.Answers.state c.answer.new.self)
+    let told =
+    further _ _ _ _ _ (g.R.Read.remaining c.next_line.new.reader) _ _ (g.W.Write.contents c.answer.new.writer)
+    (g.A.Answers.state c.loop.answers) c.next_line.new.line.items far c.in_ok-is_used_up.field-0
+    c.in-Whole.is_used_up c.deref.result.now (g.A.Answers.state c.answer.new.self)
     c.in-Whole.is c.deref.ensures.value c.in_ok-is_used_up.ensures.ok (rw c.loop.invariant.1 at c.in_ok-answer-in-Whole.ensures.told) c.in_ok-answer-in-Whole.ensures.held in
     let alike = c.in_ok-answer-in-Whole.ensures.alike ∙ c.loop.invariant.1 in
     let cut_alike = c.in_ok-answer-in-Whole.ensures.cut_alike ∙ c.loop.invariant.2 in
@@ -73,7 +87,9 @@ loop-preserved g c =
 
 pub returns-in-End-clause-given_answered : goal.returns-in-End-clause-given_answered
 returns-in-End-clause-given_answered g c =
-    all_read _ _ _ _ _ (g.R.Read.remaining c.next_line.new.reader) _ _ _ _ c.next_line.new.line.items c.loop.invariant.0 (g.A.Answers.cut_reply c.args.answers.now) c.in_ok-is_used_up.field-0 c.in-End.is c.in_ok-is_used_up.ensures.ok c.next_line.ensures.unwritten
+    all_read _ _ _ _ _ (g.R.Read.remaining c.next_line.new.reader) _ _ _ _ c.next_line.new.line.items
+    c.loop.invariant.0 (g.A.Answers.cut_reply c.args.answers.now) c.in_ok-is_used_up.field-0 c.in-End.is
+    c.in_ok-is_used_up.ensures.ok c.next_line.ensures.unwritten
 
 pub returns-in_err-is_used_up-clause-given_answered : goal.returns-in_err-is_used_up-clause-given_answered
 returns-in_err-is_used_up-clause-given_answered g c = rw (failed c.from_residual.result _ c.from_residual.ensures) tt
@@ -94,15 +110,27 @@ returns-in_err-flush-in-Whole-clause-given_answered g c = rw (failed c.from_resi
 
 pub returns-in_err-flush-in-Whole-clause-read_failed : goal.returns-in_err-flush-in-Whole-clause-read_failed
 returns-in_err-flush-in-Whole-clause-read_failed g c failure =
-    write_not_read (rw c.in_err-flush-in-Whole.ensures.fault at (err_same c.from_residual-in_err-flush-in-Whole.result (failed c.from_residual-in_err-flush-in-Whole.result _ c.from_residual-in_err-flush-in-Whole.ensures) failure))
+    write_not_read
+    (rw
+    c.in_err-flush-in-Whole.ensures.fault at
+    (err_same c.from_residual-in_err-flush-in-Whole.result
+    (failed c.from_residual-in_err-flush-in-Whole.result _ c.from_residual-in_err-flush-in-Whole.ensures) failure))
 
 pub returns-in_err-flush-in-Whole-clause-memory_refused : goal.returns-in_err-flush-in-Whole-clause-memory_refused
 returns-in_err-flush-in-Whole-clause-memory_refused g c failure =
-    write_not_memory (rw c.in_err-flush-in-Whole.ensures.fault at (err_same c.from_residual-in_err-flush-in-Whole.result (failed c.from_residual-in_err-flush-in-Whole.result _ c.from_residual-in_err-flush-in-Whole.ensures) failure))
+    write_not_memory
+    (rw
+    c.in_err-flush-in-Whole.ensures.fault at
+    (err_same c.from_residual-in_err-flush-in-Whole.result
+    (failed c.from_residual-in_err-flush-in-Whole.result _ c.from_residual-in_err-flush-in-Whole.ensures) failure))
 
 pub returns-in_err-flush-in-Whole-clause-numbers_refused : goal.returns-in_err-flush-in-Whole-clause-numbers_refused
 returns-in_err-flush-in-Whole-clause-numbers_refused g c failure =
-    write_not_numbers (rw c.in_err-flush-in-Whole.ensures.fault at (err_same c.from_residual-in_err-flush-in-Whole.result (failed c.from_residual-in_err-flush-in-Whole.result _ c.from_residual-in_err-flush-in-Whole.ensures) failure))
+    write_not_numbers
+    (rw
+    c.in_err-flush-in-Whole.ensures.fault at
+    (err_same c.from_residual-in_err-flush-in-Whole.result
+    (failed c.from_residual-in_err-flush-in-Whole.result _ c.from_residual-in_err-flush-in-Whole.ensures) failure))
 
 pub returns-in-Last-clause-read_failed : goal.returns-in-Last-clause-read_failed
 returns-in-Last-clause-read_failed g c failure = absurd (c.answer_cut.ensures.no_read failure)
@@ -121,15 +149,24 @@ returns-in_err-is_at_end-clause-given_answered g c = rw (failed c.from_residual-
 
 pub returns-in_err-is_at_end-clause-memory_refused : goal.returns-in_err-is_at_end-clause-memory_refused
 returns-in_err-is_at_end-clause-memory_refused g c failure =
-    read_not_memory (rw c.in_err-is_at_end.ensures.err at (err_same c.from_residual-in_err-is_at_end.result (failed c.from_residual-in_err-is_at_end.result _ c.from_residual-in_err-is_at_end.ensures) failure))
+    read_not_memory
+    (rw
+    c.in_err-is_at_end.ensures.err at
+    (err_same c.from_residual-in_err-is_at_end.result
+    (failed c.from_residual-in_err-is_at_end.result _ c.from_residual-in_err-is_at_end.ensures) failure))
 
 pub returns-in_err-is_at_end-clause-numbers_refused : goal.returns-in_err-is_at_end-clause-numbers_refused
 returns-in_err-is_at_end-clause-numbers_refused g c failure =
-    read_not_numbers (rw c.in_err-is_at_end.ensures.err at (err_same c.from_residual-in_err-is_at_end.result (failed c.from_residual-in_err-is_at_end.result _ c.from_residual-in_err-is_at_end.ensures) failure))
+    read_not_numbers
+    (rw
+    c.in_err-is_at_end.ensures.err at
+    (err_same c.from_residual-in_err-is_at_end.result
+    (failed c.from_residual-in_err-is_at_end.result _ c.from_residual-in_err-is_at_end.ensures) failure))
 
 pub returns-then-branch-clause-given_answered : goal.returns-then-branch-clause-given_answered
 returns-then-branch-clause-given_answered g c =
-    rest_read _ _ _ (g.A.Answers.cut_reply c.args.answers.now) _ _ (g.R.Read.remaining c.is_at_end.new.reader) _ _ _ c.loop.invariant.0 c.is_at_end.ensures.unread (c.in_ok-is_at_end.ensures.end c.if-branch.true)
+    rest_read _ _ _ (g.A.Answers.cut_reply c.args.answers.now) _ _ (g.R.Read.remaining c.is_at_end.new.reader) _ _ _
+    c.loop.invariant.0 c.is_at_end.ensures.unread (c.in_ok-is_at_end.ensures.end c.if-branch.true)
 
 pub returns-then-branch-clause-read_failed : goal.returns-then-branch-clause-read_failed
 returns-then-branch-clause-read_failed g c failure = ok_not_err failure

@@ -12,11 +12,15 @@ use Rattle.indexset_log.proofs.locate.last_started.Goals as goal
 at : (g : Over) (c : After-next_step-at g) → (c.loop-low.low ≤ c.next_step-at.result) × (c.next_step-at.result < c.loop-low.high)
 at g c =
     let inv = c.loop-low.invariant in
-    let inside = next_inside (c.args.node + 1) c.loop-low.low c.loop-low.high (length c.args.nodes.now) (g.P.Probe.asked c.loop-low.probe) (g.P.Probe.asked c.args.probe.now) inv.order c.loop-low-test.true inv.within inv.comparisons in
+    let inside =
+    next_inside (c.args.node + 1) c.loop-low.low c.loop-low.high (length c.args.nodes.now)
+    (g.P.Probe.asked c.loop-low.probe) (g.P.Probe.asked c.args.probe.now) inv.order c.loop-low-test.true inv.within
+    inv.comparisons in
     (omega (arith, inside.0, c.next_step-at.ensures), omega (arith, inside.1, c.next_step-at.ensures))
 
 -- its first item
-first : (g : Over) (c : In-Some g) → c.next_step-at.result < length c.args.nodes.now → slice_get (node_at (map g.Node.NodeLike.list c.args.nodes.now) c.next_step-at.result) 0 ≡ Some c.in-Some.first.now
+first : (g : Over) (c : In-Some g) → c.next_step-at.result < length c.args.nodes.now
+    → slice_get (node_at (map g.Node.NodeLike.list c.args.nodes.now) c.next_step-at.result) 0 ≡ Some c.in-Some.first.now
 first g c inside =
     let read = view_at g.Node.NodeLike.list c.args.nodes.now c.next_step-at.result c.index-nodes-at.result inside c.index-nodes-at.is [] in
     rw read (sym (rw c.in-Some.is at c.min.ensures))
@@ -41,7 +45,10 @@ next_step-at-requires-clause-order g c = c.loop-low.invariant.order
 pub unreachable-requires : goal.unreachable-requires
 unreachable-requires g c =
     let inside = at g (goal.at.unreachable-requires g c).After-next_step-at in
-    no_first (g.Node.NodeLike.list c.index-nodes-at.result) (filled_here g.Node.NodeLike.list c.args.nodes.now c.next_step-at.result c.index-nodes-at.result (omega (arith, inside.1, c.loop-low.invariant.within)) c.index-nodes-at.is c.requires.filled) (sym (rw c.in_default.is at c.min.ensures))
+    no_first (g.Node.NodeLike.list c.index-nodes-at.result)
+    (filled_here g.Node.NodeLike.list c.args.nodes.now c.next_step-at.result c.index-nodes-at.result
+    (omega (arith, inside.1, c.loop-low.invariant.within)) c.index-nodes-at.is c.requires.filled)
+    (sym (rw c.in_default.is at c.min.ensures))
 
 pub loop-low-preserved-then-is_gt : goal.loop-low-preserved-then-is_gt
 loop-low-preserved-then-is_gt g c =
@@ -56,9 +63,16 @@ loop-low-preserved-then-is_gt g c =
       meet = inside.0;
       within = omega (arith, inside.1, inv.within);
       started = inv.started;
-      ended = starts_not answer ns c.requires.parted c.next_step-at.result (omega (arith, inside.1, inv.within, length-map c.args.nodes.now g.Node.NodeLike.list)) c.in-Some.first.now (first g within.In-Some (omega (arith, inside.1, inv.within))) past;
+      ended =
+          starts_not answer ns c.requires.parted c.next_step-at.result
+          (omega (arith, inside.1, inv.within, length-map c.args.nodes.now g.Node.NodeLike.list)) c.in-Some.first.now
+          (first g within.In-Some (omega (arith, inside.1, inv.within))) past;
       fixed = cc;
-      comparisons = rw c.place.ensures.counted (stepped_back (c.args.node + 1) low.low low.high (length c.args.nodes.now) (g.P.Probe.asked low.probe) (g.P.Probe.asked c.args.probe.now) inv.order c.loop-low-test.true inv.within inv.comparisons c.next_step-at.result c.next_step-at.ensures);
+      comparisons =
+          rw c.place.ensures.counted
+          (stepped_back (c.args.node + 1) low.low low.high (length c.args.nodes.now) (g.P.Probe.asked low.probe)
+          (g.P.Probe.asked c.args.probe.now) inv.order c.loop-low-test.true inv.within inv.comparisons
+          c.next_step-at.result c.next_step-at.ensures);
     }
 
 pub loop-low-preserved : goal.loop-low-preserved
@@ -69,7 +83,10 @@ loop-low-preserved g c =
     let within = goal.at.loop-low-preserved g c in
     let inside = at g within.After-next_step-at in
     let passes : is_gt (answer c.in-Some.first.now) ≡ false = cc in
-    let started = starts answer ns c.requires.parted c.next_step-at.result (omega (arith, inside.1, inv.within, length-map c.args.nodes.now g.Node.NodeLike.list)) c.in-Some.first.now (first g within.In-Some (omega (arith, inside.1, inv.within))) passes in
+    let started =
+    starts answer ns c.requires.parted c.next_step-at.result
+    (omega (arith, inside.1, inv.within, length-map c.args.nodes.now g.Node.NodeLike.list)) c.in-Some.first.now
+    (first g within.In-Some (omega (arith, inside.1, inv.within))) passes in
     record {
       order = omega (arith, inside.0, inv.order);
       meet = omega (arith, inside.1);
@@ -77,7 +94,11 @@ loop-low-preserved g c =
       started = λ k e. let same : k ≡ c.next_step-at.result = omega (arith, e) in rw same started;
       ended = inv.ended;
       fixed = cc;
-      comparisons = rw c.place.ensures.counted (stepped_on (c.args.node + 1) low.low low.high (length c.args.nodes.now) (g.P.Probe.asked low.probe) (g.P.Probe.asked c.args.probe.now) inv.order c.loop-low-test.true inv.within inv.comparisons c.next_step-at.result c.next_step-at.ensures);
+      comparisons =
+          rw c.place.ensures.counted
+          (stepped_on (c.args.node + 1) low.low low.high (length c.args.nodes.now) (g.P.Probe.asked low.probe)
+          (g.P.Probe.asked c.args.probe.now) inv.order c.loop-low-test.true inv.within inv.comparisons
+          c.next_step-at.result c.next_step-at.ensures);
     }
 
 pub returns-clause-started : goal.returns-clause-started

@@ -25,10 +25,18 @@ loop-low-preserved-then-is_gt g c =
     record {
       order = inv.order;
       before = inv.before;
-      past = stops (g.P.Probe.answer c.args.probe.now) c.args.items.now c.requires.parted c.next_step-at.result c.index-items-at.result (slice_get_read c.args.items.now len c.next_step-at.result c.index-items-at.result refl (omega (arith, inside.1, c.next_step-at.ensures, inv.within)) c.index-items-at.is) past;
+      past =
+          stops (g.P.Probe.answer c.args.probe.now) c.args.items.now c.requires.parted c.next_step-at.result
+          c.index-items-at.result
+          (slice_get_read c.args.items.now len c.next_step-at.result c.index-items-at.result refl
+          (omega (arith, inside.1, c.next_step-at.ensures, inv.within)) c.index-items-at.is)
+          past;
       within = omega (arith, inside.1, c.next_step-at.ensures, inv.within);
       fixed = cc;
-      comparisons = rw c.place.ensures.counted (stepped_back c.args.from at.low at.high len (g.P.Probe.asked at.probe) (g.P.Probe.asked c.args.probe.now) inv.order c.loop-low-test.true inv.within inv.comparisons c.next_step-at.result c.next_step-at.ensures);
+      comparisons =
+          rw c.place.ensures.counted
+          (stepped_back c.args.from at.low at.high len (g.P.Probe.asked at.probe) (g.P.Probe.asked c.args.probe.now)
+          inv.order c.loop-low-test.true inv.within inv.comparisons c.next_step-at.result c.next_step-at.ensures);
     }
 
 pub loop-low-preserved : goal.loop-low-preserved
@@ -39,9 +47,17 @@ loop-low-preserved g c =
     let passes : is_gt (g.P.Probe.answer c.args.probe.now c.index-items-at.result) ≡ false = cc in
     record {
       order = omega (arith, inside.0, c.next_step-at.ensures, inv.order);
-      before = goes_on (g.P.Probe.answer c.args.probe.now) c.args.items.now c.requires.parted c.next_step-at.result c.index-items-at.result (slice_get_read c.args.items.now len c.next_step-at.result c.index-items-at.result refl (omega (arith, inside.1, c.next_step-at.ensures, inv.within)) c.index-items-at.is) passes;
+      before =
+          goes_on (g.P.Probe.answer c.args.probe.now) c.args.items.now c.requires.parted c.next_step-at.result
+          c.index-items-at.result
+          (slice_get_read c.args.items.now len c.next_step-at.result c.index-items-at.result refl
+          (omega (arith, inside.1, c.next_step-at.ensures, inv.within)) c.index-items-at.is)
+          passes;
       past = inv.past;
       within = inv.within;
       fixed = cc;
-      comparisons = rw c.place.ensures.counted (stepped_on c.args.from at.low at.high len (g.P.Probe.asked at.probe) (g.P.Probe.asked c.args.probe.now) inv.order c.loop-low-test.true inv.within inv.comparisons c.next_step-at.result c.next_step-at.ensures);
+      comparisons =
+          rw c.place.ensures.counted
+          (stepped_on c.args.from at.low at.high len (g.P.Probe.asked at.probe) (g.P.Probe.asked c.args.probe.now)
+          inv.order c.loop-low-test.true inv.within inv.comparisons c.next_step-at.result c.next_step-at.ensures);
     }

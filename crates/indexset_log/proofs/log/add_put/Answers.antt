@@ -44,7 +44,9 @@ returns-in-Ok-clause-clones g c =
     let one : length n ≡ 1 = omega (arith, c.requires.some, c.if-last-eq0.true) in
     let first : i ≡ length n - 1 = omega (arith, f.inside, one) in
     let here : slice_get n i ≡ Some y = rw first (read_item n (length n - 1) y (omega (arith, c.requires.some)) c.index-part-last.is) in
-    rw (only_replaced cmp g.met.T.Ord.total v n i y c.requires.ascending f here one) (on_ok_map c.add_both.result c.add_both.ensures.events (λ e. (_, e, ((refl, (c.in_ok-max_value.ensures.cases, tt)), ((refl, (c.in_ok-copy.ensures.cases, tt)), tt)))))
+    rw (only_replaced cmp g.met.T.Ord.total v n i y c.requires.ascending f here one)
+    (on_ok_map c.add_both.result c.add_both.ensures.events
+    (λ e. (_, e, ((refl, (c.in_ok-max_value.ensures.cases, tt)), ((refl, (c.in_ok-copy.ensures.cases, tt)), tt)))))
 
 pub returns-in_ok-name-in-Ok-2-clause-clones : goal.returns-in_ok-name-in-Ok-2-clause-clones
 returns-in_ok-name-in-Ok-2-clause-clones g c =
@@ -70,9 +72,16 @@ returns-in_ok-name-in-Ok-2-clause-clones g c =
           let inside : i - 1 < length n = omega (arith, f.inside, some) in
           let before : z ≡ get_or n (i - 1) v = rw w.clone-is at c.index-part-last-in-Ok-2.is ∙ get_or_default n (i - 1) z v inside in
           let befores : g.T.Clone.is_clone (get_or n (i - 1) v) c.in_ok-name-in-Ok-2.name = rw (← before) name in
-          rw (last_replaced cmp o v n i x c.requires.ascending f here more (omega (arith, w.if-index-last.true, some))) (on_ok_map c.add_both-in-Ok-2.result c.add_both-in-Ok-2.ensures.events (λ e. (_, e, ((refl, (max, (old, tt))), ((refl, (befores, (copy, tt))), tt)))))
+          rw
+          (last_replaced cmp o v n i x c.requires.ascending f here more (omega (arith, w.if-index-last.true, some)))
+          (on_ok_map c.add_both-in-Ok-2.result c.add_both-in-Ok-2.ensures.events
+          (λ e. (_, e, ((refl, (max, (old, tt))), ((refl, (befores, (copy, tt))), tt)))))
       | else-index-last w ↦
           let end : slice_get n (length n - 1) ≡ Some z = read_item n (length n - 1) z (omega (arith, some)) (rw w.clone-is at c.index-part-last-in-Ok-2.is) in
           let lasts : g.T.Clone.is_clone (last_of n v) c.in_ok-name-in-Ok-2.name = rw (last_some n v z end) name in
-          rw (inner_replaced cmp o v n i x c.requires.ascending f here more (λ e. w.if-index-last.false (omega (arith, e)))) (on_ok_map c.add_both-in-Ok-2.result c.add_both-in-Ok-2.ensures.events (λ e. (_, e, ((refl, (max, (old, tt))), ((refl, (lasts, (copy, tt))), tt)))))
+          rw
+          (inner_replaced cmp o v n i x c.requires.ascending f here more
+          (λ e. w.if-index-last.false (omega (arith, e))))
+          (on_ok_map c.add_both-in-Ok-2.result c.add_both-in-Ok-2.ensures.events
+          (λ e. (_, e, ((refl, (max, (old, tt))), ((refl, (lasts, (copy, tt))), tt)))))
     ]

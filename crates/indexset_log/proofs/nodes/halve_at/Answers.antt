@@ -16,7 +16,9 @@ use Rattle.indexset_log.proofs.nodes.halve_at.Goals as goal
 kept : (g : Over) (c : After-from_residual-in_err-right g) → map g.Node.NodeLike.list (set c.reserve.new.self.items c.args.place c.halve.new.self) ≡ map g.Node.NodeLike.list c.args.nodes.now.items
 kept g c =
     let list = g.Node.NodeLike.list in
-    rw c.reserve.ensures.items (map-set_same list c.args.nodes.now.items c.args.place c.halve.new.self c.index_mut-node.result.now (c.in_err-right.ensures.unchanged ∙ ap list (rw c.reserve.ensures.items at c.index_mut-node.ensures.value)))
+    rw c.reserve.ensures.items
+    (map-set_same list c.args.nodes.now.items c.args.place c.halve.new.self c.index_mut-node.result.now
+    (c.in_err-right.ensures.unchanged ∙ ap list (rw c.reserve.ensures.items at c.index_mut-node.ensures.value)))
 
 pub returns-in_err-right-clause-unchanged : goal.returns-in_err-right-clause-unchanged
 returns-in_err-right-clause-unchanged g c = on_err _ (kept g c)
@@ -33,7 +35,9 @@ made g c =
     let l = c.halve.new.self in
     let r = c.in_ok-right.right in
     let n = node_at (map list old) k in
-    let node : list c.index_mut-node.result.now ≡ n = node_is list old (map list old) k c.index_mut-node.result.now refl c.requires.place (rw c.reserve.ensures.items at c.index_mut-node.ensures.value) in
+    let node : list c.index_mut-node.result.now ≡ n =
+    node_is list old (map list old) k c.index_mut-node.result.now refl c.requires.place
+    (rw c.reserve.ensures.items at c.index_mut-node.ensures.value) in
     let left : list l ≡ take (length n / 2) n = rw node at c.in_ok-right.ensures.left in
     let right : list r ≡ drop (length n / 2) n = rw node at c.in_ok-right.ensures.right in
     rw (c.as_slice.ensures.value, c.in-Ok.ensures.items, c.reserve.ensures.items) (halved_view list old k (get_or old k l) l r (slice_get-get_or old k l c.requires.place) ∙ rw (left, right) refl)

@@ -22,7 +22,13 @@ pub insert-requires-in-Ok-clause-fits : goal.insert-requires-in-Ok-clause-fits
 insert-requires-in-Ok-clause-fits g c =
     let list = g.Node.NodeLike.list in
     let ns = map list c.args.nodes.now.items in
-    rw (made g c, lengths-insert ns c.args.place (list c.args.node)) (omega (arith, c.requires.fits, length-concat ns, sum_by-insert (λ x. x) (node_lengths ns) c.args.place (length (list c.args.node))))
+    rw (made g c, lengths-insert ns c.args.place (list c.args.node))
+    (omega (
+      arith,
+      c.requires.fits,
+      length-concat ns,
+      sum_by-insert (λ x. x) (node_lengths ns) c.args.place (length (list c.args.node)),
+    ))
 
 pub returns-in-Ok-clause-nodes : goal.returns-in-Ok-clause-nodes
 returns-in-Ok-clause-nodes g c =

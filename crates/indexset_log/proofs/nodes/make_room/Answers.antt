@@ -6,7 +6,9 @@ use Rattle.indexset_log.proofs.nodes.make_room.Goals.{After-from_residual-in_err
 use Rattle.indexset_log.proofs.nodes.make_room.Goals as goal
 
 -- a node whose reservation failed is unchanged
-kept : (g : Over) (c : After-from_residual-in_err-reserve_one g) → map g.Node.NodeLike.list (set c.args.nodes.now.items c.args.aim.now.node c.reserve_one.new.self) ≡ map g.Node.NodeLike.list c.args.nodes.now.items
+kept : (g : Over) (c : After-from_residual-in_err-reserve_one g)
+    → map g.Node.NodeLike.list (set c.args.nodes.now.items c.args.aim.now.node c.reserve_one.new.self)
+    ≡ map g.Node.NodeLike.list c.args.nodes.now.items
 kept g c =
     let list = g.Node.NodeLike.list in
     map-set_same list c.args.nodes.now.items c.args.aim.now.node c.reserve_one.new.self c.index_mut-node.result.now (c.in_err-reserve_one.ensures.list ∙ ap list c.index_mut-node.ensures.value)
@@ -22,7 +24,10 @@ returns-clause-nodes g c =
     let list = g.Node.NodeLike.list in
     let old = c.args.nodes.now.items in
     elim c.if-is_err.branch [
-      | then-is_err+in_ok-reserve_one w ↦ rw (c.if-aim.false, w.nodes-is) (map-set_same list old c.args.aim.now.node w.reserve_one.new.self w.index_mut-node.result.now (w.in_ok-reserve_one.ensures.list ∙ ap list w.index_mut-node.ensures.value))
+      | then-is_err+in_ok-reserve_one w ↦
+          rw (c.if-aim.false, w.nodes-is)
+          (map-set_same list old c.args.aim.now.node w.reserve_one.new.self w.index_mut-node.result.now
+          (w.in_ok-reserve_one.ensures.list ∙ ap list w.index_mut-node.ensures.value))
       | else-is_err w ↦ rw (c.if-aim.false, w.nodes-is) refl
     ]
 
@@ -31,6 +36,11 @@ returns-clause-index g c =
     let list = g.Node.NodeLike.list in
     let old = c.args.nodes.now.items in
     elim c.if-is_err.branch [
-      | then-is_err+in_ok-reserve_one w ↦ rw (w.nodes-is, map-set_same list old c.args.aim.now.node w.reserve_one.new.self w.index_mut-node.result.now (w.in_ok-reserve_one.ensures.list ∙ ap list w.index_mut-node.ensures.value)) c.requires.index
+      | then-is_err+in_ok-reserve_one w ↦
+          rw (
+            w.nodes-is,
+            map-set_same list old c.args.aim.now.node w.reserve_one.new.self w.index_mut-node.result.now (w.in_ok-reserve_one.ensures.list ∙ ap list w.index_mut-node.ensures.value),
+          )
+          c.requires.index
       | else-is_err w ↦ rw w.nodes-is c.requires.index
     ]

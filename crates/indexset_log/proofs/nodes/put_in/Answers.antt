@@ -35,7 +35,11 @@ pub returns-in-Ok-clause-nodes : goal.returns-in-Ok-clause-nodes
 returns-in-Ok-clause-nodes g c =
     let list = g.Node.NodeLike.list in
     let node = here g (goal.at.returns-in-Ok-clause-nodes g c).After-index_mut-node in
-    set_view list c.args.nodes.now.items (map list c.args.nodes.now.items) c.args.place c.replace.new.self _ refl (rw node at c.replace.ensures.list ∙ sym (found_put g.T.Ord.cmp _ c.args.value c.in-Ok.offset g.met.T.Ord.total c.requires.ascending (rw c.in-Ok.is at c.requires.found)))
+    set_view list c.args.nodes.now.items (map list c.args.nodes.now.items) c.args.place c.replace.new.self _ refl
+    (rw node at c.replace.ensures.list
+    ∙ sym
+    (found_put g.T.Ord.cmp _ c.args.value c.in-Ok.offset g.met.T.Ord.total c.requires.ascending
+    (rw c.in-Ok.is at c.requires.found)))
 
 pub returns-in-Err-clause-answer : goal.returns-in-Err-clause-answer
 returns-in-Err-clause-answer g c = sym (gap_equal g.T.Ord.cmp _ c.args.value c.in-Err.offset (rw c.in-Err.is at c.requires.gap))
@@ -44,7 +48,9 @@ pub returns-in-Err-clause-nodes : goal.returns-in-Err-clause-nodes
 returns-in-Err-clause-nodes g c =
     let list = g.Node.NodeLike.list in
     let node = here g (goal.at.returns-in-Err-clause-nodes g c).After-index_mut-node in
-    set_view list c.args.nodes.now.items (map list c.args.nodes.now.items) c.args.place c.insert_at.new.self _ refl (rw node at c.insert_at.ensures.list ∙ sym (gap_put g.T.Ord.cmp _ c.args.value c.in-Err.offset (rw c.in-Err.is at c.requires.gap)))
+    set_view list c.args.nodes.now.items (map list c.args.nodes.now.items) c.args.place c.insert_at.new.self _ refl
+    (rw node at c.insert_at.ensures.list
+    ∙ sym (gap_put g.T.Ord.cmp _ c.args.value c.in-Err.offset (rw c.in-Err.is at c.requires.gap)))
 
 pub add-requires-clause-fits : goal.add-requires-clause-fits
 add-requires-clause-fits g c =
@@ -63,7 +69,12 @@ returns-in-Ok-clause-index g c =
     let ns = map list c.args.nodes.now.items in
     let node = here g (goal.at.returns-in-Ok-clause-index g c).After-index_mut-node in
     let long = ap (λ l. length l) (rw node at c.replace.ensures.list) ∙ length-set (node_at ns c.args.place) c.in-Ok.offset c.args.value in
-    c.requires.index ∙ ap block_sums (sym (ap (λ ls. node_lengths ls) (set_view list c.args.nodes.now.items ns c.args.place c.replace.new.self _ refl refl) ∙ node_lengths-set ns c.args.place (list c.replace.new.self) long))
+    c.requires.index
+    ∙ ap block_sums
+    (sym
+    (ap (λ ls. node_lengths ls)
+    (set_view list c.args.nodes.now.items ns c.args.place c.replace.new.self _ refl refl)
+    ∙ node_lengths-set ns c.args.place (list c.replace.new.self) long))
 
 pub returns-in-Err-clause-index : goal.returns-in-Err-clause-index
 returns-in-Err-clause-index g c =
@@ -72,5 +83,13 @@ returns-in-Err-clause-index g c =
     let ns = map list old in
     let node = here g (goal.at.returns-in-Err-clause-index g c).After-index_mut-node in
     let gap = rw c.in-Err.is at c.requires.gap in
-    let more : length (list c.insert_at.new.self) ≡ length (node_at ns c.args.place) + 1 = omega (arith, ap (λ l. length l) (rw node at c.insert_at.ensures.list), length-insert (node_at ns c.args.place) c.in-Err.offset c.args.value gap.inside) in
-    c.add.ensures.sums ∙ (raised ns c.args.place c.requires.index (omega (arith, c.requires.place, length-map old list)) (list c.insert_at.new.self) 1 more ∙ sym (ap (λ ls. block_sums (node_lengths ls)) (set_view list old ns c.args.place c.insert_at.new.self _ refl refl)))
+    let more : length (list c.insert_at.new.self) ≡ length (node_at ns c.args.place) + 1 = omega (
+      arith,
+      ap (λ l. length l) (rw node at c.insert_at.ensures.list),
+      length-insert (node_at ns c.args.place) c.in-Err.offset c.args.value gap.inside,
+    ) in
+    c.add.ensures.sums
+    ∙ (raised ns c.args.place c.requires.index (omega (arith, c.requires.place, length-map old list))
+    (list c.insert_at.new.self) 1 more
+    ∙ sym
+    (ap (λ ls. block_sums (node_lengths ls)) (set_view list old ns c.args.place c.insert_at.new.self _ refl refl)))

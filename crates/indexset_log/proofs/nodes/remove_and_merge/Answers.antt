@@ -33,7 +33,9 @@ one_after k j (inr next) ne = next
 pub remove_at-item-requires : goal.remove_at-item-requires
 remove_at-item-requires g c =
     let list = g.Node.NodeLike.list in
-    let first = first_list list c.args.nodes.now.items c.args.left c.requires.place c.index_mut-first.ensures.value c.in_ok-reserve.ensures.list c.remove-next.ensures.items c.index_mut-first-2.ensures.value in
+    let first =
+    first_list list c.args.nodes.now.items c.args.left c.requires.place c.index_mut-first.ensures.value
+    c.in_ok-reserve.ensures.list c.remove-next.ensures.items c.index_mut-first-2.ensures.value in
     rw first.1 (rw c.if-node-left.true at c.requires.offset)
 
 pub remove_at-item-requires-else-node-left : goal.remove_at-item-requires-else-node-left
@@ -101,7 +103,9 @@ seen : (g : Over) (c : After-as_slice g) → map g.Node.NodeLike.list c.as_slice
 seen g c =
     let list = g.Node.NodeLike.list in
     let items = c.args.nodes.now.items in
-    let same : map list (set items c.args.left c.reserve.new.self) ≡ map list items = map-set_same list items c.args.left c.reserve.new.self c.index_mut-first.result.now (c.in_ok-reserve.ensures.list ∙ ap list c.index_mut-first.ensures.value) in
+    let same : map list (set items c.args.left c.reserve.new.self) ≡ map list items =
+    map-set_same list items c.args.left c.reserve.new.self c.index_mut-first.result.now
+    (c.in_ok-reserve.ensures.list ∙ ap list c.index_mut-first.ensures.value) in
     rw (c.as_slice.ensures.value, c.remove-next.ensures.items) (map_remove list (set items c.args.left c.reserve.new.self) (c.args.left + 1) ∙ ap (λ l. remove l (c.args.left + 1)) same)
 
 -- the number of items in the second
@@ -166,7 +170,11 @@ sub-requires-clause-enough g c =
     let gone = rw (seen g before) at c.remove.ensures.sums in
     let two = c.add.ensures.sums ∙ gathered ns j inside c.len-more.result gone (next_long g before) in
     let item = node_at ns c.args.node in
-    omega (arith, node_in_block (both ns j inside) j two (both_inside ns j inside), some_items ns j inside c.args.node (remove item c.args.offset) c.requires.node (length-remove item c.args.offset c.requires.offset))
+    omega (
+      arith,
+      node_in_block (both ns j inside) j two (both_inside ns j inside),
+      some_items ns j inside c.args.node (remove item c.args.offset) c.requires.node (length-remove item c.args.offset c.requires.offset),
+    )
 
 pub returns-clause-nodes : goal.returns-clause-nodes
 returns-clause-nodes g c =
@@ -179,10 +187,15 @@ returns-clause-nodes g c =
     let next = next_list list items j c.requires.place c.index_mut-first.ensures.value c.in_ok-reserve.ensures.list c.remove-next.ensures.value in
     elim c.if-node-left.branch [
       | then-node-left w ↦
-          rw (c.remove-next.ensures.items, w.if-node-left.true) (two.first_made c.absorb.new.self (remove (node_at ns j) c.args.offset) (c.absorb.ensures.list ∙ rw (w.first-is, w.next-is, w.remove_at-item.ensures.list, first.1, next) refl))
+          rw (c.remove-next.ensures.items, w.if-node-left.true)
+          (two.first_made c.absorb.new.self (remove (node_at ns j) c.args.offset)
+          (c.absorb.ensures.list ∙ rw (w.first-is, w.next-is, w.remove_at-item.ensures.list, first.1, next) refl))
       | else-node-left w ↦
           let place = one_after c.args.node j c.requires.node w.if-node-left.false in
-          rw (c.remove-next.ensures.items, place) (two.next_made c.absorb.new.self (remove (node_at ns (j + 1)) c.args.offset) (c.absorb.ensures.list ∙ rw (w.first-is, w.next-is, w.remove_at-item-else-node-left.ensures.list, first.1, next) refl))
+          rw (c.remove-next.ensures.items, place)
+          (two.next_made c.absorb.new.self (remove (node_at ns (j + 1)) c.args.offset)
+          (c.absorb.ensures.list
+          ∙ rw (w.first-is, w.next-is, w.remove_at-item-else-node-left.ensures.list, first.1, next) refl))
     ]
 
 pub returns-clause-index : goal.returns-clause-index

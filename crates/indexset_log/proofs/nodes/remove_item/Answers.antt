@@ -41,7 +41,10 @@ returns-clause-nodes g c =
     let old = c.args.nodes.now.items in
     let node = node_is list old (map list old) c.args.node c.index.result.now refl c.requires.node c.index.ensures in
     let same = node_is list old (map list old) c.args.node c.index_mut.result.now refl c.requires.node c.index_mut.ensures.value in
-    rw (ne_eqb (length (node_at (map list old) c.args.node)) 1 (rw (c.len.ensures.value, node) at c.if-len-eq1.false)) (set_view list old (map list old) c.args.node c.remove_at-2.new.self _ refl (c.remove_at-2.ensures.list ∙ ap (λ q. remove q c.args.offset) same))
+    rw
+    (ne_eqb (length (node_at (map list old) c.args.node)) 1 (rw (c.len.ensures.value, node) at c.if-len-eq1.false))
+    (set_view list old (map list old) c.args.node c.remove_at-2.new.self _ refl
+    (c.remove_at-2.ensures.list ∙ ap (λ q. remove q c.args.offset) same))
 
 pub returns-clause-index : goal.returns-clause-index
 returns-clause-index g c =
@@ -49,5 +52,13 @@ returns-clause-index g c =
     let old = c.args.nodes.now.items in
     let ns = map list old in
     let same = node_is list old ns c.args.node c.index_mut.result.now refl c.requires.node c.index_mut.ensures.value in
-    let less : length (list c.remove_at-2.new.self) ≡ length (node_at ns c.args.node) - 1 = omega (arith, ap (λ l. length l) (c.remove_at-2.ensures.list ∙ ap (λ q. remove q c.args.offset) same), length-remove (node_at ns c.args.node) c.args.offset c.requires.offset) in
-    c.sub.ensures.sums ∙ (lowered ns c.args.node c.requires.index (omega (arith, c.requires.node, length-map old list)) (list c.remove_at-2.new.self) 1 (omega (arith, c.requires.offset)) less ∙ sym (ap (λ ls. block_sums (node_lengths ls)) (set_view list old ns c.args.node c.remove_at-2.new.self _ refl refl)))
+    let less : length (list c.remove_at-2.new.self) ≡ length (node_at ns c.args.node) - 1 = omega (
+      arith,
+      ap (λ l. length l) (c.remove_at-2.ensures.list ∙ ap (λ q. remove q c.args.offset) same),
+      length-remove (node_at ns c.args.node) c.args.offset c.requires.offset,
+    ) in
+    c.sub.ensures.sums
+    ∙ (lowered ns c.args.node c.requires.index (omega (arith, c.requires.node, length-map old list))
+    (list c.remove_at-2.new.self) 1 (omega (arith, c.requires.offset)) less
+    ∙ sym
+    (ap (λ ls. block_sums (node_lengths ls)) (set_view list old ns c.args.node c.remove_at-2.new.self _ refl refl)))

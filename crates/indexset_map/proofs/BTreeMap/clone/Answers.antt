@@ -13,12 +13,16 @@ returns-clause-copy g c =
 
 pub returns-clause-cloned : goal.returns-clause-cloned
 returns-clause-cloned g c = λ equal.
-    let copied : AllZip (AllZip (IsPairClone g.K.Clone.is_clone g.V.Clone.is_clone)) c.self.inside.set.nodes c.in_ok-set.set.nodes = c.in_ok-set.ensures.cloned (λ p q clone. equal p.key q.key clone.0) in
+    let copied : AllZip (AllZip (IsPairClone g.K.Clone.is_clone g.V.Clone.is_clone)) c.self.inside.set.nodes
+    c.in_ok-set.set.nodes =
+    c.in_ok-set.ensures.cloned (λ p q clone. equal p.key q.key clone.0) in
     rw (← c.self.view_is) (copies_joined (IsPairClone g.K.Clone.is_clone g.V.Clone.is_clone) c.self.inside.set.nodes c.in_ok-set.set.nodes copied)
 
 pub returns-clause-lengths : goal.returns-clause-lengths
 returns-clause-lengths g c = λ equal.
-    let copied : AllZip (AllZip (IsPairClone g.K.Clone.is_clone g.V.Clone.is_clone)) c.self.inside.set.nodes c.in_ok-set.set.nodes = c.in_ok-set.ensures.cloned (λ p q clone. equal p.key q.key clone.0) in
+    let copied : AllZip (AllZip (IsPairClone g.K.Clone.is_clone g.V.Clone.is_clone)) c.self.inside.set.nodes
+    c.in_ok-set.set.nodes =
+    c.in_ok-set.ensures.cloned (λ p q clone. equal p.key q.key clone.0) in
     rw (← c.self.view_is) (copies_lengths (IsPairClone g.K.Clone.is_clone g.V.Clone.is_clone) c.self.inside.set.nodes c.in_ok-set.set.nodes copied)
 
 pub returns-clause-ok : goal.returns-clause-ok

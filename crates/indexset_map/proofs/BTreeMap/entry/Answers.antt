@@ -55,7 +55,9 @@ pub returns-clause-missing : goal.returns-clause-missing
 returns-clause-missing g c = sym (ap (λ (b : Bool). if b then None else Some c.args.key) (key_absent g.K.Ord.cmp _ _ (c.spot-spot.ensures.spot.absent c.if-spot.false)))
 
 pub returns-then-spot-clause-removal : goal.returns-then-spot-clause-removal
-returns-then-spot-clause-removal g c = without_found g.K.Ord.cmp c.args.self.now c.args.key _ (c.spot-spot.ensures.spot.found c.if-spot.true) (acts_as_itself g.met.K.Ord.total) c.spot-spot.ensures.ascending g.met.K.Ord.total (one_as_itself g.met.K.Ord.total)
+returns-then-spot-clause-removal g c =
+    without_found g.K.Ord.cmp c.args.self.now c.args.key _ (c.spot-spot.ensures.spot.found c.if-spot.true)
+    (acts_as_itself g.met.K.Ord.total) c.spot-spot.ensures.ascending g.met.K.Ord.total (one_as_itself g.met.K.Ord.total)
 
 pub returns-clause-removal : goal.returns-clause-removal
 returns-clause-removal g c = sym (without_absent g.K.Ord.cmp c.args.self.now c.args.key (key_absent g.K.Ord.cmp _ _ (c.spot-spot.ensures.spot.absent c.if-spot.false)))

@@ -21,7 +21,12 @@ loop-key-preserved g c =
     let cmp = g.K.Ord.cmp in
     record {
       order = c.in_ok-put_behind.ensures.order;
-      inserted = c.in_ok-put_behind.ensures.inserted ∙ (ap (λ m. with_entry cmp m c.in-Some.key c.in-Some.value) c.loop-key.invariant.inserted ∙ sym (fold-append (λ m e. with_entry cmp m e.0 e.1) (no_pairs DEFAULT_INNER_SIZE) c.loop-key.yielded ((c.in-Some.key, c.in-Some.value) ∷ [])));
+      inserted =
+          c.in_ok-put_behind.ensures.inserted
+          ∙ (ap (λ m. with_entry cmp m c.in-Some.key c.in-Some.value) c.loop-key.invariant.inserted
+          ∙ sym
+          (fold-append (λ m e. with_entry cmp m e.0 e.1) (no_pairs DEFAULT_INNER_SIZE) c.loop-key.yielded
+          ((c.in-Some.key, c.in-Some.value) ∷ [])));
     }
 
 pub take_run-requires : goal.take_run-requires

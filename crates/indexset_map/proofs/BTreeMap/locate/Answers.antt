@@ -14,8 +14,14 @@ locate_by-requires g c =
 
 pub returns-clause-absent : goal.returns-clause-absent
 returns-clause-absent g c =
-    rw (← c.self.view_is) (subst (λ k. IfErr c.locate_by.result (λ _. position (λ p. is_eq (g.Q.LookupKey.order p.key k)) (items c.self.inside.set) ≡ None)) (ap (λ (t : g.row.Q.Denot × ℕ). t.0) c.new.ensures) c.locate_by.ensures.absent)
+    rw (← c.self.view_is)
+    (subst (λ k.
+    IfErr c.locate_by.result
+    (λ _. position (λ p. is_eq (g.Q.LookupKey.order p.key k)) (items c.self.inside.set) ≡ None))
+    (ap (λ (t : g.row.Q.Denot × ℕ). t.0) c.new.ensures) c.locate_by.ensures.absent)
 
 pub returns-clause-gap : goal.returns-clause-gap
 returns-clause-gap g c =
-    rw (← c.self.view_is) (subst (λ k. IfErr c.locate_by.result (λ i. i ≡ key_rank g.Q.LookupKey.order (items c.self.inside.set) k)) (ap (λ (t : g.row.Q.Denot × ℕ). t.0) c.new.ensures) c.locate_by.ensures.gap)
+    rw (← c.self.view_is)
+    (subst (λ k. IfErr c.locate_by.result (λ i. i ≡ key_rank g.Q.LookupKey.order (items c.self.inside.set) k))
+    (ap (λ (t : g.row.Q.Denot × ℕ). t.0) c.new.ensures) c.locate_by.ensures.gap)

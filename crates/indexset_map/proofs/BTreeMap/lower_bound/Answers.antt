@@ -11,4 +11,6 @@ pub returns-clause-position : goal.returns-clause-position
 returns-clause-position g c =
     let l = items c.self.inside.set in
     let count = probed_before g.Q.LookupKey.order (λ k. k.now) (λ p. p.key) l c.as_ref.result c.map-start.result c.map-start.ensures in
-    rw (← c.self.view_is, ← c.as_ref.ensures) (first_from g.Q.LookupKey.order g.met.Q.LookupKey.acts_as_key l c.recall_order.ensures.ascending _ _ _ _ count refl (ap (λ s. s.position) c.cursor_from.ensures))
+    rw (← c.self.view_is, ← c.as_ref.ensures)
+    (first_from g.Q.LookupKey.order g.met.Q.LookupKey.acts_as_key l c.recall_order.ensures.ascending _ _ _ _ count
+    refl (ap (λ s. s.position) c.cursor_from.ensures))

@@ -13,4 +13,6 @@ get_by-requires g c =
 
 pub returns : goal.returns
 returns g c =
-    rw (← c.self.view_is) (subst (λ k. option_copied c.get_by.result ≡ pair_of g.Q.LookupKey.order (items c.self.inside.set) k) (ap (λ (t : g.row.Q.Denot × ℕ). t.0) c.new.ensures) c.get_by.ensures.value)
+    rw (← c.self.view_is)
+    (subst (λ k. option_copied c.get_by.result ≡ pair_of g.Q.LookupKey.order (items c.self.inside.set) k)
+    (ap (λ (t : g.row.Q.Denot × ℕ). t.0) c.new.ensures) c.get_by.ensures.value)

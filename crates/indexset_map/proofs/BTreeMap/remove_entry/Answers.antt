@@ -15,7 +15,10 @@ returns-then-spot-clause-value g c =
 
 pub returns-then-spot-clause-rest : goal.returns-then-spot-clause-rest
 returns-then-spot-clause-rest g c =
-    c.take_at.ensures.rest ∙ without_found g.Q.LookupKey.order c.args.self.now c.args.key _ (c.spot-spot.ensures.spot.found c.if-spot.true) g.met.Q.LookupKey.acts_as_key c.spot-spot.ensures.ascending g.met.K.Ord.total g.met.Q.UniqueKey.equals_at_most_one
+    c.take_at.ensures.rest
+    ∙ without_found g.Q.LookupKey.order c.args.self.now c.args.key _ (c.spot-spot.ensures.spot.found c.if-spot.true)
+    g.met.Q.LookupKey.acts_as_key c.spot-spot.ensures.ascending g.met.K.Ord.total
+    g.met.Q.UniqueKey.equals_at_most_one
 
 pub returns-then-spot-clause-gone : goal.returns-then-spot-clause-gone
 returns-then-spot-clause-gone g c =
@@ -26,7 +29,9 @@ returns-then-spot-clause-no_value g c = no_value g.Q.LookupKey.order _ c.args.ke
 
 pub returns-then-spot-clause-others : goal.returns-then-spot-clause-others
 returns-then-spot-clause-others g c = λ other apart.
-    ap (λ m. value_of g.K.Ord.cmp m.pairs other) (returns-then-spot-clause-rest g c) ∙ without_beside g.Q.LookupKey.order g.met.K.Ord.total g.met.Q.UniqueKey.equals_at_most_one c.args.key other apart c.args.self.now.pairs
+    ap (λ m. value_of g.K.Ord.cmp m.pairs other) (returns-then-spot-clause-rest g c)
+    ∙ without_beside g.Q.LookupKey.order g.met.K.Ord.total g.met.Q.UniqueKey.equals_at_most_one c.args.key other
+    apart c.args.self.now.pairs
 
 pub returns-else-spot-clause-value : goal.returns-else-spot-clause-value
 returns-else-spot-clause-value g c = sym (ap (option_map entry_of) (key_no_pair g.Q.LookupKey.order _ _ (c.spot-spot.ensures.spot.absent c.if-spot.false)))

@@ -4,10 +4,15 @@ use Rattle.indexset_map.proofs.BTreeMap.stretch.Goals as goal
 
 pub returns-clause-at : goal.returns-clause-at
 returns-clause-at g c =
-    let span = key_places g.Q.LookupKey.order g.met.Q.LookupKey.acts_as_key c.args.self.now.pairs c.recall_order.ensures.ascending _ _ _ c.start_spot-from.result.1 c.end_position-back.result c.start_spot-from.ensures.position c.end_position-back.ensures c.min.ensures in
+    let span =
+    key_places g.Q.LookupKey.order g.met.Q.LookupKey.acts_as_key c.args.self.now.pairs
+    c.recall_order.ensures.ascending _ _ _ c.start_spot-from.result.1 c.end_position-back.result
+    c.start_spot-from.ensures.position c.end_position-back.ensures c.min.ensures in
     record { order = span.order; inside = span.inside; start = omega (arith, c.start_spot-from.ensures.place) }
 
 pub returns-clause-rest : goal.returns-clause-rest
 returns-clause-rest g c =
     span_filter _ c.args.self.now.pairs _ c.end_position-back.result
-    (key_places g.Q.LookupKey.order g.met.Q.LookupKey.acts_as_key c.args.self.now.pairs c.recall_order.ensures.ascending _ _ _ c.start_spot-from.result.1 c.end_position-back.result c.start_spot-from.ensures.position c.end_position-back.ensures c.min.ensures)
+    (key_places g.Q.LookupKey.order g.met.Q.LookupKey.acts_as_key c.args.self.now.pairs
+    c.recall_order.ensures.ascending _ _ _ c.start_spot-from.result.1 c.end_position-back.result
+    c.start_spot-from.ensures.position c.end_position-back.ensures c.min.ensures)

@@ -11,4 +11,6 @@ pub returns-clause-position : goal.returns-clause-position
 returns-clause-position g c =
     let l = items c.self.inside.set in
     let count = probed_up_to g.Q.LookupKey.order (λ k. k.now) (λ p. p.key) l c.as_ref.result c.map-end.result c.map-end.ensures in
-    rw (← c.self.view_is, ← c.as_ref.ensures) (first_past g.Q.LookupKey.order g.met.Q.LookupKey.acts_as_key l c.recall_order.ensures.ascending _ _ _ _ count refl (ap (λ s. s.position) c.cursor_past.ensures))
+    rw (← c.self.view_is, ← c.as_ref.ensures)
+    (first_past g.Q.LookupKey.order g.met.Q.LookupKey.acts_as_key l c.recall_order.ensures.ascending _ _ _ _ count
+    refl (ap (λ s. s.position) c.cursor_past.ensures))

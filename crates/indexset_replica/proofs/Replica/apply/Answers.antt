@@ -47,7 +47,13 @@ returns-clause-step g c h =
     let cmp = g.T.Ord.cmp in
     let nodes = ap (λ t. t.nodes) c.self.view_is in
     let d = c.in_ok-carry_out.ensures.done in
-    rw (sym nodes) (step_same cmp g.T.Clone.is_clone h _ _ _ (record { event = d.event; adds = d.adds; made = edited_step cmp g.met.T.Ord.total _ _ _ (nodes_ruled cmp _ c.self.invariant.nodes) d.done }))
+    rw (sym nodes)
+    (step_same cmp g.T.Clone.is_clone h _ _ _
+    (record {
+      event = d.event;
+      adds = d.adds;
+      made = edited_step cmp g.met.T.Ord.total _ _ _ (nodes_ruled cmp _ c.self.invariant.nodes) d.done;
+    }))
 
 pub returns-clause-fits : goal.returns-clause-fits
 returns-clause-fits g c =

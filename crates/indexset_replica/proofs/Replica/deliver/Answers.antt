@@ -13,4 +13,6 @@ pub returns-clause-cloned : goal.returns-clause-cloned
 returns-clause-cloned g c =
     let next = ap (λ t. t.next) c.self.view_is in
     let number : c.inner.result ≡ event_number c.args.event.now = c.inner.ensures ∙ ap (λ i. i.0) c.id.ensures in
-    delivery_where_ok g.T.Ord.cmp g.T.Clone.is_clone c.apply.result c.args.self.now c.apply.new.self c.args.event.now (sym number ∙ (c.if-inner-self.false ∙ next)) c.apply.ensures.fits c.apply.ensures.next c.apply.ensures.cloned
+    delivery_where_ok g.T.Ord.cmp g.T.Clone.is_clone c.apply.result c.args.self.now c.apply.new.self
+    c.args.event.now (sym number ∙ (c.if-inner-self.false ∙ next)) c.apply.ensures.fits c.apply.ensures.next
+    c.apply.ensures.cloned

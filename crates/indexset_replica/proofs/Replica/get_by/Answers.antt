@@ -44,4 +44,7 @@ returns-in-Ok-clause-value g c =
 pub returns-in-Err-clause-value : goal.returns-in-Err-clause-value
 returns-in-Err-clause-value g c =
     let same : vec_items c.self.inside.nodes.items ≡ c.args.self.now.nodes = ap (λ t. t.nodes) c.self.view_is in
-    sym (gap_found (g.P.Probe.answer c.args.probe.now) c.args.self.now.nodes (rw same at c.self.invariant.nodes.filled) c.requires c.locate_by.result (rw (c.as_slice.ensures.value, same) at c.locate_by.ensures.place) c.in-Err.field-0 c.in-Err.is)
+    sym
+    (gap_found (g.P.Probe.answer c.args.probe.now) c.args.self.now.nodes (rw same at c.self.invariant.nodes.filled)
+    c.requires c.locate_by.result (rw (c.as_slice.ensures.value, same) at c.locate_by.ensures.place)
+    c.in-Err.field-0 c.in-Err.is)

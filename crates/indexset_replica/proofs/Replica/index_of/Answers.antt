@@ -21,7 +21,9 @@ module _ (g : Over) (c : After-drop-value g) where
   parted = parted_by_sought g.met.Q.LookupKey.acts_as_key (concat c.args.self.now.nodes) (rw same at c.self.invariant.nodes.ascending) c.args.value
 
   end : IsEnd answer true c.args.self.now.nodes c.in-Ok.place
-  end = end_at answer c.args.self.now.nodes (rw same at c.self.invariant.nodes.filled) parted c.locate_by.result (rw (c.new.ensures, c.as_slice.ensures.value, same) at c.locate_by.ensures.place) c.in-Ok.place c.in-Ok.is
+  end =
+      end_at answer c.args.self.now.nodes (rw same at c.self.invariant.nodes.filled) parted c.locate_by.result
+      (rw (c.new.ensures, c.as_slice.ensures.value, same) at c.locate_by.ensures.place) c.in-Ok.place c.in-Ok.is
 
   is : c.position.result ≡ less_count answer (concat c.args.self.now.nodes)
   is = rw (c.as_slice-in-Ok.ensures.value, same) at c.position.ensures ∙ end.before
@@ -48,7 +50,12 @@ pub returns-clause-value : goal.returns-clause-value
 returns-clause-value g c =
     let ns = c.args.self.now.nodes in
     let same : vec_items c.self.inside.nodes.items ≡ ns = ap (λ t. t.nodes) c.self.view_is in
-    let parted : IsParted (λ x. g.Q.LookupKey.order x c.args.value) (concat ns) = parted_by_sought g.met.Q.LookupKey.acts_as_key (concat ns) (rw same at c.self.invariant.nodes.ascending) c.args.value in
-    let none : find (λ x. is_eq (g.Q.LookupKey.order x c.args.value)) (concat ns) ≡ None = gap_found (λ x. g.Q.LookupKey.order x c.args.value) ns (rw same at c.self.invariant.nodes.filled) parted c.locate_by.result (rw (c.new.ensures, c.as_slice.ensures.value, same) at c.locate_by.ensures.place) c.in-Err.field-0 c.in-Err.is in
+    let parted : IsParted (λ x. g.Q.LookupKey.order x c.args.value) (concat ns) =
+    parted_by_sought g.met.Q.LookupKey.acts_as_key (concat ns) (rw same at c.self.invariant.nodes.ascending)
+    c.args.value in
+    let none : find (λ x. is_eq (g.Q.LookupKey.order x c.args.value)) (concat ns) ≡ None =
+    gap_found (λ x. g.Q.LookupKey.order x c.args.value) ns (rw same at c.self.invariant.nodes.filled) parted
+    c.locate_by.result (rw (c.new.ensures, c.as_slice.ensures.value, same) at c.locate_by.ensures.place)
+    c.in-Err.field-0 c.in-Err.is in
     let has : list_any (λ x. is_eq (g.Q.LookupKey.order x c.args.value)) (concat ns) ≡ false = sym (is_some-find (λ x. is_eq (g.Q.LookupKey.order x c.args.value)) (concat ns)) ∙ ap is_some none in
     rw has refl

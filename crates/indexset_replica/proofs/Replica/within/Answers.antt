@@ -17,13 +17,20 @@ parted g c =
     parted_by_sought g.met.Q.LookupKey.acts_as_key _ law.ascending
 
 -- the range lies between the two places
-cut : (g : Over) (c : After-place_to-to g) → let ns = vec_items c.as_slice-nodes.result.now in let i = items_before ns c.place_from-from.result in let j = items_before ns c.place_to-to.result in (i ≤ j) × (between i j (concat ns) ≡ in_range g.Q.LookupKey.order (concat ns) (bound_map (λ v. v.now) c.args.range.0) (bound_map (λ v. v.now) c.args.range.1))
+cut : (g : Over) (c : After-place_to-to g) → let ns = vec_items c.as_slice-nodes.result.now in
+    let i = items_before ns c.place_from-from.result in let j = items_before ns c.place_to-to.result in
+    (i ≤ j)
+    × (between i j (concat ns)
+    ≡ in_range g.Q.LookupKey.order (concat ns) (bound_map (λ v. v.now) c.args.range.0)
+    (bound_map (λ v. v.now) c.args.range.1))
 cut g c =
     let order = g.Q.LookupKey.order in
     let l = concat (vec_items c.as_slice-nodes.result.now) in
     let from = c.place_from-from.ensures.before ∙ probed_before order (λ v. v.now) (λ x. x) l c.args.range.0 c.map.result c.map.ensures in
-    let to = c.place_to-to.ensures.before ∙ probed_up_to order (λ v. v.now) (λ x. x) l c.args.range.1 c.map-2.result c.map-2.ensures in
-    (sought_range_order order (λ x. x) l (parted g c) g.met.Q.LookupKey.acts_as_key _ _ c.requires _ _ from to, sought_range_is order (λ x. x) l (parted g c) g.met.Q.LookupKey.acts_as_key _ _ c.requires _ _ from to)
+    let to = c.place_to-to.ensures.before ∙ probed_up_to order (λ v. v.now) (λ x. x) l c.args.range.1 c.map-2.result c.map-2.ensures in (
+      sought_range_order order (λ x. x) l (parted g c) g.met.Q.LookupKey.acts_as_key _ _ c.requires _ _ from to,
+      sought_range_is order (λ x. x) l (parted g c) g.met.Q.LookupKey.acts_as_key _ _ c.requires _ _ from to,
+    )
 
 pub place_from-from-requires-clause-parted : goal.place_from-from-requires-clause-parted
 place_from-from-requires-clause-parted g c =

@@ -13,7 +13,8 @@ use Rattle.indexset_replica.proofs.edits.create_node.Goals as goal
 use Rattle.indexset_replica.proofs.edits.create_node.Goals.{After-as_slice-3, Else-not-fits_before}
 
 -- the nodes after the insertion of the new node
-created : (g : Over) (c : Else-not-fits_before g) → let ns = map (λ v. v.items) c.args.nodes.now.items in let v = c.args.value.now in IsEdit g.T.Ord.cmp ns (CreateNode v) (insert ns c.first_reaching-place.result (v ∷ []))
+created : (g : Over) (c : Else-not-fits_before g) → let ns = map (λ v. v.items) c.args.nodes.now.items in
+    let v = c.args.value.now in IsEdit g.T.Ord.cmp ns (CreateNode v) (insert ns c.first_reaching-place.result (v ∷ []))
 created g c =
     let place = rw c.as_slice.ensures.value at c.first_reaching-place.ensures.place in
     let good = rw c.as_slice-2.ensures.value at (sym c.fits_before.ensures ∙ c.if-not-fits_before.false) in
@@ -51,7 +52,9 @@ returns-clause-done g c =
 
 -- the nodes with the new one
 added : (g : Over) (c : After-as_slice-3 g) → map (λ v. v.items) c.as_slice-3.result.now ≡ insert (map (λ v. v.items) c.args.nodes.now.items) c.first_reaching-place.result c.in_ok-node.node.items
-added g c = rw (c.as_slice-3.ensures.value, c.insert_item.ensures.items, c.room_for_node_of.ensures.nodes) (map_insert (λ v. v.items) c.args.nodes.now.items c.first_reaching-place.result c.in_ok-node.node)
+added g c =
+    rw (c.as_slice-3.ensures.value, c.insert_item.ensures.items, c.room_for_node_of.ensures.nodes)
+    (map_insert (λ v. v.items) c.args.nodes.now.items c.first_reaching-place.result c.in_ok-node.node)
 
 pub insert_node-requires-clause-before : goal.insert_node-requires-clause-before
 insert_node-requires-clause-before g c =
@@ -64,4 +67,10 @@ insert_node-requires-clause-before g c =
 pub insert_node-requires-clause-fits : goal.insert_node-requires-clause-fits
 insert_node-requires-clause-fits g c =
     let ns = map (λ v. v.items) c.args.nodes.now.items in
-    rw (added g c) (omega (arith, insert_sum ns c.first_reaching-place.result c.in_ok-node.node.items (c.reserve_node.ensures.sums ∙ c.requires.lengths), c.in_ok-reserve_node.ensures.fits, ap (λ l. length l) c.in_ok-node.ensures.node.2))
+    rw (added g c)
+    (omega (
+      arith,
+      insert_sum ns c.first_reaching-place.result c.in_ok-node.node.items (c.reserve_node.ensures.sums ∙ c.requires.lengths),
+      c.in_ok-reserve_node.ensures.fits,
+      ap (λ l. length l) c.in_ok-node.ensures.node.2,
+    ))

@@ -16,7 +16,10 @@ use Rattle.indexset_replica.proofs.edits.insert_item.Goals as goal
 use Rattle.indexset_replica.proofs.edits.insert_item.Goals.{Else-not-fits_at}
 
 -- the nodes after the insertion
-inserted : (g : Over) (c : Else-not-fits_at g) → let ns = map (λ v. v.items) c.args.nodes.now.items in let v = c.args.value.now in let i = c.args.index in IsEdit g.T.Ord.cmp ns (InsertAt c.args.name.now v i) (set ns c.in_ok-place.place (insert c.index.result.now.items i v))
+inserted : (g : Over) (c : Else-not-fits_at g) → let ns = map (λ v. v.items) c.args.nodes.now.items in
+    let v = c.args.value.now in let i = c.args.index in
+    IsEdit g.T.Ord.cmp ns (InsertAt c.args.name.now v i)
+    (set ns c.in_ok-place.place (insert c.index.result.now.items i v))
 inserted g c =
     let named = rw c.as_slice.ensures.value at c.in_ok-place.ensures.named in
     let n = c.index.result.now in
@@ -85,7 +88,10 @@ pub returns-in_err-reserve-clause-lengths : goal.returns-in_err-reserve-clause-l
 returns-in_err-reserve-clause-lengths g c =
     let m = c.index_mut-node.result.now in
     c.requires.lengths
-    ∙ ap (λ l. block_sums (node_lengths l)) (sym (map-set_same (λ v. v.items) c.args.nodes.now.items c.in_ok-place.place c.reserve.new.self m (c.in_err-reserve.ensures.items ∙ ap (λ v. v.items) c.index_mut-node.ensures.value)))
+    ∙ ap (λ l. block_sums (node_lengths l))
+    (sym
+    (map-set_same (λ v. v.items) c.args.nodes.now.items c.in_ok-place.place c.reserve.new.self m
+    (c.in_err-reserve.ensures.items ∙ ap (λ v. v.items) c.index_mut-node.ensures.value)))
 
 pub returns-clause-lengths : goal.returns-clause-lengths
 returns-clause-lengths g c =
@@ -98,7 +104,10 @@ returns-clause-lengths g c =
     let n = c.index.result.now in
     let m = c.index_mut-node.result.now in
     let here : node_at ns k ≡ n.items = held cmp (λ v. v.items) vs c.args.name.now k named n c.index.ensures in
-    let long : length c.reserve.new.self.items ≡ length n.items = ap (λ l. length l) (c.in_ok-reserve.ensures.items ∙ (sym (held cmp (λ v. v.items) vs c.args.name.now k named m c.index_mut-node.ensures.value) ∙ here)) in
+    let long : length c.reserve.new.self.items ≡ length n.items =
+    ap (λ l. length l)
+    (c.in_ok-reserve.ensures.items
+    ∙ (sym (held cmp (λ v. v.items) vs c.args.name.now k named m c.index_mut-node.ensures.value) ∙ here)) in
     let more : length c.insert_item.new.items.items ≡ length (node_at ns k) + 1 =
     omega (arith, ap (λ l. length l) c.insert_item.ensures.items, length-insert c.reserve.new.self.items c.args.index c.in_ok-item.item (omega (arith, long, n.ok.0)), long, ap (λ l. length l) here) in
     rw (map-set (λ v. v.items) vs k c.insert_item.new.items)

@@ -17,7 +17,8 @@ use Rattle.indexset_replica.proofs.edits.merge_nodes.Goals as goal
 use Rattle.indexset_replica.proofs.edits.merge_nodes.Goals.{After-reserve}
 
 -- the nodes after the merge
-merged : (g : Over) (c : After-reserve g) → let ns = map (λ v. v.items) c.args.nodes.now.items in IsEdit g.T.Ord.cmp ns (MergeNodes c.args.name.now c.args.next_name.now) (with_merged ns c.in_ok-place.place)
+merged : (g : Over) (c : After-reserve g) → let ns = map (λ v. v.items) c.args.nodes.now.items in
+    IsEdit g.T.Ord.cmp ns (MergeNodes c.args.name.now c.args.next_name.now) (with_merged ns c.in_ok-place.place)
 merged g c =
     let named = rw c.as_slice.ensures.value at c.in_ok-place.ensures.named in
     let next = rw c.as_slice-2.ensures.value at c.in_ok-next.ensures.named in
@@ -72,7 +73,10 @@ pub returns-in_err-reserve-clause-lengths : goal.returns-in_err-reserve-clause-l
 returns-in_err-reserve-clause-lengths g c =
     let m = c.index_mut-node.result.now in
     c.requires.lengths
-    ∙ ap (λ l. block_sums (node_lengths l)) (sym (map-set_same (λ v. v.items) c.args.nodes.now.items c.in_ok-place.place c.reserve.new.self m (c.in_err-reserve.ensures.items ∙ ap (λ v. v.items) c.index_mut-node.ensures.value)))
+    ∙ ap (λ l. block_sums (node_lengths l))
+    (sym
+    (map-set_same (λ v. v.items) c.args.nodes.now.items c.in_ok-place.place c.reserve.new.self m
+    (c.in_err-reserve.ensures.items ∙ ap (λ v. v.items) c.index_mut-node.ensures.value)))
 
 pub remove_node-requires-clause-before : goal.remove_node-requires-clause-before
 remove_node-requires-clause-before g c =
@@ -83,9 +87,18 @@ remove_node-requires-clause-before g c =
     let next = rw c.as_slice-2.ensures.value at c.in_ok-next.ensures.named in
     let follows : c.in_ok-next.next ≡ p + 1 = c.if-next-place.false in
     let inside : p + 1 < length ns = omega (arith, follows, named_inside cmp ns c.args.next_name.now c.in_ok-next.next next) in
-    let long : c.len-count.result ≡ length (node_at ns (p + 1)) = omega (arith, c.len-count.ensures, c.index.result.now.ok.0, ap (λ l. length l) (rw follows at (held cmp (λ v. v.items) vs c.args.next_name.now c.in_ok-next.next next c.index.result.now c.index.ensures))) in
-    let same : map (λ v. v.items) (set vs p c.reserve.new.self) ≡ ns = map-set_same (λ v. v.items) vs p c.reserve.new.self c.index_mut-node.result.now (c.in_ok-reserve.ensures.items ∙ ap (λ v. v.items) c.index_mut-node.ensures.value) in
-    let seen : map (λ v. v.items) c.as_slice-3.result.now ≡ remove ns (p + 1) = rw (c.as_slice-3.ensures.value, c.remove_item-rest.ensures.items, follows) (map_remove (λ v. v.items) (set vs p c.reserve.new.self) (p + 1) ∙ ap (λ l. remove l (p + 1)) same) in
+    let long : c.len-count.result ≡ length (node_at ns (p + 1)) = omega (
+      arith,
+      c.len-count.ensures,
+      c.index.result.now.ok.0,
+      ap (λ l. length l) (rw follows at (held cmp (λ v. v.items) vs c.args.next_name.now c.in_ok-next.next next c.index.result.now c.index.ensures)),
+    ) in
+    let same : map (λ v. v.items) (set vs p c.reserve.new.self) ≡ ns =
+    map-set_same (λ v. v.items) vs p c.reserve.new.self c.index_mut-node.result.now
+    (c.in_ok-reserve.ensures.items ∙ ap (λ v. v.items) c.index_mut-node.ensures.value) in
+    let seen : map (λ v. v.items) c.as_slice-3.result.now ≡ remove ns (p + 1) =
+    rw (c.as_slice-3.ensures.value, c.remove_item-rest.ensures.items, follows)
+    (map_remove (λ v. v.items) (set vs p c.reserve.new.self) (p + 1) ∙ ap (λ l. remove l (p + 1)) same) in
     rw follows (emptied ns (p + 1) c.len-count.result seen c.requires.lengths inside long)
 
 pub add_items-requires-clause-inside : goal.add_items-requires-clause-inside
@@ -97,9 +110,18 @@ add_items-requires-clause-inside g c =
     let next = rw c.as_slice-2.ensures.value at c.in_ok-next.ensures.named in
     let follows : c.in_ok-next.next ≡ p + 1 = c.if-next-place.false in
     let inside : p + 1 < length ns = omega (arith, follows, named_inside cmp ns c.args.next_name.now c.in_ok-next.next next) in
-    let long : c.len-count.result ≡ length (node_at ns (p + 1)) = omega (arith, c.len-count.ensures, c.index.result.now.ok.0, ap (λ l. length l) (rw follows at (held cmp (λ v. v.items) vs c.args.next_name.now c.in_ok-next.next next c.index.result.now c.index.ensures))) in
-    let same : map (λ v. v.items) (set vs p c.reserve.new.self) ≡ ns = map-set_same (λ v. v.items) vs p c.reserve.new.self c.index_mut-node.result.now (c.in_ok-reserve.ensures.items ∙ ap (λ v. v.items) c.index_mut-node.ensures.value) in
-    let seen : map (λ v. v.items) c.as_slice-3.result.now ≡ remove ns (p + 1) = rw (c.as_slice-3.ensures.value, c.remove_item-rest.ensures.items, follows) (map_remove (λ v. v.items) (set vs p c.reserve.new.self) (p + 1) ∙ ap (λ l. remove l (p + 1)) same) in
+    let long : c.len-count.result ≡ length (node_at ns (p + 1)) = omega (
+      arith,
+      c.len-count.ensures,
+      c.index.result.now.ok.0,
+      ap (λ l. length l) (rw follows at (held cmp (λ v. v.items) vs c.args.next_name.now c.in_ok-next.next next c.index.result.now c.index.ensures)),
+    ) in
+    let same : map (λ v. v.items) (set vs p c.reserve.new.self) ≡ ns =
+    map-set_same (λ v. v.items) vs p c.reserve.new.self c.index_mut-node.result.now
+    (c.in_ok-reserve.ensures.items ∙ ap (λ v. v.items) c.index_mut-node.ensures.value) in
+    let seen : map (λ v. v.items) c.as_slice-3.result.now ≡ remove ns (p + 1) =
+    rw (c.as_slice-3.ensures.value, c.remove_item-rest.ensures.items, follows)
+    (map_remove (λ v. v.items) (set vs p c.reserve.new.self) (p + 1) ∙ ap (λ l. remove l (p + 1)) same) in
     let gone : c.remove_node.new.self.sums ≡ block_sums (node_lengths (remove ns (p + 1))) = c.remove_node.ensures ∙ ap (λ l. block_sums (node_lengths l)) seen in
     block_there (remove ns (p + 1)) p gone (omega (arith, fewer ns p inside, inside))
 
@@ -112,13 +134,31 @@ add_items-requires-clause-fits g c =
     let next = rw c.as_slice-2.ensures.value at c.in_ok-next.ensures.named in
     let follows : c.in_ok-next.next ≡ p + 1 = c.if-next-place.false in
     let inside : p + 1 < length ns = omega (arith, follows, named_inside cmp ns c.args.next_name.now c.in_ok-next.next next) in
-    let long : c.len-count.result ≡ length (node_at ns (p + 1)) = omega (arith, c.len-count.ensures, c.index.result.now.ok.0, ap (λ l. length l) (rw follows at (held cmp (λ v. v.items) vs c.args.next_name.now c.in_ok-next.next next c.index.result.now c.index.ensures))) in
-    let same : map (λ v. v.items) (set vs p c.reserve.new.self) ≡ ns = map-set_same (λ v. v.items) vs p c.reserve.new.self c.index_mut-node.result.now (c.in_ok-reserve.ensures.items ∙ ap (λ v. v.items) c.index_mut-node.ensures.value) in
-    let seen : map (λ v. v.items) c.as_slice-3.result.now ≡ remove ns (p + 1) = rw (c.as_slice-3.ensures.value, c.remove_item-rest.ensures.items, follows) (map_remove (λ v. v.items) (set vs p c.reserve.new.self) (p + 1) ∙ ap (λ l. remove l (p + 1)) same) in
+    let long : c.len-count.result ≡ length (node_at ns (p + 1)) = omega (
+      arith,
+      c.len-count.ensures,
+      c.index.result.now.ok.0,
+      ap (λ l. length l) (rw follows at (held cmp (λ v. v.items) vs c.args.next_name.now c.in_ok-next.next next c.index.result.now c.index.ensures)),
+    ) in
+    let same : map (λ v. v.items) (set vs p c.reserve.new.self) ≡ ns =
+    map-set_same (λ v. v.items) vs p c.reserve.new.self c.index_mut-node.result.now
+    (c.in_ok-reserve.ensures.items ∙ ap (λ v. v.items) c.index_mut-node.ensures.value) in
+    let seen : map (λ v. v.items) c.as_slice-3.result.now ≡ remove ns (p + 1) =
+    rw (c.as_slice-3.ensures.value, c.remove_item-rest.ensures.items, follows)
+    (map_remove (λ v. v.items) (set vs p c.reserve.new.self) (p + 1) ∙ ap (λ l. remove l (p + 1)) same) in
     let gone : c.remove_node.new.self.sums ≡ block_sums (node_lengths (remove ns (p + 1))) = c.remove_node.ensures ∙ ap (λ l. block_sums (node_lengths l)) seen in
     let less = node_lengths (remove ns (p + 1)) in
     let all = emptied ns (p + 1) c.len-count.result refl c.requires.lengths inside long in
-    omega (arith, ap sum gone, sum-blocks less, ap sum all, sum-blocks (insert less (p + 1) c.len-count.result), sum_by-insert (λ x. x) less (p + 1) c.len-count.result, c.total-total.ensures, c.total-total.type_inv)
+    omega (
+      arith,
+      ap sum gone,
+      sum-blocks less,
+      ap sum all,
+      sum-blocks (insert less (p + 1) c.len-count.result),
+      sum_by-insert (λ x. x) less (p + 1) c.len-count.result,
+      c.total-total.ensures,
+      c.total-total.type_inv,
+    )
 
 pub returns-clause-lengths : goal.returns-clause-lengths
 returns-clause-lengths g c =
@@ -129,9 +169,18 @@ returns-clause-lengths g c =
     let next = rw c.as_slice-2.ensures.value at c.in_ok-next.ensures.named in
     let follows : c.in_ok-next.next ≡ p + 1 = c.if-next-place.false in
     let inside : p + 1 < length ns = omega (arith, follows, named_inside cmp ns c.args.next_name.now c.in_ok-next.next next) in
-    let long : c.len-count.result ≡ length (node_at ns (p + 1)) = omega (arith, c.len-count.ensures, c.index.result.now.ok.0, ap (λ l. length l) (rw follows at (held cmp (λ v. v.items) vs c.args.next_name.now c.in_ok-next.next next c.index.result.now c.index.ensures))) in
-    let same : map (λ v. v.items) (set vs p c.reserve.new.self) ≡ ns = map-set_same (λ v. v.items) vs p c.reserve.new.self c.index_mut-node.result.now (c.in_ok-reserve.ensures.items ∙ ap (λ v. v.items) c.index_mut-node.ensures.value) in
-    let seen : map (λ v. v.items) c.as_slice-3.result.now ≡ remove ns (p + 1) = rw (c.as_slice-3.ensures.value, c.remove_item-rest.ensures.items, follows) (map_remove (λ v. v.items) (set vs p c.reserve.new.self) (p + 1) ∙ ap (λ l. remove l (p + 1)) same) in
+    let long : c.len-count.result ≡ length (node_at ns (p + 1)) = omega (
+      arith,
+      c.len-count.ensures,
+      c.index.result.now.ok.0,
+      ap (λ l. length l) (rw follows at (held cmp (λ v. v.items) vs c.args.next_name.now c.in_ok-next.next next c.index.result.now c.index.ensures)),
+    ) in
+    let same : map (λ v. v.items) (set vs p c.reserve.new.self) ≡ ns =
+    map-set_same (λ v. v.items) vs p c.reserve.new.self c.index_mut-node.result.now
+    (c.in_ok-reserve.ensures.items ∙ ap (λ v. v.items) c.index_mut-node.ensures.value) in
+    let seen : map (λ v. v.items) c.as_slice-3.result.now ≡ remove ns (p + 1) =
+    rw (c.as_slice-3.ensures.value, c.remove_item-rest.ensures.items, follows)
+    (map_remove (λ v. v.items) (set vs p c.reserve.new.self) (p + 1) ∙ ap (λ l. remove l (p + 1)) same) in
     let gone : c.remove_node.new.self.sums ≡ block_sums (node_lengths (remove ns (p + 1))) = c.remove_node.ensures ∙ ap (λ l. block_sums (node_lengths l)) seen in
     let within : p + 1 < length vs = omega (arith, inside, length-map vs (λ v. v.items)) in
     let rest = rw follows at c.remove_item-rest.ensures.items in

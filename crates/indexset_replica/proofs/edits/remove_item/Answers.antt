@@ -17,7 +17,10 @@ pub returns-then-index-len-clause-refusal : goal.returns-then-index-len-clause-r
 returns-then-index-len-clause-refusal g c =
     let named = rw c.as_slice.ensures.value at c.in_ok-place.ensures.named in
     let n = c.index_mut-node.result.now in
-    rw (remove_outside g.T.Ord.cmp (λ v. v.items) c.args.nodes.now.items c.args.name.now c.in_ok-place.place named n c.index_mut-node.ensures.value c.args.value.now c.args.index (omega (arith, n.ok.0))) refl
+    rw
+    (remove_outside g.T.Ord.cmp (λ v. v.items) c.args.nodes.now.items c.args.name.now c.in_ok-place.place named n
+    c.index_mut-node.ensures.value c.args.value.now c.args.index (omega (arith, n.ok.0)))
+    refl
 
 pub returns-then-is_ne-clause-refusal : goal.returns-then-is_ne-clause-refusal
 returns-then-is_ne-clause-refusal g c =
@@ -25,7 +28,10 @@ returns-then-is_ne-clause-refusal g c =
     let n = c.index_mut-node.result.now in
     let inside : c.args.index < length n.items = omega (arith, n.ok.0) in
     let other = rw c.cmp.ensures at (sym c.is_ne.ensures ∙ c.if-is_ne.true) in
-    rw (remove_differs g.T.Ord.cmp (λ v. v.items) c.args.nodes.now.items c.args.name.now c.in_ok-place.place named n c.index_mut-node.ensures.value c.args.value.now c.args.index inside c.index.result.now c.index.ensures other) refl
+    rw
+    (remove_differs g.T.Ord.cmp (λ v. v.items) c.args.nodes.now.items c.args.name.now c.in_ok-place.place named n
+    c.index_mut-node.ensures.value c.args.value.now c.args.index inside c.index.result.now c.index.ensures other)
+    refl
 
 pub returns-then-len-eq1-clause-refusal : goal.returns-then-len-eq1-clause-refusal
 returns-then-len-eq1-clause-refusal g c =
@@ -33,7 +39,11 @@ returns-then-len-eq1-clause-refusal g c =
     let n = c.index_mut-node.result.now in
     let inside : c.args.index < length n.items = omega (arith, n.ok.0) in
     let same = rw c.cmp.ensures at (sym c.is_ne.ensures ∙ c.if-is_ne.false) in
-    rw (remove_empty g.T.Ord.cmp (λ v. v.items) c.args.nodes.now.items c.args.name.now c.in_ok-place.place named n c.index_mut-node.ensures.value c.args.value.now c.args.index inside c.index.result.now c.index.ensures same (omega (arith, n.ok.0))) refl
+    rw
+    (remove_empty g.T.Ord.cmp (λ v. v.items) c.args.nodes.now.items c.args.name.now c.in_ok-place.place named n
+    c.index_mut-node.ensures.value c.args.value.now c.args.index inside c.index.result.now c.index.ensures same
+    (omega (arith, n.ok.0)))
+    refl
 
 pub returns-clause-done : goal.returns-clause-done
 returns-clause-done g c =
@@ -42,7 +52,9 @@ returns-clause-done g c =
     let inside : c.args.index < length n.items = omega (arith, n.ok.0) in
     let same = rw c.cmp.ensures at (sym c.is_ne.ensures ∙ c.if-is_ne.false) in
     rw (map-set (λ v. v.items) c.args.nodes.now.items c.in_ok-place.place c.remove_item.new.items, c.remove_item.ensures.items)
-    (remove_edit g.T.Ord.cmp (λ v. v.items) c.args.nodes.now.items c.args.name.now c.in_ok-place.place named n c.index_mut-node.ensures.value c.args.value.now c.args.index inside c.index.result.now c.index.ensures same (λ one. omega (arith, n.ok.0, one)))
+    (remove_edit g.T.Ord.cmp (λ v. v.items) c.args.nodes.now.items c.args.name.now c.in_ok-place.place named n
+    c.index_mut-node.ensures.value c.args.value.now c.args.index inside c.index.result.now c.index.ensures same
+    (λ one. omega (arith, n.ok.0, one)))
 
 pub returns-clause-lengths : goal.returns-clause-lengths
 returns-clause-lengths g c =

@@ -24,5 +24,12 @@ remove_node-requires-clause-before g c =
     let p = c.in_ok-place.place in
     let named = rw c.as_slice.ensures.value at c.in_ok-place.ensures.named in
     let n = c.remove_item-removed.result in
-    let long : c.len.result ≡ length (node_at ns p) = omega (arith, c.len.ensures, n.ok.0, ap (λ l. length l) (held g.T.Ord.cmp (λ v. v.items) vs c.args.name.now p named n c.remove_item-removed.ensures.value)) in
-    emptied ns p c.len.result (rw (c.as_slice-2.ensures.value, c.remove_item-removed.ensures.items) (map_remove (λ v. v.items) vs p)) c.requires.lengths (named_inside g.T.Ord.cmp ns c.args.name.now p named) long
+    let long : c.len.result ≡ length (node_at ns p) = omega (
+      arith,
+      c.len.ensures,
+      n.ok.0,
+      ap (λ l. length l) (held g.T.Ord.cmp (λ v. v.items) vs c.args.name.now p named n c.remove_item-removed.ensures.value),
+    ) in
+    emptied ns p c.len.result
+    (rw (c.as_slice-2.ensures.value, c.remove_item-removed.ensures.items) (map_remove (λ v. v.items) vs p))
+    c.requires.lengths (named_inside g.T.Ord.cmp ns c.args.name.now p named) long

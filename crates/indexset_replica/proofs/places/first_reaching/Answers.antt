@@ -13,10 +13,14 @@ pub returns-then-ends_less-clause-place : goal.returns-then-ends_less-clause-pla
 returns-then-ends_less-clause-place g c =
     let some : 1 ≤ length c.args.nodes.now = grind (arith, common_steps) in
     let below = not-true _ (rw c.as_slice.ensures.value at (sym c.ends_less.ensures ∙ c.if-ends_less.true)) in
-    place_past g.T.Ord.cmp g.met.T.Ord.total c.args.value.now (λ v. v.items) c.args.nodes.now (nodes_ruled g.T.Ord.cmp _ c.requires) _ (rw c.new.ensures at c.node_by-place.ensures.node) c.index-nodes-place.result some c.index-nodes-place.is below
+    place_past g.T.Ord.cmp g.met.T.Ord.total c.args.value.now (λ v. v.items) c.args.nodes.now
+    (nodes_ruled g.T.Ord.cmp _ c.requires) _ (rw c.new.ensures at c.node_by-place.ensures.node)
+    c.index-nodes-place.result some c.index-nodes-place.is below
 
 pub returns-else-ends_less-clause-place : goal.returns-else-ends_less-clause-place
 returns-else-ends_less-clause-place g c =
     let some : 1 ≤ length c.args.nodes.now = grind (arith, common_steps) in
     let on = not-false _ (rw c.as_slice.ensures.value at (sym c.ends_less.ensures ∙ c.if-ends_less.false)) in
-    place_here g.T.Ord.cmp g.met.T.Ord.total c.args.value.now (λ v. v.items) c.args.nodes.now (nodes_ruled g.T.Ord.cmp _ c.requires) _ (rw c.new.ensures at c.node_by-place.ensures.node) c.index-nodes-place.result some c.index-nodes-place.is on
+    place_here g.T.Ord.cmp g.met.T.Ord.total c.args.value.now (λ v. v.items) c.args.nodes.now
+    (nodes_ruled g.T.Ord.cmp _ c.requires) _ (rw c.new.ensures at c.node_by-place.ensures.node)
+    c.index-nodes-place.result some c.index-nodes-place.is on

@@ -12,10 +12,14 @@ pub returns-then-is_named-clause-named : goal.returns-then-is_named-clause-named
 returns-then-is_named-clause-named g c =
     let some : 1 ≤ length c.args.nodes.now = grind (arith, common_steps) in
     let own = rw c.as_slice.ensures.value at (sym c.is_named.ensures ∙ c.if-is_named.true) in
-    named_there g.T.Ord.cmp g.met.T.Ord.total c.args.name.now (λ v. v.items) c.args.nodes.now (nodes_ruled g.T.Ord.cmp _ c.requires) _ (rw c.new.ensures at c.node_by-place.ensures.node) c.index-nodes-place.result some c.index-nodes-place.is own
+    named_there g.T.Ord.cmp g.met.T.Ord.total c.args.name.now (λ v. v.items) c.args.nodes.now
+    (nodes_ruled g.T.Ord.cmp _ c.requires) _ (rw c.new.ensures at c.node_by-place.ensures.node)
+    c.index-nodes-place.result some c.index-nodes-place.is own
 
 pub returns-else-is_named-clause-absent : goal.returns-else-is_named-clause-absent
 returns-else-is_named-clause-absent g c =
     let some : 1 ≤ length c.args.nodes.now = grind (arith, common_steps) in
     let other = rw c.as_slice.ensures.value at (sym c.is_named.ensures ∙ c.if-is_named.false) in
-    unnamed_there g.T.Ord.cmp g.met.T.Ord.total c.args.name.now (λ v. v.items) c.args.nodes.now (nodes_ruled g.T.Ord.cmp _ c.requires) _ (rw c.new.ensures at c.node_by-place.ensures.node) c.index-nodes-place.result some c.index-nodes-place.is other
+    unnamed_there g.T.Ord.cmp g.met.T.Ord.total c.args.name.now (λ v. v.items) c.args.nodes.now
+    (nodes_ruled g.T.Ord.cmp _ c.requires) _ (rw c.new.ensures at c.node_by-place.ensures.node)
+    c.index-nodes-place.result some c.index-nodes-place.is other

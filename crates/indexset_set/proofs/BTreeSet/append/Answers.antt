@@ -36,7 +36,8 @@ module _ (g : Over) (c : After-append_above g) where
   moved : FoldsPrefix (put g.T.Ord.cmp) (items c.args.self.now) (items c.args.other.now) (items c.append_above.new.self) (items c.append_above.new.other)
   moved = takes_more (put g.T.Ord.cmp) _ _ _ _ _ _ c.loop-self.invariant.moved c.append_above.ensures.moved
 
-  nodes : FoldsPrefix (λ ns x. nodes_put g.T.Ord.cmp (node_list ns c.args.self.now.size) x) c.args.self.now.nodes (items c.args.other.now) c.append_above.new.self.nodes (items c.append_above.new.other)
+  nodes : FoldsPrefix (λ ns x. nodes_put g.T.Ord.cmp (node_list ns c.args.self.now.size) x) c.args.self.now.nodes
+      (items c.args.other.now) c.append_above.new.self.nodes (items c.append_above.new.other)
   nodes = takes_more (λ ns x. nodes_put g.T.Ord.cmp (node_list ns c.args.self.now.size) x) _ _ _ _ _ _ c.loop-self.invariant.nodes (rw c.loop-self.invariant.size at c.append_above.ensures.nodes)
 
 pub returns-clause-ok : goal.returns-clause-ok

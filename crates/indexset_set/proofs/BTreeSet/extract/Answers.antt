@@ -18,9 +18,14 @@ module _ (g : Over) (c : After-pred-1 g) where
   left : c.pred-1.given.0 ≡ c.extract.new.f.0.now
   left = c.pred-1.given.1 (sym (extracts_keep _ (λ s. s.0.ghost_name ≡ c.ask-1.given) (λ s x b t y e same. e.called.met.1.1.1.1 ∙ same) _ _ _ _ _ c.extract.ensures.extracted refl))
 
-  extracted : Extracts (CalledOn g.F.FnMut) c.args.pred.now (extract_state (items c.self.inside.spine) c.args.at.now.front c.args.at.now.back) c.extract.result c.pred-1.given.0 (extract_state (items c.extract.new.self) c.extract.new.at.front c.extract.new.at.back)
+  extracted : Extracts (CalledOn g.F.FnMut) c.args.pred.now
+      (extract_state (items c.self.inside.spine) c.args.at.now.front c.args.at.now.back) c.extract.result
+      c.pred-1.given.0 (extract_state (items c.extract.new.self) c.extract.new.at.front c.extract.new.at.back)
   extracted =
-      rw left (extracts_through (λ s. s.0.now) _ (CalledOn g.F.FnMut) (λ s x b t y e. (rw e.shows at e.called.met.1.0, sym e.leaves ∙ (e.called.met.1.1.1.0 ∙ e.shows))) _ _ _ _ _ c.extract.ensures.extracted)
+      rw left
+      (extracts_through (λ s. s.0.now) _ (CalledOn g.F.FnMut)
+      (λ s x b t y e. (rw e.shows at e.called.met.1.0, sym e.leaves ∙ (e.called.met.1.1.1.0 ∙ e.shows))) _ _ _ _ _
+      c.extract.ensures.extracted)
 
 pub invariant_of-self : goal.invariant_of-self
 invariant_of-self g c =

@@ -15,7 +15,10 @@ pub returns-clause-kept : goal.returns-clause-kept
 returns-clause-kept g c =
     let cmp = g.T.Ord.cmp in let o = g.met.T.Ord.total in
     let left : c.dedup_by.new.self.items ≡ dedup (same cmp o) c.sort.new.self.items = dedup_same _ (same cmp o) _ (λ x y b f' x' y' k. search rules) _ _ c.dedup_by.ensures.filtered in
-    subst (λ l. IfOk c.of_ascending.result (λ s. items s ≡ l)) (left ∙ sorted_kept cmp o c.args.values.items c.sort.new.self.items c.in_ok-sort.ensures.sorted c.sort.ensures.stable) c.of_ascending.ensures.elements
+    subst (λ l. IfOk c.of_ascending.result (λ s. items s ≡ l))
+    (left
+    ∙ sorted_kept cmp o c.args.values.items c.sort.new.self.items c.in_ok-sort.ensures.sorted c.sort.ensures.stable)
+    c.of_ascending.ensures.elements
 
 pub returns-clause-nodes : goal.returns-clause-nodes
 returns-clause-nodes g c =

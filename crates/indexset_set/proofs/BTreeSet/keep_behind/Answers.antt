@@ -15,13 +15,18 @@ returns-in-Ok-None-clause-order g c = c.in-Ok-None.ensures.order
 pub returns-in-Ok-None-clause-kept : goal.returns-in-Ok-None-clause-kept
 returns-in-Ok-None-clause-kept g c =
     let concat = (rw c.in-Ok-None.is at c.join_run.ensures.items) c.in-Ok-None.field-0-is in
-    concat ∙ run_kept g.T.Ord.cmp c.args.self.now.size c.args.self.now.nodes c.args.run.now.items c.args.value c.recall_order.ensures.cut (subst (IsAscending g.T.Ord.cmp) concat (rw c.in-Ok-None.is at c.join_run.ensures.order))
+    concat
+    ∙ run_kept g.T.Ord.cmp c.args.self.now.size c.args.self.now.nodes c.args.run.now.items c.args.value
+    c.recall_order.ensures.cut
+    (subst (IsAscending g.T.Ord.cmp) concat (rw c.in-Ok-None.is at c.join_run.ensures.order))
 
 pub returns-in-Ok-None-clause-nodes : goal.returns-in-Ok-None-clause-nodes
 returns-in-Ok-None-clause-nodes g c =
     let concat = (rw c.in-Ok-None.is at c.join_run.ensures.items) c.in-Ok-None.field-0-is in
     (rw c.in-Ok-None.is at c.join_run.ensures.nodes) c.in-Ok-None.field-0-is
-    ∙ run_nodes g.T.Ord.cmp c.args.self.now.size c.args.self.now.nodes c.args.run.now.items c.args.value c.recall_order.ensures.cut (subst (IsAscending g.T.Ord.cmp) concat (rw c.in-Ok-None.is at c.join_run.ensures.order))
+    ∙ run_nodes g.T.Ord.cmp c.args.self.now.size c.args.self.now.nodes c.args.run.now.items c.args.value
+    c.recall_order.ensures.cut
+    (subst (IsAscending g.T.Ord.cmp) concat (rw c.in-Ok-None.is at c.join_run.ensures.order))
 
 pub returns-in_ok-insert-in-Ok-Some-clause-order : goal.returns-in_ok-insert-in-Ok-Some-clause-order
 returns-in_ok-insert-in-Ok-Some-clause-order g c =
@@ -34,7 +39,9 @@ returns-in_ok-insert-in-Ok-Some-clause-kept g c =
     let emptied = rw c.in-Ok-Some.field-0-is at (rw c.in-Ok-Some.is at c.join_run.ensures.emptied) in
     let moved = rw c.in-Ok-Some.field-0-is at (rw c.in-Ok-Some.is at c.join_run.ensures.moved) in
     let same = rw c.in-Ok-Some.field-0-is at (rw c.in-Ok-Some.is at c.join_run.ensures.back) in
-    run_then_kept g.T.Ord.cmp c.args.self.now.size c.args.self.now.nodes c.join_run.new.set.nodes c.args.run.now.items c.join_run.new.run.items c.args.value c.in-Ok-Some.value emptied moved same _ c.recall_order.ensures.cut kept
+    run_then_kept g.T.Ord.cmp c.args.self.now.size c.args.self.now.nodes c.join_run.new.set.nodes
+    c.args.run.now.items c.join_run.new.run.items c.args.value c.in-Ok-Some.value emptied moved same _
+    c.recall_order.ensures.cut kept
 
 pub returns-in_ok-insert-in-Ok-Some-clause-nodes : goal.returns-in_ok-insert-in-Ok-Some-clause-nodes
 returns-in_ok-insert-in-Ok-Some-clause-nodes g c =
@@ -42,4 +49,6 @@ returns-in_ok-insert-in-Ok-Some-clause-nodes g c =
     let emptied = rw c.in-Ok-Some.field-0-is at (rw c.in-Ok-Some.is at c.join_run.ensures.emptied) in
     let moved = rw c.in-Ok-Some.field-0-is at (rw c.in-Ok-Some.is at c.join_run.ensures.moved) in
     let same = rw c.in-Ok-Some.field-0-is at (rw c.in-Ok-Some.is at c.join_run.ensures.back) in
-    run_then_nodes g.T.Ord.cmp c.args.self.now.size c.args.self.now.nodes c.join_run.new.set.nodes c.args.run.now.items c.join_run.new.run.items c.args.value c.in-Ok-Some.value emptied moved same _ _ c.join_run.ensures.size kept
+    run_then_nodes g.T.Ord.cmp c.args.self.now.size c.args.self.now.nodes c.join_run.new.set.nodes
+    c.args.run.now.items c.join_run.new.run.items c.args.value c.in-Ok-Some.value emptied moved same _ _
+    c.join_run.ensures.size kept

@@ -31,7 +31,10 @@ loop-value-preserved g c =
     record {
       order = step.order;
       kept = step.kept ∙ (ap (λ l. keep cmp l v) held.kept ∙ sym (fold-append (keep cmp) [] came (v ∷ [])));
-      nodes = (rw held.size at step.nodes) ∙ (ap (λ ns. nodes_kept cmp (node_list ns c.args.size) v) held.nodes ∙ sym (fold-append (λ ns x. nodes_kept cmp (node_list ns c.args.size) x) ([] ∷ []) came (v ∷ [])));
+      nodes =
+          (rw held.size at step.nodes)
+          ∙ (ap (λ ns. nodes_kept cmp (node_list ns c.args.size) v) held.nodes
+          ∙ sym (fold-append (λ ns x. nodes_kept cmp (node_list ns c.args.size) x) ([] ∷ []) came (v ∷ [])));
       size = step.size ∙ held.size;
     }
 

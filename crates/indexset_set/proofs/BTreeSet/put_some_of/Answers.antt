@@ -33,12 +33,18 @@ module _ (g : Over) (c : After-count_inside-run g) where
   module _ (positive : 0 < c.count_inside-run.result) where
     run_moved : FoldsPrefix (put g.T.Ord.cmp) (items c.self.inside.spine) (items c.other.inside.spine) (concat nodes) (drop c.count_inside-run.result (items c.other.inside.spine))
     run_moved =
-        taken_run g.T.Ord.cmp g.met.T.Ord.total c.self.inside.spine.nodes c.locate_near-spot.result.node c.locate_near-spot.ensures.spot.node_in c.self.inside.spine.size c.recall_lengths.ensures.cut c.self.invariant c.item.result.now found
+        taken_run g.T.Ord.cmp g.met.T.Ord.total c.self.inside.spine.nodes c.locate_near-spot.result.node
+        c.locate_near-spot.ensures.spot.node_in c.self.inside.spine.size c.recall_lengths.ensures.cut
+        c.self.invariant c.item.result.now found
         (items c.other.inside.spine) c.count_inside-run.result c.other.invariant begins positive c.count_inside-run.ensures.below
 
-    run_nodes : FoldsPrefix (λ ms x. nodes_put g.T.Ord.cmp (node_list ms c.self.inside.spine.size) x) c.self.inside.spine.nodes (items c.other.inside.spine) nodes (drop c.count_inside-run.result (items c.other.inside.spine))
+    run_nodes : FoldsPrefix (λ ms x. nodes_put g.T.Ord.cmp (node_list ms c.self.inside.spine.size) x)
+        c.self.inside.spine.nodes (items c.other.inside.spine) nodes
+        (drop c.count_inside-run.result (items c.other.inside.spine))
     run_nodes =
-        taken_run_nodes g.T.Ord.cmp g.met.T.Ord.total c.self.inside.spine.nodes c.locate_near-spot.result.node c.locate_near-spot.ensures.spot.node_in c.self.inside.spine.size c.recall_lengths.ensures.cut c.self.invariant c.item.result.now found
+        taken_run_nodes g.T.Ord.cmp g.met.T.Ord.total c.self.inside.spine.nodes c.locate_near-spot.result.node
+        c.locate_near-spot.ensures.spot.node_in c.self.inside.spine.size c.recall_lengths.ensures.cut
+        c.self.invariant c.item.result.now found
         (items c.other.inside.spine) c.count_inside-run.result c.other.invariant begins positive c.count_inside-run.ensures.below c.count_inside-run.ensures.room
 
 pub locate_near-spot-requires : goal.locate_near-spot-requires
@@ -93,7 +99,11 @@ pub invariant_of-self-then-spot : goal.invariant_of-self-then-spot
 invariant_of-self-then-spot g c =
     let there = rw c.if-spot.true at c.locate_near-spot.ensures.found in
     let same = item_is (items c.other.inside.spine) (position_of c.other.inside.spine.nodes c.in-Some.first) _ _ c.item.ensures c.remove.ensures.value in
-    rw c.replace.ensures.items (subst (λ v. IsAscending g.T.Ord.cmp (slice_set (items c.self.inside.spine) (position_of c.self.inside.spine.nodes c.locate_near-spot.result) v)) same (found_ascending g.T.Ord.cmp _ _ _ g.met.T.Ord.total c.self.invariant there))
+    rw c.replace.ensures.items
+    (subst (λ v.
+    IsAscending g.T.Ord.cmp
+    (slice_set (items c.self.inside.spine) (position_of c.self.inside.spine.nodes c.locate_near-spot.result) v))
+    same (found_ascending g.T.Ord.cmp _ _ _ g.met.T.Ord.total c.self.invariant there))
 
 pub invariant_of-other-then-spot : goal.invariant_of-other-then-spot
 invariant_of-other-then-spot g c = rw (c.remove.ensures.items, c.in-Some.ensures.1) (rest_ascending g.T.Ord.cmp _ c.other.invariant)
@@ -106,7 +116,11 @@ returns-then-spot-clause-moved g c =
     let first = rw c.in-Some.ensures.1 at c.item.ensures in
     rw (← c.self.view_is, ← c.other.view_is)
     (takes_first (put g.T.Ord.cmp) _ _ _ _ some
-    (rw first (c.replace.ensures.items ∙ (ap (slice_set (items c.self.inside.spine) (position_of c.self.inside.spine.nodes c.locate_near-spot.result)) (sym same) ∙ sym (found_put g.T.Ord.cmp _ _ _ g.met.T.Ord.total c.self.invariant there))))
+    (rw first
+    (c.replace.ensures.items
+    ∙ (ap (slice_set (items c.self.inside.spine) (position_of c.self.inside.spine.nodes c.locate_near-spot.result))
+    (sym same)
+    ∙ sym (found_put g.T.Ord.cmp _ _ _ g.met.T.Ord.total c.self.invariant there))))
     (rw c.in-Some.ensures.1 at c.remove.ensures.items))
 
 pub returns-then-spot-clause-nodes : goal.returns-then-spot-clause-nodes

@@ -16,11 +16,19 @@ invariant_of-result g c = rw c.in_ok-spine.ensures.right (tail_up g.T.Ord.cmp _ 
 
 pub returns-clause-below : goal.returns-clause-below
 returns-clause-below g c =
-    rw (← c.self.view_is) (c.in_ok-spine.ensures.left ∙ take_below g.Q.LookupKey.order _ _ (parted_by_sought g.met.Q.LookupKey.acts_as_key _ c.self.invariant c.args.value) _ c.locate-spot.ensures.position)
+    rw (← c.self.view_is)
+    (c.in_ok-spine.ensures.left
+    ∙ take_below g.Q.LookupKey.order _ _
+    (parted_by_sought g.met.Q.LookupKey.acts_as_key _ c.self.invariant c.args.value) _
+    c.locate-spot.ensures.position)
 
 pub returns-clause-rest : goal.returns-clause-rest
 returns-clause-rest g c =
-    rw (← c.self.view_is) (c.in_ok-spine.ensures.right ∙ drop_not_below g.Q.LookupKey.order _ _ (parted_by_sought g.met.Q.LookupKey.acts_as_key _ c.self.invariant c.args.value) _ c.locate-spot.ensures.position)
+    rw (← c.self.view_is)
+    (c.in_ok-spine.ensures.right
+    ∙ drop_not_below g.Q.LookupKey.order _ _
+    (parted_by_sought g.met.Q.LookupKey.acts_as_key _ c.self.invariant c.args.value) _
+    c.locate-spot.ensures.position)
 
 pub returns-clause-all_below : goal.returns-clause-all_below
 returns-clause-all_below g c =

@@ -27,7 +27,10 @@ pub returns-clause-at : goal.returns-clause-at
 returns-clause-at g c =
     let l = items c.self.inside.spine in
     rw (← c.self.view_is) (record {
-      order = sought_range_order g.Q.LookupKey.order (λ x. x) l (parted_by_sought g.met.Q.LookupKey.acts_as_key l c.self.invariant) g.met.Q.LookupKey.acts_as_key _ _ c.requires _ _ (from g c) (to g c);
+      order =
+          sought_range_order g.Q.LookupKey.order (λ x. x) l
+          (parted_by_sought g.met.Q.LookupKey.acts_as_key l c.self.invariant) g.met.Q.LookupKey.acts_as_key _ _
+          c.requires _ _ (from g c) (to g c);
       inside = omega (arith, c.position.ensures, position_le c.self.inside.spine.nodes c.end_of-to.result c.end_of-to.ensures.spot);
       start = before_node c.self.inside.spine.nodes c.start_of-from.result _ (sym c.position-front.ensures);
     })
@@ -35,4 +38,7 @@ returns-clause-at g c =
 pub returns-clause-rest : goal.returns-clause-rest
 returns-clause-rest g c =
     let l = items c.self.inside.spine in
-    rw (← c.self.view_is) (sought_range_is g.Q.LookupKey.order (λ x. x) l (parted_by_sought g.met.Q.LookupKey.acts_as_key l c.self.invariant) g.met.Q.LookupKey.acts_as_key _ _ c.requires _ _ (from g c) (to g c))
+    rw (← c.self.view_is)
+    (sought_range_is g.Q.LookupKey.order (λ x. x) l
+    (parted_by_sought g.met.Q.LookupKey.acts_as_key l c.self.invariant) g.met.Q.LookupKey.acts_as_key _ _ c.requires
+    _ _ (from g c) (to g c))

@@ -9,4 +9,7 @@ returns-clause-rest g c =
     rw c.merge.ensures.rest (apart_read g.T.Ord.cmp g.met.T.Ord.total _ _ c.merge.ensures.left c.merge.ensures.right)
 
 pub returns-clause-length_bound : goal.returns-clause-length_bound
-returns-clause-length_bound g c = subst (λ walk. length walk ≤ length (items c.args.self.now) + length (items c.args.other.now)) (sym (returns-clause-rest g c)) (symmetric_difference_few g.T.Ord.cmp (g.met.T.Ord.total) _ _ c.merge.ensures.left c.merge.ensures.right)
+returns-clause-length_bound g c =
+    subst (λ walk. length walk ≤ length (items c.args.self.now) + length (items c.args.other.now))
+    (sym (returns-clause-rest g c))
+    (symmetric_difference_few g.T.Ord.cmp (g.met.T.Ord.total) _ _ c.merge.ensures.left c.merge.ensures.right)

@@ -13,4 +13,7 @@ pub returns : goal.returns
 returns g c =
     let l = items c.self.inside.spine in
     let same = ap (λ (t : g.row.Q.Denot × ℕ). count_by (λ x. is_le (g.Q.LookupKey.order x t.0)) l) c.new.ensures in
-    rw (← c.self.view_is) (c.item_from.ensures ∙ ap (slice_get l) (c.start_of-spot.ensures.position ∙ same) ∙ slice_get-not_above g.Q.LookupKey.order l c.args.value (parted_by_sought g.met.Q.LookupKey.acts_as_key l c.self.invariant c.args.value))
+    rw (← c.self.view_is)
+    (c.item_from.ensures ∙ ap (slice_get l) (c.start_of-spot.ensures.position ∙ same)
+    ∙ slice_get-not_above g.Q.LookupKey.order l c.args.value
+    (parted_by_sought g.met.Q.LookupKey.acts_as_key l c.self.invariant c.args.value))

@@ -23,6 +23,10 @@ iter_from_to-requires-clause-order g c =
 pub returns-clause-rest : goal.returns-clause-rest
 returns-clause-rest g c =
     let l = items c.self.inside.spine in
-    rw (← c.self.view_is) (c.of.ensures ∙ c.iter_from_to.ensures.rest ∙ sought_range_is g.Q.LookupKey.order (λ x. x) l (parted_by_sought g.met.Q.LookupKey.acts_as_key l c.self.invariant) g.met.Q.LookupKey.acts_as_key _ _ c.requires _ _
+    rw (← c.self.view_is)
+    (c.of.ensures ∙ c.iter_from_to.ensures.rest
+    ∙ sought_range_is g.Q.LookupKey.order (λ x. x) l
+    (parted_by_sought g.met.Q.LookupKey.acts_as_key l c.self.invariant) g.met.Q.LookupKey.acts_as_key _ _ c.requires
+    _ _
     (c.start_of-from.ensures.position ∙ probed_before g.Q.LookupKey.order (λ v. v.now) (λ x. x) l c.args.start _ c.map.ensures)
     (c.end_of-to.ensures.position ∙ probed_up_to g.Q.LookupKey.order (λ v. v.now) (λ x. x) l c.args.end _ c.map-2.ensures))

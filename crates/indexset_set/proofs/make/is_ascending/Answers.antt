@@ -12,7 +12,8 @@ pub loop-item-preserved : goal.loop-item-preserved
 loop-item-preserved g c =
     let next : c.loop-item.rest ≡ c.in-Some-next.item.now ∷ c.next-in-loop-item.new.self = search rules in
     rw (c.is_lt-ascends.ensures, c.cmp.ensures)
-    (tells_next g.T.Ord.cmp g.met.T.Ord.total c.loop-item.ascends (items c.args.spine.now) c.loop-item.rest c.next-in-loop-item.new.self c.loop-item.last.now c.in-Some-next.item.now c.loop-item.invariant next)
+    (tells_next g.T.Ord.cmp g.met.T.Ord.total c.loop-item.ascends (items c.args.spine.now) c.loop-item.rest
+    c.next-in-loop-item.new.self c.loop-item.last.now c.in-Some-next.item.now c.loop-item.invariant next)
 
 pub returns-clause-ascending : goal.returns-clause-ascending
 returns-clause-ascending g c = λ told.

@@ -10,7 +10,10 @@ pub returns-else-k-eq0-clause-node : goal.returns-else-k-eq0-clause-node
 returns-else-k-eq0-clause-node g c less =
     let answer = g.P.Probe.answer in let nodes = c.args.nodes.now in let before = c.index-nodes-k-else-k-eq0 in
     let ends = rw c.deref-else-k-eq0.ensures.value at (sym c.ends_less-else-k-eq0.ensures.value ∙ less) in
-    let named : answer c.else-k-nodes-2.probe ≡ answer c.args.probe.now → (c.args.k + 1 < length nodes → HoldsAt (λ n. ends_less (answer c.args.probe.now) n ≡ false) (vec_items nodes) c.args.k) → c.args.k ≡ node_for (answer c.args.probe.now) (vec_items nodes) =
+    let named : answer c.else-k-nodes-2.probe ≡ answer c.args.probe.now
+    → (c.args.k + 1 < length nodes
+    → HoldsAt (λ n. ends_less (answer c.args.probe.now) n ≡ false) (vec_items nodes) c.args.k)
+    → c.args.k ≡ node_for (answer c.args.probe.now) (vec_items nodes) =
     λ same here. sought _ nodes c.requires.filled c.requires.parted c.args.k (omega arith) (omega arith) before.result before.is (rw same at ends) here in
     elim c.else-k-nodes-2.branch [
       | else-k-nodes-2-via-then-k-nodes-2+else-ends_less w ↦ named (ap answer w.probe-is ∙ w.ends_less.ensures.fixed)

@@ -9,7 +9,9 @@ use Rattle.indexset_spine.proofs.merge.merge_back.Goals as goal
 use Rattle.indexset_spine.proofs.merge.merge_back.Goals.{After-order_of_last}
 
 module _ (g : Over) (c : After-order_of_last g) where
-  told : ForSome (slice_get c.loop-items.run.items (length c.loop-items.run.items - 1)) (λ b. MatchOption (slice_get c.loop-items.items.items (length c.loop-items.items.items - 1)) (c.order_of_last.result ≡ Less) (λ a. c.order_of_last.result ≡ g.T.Ord.cmp a b))
+  told : ForSome (slice_get c.loop-items.run.items (length c.loop-items.run.items - 1)) (λ b.
+      MatchOption (slice_get c.loop-items.items.items (length c.loop-items.items.items - 1))
+      (c.order_of_last.result ≡ Less) (λ a. c.order_of_last.result ≡ g.T.Ord.cmp a b))
   told = rw (c.as_slice.ensures.value, c.as_slice-in-loop-items.ensures.value) at c.order_of_last.ensures
 
   some : 0 < length c.loop-items.run.items
@@ -36,7 +38,10 @@ loop-items-preserved-in-Greater g c =
     let at = (goal.at.loop-items-preserved-in-Greater g c).After-order_of_last in
     let kept = c.loop-items.invariant in
     record {
-      merging = rw c.push_reserved-in-Greater.ensures.items (merged_greater g.T.Ord.cmp g.met.T.Ord.total _ _ _ _ kept.merging _ (told g at) c.in-Greater.is (some g at) _ _ c.take_last-in-Greater.ensures.items);
+      merging =
+          rw c.push_reserved-in-Greater.ensures.items
+          (merged_greater g.T.Ord.cmp g.met.T.Ord.total _ _ _ _ kept.merging _ (told g at) c.in-Greater.is (some g at) _
+          _ c.take_last-in-Greater.ensures.items);
       length_bound = omega (arith, kept.length_bound, c.take_last-in-Greater.ensures.len, c.push_reserved-in-Greater.ensures.len);
       capacity = c.take_last-in-Greater.ensures.capacity ∙ kept.capacity;
       room = c.push_reserved-in-Greater.ensures.capacity ∙ kept.room;
@@ -52,7 +57,10 @@ loop-items-preserved g c =
     let at = (goal.at.loop-items-preserved g c).After-order_of_last in
     let kept = c.loop-items.invariant in
     record {
-      merging = rw c.push_reserved-in-Equal.ensures.items (merged_equal g.T.Ord.cmp g.met.T.Ord.total _ _ _ _ kept.merging _ (told g at) c.in-Equal.is _ _ _ _ c.take_last-in-Equal.ensures.items c.take_last-in-Equal-2.ensures.items);
+      merging =
+          rw c.push_reserved-in-Equal.ensures.items
+          (merged_equal g.T.Ord.cmp g.met.T.Ord.total _ _ _ _ kept.merging _ (told g at) c.in-Equal.is _ _ _ _
+          c.take_last-in-Equal.ensures.items c.take_last-in-Equal-2.ensures.items);
       length_bound = omega (arith, kept.length_bound, c.take_last-in-Equal.ensures.len, c.take_last-in-Equal-2.ensures.len, c.push_reserved-in-Equal.ensures.len);
       capacity = c.take_last-in-Equal.ensures.capacity ∙ kept.capacity;
       room = c.push_reserved-in-Equal.ensures.capacity ∙ kept.room;

@@ -24,6 +24,16 @@ returns-clause-merged g c =
     let at = (goal.at.returns-clause-merged g c).After-move_front in
     let run = run_is g at in
     let long = length-take-le c.args.count c.args.from.now.items c.requires.within in
-    let ok = c.append.ensures.succeeds (omega (arith, c.merge_back.ensures.length_bound, c.merge_back.ensures.capacity, c.in_ok-reserve.ensures.ok, ap (λ l. length l) run, long, c.move_front.new.other.ok)) in
+    let ok =
+    c.append.ensures.succeeds
+    (omega (
+      arith,
+      c.merge_back.ensures.length_bound,
+      c.merge_back.ensures.capacity,
+      c.in_ok-reserve.ensures.ok,
+      ap (λ l. length l) run,
+      long,
+      c.move_front.new.other.ok,
+    )) in
     rw ok at c.append.ensures.items
     ∙ (c.merge_back.ensures.merged ∙ (ap (λ l. fold (put g.T.Ord.cmp) l c.move_front.new.other.items) c.reserve.ensures.items ∙ ap (fold (put g.T.Ord.cmp) c.args.items.now.items) run))

@@ -13,5 +13,7 @@ invariant-loop-event g l =
     record {
       counted : l.copy.next ≡ l.initial.copy.next + l.event-index;
       applied : ((x y : _) → C x y → y ≡ x) → replay cmp l.initial.copy.nodes (take l.event-index l.events) ≡ Some l.copy.nodes;
-      copies : AreClonesEqual cmp C → (ns after : List (List g.row.T.Denot)) (es : List _) → AreCopies cmp C ns l.initial.copy.nodes → AllZip (IsEventClone C) es l.initial.events → replay cmp ns es ≡ Some after → IsOnTheWay cmp C after l.copy.nodes (drop l.event-index l.events);
+      copies : AreClonesEqual cmp C → (ns after : List (List g.row.T.Denot)) (es : List _)
+          → AreCopies cmp C ns l.initial.copy.nodes → AllZip (IsEventClone C) es l.initial.events
+          → replay cmp ns es ≡ Some after → IsOnTheWay cmp C after l.copy.nodes (drop l.event-index l.events);
     }

@@ -9,7 +9,8 @@ on_ok (Err e) f h = tt
 pub returns-clause-copies : goal.returns-clause-copies
 returns-clause-copies c =
     let done = c.in_ok-events.ensures in
-    c.apply_all.ensures.copies (c.pairs.ensures.pair c.texts.ensures.string) c.args.counts.now.nodes c.insert_cdc.new.self.nodes _ c.requires (rw c.as_slice.ensures.value done.events.clones) done.changed.table
+    c.apply_all.ensures.copies (c.pairs.ensures.pair c.texts.ensures.string) c.args.counts.now.nodes
+    c.insert_cdc.new.self.nodes _ c.requires (rw c.as_slice.ensures.value done.events.clones) done.changed.table
 
 -- a clone has the text and the count of its source
 pub returns-clause-unchanged : goal.returns-clause-unchanged

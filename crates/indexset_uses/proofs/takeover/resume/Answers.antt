@@ -6,7 +6,10 @@ use Rattle.indexset.specs.Words.{replay, step, ChangeEvent, IsAt, IsPrefix, IsNo
 use Rattle.indexset_uses.proofs.takeover.resume.Goals as goal
 
 -- if each event applies to the nodes after those before it, replaying them gives nodes
-led : ((ns after : List (List ℕ)) (event : ChangeEvent ℕ) → step nat_cmp ns event ≡ Some after → IsNodeList nat_cmp after) → (ns after : List (List ℕ)) (es : List (ChangeEvent ℕ)) → IsNodeList nat_cmp ns → replay nat_cmp ns es ≡ Some after → IsNodeList nat_cmp after
+led :
+    ((ns after : List (List ℕ)) (event : ChangeEvent ℕ) → step nat_cmp ns event ≡ Some after → IsNodeList nat_cmp after)
+    → (ns after : List (List ℕ)) (es : List (ChangeEvent ℕ)) → IsNodeList nat_cmp ns → replay nat_cmp ns es ≡ Some after
+    → IsNodeList nat_cmp after
 led law ns after [] good is = subst (λ r. IsNodeList nat_cmp r) (ap (λ o. unwrap_or o ns) is) good
 led law ns after (e ∷ es) good is =
     option_and_then_some (λ r. replay nat_cmp r es) (step nat_cmp ns e) after is (λ mid first rest. led law mid after es (law ns mid e first) rest)

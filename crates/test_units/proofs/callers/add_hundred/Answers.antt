@@ -20,4 +20,7 @@ pub returns : goal.returns
 returns c =
     let start = c.range_mut-walk.ensures in
     let done : (walk_map c.loop-walk.walk).now ≡ with_pairs c.args.m.now (map (raised_within (Included c.args.from) (Excluded c.args.below) 100) c.args.m.now.pairs) =
-    range_written (λ p. more 100 p.value) c.range_mut-walk.result c.loop-walk.walk c.loop-walk.invariant (search rules) c.args.m.now start.unchanged (λ p. is_within nat_cmp (Included c.args.from) (Excluded c.args.below) p.key) start.span in search rules
+    range_written (λ p. more 100 p.value) c.range_mut-walk.result c.loop-walk.walk c.loop-walk.invariant
+    (search rules) c.args.m.now start.unchanged
+    (λ p. is_within nat_cmp (Included c.args.from) (Excluded c.args.below) p.key) start.span in
+    search rules

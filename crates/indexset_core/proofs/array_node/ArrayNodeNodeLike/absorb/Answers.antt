@@ -8,7 +8,12 @@ both g c = c.move_tail.ensures.moved ∙ ap₂ (λ (a b : List g.row.T.Denot). a
 
 pub invariant_of-self : goal.invariant_of-self
 invariant_of-self g c =
-    let held : length c.move_tail.new.other.items ≤ g.row.N = omega (arith, ap (λ l. length l) (both g (goal.at.invariant_of-self g c).After-move_tail), length-append c.args.self.now c.args.next, c.requires.room) in
+    let held : length c.move_tail.new.other.items ≤ g.row.N = omega (
+      arith,
+      ap (λ l. length l) (both g (goal.at.invariant_of-self g c).After-move_tail),
+      length-append c.args.self.now c.args.next,
+      c.requires.room,
+    ) in
     held
 
 pub returns-clause-list : goal.returns-clause-list

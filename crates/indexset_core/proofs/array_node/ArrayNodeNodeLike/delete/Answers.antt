@@ -21,13 +21,19 @@ pub returns-in-Ok-clause-list : goal.returns-in-Ok-clause-list
 returns-in-Ok-clause-list g c =
     let found = rw (c.as_slice.ensures.value, c.self.view_is) at c.in-Ok.ensures.found in
     let items = rw c.self.view_is at c.remove.ensures.items in
-    ◌∙◌ {a = c.remove.new.self.items} {b = remove c.args.self.now c.in-Ok.index} items (sym (found_without g.T.Ord.cmp c.args.self.now c.args.value.now c.in-Ok.index g.met.T.Ord.total c.requires.ascending found))
+    ◌∙◌ {a = c.remove.new.self.items} {b = remove c.args.self.now c.in-Ok.index} items
+    (sym
+    (found_without g.T.Ord.cmp c.args.self.now c.args.value.now c.in-Ok.index g.met.T.Ord.total c.requires.ascending
+    found))
 
 pub returns-in-Ok-clause-ascending : goal.returns-in-Ok-clause-ascending
 returns-in-Ok-clause-ascending g c =
     let found = rw (c.as_slice.ensures.value, c.self.view_is) at c.in-Ok.ensures.found in
     let items = rw c.self.view_is at c.remove.ensures.items in
-    subst (IsAscending g.T.Ord.cmp) {x = remove c.args.self.now c.in-Ok.index} {y = c.remove.new.self.items} (sym items) (all_pairs_remove (λ x y. g.T.Ord.cmp x y ≡ Less) c.args.self.now c.in-Ok.index found.inside c.requires.ascending)
+    subst (IsAscending g.T.Ord.cmp) {x = remove c.args.self.now c.in-Ok.index} {y = c.remove.new.self.items}
+    (sym items)
+    (all_pairs_remove (λ x y. g.T.Ord.cmp x y ≡ Less) c.args.self.now c.in-Ok.index found.inside
+    c.requires.ascending)
 
 pub returns-in-Err-clause-found : goal.returns-in-Err-clause-found
 returns-in-Err-clause-found g c =

@@ -40,7 +40,9 @@ returns-in-Err-clause-ascending g c =
     let cmp = g.T.Ord.cmp in
     let gap = rw (c.as_slice.ensures.value, c.self.view_is) at c.in-Err.ensures.absent in
     let items = rw c.self.view_is at c.insert.ensures.items in
-    subst (IsAscending cmp) {x = insert c.args.self.now c.in-Err.index c.args.value} {y = c.insert.new.self.items} (sym items) (gap_ascending cmp c.args.self.now c.args.value c.in-Err.index g.met.T.Ord.total gap c.requires.ascending)
+    subst (IsAscending cmp) {x = insert c.args.self.now c.in-Err.index c.args.value} {y = c.insert.new.self.items}
+    (sym items)
+    (gap_ascending cmp c.args.self.now c.args.value c.in-Err.index g.met.T.Ord.total gap c.requires.ascending)
 
 pub find-requires : goal.find-requires
 find-requires g c = rw (c.as_slice.ensures.value, c.self.view_is) c.requires.ascending

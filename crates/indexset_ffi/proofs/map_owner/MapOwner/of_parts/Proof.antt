@@ -1,5 +1,9 @@
 -- `of_parts` moves two fields, with the ownership of the parts.
-use Rattle.indexset_ffi.proofs.Steps.{proved_at, ptr_typed, parts_word, parts_typed, parts_out, parts_in, parts_row, Stays, says, stay_dropped, walk_of, ends_at, Goes-dropped, nothing, alloc_all, pass_all, free_all, look_at, get, get_in, sets, enter, stop, fld, of_opd, and_then, no_more, returns, whole, sub, agg, ‵, raw, ◌⊛◌, prop, ◌$◌, ◌∵◌, !, qed, move, drop, use1, split, join, regoal, fsplit, fjoin, suffices, done}
+use Rattle.indexset_ffi.proofs.Steps.{proved_at, ptr_typed, parts_word, parts_typed, parts_out, parts_in, parts_row}
+use Rattle.indexset_ffi.proofs.Steps.{Stays, says, stay_dropped, walk_of, ends_at, Goes-dropped, nothing, alloc_all}
+use Rattle.indexset_ffi.proofs.Steps.{pass_all, free_all, look_at, get, get_in, sets, enter, stop, fld, of_opd}
+use Rattle.indexset_ffi.proofs.Steps.{and_then, no_more, returns, whole, sub, agg, ‵, raw, ◌⊛◌, prop, ◌$◌, ◌∵◌, ! }
+use Rattle.indexset_ffi.proofs.Steps.{qed, move, drop, use1, split, join, regoal, fsplit, fjoin, suffices, done}
 use Rattle.indexset_ffi.proofs.OwnerBoxes.{map_handle_box as E}
 use Rattle.indexset_ffi.specs.contracts.map_owner.MapOwner.{the_row}
 use Rattle.indexset_ffi.specs.contracts.map_owner.MapOwner.of_parts as f

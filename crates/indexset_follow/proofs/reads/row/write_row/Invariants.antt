@@ -9,7 +9,9 @@ use Rattle.indexset_follow.proofs.reads.row.write_row.Given as goal
 
 abbrev pub invariant-loop-key : goal.invariant-loop-key
 invariant-loop-key g l =
-    shadow (Utf8 l.lead) × ((done : List (g.row.T.Denot × g.row.T.Denot)) × (l.lead ≡ lead_after (map (λ e. pair e.0 e.1) done)) × (map (λ e. pair e.0 e.1) done ++ g.P.Walk.rest l.walk ≡ g.P.Walk.rest l.fn.pairs)
+    shadow (Utf8 l.lead)
+    × ((done : List (g.row.T.Denot × g.row.T.Denot)) × (l.lead ≡ lead_after (map (λ e. pair e.0 e.1) done))
+    × (map (λ e. pair e.0 e.1) done ++ g.P.Walk.rest l.walk ≡ g.P.Walk.rest l.fn.pairs)
     × Appends (g.W.Write.contents l.fn.writer) (g.W.Write.contents l.writer) (node_text g.T.Key.texts (map (λ e. pair e.0 e.1) done)))
 
 abbrev pub decreases-loop-key : goal.decreases-loop-key

@@ -9,7 +9,9 @@ use Rattle.indexset_index.proofs.blocks.Blocks.find.Given.{Over}
 use Rattle.indexset_index.proofs.blocks.Blocks.find.Goals as goal
 
 -- the position of the block
-at : (g : Over) (c : goal.In_ok-block g) → let ls = node_lengths (map g.R.NodeItems.list c.args.nodes.now) in (c.in_ok-block.block < block_count (length c.args.nodes.now)) × (prefix_sum ls (32 * c.in_ok-block.block) + c.in_ok-block.offset ≡ c.args.position) × (c.args.position < sum ls)
+at : (g : Over) (c : goal.In_ok-block g) → let ls = node_lengths (map g.R.NodeItems.list c.args.nodes.now) in
+    (c.in_ok-block.block < block_count (length c.args.nodes.now))
+    × (prefix_sum ls (32 * c.in_ok-block.block) + c.in_ok-block.offset ≡ c.args.position) × (c.args.position < sum ls)
 at g c =
     let ls = node_lengths (map g.R.NodeItems.list c.args.nodes.now) in
     let count = length-lengths g.R.NodeItems.list c.args.nodes.now in

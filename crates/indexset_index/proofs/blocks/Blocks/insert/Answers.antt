@@ -18,7 +18,11 @@ push-requires-clause-fits g c =
     omega (arith, c.requires.fits, ap sum seen, sum-blocks (remove ls c.args.k), sum_by-remove (λ x. x) ls c.args.k 0 (omega (arith, count, c.requires.inside)))
 
 -- the sums are of as many blocks as the nodes make, and still of the lengths before
-grown : (g : Over) (c : goal.After-shift_up-arg-1 g) → (length c.if-nodes-eq1.self-inside.sums.lengths ≡ block_count (length c.args.nodes.now)) × ((i : ℕ) → i ≤ length c.if-nodes-eq1.self-inside.sums.lengths → prefix_sum c.if-nodes-eq1.self-inside.sums.lengths i ≡ prefix_sum (remove (node_lengths (map g.R.NodeItems.list c.args.nodes.now)) c.args.k) (32 * i))
+grown : (g : Over) (c : goal.After-shift_up-arg-1 g)
+    → (length c.if-nodes-eq1.self-inside.sums.lengths ≡ block_count (length c.args.nodes.now))
+    × ((i : ℕ) → i ≤ length c.if-nodes-eq1.self-inside.sums.lengths
+    → prefix_sum c.if-nodes-eq1.self-inside.sums.lengths i
+    ≡ prefix_sum (remove (node_lengths (map g.R.NodeItems.list c.args.nodes.now)) c.args.k) (32 * i))
 grown g c =
     let ls = node_lengths (map g.R.NodeItems.list c.args.nodes.now) in
     let count = length-lengths g.R.NodeItems.list c.args.nodes.now in

@@ -26,7 +26,14 @@ push-requires-clause-fits g c =
 pub loop-block-preserved : goal.loop-block-preserved
 loop-block-preserved g c =
     let ls = node_lengths (map g.R.NodeItems.list c.args.nodes.now) in
-    let inside : c.loop-block.block < length (block_sums ls) = omega (arith, count-blocks ls, length-lengths g.R.NodeItems.list c.args.nodes.now, c.loop-block-test.true, c.div_ceil-block-end.ensures, div_ceil-is (length c.args.nodes.now)) in
+    let inside : c.loop-block.block < length (block_sums ls) = omega (
+      arith,
+      count-blocks ls,
+      length-lengths g.R.NodeItems.list c.args.nodes.now,
+      c.loop-block-test.true,
+      c.div_ceil-block-end.ensures,
+      div_ceil-is (length c.args.nodes.now),
+    ) in
     record {
       same = rw (c.push.ensures.lengths, c.loop-block.invariant.same, c.sum_of_block.ensures) (sym (take_more (block_sums ls) c.loop-block.block 0 inside));
       room = c.push.ensures.room ∙ c.loop-block.invariant.room;
@@ -35,4 +42,13 @@ loop-block-preserved g c =
 pub returns-clause-sums : goal.returns-clause-sums
 returns-clause-sums g c =
     let ls = node_lengths (map g.R.NodeItems.list c.args.nodes.now) in
-    c.loop-block.invariant.same ∙ take_all c.loop-block.block (block_sums ls) (omega (arith, count-blocks ls, length-lengths g.R.NodeItems.list c.args.nodes.now, c.loop-block-test.false, c.div_ceil-block-end.ensures, div_ceil-is (length c.args.nodes.now)))
+    c.loop-block.invariant.same
+    ∙ take_all c.loop-block.block (block_sums ls)
+    (omega (
+      arith,
+      count-blocks ls,
+      length-lengths g.R.NodeItems.list c.args.nodes.now,
+      c.loop-block-test.false,
+      c.div_ceil-block-end.ensures,
+      div_ceil-is (length c.args.nodes.now),
+    ))

@@ -10,7 +10,10 @@ use Rattle.indexset_index.proofs.blocks.Blocks.remove.Given.{Over}
 use Rattle.indexset_index.proofs.blocks.Blocks.remove.Goals as goal
 
 -- the sums of the remaining blocks are those from before
-kept : (g : Over) (c : goal.After-shift_down-arg-1 g) → c.truncate.new.self.lengths ≡ take (block_count (length c.args.nodes.now)) (block_sums (insert (node_lengths (map g.R.NodeItems.list c.args.nodes.now)) c.args.k c.args.n))
+kept : (g : Over) (c : goal.After-shift_down-arg-1 g)
+    → c.truncate.new.self.lengths
+    ≡ take (block_count (length c.args.nodes.now))
+    (block_sums (insert (node_lengths (map g.R.NodeItems.list c.args.nodes.now)) c.args.k c.args.n))
 kept g c =
     let seen = ap (λ v. v.sums) c.self.view_is ∙ c.requires.before in
     rw (c.truncate.ensures.lengths, seen, c.div_ceil.ensures, div_ceil-is (length c.args.nodes.now)) refl

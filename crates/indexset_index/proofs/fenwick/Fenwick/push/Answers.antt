@@ -10,7 +10,8 @@ last_cell-cell-requires-clause-begins c = omega (arith, lowbit-pos (c.len.result
 seen : (c : goal.After-push_reserved) → lengths_of c.self.inside.cells.items ≡ c.args.self.now.lengths
 seen c = ap (λ l. l.lengths) c.self.view_is
 
-made : (c : goal.After-push_reserved) → let new = c.self.inside.cells.items ++ c.last_cell-cell.result ∷ [] in IsFenwickOf (cell_in new) (length new) (lengths_of c.self.inside.cells.items ++ c.args.last ∷ [])
+made : (c : goal.After-push_reserved) → let new = c.self.inside.cells.items ++ c.last_cell-cell.result ∷ [] in
+    IsFenwickOf (cell_in new) (length new) (lengths_of c.self.inside.cells.items ++ c.args.last ∷ [])
 made c =
     let n : c.len.result ≡ length c.self.inside.cells.items = omega arith in
     pushed c.self.inside.cells.items (lengths_of c.self.inside.cells.items) c.last_cell-cell.result c.args.last (c.len.result + 1 - lowbit (c.len.result + 1)) c.self.invariant (rw n refl)

@@ -12,7 +12,12 @@ last_cell-cell-requires-clause-begins c =
 seen : (c : goal.After-push_reserved-4) → lengths_of c.self.inside.cells.items ≡ c.args.self.now.lengths
 seen c = ap (λ l. l.lengths) c.self.view_is
 
-made : (c : goal.After-push_reserved-4) → let new = c.self.inside.cells.items ++ c.args.first ∷ (c.args.first + c.args.second) ∷ c.args.third ∷ c.last_cell-cell.result ∷ [] in IsFenwickOf (cell_in new) (length new) (lengths_of c.self.inside.cells.items ++ c.args.first ∷ c.args.second ∷ c.args.third ∷ c.args.fourth ∷ [])
+made : (c : goal.After-push_reserved-4)
+    → let new =
+    c.self.inside.cells.items ++ c.args.first ∷ (c.args.first + c.args.second) ∷ c.args.third ∷ c.last_cell-cell.result
+    ∷ [] in
+    IsFenwickOf (cell_in new) (length new)
+    (lengths_of c.self.inside.cells.items ++ c.args.first ∷ c.args.second ∷ c.args.third ∷ c.args.fourth ∷ [])
 made c =
     let n : c.len.result ≡ length c.self.inside.cells.items = omega arith in
     let count = ap length (seen c) in

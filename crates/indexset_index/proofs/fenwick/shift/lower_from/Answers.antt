@@ -10,7 +10,11 @@ use Rattle.indexset_index.proofs.fenwick.shift.lower_from.Given.{Over}
 use Rattle.indexset_index.proofs.fenwick.shift.lower_from.Goals as goal
 
 -- what each cell becomes
-cell : (g : Over) (c : goal.After-slice_known-in-loop-i-1 g) → let ls = node_lengths (map g.R.NodeItems.list c.args.nodes.now) in (get_or c.loop-i.cells (c.loop-i.i - 1) 0 + c.last_before_block-gained.result ≡ cell_of (block_sums ls) c.loop-i.i + c.moved_out-lost.result) × (get_or c.loop-i.cells (c.loop-i.i - 1) 0 + c.last_before_block-gained.result ≤ sum ls + c.args.n)
+cell : (g : Over) (c : goal.After-slice_known-in-loop-i-1 g)
+    → let ls = node_lengths (map g.R.NodeItems.list c.args.nodes.now) in
+    (get_or c.loop-i.cells (c.loop-i.i - 1) 0 + c.last_before_block-gained.result
+    ≡ cell_of (block_sums ls) c.loop-i.i + c.moved_out-lost.result)
+    × (get_or c.loop-i.cells (c.loop-i.i - 1) 0 + c.last_before_block-gained.result ≤ sum ls + c.args.n)
 cell g c =
     let ls = node_lengths (map g.R.NodeItems.list c.args.nodes.now) in
     let count = length-lengths g.R.NodeItems.list c.args.nodes.now in
@@ -21,8 +25,10 @@ cell g c =
     let long : length c.args.cells.now ≡ block_count (length ls) = omega (arith, c.requires.count, count) in
     let within : i ≤ length c.args.cells.now = omega (arith, c.loop-i-test.true, c.loop-i.auto.cells) in
     let lost = rw (and-clears i c.loop-i.invariant.cells.some) at c.moved_out-lost.ensures in
-    let made = lowered-cell xs ls c.args.k c.args.n (length c.args.cells.now) here long c.requires.before i c.moved_out-lost.result c.loop-i.invariant.past within lost.here lost.past in
-    (omega (arith, held, made, c.last_before_block-gained.ensures), omega (arith, held, c.last_before_block-gained.ensures, lowered-fits xs ls c.args.k c.args.n (length c.args.cells.now) here long c.requires.before i c.loop-i.invariant.past within))
+    let made = lowered-cell xs ls c.args.k c.args.n (length c.args.cells.now) here long c.requires.before i c.moved_out-lost.result c.loop-i.invariant.past within lost.here lost.past in (
+      omega (arith, held, made, c.last_before_block-gained.ensures),
+      omega (arith, held, c.last_before_block-gained.ensures, lowered-fits xs ls c.args.k c.args.n (length c.args.cells.now) here long c.requires.before i c.loop-i.invariant.past within),
+    )
 
 pub loop-i-init : goal.loop-i-init
 loop-i-init g c =
@@ -30,7 +36,10 @@ loop-i-init g c =
     let count = length-lengths g.R.NodeItems.list c.args.nodes.now in
     let xs = lengths_of c.args.cells.now in
     record {
-      cells = shift_starts xs (block_sums ls) c.args.cells.now _ c.requires.cells (λ i low within. lowered-low xs ls c.args.k c.args.n (length c.args.cells.now) (omega (arith, c.requires.inside, count)) (omega (arith, c.requires.count, count)) c.requires.before i low within);
+      cells =
+          shift_starts xs (block_sums ls) c.args.cells.now _ c.requires.cells (λ i low within.
+          lowered-low xs ls c.args.k c.args.n (length c.args.cells.now) (omega (arith, c.requires.inside, count))
+          (omega (arith, c.requires.count, count)) c.requires.before i low within);
       past = omega arith;
     }
 
@@ -52,8 +61,15 @@ loop-i-preserved g c =
 ended : (g : Over) (c : goal.After-loop-i g) → IsFenwickOf (cell_in c.loop-i.cells) (length c.loop-i.cells) (block_sums (node_lengths (map g.R.NodeItems.list c.args.nodes.now)))
 ended g c =
     let ls = node_lengths (map g.R.NodeItems.list c.args.nodes.now) in
-    let long : length (block_sums ls) ≡ length (lengths_of c.args.cells.now) = omega (arith, count-blocks ls, length-lengths g.R.NodeItems.list c.args.nodes.now, c.requires.count, c.requires.cells.count_is) in
-    shift_ends (lengths_of c.args.cells.now) (block_sums ls) c.loop-i.cells c.loop-i.i c.loop-i.invariant.cells (omega (arith, c.loop-i-test.false)) long (omega (arith, sum-blocks ls, c.requires.fits))
+    let long : length (block_sums ls) ≡ length (lengths_of c.args.cells.now) = omega (
+      arith,
+      count-blocks ls,
+      length-lengths g.R.NodeItems.list c.args.nodes.now,
+      c.requires.count,
+      c.requires.cells.count_is,
+    ) in
+    shift_ends (lengths_of c.args.cells.now) (block_sums ls) c.loop-i.cells c.loop-i.i c.loop-i.invariant.cells
+    (omega (arith, c.loop-i-test.false)) long (omega (arith, sum-blocks ls, c.requires.fits))
 
 pub returns-clause-cells : goal.returns-clause-cells
 returns-clause-cells g c = is_fenwick _ _ (ended g c)

@@ -10,7 +10,11 @@ use Rattle.indexset_index.proofs.fenwick.shift.raise_from.Given.{Over}
 use Rattle.indexset_index.proofs.fenwick.shift.raise_from.Goals as goal
 
 -- what each cell becomes
-cell : (g : Over) (c : goal.After-slice_known-in-loop-i-1 g) → let ls = node_lengths (map g.R.NodeItems.list c.args.nodes.now) in (get_or c.loop-i.cells (c.loop-i.i - 1) 0 + c.moved_in-gained.result ≡ cell_of (block_sums ls) c.loop-i.i + c.first_of_block-lost.result) × (cell_of (block_sums ls) c.loop-i.i + c.first_of_block-lost.result ≤ sum ls)
+cell : (g : Over) (c : goal.After-slice_known-in-loop-i-1 g)
+    → let ls = node_lengths (map g.R.NodeItems.list c.args.nodes.now) in
+    (get_or c.loop-i.cells (c.loop-i.i - 1) 0 + c.moved_in-gained.result
+    ≡ cell_of (block_sums ls) c.loop-i.i + c.first_of_block-lost.result)
+    × (cell_of (block_sums ls) c.loop-i.i + c.first_of_block-lost.result ≤ sum ls)
 cell g c =
     let ls = node_lengths (map g.R.NodeItems.list c.args.nodes.now) in
     let count = length-lengths g.R.NodeItems.list c.args.nodes.now in
@@ -30,7 +34,10 @@ loop-i-init g c =
     let count = length-lengths g.R.NodeItems.list c.args.nodes.now in
     let xs = lengths_of c.args.cells.now in
     record {
-      cells = shift_starts xs (block_sums ls) c.args.cells.now _ c.requires.cells (λ i low within. raised-low xs ls c.args.k (length c.args.cells.now) (omega (arith, c.requires.inside, count)) (omega (arith, c.requires.count, count)) c.requires.before i low within);
+      cells =
+          shift_starts xs (block_sums ls) c.args.cells.now _ c.requires.cells (λ i low within.
+          raised-low xs ls c.args.k (length c.args.cells.now) (omega (arith, c.requires.inside, count))
+          (omega (arith, c.requires.count, count)) c.requires.before i low within);
       past = omega arith;
     }
 
@@ -52,8 +59,15 @@ loop-i-preserved g c =
 ended : (g : Over) (c : goal.After-loop-i g) → IsFenwickOf (cell_in c.loop-i.cells) (length c.loop-i.cells) (block_sums (node_lengths (map g.R.NodeItems.list c.args.nodes.now)))
 ended g c =
     let ls = node_lengths (map g.R.NodeItems.list c.args.nodes.now) in
-    let long : length (block_sums ls) ≡ length (lengths_of c.args.cells.now) = omega (arith, count-blocks ls, length-lengths g.R.NodeItems.list c.args.nodes.now, c.requires.count, c.requires.cells.count_is) in
-    shift_ends (lengths_of c.args.cells.now) (block_sums ls) c.loop-i.cells c.loop-i.i c.loop-i.invariant.cells (omega (arith, c.loop-i-test.false)) long (omega (arith, sum-blocks ls, c.requires.fits))
+    let long : length (block_sums ls) ≡ length (lengths_of c.args.cells.now) = omega (
+      arith,
+      count-blocks ls,
+      length-lengths g.R.NodeItems.list c.args.nodes.now,
+      c.requires.count,
+      c.requires.cells.count_is,
+    ) in
+    shift_ends (lengths_of c.args.cells.now) (block_sums ls) c.loop-i.cells c.loop-i.i c.loop-i.invariant.cells
+    (omega (arith, c.loop-i-test.false)) long (omega (arith, sum-blocks ls, c.requires.fits))
 
 pub returns-clause-cells : goal.returns-clause-cells
 returns-clause-cells g c = is_fenwick _ _ (ended g c)

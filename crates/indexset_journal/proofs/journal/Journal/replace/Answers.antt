@@ -73,7 +73,9 @@ invariant_of-self-2 g c clean still =
     let stages = on_ok _ _ c.put_instead-staged.ensures.ok c.in_ok-commit_or_undo.ensures.staged before in
     let past : c.in_ok-end.end ≡ 0 + length c.args.lines.now = search rules in
     let size : 0 + length (texts c.args.lines.now) ≡ c.in_ok-end.end = ap (λ n. 0 + n) (length-map c.args.lines.now _) ∙ sym past in
-    subst (λ n. IsAtRest n new) size (rests_put c.self.inside.next 0 [] (texts c.args.lines.now) old mid (c.self.invariant begun is_open) stages new tt tt refl (c.in_ok-commit_or_undo.ensures.ok clean))
+    subst (λ n. IsAtRest n new) size
+    (rests_put c.self.inside.next 0 [] (texts c.args.lines.now) old mid (c.self.invariant begun is_open) stages new
+    tt tt refl (c.in_ok-commit_or_undo.ensures.ok clean))
 
 pub returns-clause-numbered : goal.returns-clause-numbered
 returns-clause-numbered g c clean =

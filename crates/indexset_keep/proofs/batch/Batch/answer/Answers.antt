@@ -21,8 +21,14 @@ returns-clause-told g c sound =
       | in-Leading w ↦ elim c.match-kept.branch [
         | in-None+in_ok-answer_leading-in-None v ↦
             let small : (copy_held c.match-kept.map.role).next < 2 ^ 64 = search rules in
-            let fits : (copy_held (after_input g.T.Ord.cmp g.T.Key.texts h line).role).next < 2 ^ 64 = subst (λ held. (copy_held held.role).next < 2 ^ 64) (ap map_held v.map-is ∙ v.in_ok-answer_leading-in-None.ensures.map) small in
-            rw v.self-is (v.in_ok-answer_leading-in-None.ensures.told ∙ ap (λ ls. texts c.args.self.now.told.items ++ ls) (inner_told g.T.Ord.cmp g.T.Key.texts g.met.T.Ord.total g.met.T.Key.words c.args.map.now.voice h line _ w.in-Leading.is sound fits))
+            let fits : (copy_held (after_input g.T.Ord.cmp g.T.Key.texts h line).role).next < 2 ^ 64 =
+            subst (λ held. (copy_held held.role).next < 2 ^ 64)
+            (ap map_held v.map-is ∙ v.in_ok-answer_leading-in-None.ensures.map) small in
+            rw v.self-is
+            (v.in_ok-answer_leading-in-None.ensures.told
+            ∙ ap (λ ls. texts c.args.self.now.told.items ++ ls)
+            (inner_told g.T.Ord.cmp g.T.Key.texts g.met.T.Ord.total g.met.T.Key.words c.args.map.now.voice h line _
+            w.in-Leading.is sound fits))
         | in-Some+in_ok-answer_following-in-Some v ↦ absurd (cc (w.kept-is, v.in-Some.is))
       ]
       | in-Following+in_ok-followed-in-Following w ↦ elim c.match-kept.branch [
@@ -30,10 +36,16 @@ returns-clause-told g c sound =
         | in-Some+in_ok-answer_following-in-Some v ↦
             let s = w.in-Following.follower in
             let tells = w.in_ok-followed-in-Following.field-0 in
-            let told = subst (λ b. lines_told g.T.Key.texts tells b s.held.next (Following (after_line g.T.Ord.cmp g.T.Key.texts s b)) ≡ line_kept g.T.Ord.cmp g.T.Key.texts s b) w.without_return.ensures w.in_ok-followed-in-Following.ensures.tells in
+            let told =
+            subst (λ b.
+            lines_told g.T.Key.texts tells b s.held.next (Following (after_line g.T.Ord.cmp g.T.Key.texts s b))
+            ≡ line_kept g.T.Ord.cmp g.T.Key.texts s b)
+            w.without_return.ensures w.in_ok-followed-in-Following.ensures.tells in
             let same : v.in-Some.kept ≡ tells = some_inj v.in-Some.kept tells (sym v.in-Some.is ∙ w.kept-is) in
             rw v.self-is (v.in_ok-answer_following-in-Some.ensures.told
             ∙ ap (λ k. texts c.args.self.now.told.items ++ lines_told g.T.Key.texts k (without_return line) (copy_held c.args.map.now.role).next v.answer_following.new.map.role) same
-            ∙ ap (λ ls. texts c.args.self.now.told.items ++ ls) (following_told g.T.Ord.cmp g.T.Key.texts reply h line (map_held v.answer_following.new.map) s tells w.in-Following.is v.in_ok-answer_following-in-Some.ensures.map told))
+            ∙ ap (λ ls. texts c.args.self.now.told.items ++ ls)
+            (following_told g.T.Ord.cmp g.T.Key.texts reply h line (map_held v.answer_following.new.map) s tells
+            w.in-Following.is v.in_ok-answer_following-in-Some.ensures.map told))
       ]
     ]

@@ -5,9 +5,15 @@ use Rattle.indexset_log.proofs.map.BTreeMap.index_of.Goals as goal
 pub returns-clause-value : goal.returns-clause-value
 returns-clause-value g c =
     let told = c.position_by.ensures in
-    rw c.ok.ensures.value (index_is _ (concat c.args.self.now.nodes) c.by_key.ensures.parted c.position_by.result (rw (c.self.view_is, c.by_key.ensures.probe) at told.found) (rw (c.self.view_is, c.by_key.ensures.probe) at told.absent)).value
+    rw c.ok.ensures.value
+    (index_is _ (concat c.args.self.now.nodes) c.by_key.ensures.parted c.position_by.result
+    (rw (c.self.view_is, c.by_key.ensures.probe) at told.found)
+    (rw (c.self.view_is, c.by_key.ensures.probe) at told.absent)).value
 
 pub returns-clause-at_index : goal.returns-clause-at_index
 returns-clause-at_index g c =
     let told = c.position_by.ensures in
-    rw c.ok.ensures.value (index_is _ (concat c.args.self.now.nodes) c.by_key.ensures.parted c.position_by.result (rw (c.self.view_is, c.by_key.ensures.probe) at told.found) (rw (c.self.view_is, c.by_key.ensures.probe) at told.absent)).there
+    rw c.ok.ensures.value
+    (index_is _ (concat c.args.self.now.nodes) c.by_key.ensures.parted c.position_by.result
+    (rw (c.self.view_is, c.by_key.ensures.probe) at told.found)
+    (rw (c.self.view_is, c.by_key.ensures.probe) at told.absent)).there

@@ -15,7 +15,10 @@ pub returns-in_err-pair-in-Ok-clause-refusal : goal.returns-in_err-pair-in-Ok-cl
 returns-in_err-pair-in-Ok-clause-refusal g c =
     let refused = subst (λ t. c.in_err-pair-in-Ok.field-0.0 ≡ refusal_for t.next (place_removal_count t.size t.nodes c.in-Ok.node c.in-Ok.offset)) c.self.view_is c.in_err-pair-in-Ok.ensures.refusal in
     let told : IfErr c.from_residual.result (λ e. e ≡ c.in_err-pair-in-Ok.field-0.0) = search rules in
-    rw (key_count g.met.K.Ord.total g.met.Q.LookupKey.acts_as_key g.met.Q.UniqueKey.equals_at_most_one c.locate.ensures.lawful c.args.key c.locate.ensures.place c.in-Ok.is) (subst (λ r. IfErr c.from_residual.result (λ e. e ≡ r)) refused told)
+    rw
+    (key_count g.met.K.Ord.total g.met.Q.LookupKey.acts_as_key g.met.Q.UniqueKey.equals_at_most_one
+    c.locate.ensures.lawful c.args.key c.locate.ensures.place c.in-Ok.is)
+    (subst (λ r. IfErr c.from_residual.result (λ e. e ≡ r)) refused told)
 
 pub returns-in_err-pair-in-Ok-clause-no_memory : goal.returns-in_err-pair-in-Ok-clause-no_memory
 returns-in_err-pair-in-Ok-clause-no_memory g c =
@@ -26,12 +29,23 @@ returns-in_err-pair-in-Ok-clause-no_memory g c =
 
 pub returns-in_err-pair-in-Ok-clause-no_event : goal.returns-in_err-pair-in-Ok-clause-no_event
 returns-in_err-pair-in-Ok-clause-no_event g c =
-    λ none. absurd (omega (arith, key_count g.met.K.Ord.total g.met.Q.LookupKey.acts_as_key g.met.Q.UniqueKey.equals_at_most_one c.locate.ensures.lawful c.args.key c.locate.ensures.place c.in-Ok.is, some_taken c.args.self.now.size c.args.self.now.nodes c.in-Ok.node c.in-Ok.offset, ap (λ l. length l) none))
+    λ none.
+    absurd
+    (omega (
+      arith,
+      key_count g.met.K.Ord.total g.met.Q.LookupKey.acts_as_key g.met.Q.UniqueKey.equals_at_most_one c.locate.ensures.lawful c.args.key c.locate.ensures.place c.in-Ok.is,
+      some_taken c.args.self.now.size c.args.self.now.nodes c.in-Ok.node c.in-Ok.offset,
+      ap (λ l. length l) none,
+    ))
 
 pub returns-in_err-pair-in-Ok-clause-never : goal.returns-in_err-pair-in-Ok-clause-never
 returns-in_err-pair-in-Ok-clause-never g c =
     let count = key_count g.met.K.Ord.total g.met.Q.LookupKey.acts_as_key g.met.Q.UniqueKey.equals_at_most_one c.locate.ensures.lawful c.args.key c.locate.ensures.place c.in-Ok.is in
-    let never = subst (λ t. g.Node.NodeLike.allocates ≡ false → t.next + place_removal_count t.size t.nodes c.in-Ok.node c.in-Ok.offset ≤ MAX → false ≡ true) c.self.view_is c.in_err-pair-in-Ok.ensures.never in
+    let never =
+    subst
+    (λ t. g.Node.NodeLike.allocates ≡ false
+    → t.next + place_removal_count t.size t.nodes c.in-Ok.node c.in-Ok.offset ≤ MAX → false ≡ true)
+    c.self.view_is c.in_err-pair-in-Ok.ensures.never in
     λ free fits. absurd (false≢true (never free (omega (arith, count, fits))))
 
 pub returns-in_ok-pair-in-Ok : goal.returns-in_ok-pair-in-Ok

@@ -15,11 +15,21 @@ pub returns-in_err-pair-in-Ok-clause-refusal : goal.returns-in_err-pair-in-Ok-cl
 returns-in_err-pair-in-Ok-clause-refusal g c =
     let refused = subst (λ t. c.in_err-pair-in-Ok.field-0.0 ≡ refusal_for t.next (place_removal_count t.size t.nodes c.in-Ok.node c.in-Ok.offset)) c.self.view_is c.in_err-pair-in-Ok.ensures.refusal in
     let told : IfErr c.from_residual.result (λ e. e ≡ c.in_err-pair-in-Ok.field-0.0) = search rules in
-    rw (key_count g.met.K.Ord.total g.met.Q.LookupKey.acts_as_key g.met.Q.UniqueKey.equals_at_most_one c.locate.ensures.lawful c.args.key c.locate.ensures.place c.in-Ok.is) (subst (λ r. IfErr c.from_residual.result (λ e. e ≡ r)) refused told)
+    rw
+    (key_count g.met.K.Ord.total g.met.Q.LookupKey.acts_as_key g.met.Q.UniqueKey.equals_at_most_one
+    c.locate.ensures.lawful c.args.key c.locate.ensures.place c.in-Ok.is)
+    (subst (λ r. IfErr c.from_residual.result (λ e. e ≡ r)) refused told)
 
 pub returns-in_err-pair-in-Ok-clause-no_event : goal.returns-in_err-pair-in-Ok-clause-no_event
 returns-in_err-pair-in-Ok-clause-no_event g c =
-    λ none. absurd (omega (arith, key_count g.met.K.Ord.total g.met.Q.LookupKey.acts_as_key g.met.Q.UniqueKey.equals_at_most_one c.locate.ensures.lawful c.args.key c.locate.ensures.place c.in-Ok.is, some_taken c.args.self.now.size c.args.self.now.nodes c.in-Ok.node c.in-Ok.offset, ap (λ l. length l) none))
+    λ none.
+    absurd
+    (omega (
+      arith,
+      key_count g.met.K.Ord.total g.met.Q.LookupKey.acts_as_key g.met.Q.UniqueKey.equals_at_most_one c.locate.ensures.lawful c.args.key c.locate.ensures.place c.in-Ok.is,
+      some_taken c.args.self.now.size c.args.self.now.nodes c.in-Ok.node c.in-Ok.offset,
+      ap (λ l. length l) none,
+    ))
 
 pub returns-in_ok-pair-in-Ok : goal.returns-in_ok-pair-in-Ok
 returns-in_ok-pair-in-Ok g c =
@@ -34,7 +44,10 @@ returns-in_ok-pair-in-Ok g c =
       gone = ap (λ l. has_key g.Q.LookupKey.order l c.args.key) d.contents ∙ key_gone g.Q.LookupKey.order (concat c.args.self.now.nodes) c.args.key;
       others = others_removed c.args.self.now.nodes c.remove_at_cdc.new.self.nodes g.met.Q.LookupKey.acts_as_key c.args.key d.contents;
       changed = d;
-      events = key_told g.met.K.Ord.total g.met.Q.LookupKey.acts_as_key g.met.Q.UniqueKey.equals_at_most_one c.args.self.now c.locate.ensures.lawful c.args.key taken (pairs_told g.K.Ord.cmp g.K.Clone.is_clone g.V.Clone.is_clone done.events);
+      events =
+          key_told g.met.K.Ord.total g.met.Q.LookupKey.acts_as_key g.met.Q.UniqueKey.equals_at_most_one c.args.self.now
+          c.locate.ensures.lawful c.args.key taken
+          (pairs_told g.K.Ord.cmp g.K.Clone.is_clone g.V.Clone.is_clone done.events);
     }
 
 pub returns-in-Err : goal.returns-in-Err

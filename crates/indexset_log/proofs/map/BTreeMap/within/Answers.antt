@@ -11,7 +11,13 @@ use Rattle.indexset_log.proofs.map.BTreeMap.within.Goals.{After-place_to-to}
 use Rattle.indexset_log.proofs.map.BTreeMap.within.Goals as goal
 
 -- the range lies between the two places
-cut : (g : Over) (c : After-place_to-to g) → let i = items_before c.self.inside.set.nodes c.place_from-from.result in let j = items_before c.self.inside.set.nodes c.place_to-to.result in let l = concat c.self.inside.set.nodes in (i ≤ j) × (between i j l ≡ pairs_within g.Q.LookupKey.order l (bound_map (λ k. k.now) c.args.range.0) (bound_map (λ k. k.now) c.args.range.1))
+cut : (g : Over) (c : After-place_to-to g)
+    → let i = items_before c.self.inside.set.nodes c.place_from-from.result in
+    let j = items_before c.self.inside.set.nodes c.place_to-to.result in let l = concat c.self.inside.set.nodes in
+    (i ≤ j)
+    × (between i j l
+    ≡ pairs_within g.Q.LookupKey.order l (bound_map (λ k. k.now) c.args.range.0)
+    (bound_map (λ k. k.now) c.args.range.1))
 cut g c =
     let order = g.Q.LookupKey.order in
     let l = concat c.self.inside.set.nodes in
@@ -21,10 +27,22 @@ cut g c =
     (sought_keys_order g.met.Q.LookupKey.acts_as_key l up _ _ c.requires _ _ from to, sought_keys_are g.met.Q.LookupKey.acts_as_key l up _ _ c.requires _ _ from to)
 
 pub place_from-from-requires : goal.place_from-from-requires
-place_from-from-requires g c = each_bounded _ (λ p. parted_by_sought_key g.met.Q.LookupKey.acts_as_key (concat c.self.inside.set.nodes) (lawful_ascends (by_key g.K.Ord.cmp) c.self.inside.set.size c.self.inside.set.nodes c.node_count-nodes.ensures.lawful) p.0) c.map.result
+place_from-from-requires g c =
+    each_bounded _ (λ p.
+    parted_by_sought_key g.met.Q.LookupKey.acts_as_key (concat c.self.inside.set.nodes)
+    (lawful_ascends (by_key g.K.Ord.cmp) c.self.inside.set.size c.self.inside.set.nodes
+    c.node_count-nodes.ensures.lawful)
+    p.0)
+    c.map.result
 
 pub place_to-to-requires : goal.place_to-to-requires
-place_to-to-requires g c = each_bounded _ (λ p. parted_by_sought_key g.met.Q.LookupKey.acts_as_key (concat c.self.inside.set.nodes) (lawful_ascends (by_key g.K.Ord.cmp) c.self.inside.set.size c.self.inside.set.nodes c.node_count-nodes.ensures.lawful) p.0) c.map-2.result
+place_to-to-requires g c =
+    each_bounded _ (λ p.
+    parted_by_sought_key g.met.Q.LookupKey.acts_as_key (concat c.self.inside.set.nodes)
+    (lawful_ascends (by_key g.K.Ord.cmp) c.self.inside.set.size c.self.inside.set.nodes
+    c.node_count-nodes.ensures.lawful)
+    p.0)
+    c.map-2.result
 
 pub range_between-requires-clause-order : goal.range_between-requires-clause-order
 range_between-requires-clause-order g c = (cut g c).0

@@ -18,7 +18,10 @@ pub node_by-node-requires-clause-parted : goal.node_by-node-requires-clause-part
 node_by-node-requires-clause-parted g c = rw (c.new.ensures, c.as_slice.ensures.value) (lawful_parted g.T.Ord.cmp c.self.inside.size _ c.self.invariant.tree.lawful g.met.T.Ord.total c.args.value.now)
 
 -- the target, as the code reads it
-read : (g : Over) (c : After-as_slice-items g) → (c.node_by-node.result ≡ node_for (λ x. g.T.Ord.cmp x c.args.value.now) c.args.self.now.nodes) × (c.node_by-node.result < length c.args.self.now.nodes) × (c.as_slice-items.result.now ≡ node_at c.args.self.now.nodes c.node_by-node.result)
+read : (g : Over) (c : After-as_slice-items g)
+    → (c.node_by-node.result ≡ node_for (λ x. g.T.Ord.cmp x c.args.value.now) c.args.self.now.nodes)
+    × (c.node_by-node.result < length c.args.self.now.nodes)
+    × (c.as_slice-items.result.now ≡ node_at c.args.self.now.nodes c.node_by-node.result)
 read g c =
     let t = held g.Node.NodeLike.list c.self.inside.nodes.items c.self.view_is c.self.invariant in
     let at : c.node_by-node.result ≡ node_for (λ x. g.T.Ord.cmp x c.args.value.now) c.args.self.now.nodes = rw (c.new.ensures, c.as_slice.ensures.value, t.same) at c.node_by-node.ensures.node in
@@ -51,7 +54,9 @@ returns g c =
           let two : 2 ≤ length n = omega (arith, rw (held, size) at w.if-full.true, size, c.self.invariant.tree.two) in
           let some : 1 ≤ length n / 2 = omega arith in
           let read : x ≡ get_or n (length n / 2 - 1) x = rw held at w.index-items-items.is in
-          let last : last_of (take (length n / 2) n) v ≡ x = subst (λ j. last_of (take j n) v ≡ x) {x = suc (length n / 2 - 1)} {y = length n / 2} (omega arith) (last_of_take n (length n / 2 - 1) x v (omega arith) read) in
+          let last : last_of (take (length n / 2) n) v ≡ x =
+          subst (λ j. last_of (take j n) v ≡ x) {x = suc (length n / 2 - 1)} {y = length n / 2} (omega arith)
+          (last_of_take n (length n / 2 - 1) x v (omega arith) read) in
           rw (full, last) (w.right-is ∙ (w.is_gt-right.ensures ∙ ap is_gt w.cmp.ensures))
       | else-full w ↦
           let not_full : eqb (length n) c.args.self.now.size ≡ false = ne_eqb _ _ (rw (held, size) at w.if-full.false) in

@@ -13,7 +13,11 @@ first : (g : Over) (c : In-Some g) → slice_get (g.Node.NodeLike.list c.args.no
 first g c = rw (c.as_slice-items.ensures.value ∙ c.iter.ensures) at (sym c.in-Some.ensures.value)
 
 -- its place, and whether it can be inserted there
-told : (g : Over) (c : After-starts_above g) → (c.nodes_below-place.result ≡ attach_index g.T.Ord.cmp c.args.self.now.nodes (g.Node.NodeLike.list c.args.node.now)) × (attach_refusal g.T.Ord.cmp c.args.self.now.size c.args.self.now.nodes (g.Node.NodeLike.list c.args.node.now) ≡ (if not c.starts_above.result then Some Overlaps else None))
+told : (g : Over) (c : After-starts_above g)
+    → (c.nodes_below-place.result
+    ≡ attach_index g.T.Ord.cmp c.args.self.now.nodes (g.Node.NodeLike.list c.args.node.now))
+    × (attach_refusal g.T.Ord.cmp c.args.self.now.size c.args.self.now.nodes (g.Node.NodeLike.list c.args.node.now)
+    ≡ (if not c.starts_above.result then Some Overlaps else None))
 told g c =
     let t = held g.Node.NodeLike.list c.self.inside.nodes.items c.self.view_is c.self.invariant in
     let n = g.Node.NodeLike.list c.args.node.now in
@@ -21,7 +25,9 @@ told g c =
     let head = rw read at (sym c.in-Some.ensures.value) in
     let fits : length n ≤ c.args.self.now.size = omega (arith, ap (λ l. length l) read, t.sized, c.if-items-self.false) in
     let up : is_ascending g.T.Ord.cmp n ≡ true = rw read at (sym c.is_ascending.ensures ∙ c.if-not-is_ascending.false) in
-    attach_told g.T.Ord.cmp c.args.self.now.size c.args.self.now.nodes n (filled_first n c.in-Some.first.now head) fits g.met.T.Ord.total (lawful_ruled g.T.Ord.cmp c.args.self.now.size c.args.self.now.nodes t.rule.lawful) up _ _ _ _ head (rw read at c.index-items-items.is) c.nodes_below-place.ensures c.starts_above.ensures
+    attach_told g.T.Ord.cmp c.args.self.now.size c.args.self.now.nodes n (filled_first n c.in-Some.first.now head)
+    fits g.met.T.Ord.total (lawful_ruled g.T.Ord.cmp c.args.self.now.size c.args.self.now.nodes t.rule.lawful) up _
+    _ _ _ head (rw read at c.index-items-items.is) c.nodes_below-place.ensures c.starts_above.ensures
 
 pub returns-in_default-clause-refusal : goal.returns-in_default-clause-refusal
 returns-in_default-clause-refusal g c =

@@ -16,7 +16,10 @@ read g c =
     c.as_slice-items.ensures.value ∙ (c.iter.ensures ∙ node_held t c.args.node c.requires.node c.index.ensures)
 
 -- how many of its items are not past the end
-end_is : (g : Over) (c : After-run_end-end g) → c.as_slice-items.result.now ≡ node_at c.args.self.now.nodes c.args.node → c.run_end-end.result ≡ not_greater_count (g.P.Probe.answer c.args.probe.now) (node_at c.args.self.now.nodes c.args.node)
+end_is : (g : Over) (c : After-run_end-end g)
+    → c.as_slice-items.result.now ≡ node_at c.args.self.now.nodes c.args.node
+    → c.run_end-end.result
+    ≡ not_greater_count (g.P.Probe.answer c.args.probe.now) (node_at c.args.self.now.nodes c.args.node)
 end_is g c read = c.run_end-end.ensures.count ∙ ap (not_greater_count (g.P.Probe.answer c.args.probe.now)) read
 
 begun : (g : Over) (c : After-as_slice-items g) → c.args.offset + 1 ≤ not_greater_count (g.P.Probe.answer c.args.probe.now) (node_at c.args.self.now.nodes c.args.node)
@@ -24,7 +27,9 @@ begun g c = reaches (g.P.Probe.answer c.args.probe.now) c.args.self.now.nodes c.
 
 pub run_end-end-requires-clause-parted : goal.run_end-end-requires-clause-parted
 run_end-end-requires-clause-parted g c =
-    rw (read g (goal.at.run_end-end-requires-clause-parted g c).After-as_slice-items) (parted_node (g.P.Probe.answer c.args.probe.now) c.args.self.now.nodes c.args.node c.requires.node c.requires.parted)
+    rw (read g (goal.at.run_end-end-requires-clause-parted g c).After-as_slice-items)
+    (parted_node (g.P.Probe.answer c.args.probe.now) c.args.self.now.nodes c.args.node c.requires.node
+    c.requires.parted)
 
 pub run_end-end-requires-clause-from : goal.run_end-end-requires-clause-from
 run_end-end-requires-clause-from g c =
@@ -37,7 +42,9 @@ returns-then-end-items-clause-before g c =
     let is = read g at.After-as_slice-items in
     let end = end_is g at.After-run_end-end is in
     let some = begun g at.After-as_slice-items in
-    rw end (ends_inside (g.P.Probe.answer c.args.probe.now) c.args.self.now.nodes c.requires.parted c.args.node c.requires.node (omega (arith, some)) (omega (arith, end, c.if-end-items.true, ap (λ l. length l) is)))
+    rw end
+    (ends_inside (g.P.Probe.answer c.args.probe.now) c.args.self.now.nodes c.requires.parted c.args.node
+    c.requires.node (omega (arith, some)) (omega (arith, end, c.if-end-items.true, ap (λ l. length l) is)))
 
 pub last_started-last-requires-clause-filled : goal.last_started-last-requires-clause-filled
 last_started-last-requires-clause-filled g c = rw c.as_slice.ensures.value (lawful_filled g.T.Ord.cmp c.self.inside.size _ c.self.invariant.tree.lawful)
@@ -101,7 +108,11 @@ returns-then-last-node-clause-comparisons g c =
     let none : c.last_started-last.result - c.args.node ≡ 0 = omega (arith, same) in
     let le = at_most_all (g.P.Probe.answer c.args.probe.now) (node_at c.args.self.now.nodes c.args.node) in
     let full : c.run_end-end.result ≡ length c.as_slice-items.result.now = omega (arith, c.if-end-items.false, end, le, ap (λ l. length l) is) in
-    few_near (before c.args.self.now.nodes c.args.node) c.args.offset c.run_end-end.result (g.P.Probe.asked c.run_end-end.new.probe) (g.P.Probe.asked c.last_started-last.new.probe) (g.P.Probe.asked c.args.probe.now) (omega (arith, end, some)) c.run_end-end.ensures.comparisons (λ e. c.run_end-end.ensures.unasked (omega (arith, e, full))) (rw none at c.last_started-last.ensures.comparisons)
+    few_near (before c.args.self.now.nodes c.args.node) c.args.offset c.run_end-end.result
+    (g.P.Probe.asked c.run_end-end.new.probe) (g.P.Probe.asked c.last_started-last.new.probe)
+    (g.P.Probe.asked c.args.probe.now) (omega (arith, end, some)) c.run_end-end.ensures.comparisons
+    (λ e. c.run_end-end.ensures.unasked (omega (arith, e, full)))
+    (rw none at c.last_started-last.ensures.comparisons)
 
 pub run_end-requires-clause-parted : goal.run_end-requires-clause-parted
 run_end-requires-clause-parted g c =
@@ -116,14 +127,20 @@ run_end-requires-clause-from g c =
     rw (read_last g at.After-as_slice-2 l.inside, l.fixed) (begun_last g at.After-last_started-last l)
 
 -- how many items of the last node are not past the end
-end_last : (g : Over) (c : After-run_end g) → g.P.Probe.answer c.last_started-last.new.probe ≡ g.P.Probe.answer c.args.probe.now → c.as_slice-2.result.now ≡ node_at c.args.self.now.nodes c.last_started-last.result → c.run_end.result ≡ not_greater_count (g.P.Probe.answer c.args.probe.now) (node_at c.args.self.now.nodes c.last_started-last.result)
+end_last : (g : Over) (c : After-run_end g)
+    → g.P.Probe.answer c.last_started-last.new.probe ≡ g.P.Probe.answer c.args.probe.now
+    → c.as_slice-2.result.now ≡ node_at c.args.self.now.nodes c.last_started-last.result
+    → c.run_end.result
+    ≡ not_greater_count (g.P.Probe.answer c.args.probe.now) (node_at c.args.self.now.nodes c.last_started-last.result)
 end_last g c fixed read = c.run_end.ensures.count ∙ (ap (λ a. not_greater_count a c.as_slice-2.result.now) fixed ∙ ap (not_greater_count (g.P.Probe.answer c.args.probe.now)) read)
 
 pub returns-clause-before : goal.returns-clause-before
 returns-clause-before g c =
     let at = goal.at.returns-clause-before g c in
     let l = last g at.After-last_started-last in
-    rw (end_last g at.After-run_end l.fixed (read_last g at.After-as_slice-2 l.inside)) (ends_here (g.P.Probe.answer c.args.probe.now) c.args.self.now.nodes c.requires.parted c.last_started-last.result l.inside (begun_last g at.After-last_started-last l) l.ended)
+    rw (end_last g at.After-run_end l.fixed (read_last g at.After-as_slice-2 l.inside))
+    (ends_here (g.P.Probe.answer c.args.probe.now) c.args.self.now.nodes c.requires.parted
+    c.last_started-last.result l.inside (begun_last g at.After-last_started-last l) l.ended)
 
 pub returns-clause-comparisons : goal.returns-clause-comparisons
 returns-clause-comparisons g c =
@@ -134,7 +151,13 @@ returns-clause-comparisons g c =
     let le = at_most_all (g.P.Probe.answer c.args.probe.now) (node_at c.args.self.now.nodes c.args.node) in
     let full : c.run_end-end.result ≡ length (node_at c.args.self.now.nodes c.args.node) = omega (arith, c.if-end-items.false, end, le, ap (λ l. length l) is) in
     let some = begun_last g at.After-last_started-last l in
-    few_far c.args.self.now.nodes l.filled c.args.node c.last_started-last.result c.args.offset c.run_end.result (g.P.Probe.asked c.run_end-end.new.probe) (g.P.Probe.asked c.last_started-last.new.probe) (g.P.Probe.asked c.run_end.new.probe) (g.P.Probe.asked c.args.probe.now) c.requires.offset (omega (arith, c.last_started-last.ensures.order, c.if-last-node.false)) l.inside (omega (arith, some, end_last g at.After-run_end l.fixed (read_last g at.After-as_slice-2 l.inside))) (rw full at c.run_end-end.ensures.comparisons) c.last_started-last.ensures.comparisons c.run_end.ensures.comparisons
+    few_far c.args.self.now.nodes l.filled c.args.node c.last_started-last.result c.args.offset c.run_end.result
+    (g.P.Probe.asked c.run_end-end.new.probe) (g.P.Probe.asked c.last_started-last.new.probe)
+    (g.P.Probe.asked c.run_end.new.probe) (g.P.Probe.asked c.args.probe.now) c.requires.offset
+    (omega (arith, c.last_started-last.ensures.order, c.if-last-node.false)) l.inside
+    (omega (arith, some, end_last g at.After-run_end l.fixed (read_last g at.After-as_slice-2 l.inside)))
+    (rw full at c.run_end-end.ensures.comparisons) c.last_started-last.ensures.comparisons
+    c.run_end.ensures.comparisons
 
 pub returns-then-end-items-clause-place : goal.returns-then-end-items-clause-place
 returns-then-end-items-clause-place g c =

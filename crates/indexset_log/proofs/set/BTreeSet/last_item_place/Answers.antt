@@ -9,7 +9,9 @@ use Rattle.indexset_log.proofs.set.BTreeSet.last_item_place.Goals as goal
 use Rattle.indexset_log.proofs.set.BTreeSet.last_item_place.Goals.{After-len}
 
 -- the last node exists, and has as many items as the code reads
-last_node : (g : Over) (c : After-len g) → (c.len-last.result - 1 + 1 ≡ length c.args.self.now.nodes) × (c.len.result ≡ length (node_at c.args.self.now.nodes (c.len-last.result - 1))) × (1 ≤ c.len.result)
+last_node : (g : Over) (c : After-len g)
+    → (c.len-last.result - 1 + 1 ≡ length c.args.self.now.nodes)
+    × (c.len.result ≡ length (node_at c.args.self.now.nodes (c.len-last.result - 1))) × (1 ≤ c.len.result)
 last_node g c =
     let t = held g.Node.NodeLike.list c.self.inside.nodes.items c.self.view_is c.self.invariant in
     let some : 1 ≤ length c.self.inside.nodes.items = grind (arith, common_steps) in

@@ -16,7 +16,9 @@ pub node_by-node-requires-clause-parted : goal.node_by-node-requires-clause-part
 node_by-node-requires-clause-parted g c = rw (c.new.ensures, c.as_slice.ensures.value) (lawful_parted g.T.Ord.cmp c.self.inside.size _ c.self.invariant.tree.lawful g.met.T.Ord.total c.args.value.now)
 
 -- where the search ends
-found : (g : Over) (c : After-index g) → (c.node_by-node.result ≡ node_for (λ x. g.T.Ord.cmp x c.args.value.now) c.args.self.now.nodes) × (1 ≤ length c.args.self.now.nodes) × (c.node_by-node.result < length c.self.inside.nodes.items)
+found : (g : Over) (c : After-index g)
+    → (c.node_by-node.result ≡ node_for (λ x. g.T.Ord.cmp x c.args.value.now) c.args.self.now.nodes)
+    × (1 ≤ length c.args.self.now.nodes) × (c.node_by-node.result < length c.self.inside.nodes.items)
 found g c =
     let t = held g.Node.NodeLike.list c.self.inside.nodes.items c.self.view_is c.self.invariant in
     let at : c.node_by-node.result ≡ node_for (λ x. g.T.Ord.cmp x c.args.value.now) c.args.self.now.nodes = rw (c.new.ensures, c.as_slice.ensures.value, t.same) at c.node_by-node.ensures.node in
@@ -24,10 +26,17 @@ found g c =
     (at, omega (arith, some, t.many), omega (arith, at, some, t.many))
 
 -- whether the node there ends at or above the item
-reach : (g : Over) (c : In-Some g) → (f : c.node_by-node.result < length c.self.inside.nodes.items) → reaches g.T.Ord.cmp c.args.value.now (node_at c.args.self.now.nodes c.node_by-node.result) ≡ not (is_lt (g.T.Ord.cmp c.in-Some.last.now c.args.value.now))
+reach : (g : Over) (c : In-Some g) → (f : c.node_by-node.result < length c.self.inside.nodes.items)
+    → reaches g.T.Ord.cmp c.args.value.now (node_at c.args.self.now.nodes c.node_by-node.result)
+    ≡ not (is_lt (g.T.Ord.cmp c.in-Some.last.now c.args.value.now))
 reach g c inside =
     let t = held g.Node.NodeLike.list c.self.inside.nodes.items c.self.view_is c.self.invariant in
-    ap not (rw t.same at (ends_at g.Node.NodeLike.list c.self.inside.nodes.items c.node_by-node.result c.index.result.now inside c.index.ensures (λ x. g.T.Ord.cmp x c.args.value.now) c.in-Some.last.now (sym (rw c.in-Some.is at c.max.ensures)) []))
+    ap not
+    (rw
+    t.same at
+    (ends_at g.Node.NodeLike.list c.self.inside.nodes.items c.node_by-node.result c.index.result.now inside
+    c.index.ensures (λ x. g.T.Ord.cmp x c.args.value.now) c.in-Some.last.now
+    (sym (rw c.in-Some.is at c.max.ensures)) []))
 
 pub returns-in-Some : goal.returns-in-Some
 returns-in-Some g c =
@@ -46,7 +55,10 @@ returns-in_default g c =
 pub returns-in_default-2 : goal.returns-in_default-2
 returns-in_default-2 g c =
     let f = found g (goal.at.returns-in_default-2 g c).After-index in
-    absurd (never_none g.Node.NodeLike.list c.self.inside.nodes.items c.node_by-node.result c.index.result.now f.2 c.index.ensures (lawful_filled g.T.Ord.cmp c.self.inside.size _ c.self.invariant.tree.lawful) (sym (rw c.in_default.is at c.max.ensures)))
+    absurd
+    (never_none g.Node.NodeLike.list c.self.inside.nodes.items c.node_by-node.result c.index.result.now f.2
+    c.index.ensures (lawful_filled g.T.Ord.cmp c.self.inside.size _ c.self.invariant.tree.lawful)
+    (sym (rw c.in_default.is at c.max.ensures)))
 
 no_nodes : {T : Type 0} (ns : List (List T)) → length ns ≡ 0 → ns ≡ []
 no_nodes [] none = refl

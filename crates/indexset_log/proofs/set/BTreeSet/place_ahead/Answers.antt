@@ -11,8 +11,13 @@ loop-offset-preserved g c =
     let ns = c.args.self.now.nodes in
     let at = c.loop-offset in
     let tested : c.len.result ≡ length (node_at ns at.node) = c.len.ensures.value ∙ ap (λ l. length l) (node_held t at.node at.invariant.node c.index.ensures) in
-    let read : c.len-in-loop-offset.result ≡ length (node_at ns at.node) = c.len-in-loop-offset.ensures.value ∙ ap (λ l. length l) (node_held t at.node at.invariant.node c.index-in-loop-offset.ensures) in
-    let next = next_place ns at.node at.offset at.left (items_before ns c.args.place + c.args.count) c.len-in-loop-offset.result at.invariant.node read (omega (arith, read, at.invariant.offset)) at.invariant.sum c.requires.within (omega (arith, c.loop-offset-test.true, tested, read)) in
+    let read : c.len-in-loop-offset.result ≡ length (node_at ns at.node) =
+    c.len-in-loop-offset.ensures.value
+    ∙ ap (λ l. length l) (node_held t at.node at.invariant.node c.index-in-loop-offset.ensures) in
+    let next =
+    next_place ns at.node at.offset at.left (items_before ns c.args.place + c.args.count)
+    c.len-in-loop-offset.result at.invariant.node read (omega (arith, read, at.invariant.offset)) at.invariant.sum
+    c.requires.within (omega (arith, c.loop-offset-test.true, tested, read)) in
     record { node = next.0; offset = omega arith; sum = next.1 }
 
 pub overflow_sub-len : goal.overflow_sub-len

@@ -40,7 +40,9 @@ record Found (g : Over) (c : After-first_not_less_near-offset g) : Type 0 where
   pub offset : c.first_not_less_near-offset.result.0 ≡ less_count (g.P.Probe.answer c.args.probe.now) (node_at c.args.self.now.nodes c.node_by-node.result)
   pub here : equal_at (g.P.Probe.answer c.args.probe.now) (node_at c.args.self.now.nodes c.node_by-node.result) c.first_not_less_near-offset.result.0 ≡ c.first_not_less_near-offset.result.1
   pub before : items_before c.args.self.now.nodes (c.node_by-node.result, c.first_not_less_near-offset.result.0) ≡ less_count (g.P.Probe.answer c.args.probe.now) (concat c.args.self.now.nodes)
-  pub told : equal_at (g.P.Probe.answer c.args.probe.now) (concat c.args.self.now.nodes) (less_count (g.P.Probe.answer c.args.probe.now) (concat c.args.self.now.nodes)) ≡ c.first_not_less_near-offset.result.1
+  pub told : equal_at (g.P.Probe.answer c.args.probe.now) (concat c.args.self.now.nodes)
+      (less_count (g.P.Probe.answer c.args.probe.now) (concat c.args.self.now.nodes))
+      ≡ c.first_not_less_near-offset.result.1
   pub fixed : g.P.Probe.answer c.first_not_less_near-offset.new.probe ≡ g.P.Probe.answer c.args.probe.now
   pub comparisons : g.P.Probe.asked c.first_not_less_near-offset.new.probe ≤ g.P.Probe.asked c.args.probe.now + (digits (length c.args.self.now.nodes) + digits c.args.self.now.size)
 
@@ -60,7 +62,15 @@ found g c r =
       before = rw (offset, r.named) (place_for answer ns r.some (λ _. filled) c.requires);
       told = equal_joined answer ns r.some filled c.requires ∙ rw (offset, r.named) at here;
       fixed = near.fixed ∙ c.node_by-node.ensures.fixed;
-      comparisons = omega (arith, c.node_by-node.ensures.comparisons, near.comparisons, ap (λ l. digits (length l)) r.is, digits-mono _ _ small, ap (λ l. digits (length l)) c.as_slice.ensures.value, ap digits t.many);
+      comparisons = omega (
+        arith,
+        c.node_by-node.ensures.comparisons,
+        near.comparisons,
+        ap (λ l. digits (length l)) r.is,
+        digits-mono _ _ small,
+        ap (λ l. digits (length l)) c.as_slice.ensures.value,
+        ap digits t.many,
+      );
     }
 
 pub node_by-node-requires-clause-filled : goal.node_by-node-requires-clause-filled
@@ -161,8 +171,13 @@ returns-then-is_empty g c =
     }
 
 -- the place before the items that are found
-here : (g : Over) (c : After-first_not_less_near-offset g) → Read (g.P.Probe.answer c.args.probe.now) c.args.self.now.nodes c.node_by-node.result c.as_slice-2.result.now → Found g c → IsPlace c.args.self.now.nodes (c.node_by-node.result, c.first_not_less_near-offset.result.0)
-here g c r f = record { node_in = omega (arith, r.inside); offset_in = omega (arith, f.offset, count_by-le-length (λ x. is_lt (g.P.Probe.answer c.args.probe.now x)) (node_at c.args.self.now.nodes c.node_by-node.result)) }
+here : (g : Over) (c : After-first_not_less_near-offset g)
+    → Read (g.P.Probe.answer c.args.probe.now) c.args.self.now.nodes c.node_by-node.result c.as_slice-2.result.now
+    → Found g c → IsPlace c.args.self.now.nodes (c.node_by-node.result, c.first_not_less_near-offset.result.0)
+here g c r f = record {
+  node_in = omega (arith, r.inside);
+  offset_in = omega (arith, f.offset, count_by-le-length (λ x. is_lt (g.P.Probe.answer c.args.probe.now x)) (node_at c.args.self.now.nodes c.node_by-node.result));
+}
 
 pub returns-then-found-clause-from : goal.returns-then-found-clause-from
 returns-then-found-clause-from g c =

@@ -29,7 +29,10 @@ returns-in-Ok-clause-tree g c =
     let t = held g.Node.NodeLike.list c.self.inside.nodes.items c.self.view_is c.self.invariant in
     let s = spot g.met.T.Ord.total t.rule c.requires.aim (map g.Node.NodeLike.list c.make_room.new.nodes.items) c.in-Ok.place t.same c.in-Ok.ensures.nodes c.in-Ok.ensures.place in
     let nodes = c.put_in.ensures.nodes ∙ s.made in
-    let next : c.args.next ≡ c.args.self.now.next + length (put_events g.T.Ord.cmp c.args.self.now.size c.args.self.now.nodes c.args.value) = omega (arith, events_count g.met.T.Ord.total t.rule c.requires.aim, c.requires.next) in
+    let next : c.args.next
+    ≡ c.args.self.now.next
+    + length (put_events g.T.Ord.cmp c.args.self.now.size c.args.self.now.nodes c.args.value) =
+    omega (arith, events_count g.met.T.Ord.total t.rule c.requires.aim, c.requires.next) in
     λ i. record { nodes = nodes i; size = t.sized i; next = next i }
 
 pub invariant_of-self : goal.invariant_of-self

@@ -20,7 +20,10 @@ returns-in_ok-add-in-Some-clause-events g c =
     let one = rw (c.new-log.ensures.events, c.new-log.ensures.next, t.numbered) at c.in_ok-add.ensures.events in
     let next = rw (c.new-log.ensures.next, t.numbered) at c.in_ok-add.ensures.next in
     let two = rw (one, next) at c.in_ok-add-in-Some.ensures.events in
-    rw there.1 (both_cloned _ s c.args.self.now.size c.args.self.now.nodes c.args.node c.args.offset there.0 c.in_ok-removal_event.field-0 first c.in_ok-merge_event-in-Some.field-0 (sym c.requires.join ∙ c.in-Some.is) second two)
+    rw there.1
+    (both_cloned _ s c.args.self.now.size c.args.self.now.nodes c.args.node c.args.offset there.0
+    c.in_ok-removal_event.field-0 first c.in_ok-merge_event-in-Some.field-0 (sym c.requires.join ∙ c.in-Some.is)
+    second two)
 
 pub returns-in-None-clause-events : goal.returns-in-None-clause-events
 returns-in-None-clause-events g c =

@@ -18,17 +18,31 @@ read g c =
 half : (g : Over) (c : After-part_of g) → c.part_of.result.now ≡ part_for g.T.Ord.cmp c.args.self.now.size (node_at c.args.self.now.nodes c.args.aim.now.node) c.args.value.now
 half g c =
     let t = held g.Node.NodeLike.list c.self.inside.nodes.items c.self.view_is c.self.invariant in
-    c.part_of.ensures ∙ rw (c.as_slice-items.ensures.value ∙ (c.iter.ensures ∙ node_held t c.args.aim.now.node c.requires.aim.node_in c.index.ensures)) (half_is g.met.T.Ord.total t.rule c.requires.aim)
+    c.part_of.ensures
+    ∙ rw
+    (c.as_slice-items.ensures.value
+    ∙ (c.iter.ensures ∙ node_held t c.args.aim.now.node c.requires.aim.node_in c.index.ensures))
+    (half_is g.met.T.Ord.total t.rule c.requires.aim)
 
 pub add_halving-requires-clause-some : goal.add_halving-requires-clause-some
 add_halving-requires-clause-some g c =
     let t = held g.Node.NodeLike.list c.self.inside.nodes.items c.self.view_is c.self.invariant in
-    rw (read g (goal.at.add_halving-requires-clause-some g c).After-as_slice-items) (node_some g.T.Ord.cmp c.args.self.now.size c.args.self.now.nodes t.rule.lawful c.args.aim.now.node c.requires.aim.node_in)
+    rw (read g (goal.at.add_halving-requires-clause-some g c).After-as_slice-items)
+    (node_some g.T.Ord.cmp c.args.self.now.size c.args.self.now.nodes t.rule.lawful c.args.aim.now.node
+    c.requires.aim.node_in)
 
 pub add_halving-requires-clause-fits : goal.add_halving-requires-clause-fits
 add_halving-requires-clause-fits g c =
     let t = held g.Node.NodeLike.list c.self.inside.nodes.items c.self.view_is c.self.invariant in
-    rw (t.sized, read g (goal.at.add_halving-requires-clause-fits g c).After-as_slice-items) (omega (arith, c.requires.fits, events_count g.met.T.Ord.total t.rule c.requires.aim, parts_length g.met.T.Ord.total t.rule c.requires.aim, c.new-log.ensures.next, t.numbered))
+    rw (t.sized, read g (goal.at.add_halving-requires-clause-fits g c).After-as_slice-items)
+    (omega (
+      arith,
+      c.requires.fits,
+      events_count g.met.T.Ord.total t.rule c.requires.aim,
+      parts_length g.met.T.Ord.total t.rule c.requires.aim,
+      c.new-log.ensures.next,
+      t.numbered,
+    ))
 
 pub add_put-requires : goal.add_put-requires
 add_put-requires g c =
@@ -47,6 +61,19 @@ pub returns-clause-events : goal.returns-clause-events
 returns-clause-events g c =
     let t = held g.Node.NodeLike.list c.self.inside.nodes.items c.self.view_is c.self.invariant in
     let next = rw (c.new-log.ensures.next, t.numbered, t.sized, read g (goal.at.returns-clause-events g c).After-as_slice-items) at c.in_ok-add_halving.ensures.next in
-    let halving = rw (c.new-log.ensures.events, c.new-log.ensures.next, t.numbered, t.sized, read g (goal.at.returns-clause-events g c).After-as_slice-items) at (c.in_ok-add_halving.ensures.clones c.args.value.now) in
+    let halving =
+    rw (
+      c.new-log.ensures.events,
+      c.new-log.ensures.next,
+      t.numbered,
+      t.sized,
+      read g (goal.at.returns-clause-events g c).After-as_slice-items,
+    )
+    at (c.in_ok-add_halving.ensures.clones c.args.value.now) in
     let told = c.in_ok-add_put.ensures.clones in
-    rw (events_numbered g.met.T.Ord.total t.rule c.requires.aim c.args.self.now.next, ← next, ← half g (goal.at.returns-clause-events g c).After-part_of) (rw (told.1, halving.1) (zip_on _ _ _ _ _ halving.2 told.2))
+    rw (
+      events_numbered g.met.T.Ord.total t.rule c.requires.aim c.args.self.now.next,
+      ← next,
+      ← half g (goal.at.returns-clause-events g c).After-part_of,
+    )
+    (rw (told.1, halving.1) (zip_on _ _ _ _ _ halving.2 told.2))

@@ -12,7 +12,11 @@ use Rattle.indexset_log.proofs.set.BTreeSet.within.Goals.{After-place_to-to}
 use Rattle.indexset_log.proofs.set.BTreeSet.within.Goals as goal
 
 -- the range lies between the two places
-cut : (g : Over) (c : After-place_to-to g) → let i = items_before c.args.self.now.nodes c.place_from-from.result in let j = items_before c.args.self.now.nodes c.place_to-to.result in let l = concat c.args.self.now.nodes in (i ≤ j) × (between i j l ≡ in_range g.Q.LookupKey.order l (bound_map (λ v. v.now) c.args.range.0) (bound_map (λ v. v.now) c.args.range.1))
+cut : (g : Over) (c : After-place_to-to g) → let i = items_before c.args.self.now.nodes c.place_from-from.result in
+    let j = items_before c.args.self.now.nodes c.place_to-to.result in let l = concat c.args.self.now.nodes in
+    (i ≤ j)
+    × (between i j l
+    ≡ in_range g.Q.LookupKey.order l (bound_map (λ v. v.now) c.args.range.0) (bound_map (λ v. v.now) c.args.range.1))
 cut g c =
     let order = g.Q.LookupKey.order in
     let l = concat c.args.self.now.nodes in
@@ -20,18 +24,26 @@ cut g c =
     let up = lawful_ascends g.T.Ord.cmp c.args.self.now.size c.args.self.now.nodes t.rule.lawful in
     let from = c.place_from-from.ensures.before ∙ probed_before order (λ v. v.now) (λ x. x) l c.args.range.0 c.map.result c.map.ensures in
     let to = c.place_to-to.ensures.before ∙ probed_up_to order (λ v. v.now) (λ x. x) l c.args.range.1 c.map-2.result c.map-2.ensures in
-    let parted = parted_by_sought g.met.Q.LookupKey.acts_as_key l up in
-    (sought_range_order order (λ x. x) l parted g.met.Q.LookupKey.acts_as_key _ _ c.requires _ _ from to, sought_range_is order (λ x. x) l parted g.met.Q.LookupKey.acts_as_key _ _ c.requires _ _ from to)
+    let parted = parted_by_sought g.met.Q.LookupKey.acts_as_key l up in (
+      sought_range_order order (λ x. x) l parted g.met.Q.LookupKey.acts_as_key _ _ c.requires _ _ from to,
+      sought_range_is order (λ x. x) l parted g.met.Q.LookupKey.acts_as_key _ _ c.requires _ _ from to,
+    )
 
 pub place_from-from-requires : goal.place_from-from-requires
 place_from-from-requires g c =
     let t = held g.Node.NodeLike.list c.self.inside.nodes.items c.self.view_is c.self.invariant in
-    each_bounded _ (λ p. parted_by_sought g.met.Q.LookupKey.acts_as_key (concat c.args.self.now.nodes) (lawful_ascends g.T.Ord.cmp c.args.self.now.size c.args.self.now.nodes t.rule.lawful) p.0) c.map.result
+    each_bounded _ (λ p.
+    parted_by_sought g.met.Q.LookupKey.acts_as_key (concat c.args.self.now.nodes)
+    (lawful_ascends g.T.Ord.cmp c.args.self.now.size c.args.self.now.nodes t.rule.lawful) p.0)
+    c.map.result
 
 pub place_to-to-requires : goal.place_to-to-requires
 place_to-to-requires g c =
     let t = held g.Node.NodeLike.list c.self.inside.nodes.items c.self.view_is c.self.invariant in
-    each_bounded _ (λ p. parted_by_sought g.met.Q.LookupKey.acts_as_key (concat c.args.self.now.nodes) (lawful_ascends g.T.Ord.cmp c.args.self.now.size c.args.self.now.nodes t.rule.lawful) p.0) c.map-2.result
+    each_bounded _ (λ p.
+    parted_by_sought g.met.Q.LookupKey.acts_as_key (concat c.args.self.now.nodes)
+    (lawful_ascends g.T.Ord.cmp c.args.self.now.size c.args.self.now.nodes t.rule.lawful) p.0)
+    c.map-2.result
 
 pub range_between-requires-clause-order : goal.range_between-requires-clause-order
 range_between-requires-clause-order g c = (cut g c).0

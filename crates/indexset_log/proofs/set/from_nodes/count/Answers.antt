@@ -10,4 +10,12 @@ pub returns-in_err-len : goal.returns-in_err-len
 returns-in_err-len g c =
     let list = g.Node.NodeLike.list in
     let nodes = c.args.nodes.now in
-    rw c.from_residual.ensures (omega (arith, c.in_err-len.ensures, c.len.ensures.value, c.loop-node.invariant, more_read list nodes c.loop-node.node-index c.node-item.result (omega arith) c.node-item.is, length-concat-take (map list nodes) (c.loop-node.node-index + 1)))
+    rw c.from_residual.ensures
+    (omega (
+      arith,
+      c.in_err-len.ensures,
+      c.len.ensures.value,
+      c.loop-node.invariant,
+      more_read list nodes c.loop-node.node-index c.node-item.result (omega arith) c.node-item.is,
+      length-concat-take (map list nodes) (c.loop-node.node-index + 1),
+    ))

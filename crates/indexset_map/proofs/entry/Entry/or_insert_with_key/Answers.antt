@@ -12,7 +12,9 @@ module _ {K V : Type 0} (P : K → V → Type 0) (k : K) (v : V) (made : P k v) 
   value_made (Ok x) told = rw (none, is, told) made
   value_made (Err e) told = tt
 
-  handed_back : (r : Result (MutBor V) (Refused (K × V))) (c : Refusal) → IfErr r (λ e. (Some k ≡ Some e.value.0) × (e.value.1 ≡ v) × (e.cause ≡ c)) → IfErr r (λ e. (asked ≡ Some e.value.0) × P e.value.0 e.value.1 × (e.cause ≡ c))
+  handed_back : (r : Result (MutBor V) (Refused (K × V))) (c : Refusal)
+      → IfErr r (λ e. (Some k ≡ Some e.value.0) × (e.value.1 ≡ v) × (e.cause ≡ c))
+      → IfErr r (λ e. (asked ≡ Some e.value.0) × P e.value.0 e.value.1 × (e.cause ≡ c))
   handed_back (Ok x) c told = tt
   handed_back (Err e) c told = let same : k ≡ e.value.0 = cc in (is ∙ told.0, subst (λ u. P e.value.0 u) (sym told.1) (subst (λ j. P j v) same made), told.2)
 

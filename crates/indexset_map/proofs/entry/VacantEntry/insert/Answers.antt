@@ -20,7 +20,10 @@ returns g c =
     let at = (c.in-Ok.ensures {u = tt}).stands.1 in
     let gap = absent_gap g.K.Ord.cmp l e.key e.absent (parted_by_key g.K.Ord.cmp g.met.K.Ord.total l c.put_at.ensures.ascending e.key) i refl in
     let read : Some c.value_in.result.now ≡ Some v =
-    sym c.value_in.ensures.value ∙ (ap (λ j. option_map (λ (p : Pair g.row.K.Denot g.row.V.Denot). p.value) (slice_get n.pairs j)) at ∙ (ap (λ (m : Contents g.row.K.Denot g.row.V.Denot). option_map (λ p. p.value) (slice_get m.pairs i)) ok ∙ kept_read g.K.Ord.cmp l e.key i gap e.absent v)) in
+    sym c.value_in.ensures.value
+    ∙ (ap (λ j. option_map (λ (p : Pair g.row.K.Denot g.row.V.Denot). p.value) (slice_get n.pairs j)) at
+    ∙ (ap (λ (m : Contents g.row.K.Denot g.row.V.Denot). option_map (λ p. p.value) (slice_get m.pairs i)) ok
+    ∙ kept_read g.K.Ord.cmp l e.key i gap e.absent v)) in
     let writes = λ (w : g.row.V.Denot).
     ap (λ j. with_written n j w) at
     ∙ (ap (λ (m : Contents g.row.K.Denot g.row.V.Denot). with_written m i w) ok

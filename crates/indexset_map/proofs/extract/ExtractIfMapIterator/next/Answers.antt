@@ -12,4 +12,6 @@ if_some P f (Some x) h = h
 pub returns-clause-goes : goal.returns-clause-goes
 returns-clause-goes g c =
     extract_goes (λ s. length (extract_pairs s).unasked) _ _ c.extract.result c.extract.ensures.callable
-    (if_some _ (λ entry. pair entry.0 entry.1) c.extract.result (extracts_fewer (CalledOnPair g.F.FnMut) _ _ (option_map (λ entry. pair entry.0 entry.1) c.extract.result) _ _ c.extract.ensures.extracted))
+    (if_some _ (λ entry. pair entry.0 entry.1) c.extract.result
+    (extracts_fewer (CalledOnPair g.F.FnMut) _ _ (option_map (λ entry. pair entry.0 entry.1) c.extract.result) _ _
+    c.extract.ensures.extracted))

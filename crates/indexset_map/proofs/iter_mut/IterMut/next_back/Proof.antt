@@ -1,7 +1,20 @@
 -- The last pair is borrowed mutably as an `Option`, which the borrow checker does not cover. The
 -- proof calls `ready` on a reborrow of the iterator for a lifetime within the old one; then
 -- `next_pair_back` lends the pair as it is.
-use Rattle.indexset_set.proofs.LentPairs.{proved, leaves, Some-of, none_of, a_type, named, dcons, dnil, Val, vptr, vstruct, vcons, vnil, of_list, inst_fn, SProp, emp, id⊢, sep, wand, apply∗, ftrue, flft, fdead, fres, Lft, GName, Item, ‵, raw, ◌⊛◌, some, later, at_ret, ◌$◌, ◌∵◌, !, qed, by, move, keep, drop, split, split3, join, fsplit, fsplit3, fjoin, pick, use0, use1, use2, use3, feq_l, await, rewrite, stop, addr, lit, of_opd, no_more, and_then, first, branches, skips, exec, returns, returns_within, enter, alloc_all, pass_all, free_all, look_at, get, through, sets, lands_as, env, agg, live, tables, fact, fact_i, ◌⊑◌, Lfts, no, LentAgain, lends_again, comes_back, lft_new, lft_end, lft-common, common, mem-append_left, mem-append_right, full_share, RattleType, owns, types_at, plain, named_lft, RefMutOf, bool, MutRef, ShrRef, MutBor, mut_vals, mut_Tells, nothing, only, peeks, heard, Is, shows, param, bounded, Tuple, lasts, triple_of, calls_at, framed, Stays, stay_dropped, walk_of, Goes-spent_ref, after, is_true, is_false, is_low}
+use Rattle.indexset_set.proofs.LentPairs.{proved, leaves, Some-of, none_of, a_type, named, dcons, dnil, Val, vptr}
+use Rattle.indexset_set.proofs.LentPairs.{vstruct, vcons, vnil, of_list, inst_fn, SProp, emp, id⊢, sep, wand, apply∗}
+use Rattle.indexset_set.proofs.LentPairs.{ftrue, flft, fdead, fres, Lft, GName, Item, ‵, raw, ◌⊛◌, some, later}
+use Rattle.indexset_set.proofs.LentPairs.{at_ret, ◌$◌, ◌∵◌, !, qed, by, move, keep, drop, split, split3, join}
+use Rattle.indexset_set.proofs.LentPairs.{fsplit, fsplit3, fjoin, pick, use0, use1, use2, use3, feq_l, await}
+use Rattle.indexset_set.proofs.LentPairs.{rewrite, stop, addr, lit, of_opd, no_more, and_then, first, branches}
+use Rattle.indexset_set.proofs.LentPairs.{skips, exec, returns, returns_within, enter, alloc_all, pass_all, free_all}
+use Rattle.indexset_set.proofs.LentPairs.{look_at, get, through, sets, lands_as, env, agg, live, tables, fact}
+use Rattle.indexset_set.proofs.LentPairs.{fact_i, ◌⊑◌, Lfts, no, LentAgain, lends_again, comes_back, lft_new}
+use Rattle.indexset_set.proofs.LentPairs.{lft_end, lft-common, common, mem-append_left, mem-append_right, full_share}
+use Rattle.indexset_set.proofs.LentPairs.{RattleType, owns, types_at, plain, named_lft, RefMutOf, bool, MutRef}
+use Rattle.indexset_set.proofs.LentPairs.{ShrRef, MutBor, mut_vals, mut_Tells, nothing, only, peeks, heard, Is}
+use Rattle.indexset_set.proofs.LentPairs.{shows, param, bounded, Tuple, lasts, triple_of, calls_at, framed, Stays}
+use Rattle.indexset_set.proofs.LentPairs.{stay_dropped, walk_of, Goes-spent_ref, after, is_true, is_false, is_low}
 use Rattle.std.proofs.Common.{◌≡◌, ℕ, ◌-◌, ◌<◌, Bool, [], ◌∷◌, ◌++◌, Option, Some, None, slice_get, if◌then◌else◌, refl, sym, ap, ◌∙◌, lit<, nat_lt}
 use Rattle.std.specs.Option.{option_map}
 use base.Share
@@ -23,7 +36,8 @@ pub next_back_spec : {M : Type 1} → statement M
 unfolding follows_by
 next_back_spec 𝓤 𝓛 𝓜 𝓡 wired X Y LX LY o₀ d₀ o₁ d₁ o₂ d₂ o₃ d₃ m₀ m₁ m₂ m₃ =
     let H = 𝓛.H in let 𝓣 = tables 𝓤 H 𝓜 𝓡 𝓡.env in let K : RattleType = param 0 X in let V : RattleType = param 1 Y in let En = ended X Y o₀ d₀ o₁ d₁ o₂ d₂ o₃ d₃ in
-    let inst = bounded (a_type ∷ a_type ∷ []) (X, (Y, tt)) (dcons d₀ (dcons d₁ (dcons d₂ (dcons d₃ dnil)))) in let fn = inst_fn inst code.function in let c = clauses X Y o₀ d₀ o₁ d₁ o₂ d₂ o₃ d₃ 𝓛 𝓜.mem 𝓡.returns in
+    let inst = bounded (a_type ∷ a_type ∷ []) (X, (Y, tt)) (dcons d₀ (dcons d₁ (dcons d₂ (dcons d₃ dnil)))) in
+    let fn = inst_fn inst code.function in let c = clauses X Y o₀ d₀ o₁ d₁ o₂ d₂ o₃ d₃ 𝓛 𝓜.mem 𝓡.returns in
     let RowAt : Lfts 4 → RattleType = λ κs. walk.the_row (named_lft 4 1 tt κs) K V o₀ o₂ o₃ o₁ in
     let G = triple_of 𝓛 (g.signature X Y o₀ d₀ o₁ d₁ o₂ d₂ o₃ d₃) (g.spec X Y o₀ d₀ o₁ d₁ o₂ d₂ o₃ d₃ 𝓛 𝓜.mem 𝓡.returns) in
     let met = theirs.met 𝓤 𝓛 𝓜 𝓡 (code.calls-indexset_map::iter_mut::IterMut::next_pair_back 𝓡.env wired) X Y LX LY o₀ d₀ o₁ d₁ o₂ d₂ o₃ d₃ m₀ m₁ m₂ m₃ in
@@ -37,7 +51,9 @@ next_back_spec 𝓤 𝓛 𝓜 𝓡 wired X Y LX LY o₀ d₀ o₁ d₁ o₂ d₂
     let s = a.0 in let b : ℕ = s.ref_ptr.0 in let o : ℕ = s.ref_ptr.1 in let κ : Lft = κs.0 in let q = qs.0 in
     let found : Option (X.Denot × Y.Denot) = option_map entry_of (slice_get s.now.map.now.pairs (s.now.back - 1)) in
     let Lent : RattleType = Tuple (ShrRef (named 0) κs.0 K ∷ MutRef (named 0) κs.0 V ∷ []) in let OL : RattleType = OP.the_row Lent in
-    let κ₁ : Lft = κs.1.0 in let q₁ = qs.1.0 in let rest : Item 𝓤 = ‵ (flft κs.1.1.0 qs.1.1.0) ⊛ ‵ (flft κs.1.1.1.0 qs.1.1.1.0) ⊛ ‵ ftrue in let others : Item 𝓤 = ‵ (flft κ₁ q₁) ⊛ rest in let tokens : Item 𝓤 = ‵ (flft κ q) ⊛ others in
+    let κ₁ : Lft = κs.1.0 in let q₁ = qs.1.0 in
+    let rest : Item 𝓤 = ‵ (flft κs.1.1.0 qs.1.1.0) ⊛ ‵ (flft κs.1.1.1.0 qs.1.1.1.0) ⊛ ‵ ftrue in
+    let others : Item 𝓤 = ‵ (flft κ₁ q₁) ⊛ rest in let tokens : Item 𝓤 = ‵ (flft κ q) ⊛ others in
     let Ref = λ (κ' : Lft) (x : MutBor Row.Denot). (MutRef (named 0) κ' Row).own_val x (mut_vals s) in
     let y : (walk_of 𝓛 En hs c).Ghost = ((κs, qs, bounds, a, (mut_vals s, tt)), gh) in let Post : Val → SProp 𝓤 = (walk_of 𝓛 En hs c).post y in
     let inK : Type 0 = κs.1.1.0 ⊑ X.lives in let inV : Type 0 = κs.1.1.1.0 ⊑ Y.lives in let Low : Type 0 = s.now.front < s.now.back in
@@ -50,17 +66,42 @@ next_back_spec 𝓤 𝓛 𝓜 𝓡 wired X Y LX LY o₀ d₀ o₁ d₁ o₂ d₂
     use1 𝓛 (‵ (flft κ₁ (Share.left q₁)) ⊛ ‵ (flft κ₁ (Share.right q₁))) (𝓛.lfts.lft_split κ₁ q₁) $ split ! $
     lft_new ! tt (λ α. let ν : Lft = (α ∷ []) ++ κ₁ in let t = (common full_share (Share.left q₁)).0 in let Both = sep 𝓤 (𝓛.A.lft (α ∷ []) full_share) (𝓛.A.lft κ₁ (Share.left q₁)) in
     use2 𝓛 (‵ (flft ν t) ⊛ raw (wand 𝓤 (𝓛.A.lft ν t) Both)) (lft-common 𝓛 (α ∷ []) κ₁ full_share (Share.left q₁)) $ split ! $ move ! (5 ∷ 4 ∷ []) $
-    use2 𝓛 (later (some (λ (δ : GName). ‵ (Ref ν (record s { ghost_name = δ })) ⊛ ‵ (LentAgain Row κ ν q s.ghost_name b o δ s.now)))) (lends_again 𝓛 Row (named 0) κ ν q s.ghost_name b o (named 0) s.now) $ await ! tt $ pick ! (λ δ. split ! $
+    use2 𝓛
+    (later
+    (some
+    (λ (δ : GName). ‵ (Ref ν (record s { ghost_name = δ })) ⊛ ‵ (LentAgain Row κ ν q s.ghost_name b o δ s.now))))
+    (lends_again 𝓛 Row (named 0) κ ν q s.ghost_name b o (named 0) s.now) $
+    await ! tt $ pick ! (λ δ. split ! $
     -- [the loan; what the lender keeps; the token of ν; what gives it back; the other half of κ₁'s;
     -- the rest of the tokens]
-    let x : Rd.Ghost = (((ν, κs.1), (t, (Share.right q₁, qs.1.1)), ((λ a m. mem-append_right (α ∷ []) m), ((λ a m. mem-append_right (α ∷ []) (bounds.1.1.1.0 a m)), ((λ a m. mem-append_right (α ∷ []) (bounds.1.1.1.1.0 a m)), (bounds.1.1.1.0, (bounds.1.1.1.1.0, tt))))), (record s { ghost_name = δ }, tt), (mut_vals s, tt)), tt) in
+    let x : Rd.Ghost = (
+      (
+        (ν, κs.1),
+        (t, (Share.right q₁, qs.1.1)),
+        (
+          (λ a m. mem-append_right (α ∷ []) m),
+          ((λ a m. mem-append_right (α ∷ []) (bounds.1.1.1.0 a m)), ((λ a m. mem-append_right (α ∷ []) (bounds.1.1.1.1.0 a m)), (bounds.1.1.1.0, (bounds.1.1.1.1.0, tt)))),
+        ),
+        (record s { ghost_name = δ }, tt),
+        (mut_vals s, tt),
+      ),
+      tt,
+    ) in
     nothing ! $ move ! (1 ∷ 0 ∷ []) $ fjoin ! $ move ! (4 ∷ 5 ∷ []) $ join ! $ move ! (3 ∷ 0 ∷ []) $ join ! $ join ! $
     nothing ! $ use0 𝓛 (raw (fact 𝓤 inV)) (fact_i 𝓤 inV (emp 𝓤) lv) $ join ! $ use0 𝓛 (raw (fact 𝓤 inK)) (fact_i 𝓤 inK (emp 𝓤) lk) $ join ! $
     move ! (1 ∷ 0 ∷ []) $ use2 𝓛 (raw (Rd.pre x)) (id⊢ 𝓤 _) $
     calls_at ! (framed 𝓤 H 𝓜 𝓣) Rd metR x (and_then ! (get ! refl) (no_more !)) (λ w.
-    use1 𝓛 (later (some (λ (has : Bool). ((‵ (flft ν t) ⊛ ‵ (flft κ₁ (Share.right q₁)) ⊛ rest) ⊛ ‵ (bool.own_val has (w ∷ []))) ⊛ some (λ (ws : Row.Denot × Unit {0}). ‵ (lasts (r.ended X Y o₀ d₀ o₁ d₁ o₂ d₂ o₃ d₃) x.0.0 x.0.3 ws) ⊛ raw (fact 𝓤 ((has ≡ nat_lt s.now.front s.now.back) × (ws.0 ≡ s.now))))))) (id⊢ 𝓤 _) $
+    use1 𝓛
+    (later
+    (some
+    (λ (has : Bool). ((‵ (flft ν t) ⊛ ‵ (flft κ₁ (Share.right q₁)) ⊛ rest) ⊛ ‵ (bool.own_val has (w ∷ [])))
+    ⊛ some
+    (λ (ws : Row.Denot × Unit {0}). ‵ (lasts (r.ended X Y o₀ d₀ o₁ d₁ o₂ d₂ o₃ d₃) x.0.0 x.0.3 ws)
+    ⊛ raw (fact 𝓤 ((has ≡ nat_lt s.now.front s.now.back) × (ws.0 ≡ s.now)))))))
+    (id⊢ 𝓤 _) $
     await ! tt $ pick ! (λ has. split ! $ split ! $ split ! $ move ! (0 ∷ 5 ∷ []) $
-    use2 𝓛 (‵ (flft (α ∷ []) full_share) ⊛ ‵ (flft κ₁ (Share.left q₁))) (apply∗ 𝓤 (𝓛.A.lft ν t) Both) $ split ! $ lft_end ! tt $ use1 𝓛 (‵ (fdead ν)) (𝓛.lfts.dead-incl ν (α ∷ []) (λ a m. mem-append_left κ₁ m)) $
+    use2 𝓛 (‵ (flft (α ∷ []) full_share) ⊛ ‵ (flft κ₁ (Share.left q₁))) (apply∗ 𝓤 (𝓛.A.lft ν t) Both) $ split ! $
+    lft_end ! tt $ use1 𝓛 (‵ (fdead ν)) (𝓛.lfts.dead-incl ν (α ∷ []) (λ a m. mem-append_left κ₁ m)) $
     move ! (2 ∷ []) $ split ! $ move ! (3 ∷ 0 ∷ []) $ use2 𝓛 (‵ (flft κ₁ q₁)) (𝓛.lfts.lft_join κ₁ q₁) $ join ! $ move ! (1 ∷ 0 ∷ []) $
     move ! (2 ∷ []) $ feq_l ! (λ is_has. lands_as ! (ap only is_has) refl (tt, tt) $
     move ! (2 ∷ []) $ pick ! (λ us. split ! $ move ! (1 ∷ []) $ heard ! _ (λ told. fsplit ! $ fsplit ! $
@@ -74,7 +115,9 @@ next_back_spec 𝓤 𝓛 𝓜 𝓡 wired X Y LX LY o₀ d₀ o₁ d₁ o₂ d₂
     (λ t. let z : G.Ghost = ((κs, qs, bounds, (s, tt), (mut_vals s, tt)), tt) in
     sets ! (addr ! (through ! refl (stop !))) refl (tt, tt) $
     nothing ! $ move ! (1 ∷ 0 ∷ []) $ fjoin ! $ move ! (1 ∷ 0 ∷ []) $ join ! $
-    use0 𝓛 (raw (fact 𝓤 Low)) (fact_i 𝓤 Low (emp 𝓤) (is_low s.now.front s.now.back has told.0 (is_true has t))) $ use0 𝓛 (raw (fact 𝓤 inV)) (fact_i 𝓤 inV (emp 𝓤) lv) $ join ! $ use0 𝓛 (raw (fact 𝓤 inK)) (fact_i 𝓤 inK (emp 𝓤) lk) $ join ! $
+    use0 𝓛 (raw (fact 𝓤 Low)) (fact_i 𝓤 Low (emp 𝓤) (is_low s.now.front s.now.back has told.0 (is_true has t))) $
+    use0 𝓛 (raw (fact 𝓤 inV)) (fact_i 𝓤 inV (emp 𝓤) lv) $ join ! $
+    use0 𝓛 (raw (fact 𝓤 inK)) (fact_i 𝓤 inK (emp 𝓤) lk) $ join ! $
     move ! (1 ∷ 0 ∷ []) $ use2 𝓛 (raw (G.pre z)) (id⊢ 𝓤 _) $
     calls_at ! (framed 𝓤 H 𝓜 𝓣) G met z (and_then ! (get ! refl) (no_more !)) (λ v.
     use1 𝓛 (later (some (λ (r : Lent.Denot). (tokens ⊛ ‵ (Lent.own_val r (v ∷ []))) ⊛ some (λ (ws : Unit {0} × Unit {0}). ‵ (lasts (g.ended X Y o₀ d₀ o₁ d₁ o₂ d₂ o₃ d₃) κs (s, tt) ws)

@@ -47,7 +47,10 @@ invariant_of-self-2 g c =
     let free : c.in-Some.free ≡ free_number list = rw (← whole) c.in-Some.ensures.1 in
     let old : c.self.inside.pair_next ≤ n = omega (arith, c.max-self-inside.ensures) in
     let new : free_number list ≤ n = omega (arith, c.max-self-inside.ensures, free) in
-    rw c.in_ok-attach_node.ensures.nodes (below_insert n nodes (attach_index (by_number g.K.Ord.cmp) nodes list) list (below_more c.self.inside.pair_next n old (concat nodes) c.self.invariant) (below_more (free_number list) n new list (below_free list)))
+    rw c.in_ok-attach_node.ensures.nodes
+    (below_insert n nodes (attach_index (by_number g.K.Ord.cmp) nodes list) list
+    (below_more c.self.inside.pair_next n old (concat nodes) c.self.invariant)
+    (below_more (free_number list) n new list (below_free list)))
 
 pub returns-clause-attached : goal.returns-clause-attached
 returns-clause-attached g c =

@@ -7,4 +7,7 @@ pub returns : goal.returns
 returns g c =
     let cmp = g.K.Ord.cmp in
     let m = c.args.self.now in
-    c.is_ok.ensures.value ∙ ok_found (by_number cmp) m.size m.nodes c.locate.ensures.lawful (λ p. g.Q.LookupKey.order p.key c.args.key) (sought_keys cmp m.size m.nodes c.locate.ensures.lawful g.met.Q.LookupKey.acts_as_key c.args.key) c.locate.result c.locate.ensures.place
+    c.is_ok.ensures.value
+    ∙ ok_found (by_number cmp) m.size m.nodes c.locate.ensures.lawful (λ p. g.Q.LookupKey.order p.key c.args.key)
+    (sought_keys cmp m.size m.nodes c.locate.ensures.lawful g.met.Q.LookupKey.acts_as_key c.args.key)
+    c.locate.result c.locate.ensures.place

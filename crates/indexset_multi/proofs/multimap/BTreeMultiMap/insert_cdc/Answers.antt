@@ -12,11 +12,17 @@ invariant_of-self g c = rw c.in_err-old.ensures.unchanged c.self.invariant
 
 pub returns-in_err-old-clause-refusal : goal.returns-in_err-old-clause-refusal
 returns-in_err-old-clause-refusal g c =
-    let cause = c.in_err-old.ensures.refusal ∙ put_refusal g.K.Ord.cmp g.V.PartialEq.eq c.args.self.now c.args.key c.args.value (ap set_tree c.self.view_is) (ap (λ q. q.0) c.in_ok-pair.ensures.answer) in
+    let cause =
+    c.in_err-old.ensures.refusal
+    ∙ put_refusal g.K.Ord.cmp g.V.PartialEq.eq c.args.self.now c.args.key c.args.value (ap set_tree c.self.view_is)
+    (ap (λ q. q.0) c.in_ok-pair.ensures.answer) in
     rw (← c.in_ok-pair.ensures.refusal, ← cause) (grind (arith, common_steps))
 
 pub invariant_of-self-2 : goal.invariant_of-self-2
-invariant_of-self-2 g c = put_numbers g.K.Ord.cmp g.V.PartialEq.eq c.args.self.now c.args.key c.args.value (ap set_tree c.self.view_is) (ap (λ q. q.0) c.in_ok-pair.ensures.answer) c.in_ok-old.ensures.changed.contents (ap (λ q. q.1) c.in_ok-pair.ensures.answer) c.node_count-nodes.ensures.numbers
+invariant_of-self-2 g c =
+    put_numbers g.K.Ord.cmp g.V.PartialEq.eq c.args.self.now c.args.key c.args.value (ap set_tree c.self.view_is)
+    (ap (λ q. q.0) c.in_ok-pair.ensures.answer) c.in_ok-old.ensures.changed.contents
+    (ap (λ q. q.1) c.in_ok-pair.ensures.answer) c.node_count-nodes.ensures.numbers
 
 pub returns : goal.returns
 returns g c =

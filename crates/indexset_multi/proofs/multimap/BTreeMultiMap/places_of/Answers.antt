@@ -12,7 +12,9 @@ use Rattle.indexset_multi.proofs.multimap.BTreeMultiMap.places_of.Goals.{After-p
 use Rattle.indexset_multi.proofs.multimap.BTreeMultiMap.places_of.Goals as goal
 
 -- the pairs of the key lie between the two places
-cut : (g : Over) (c : After-places_by g) → let s = c.self.inside.set in let i = items_before s.nodes c.places_by.result.0 in let j = items_before s.nodes c.places_by.result.1 in (i ≤ j) × (between i j (concat s.nodes) ≡ pairs_of g.Q.LookupKey.order (concat s.nodes) c.args.key.now)
+cut : (g : Over) (c : After-places_by g) → let s = c.self.inside.set in
+    let i = items_before s.nodes c.places_by.result.0 in let j = items_before s.nodes c.places_by.result.1 in
+    (i ≤ j) × (between i j (concat s.nodes) ≡ pairs_of g.Q.LookupKey.order (concat s.nodes) c.args.key.now)
 cut g c =
     let order = g.Q.LookupKey.order in
     let s = c.self.inside.set in
@@ -21,8 +23,10 @@ cut g c =
     let parted = sought_keys g.K.Ord.cmp s.size s.nodes c.node_count-nodes.ensures.lawful g.met.Q.LookupKey.acts_as_key in
     let from = rw c.new.ensures at c.places_by.ensures.before in
     let to = rw c.new.ensures at c.places_by.ensures.past in
-    let ordered = one_ordered g.Q.Ord.cmp g.met.Q.Ord.total k in
-    (sought_range_order order (λ p. p.key) l parted g.met.Q.LookupKey.acts_as_key (Included k) (Included k) ordered _ _ from to, sought_range_is order (λ p. p.key) l parted g.met.Q.LookupKey.acts_as_key (Included k) (Included k) ordered _ _ from to ∙ between_one order l k)
+    let ordered = one_ordered g.Q.Ord.cmp g.met.Q.Ord.total k in (
+      sought_range_order order (λ p. p.key) l parted g.met.Q.LookupKey.acts_as_key (Included k) (Included k) ordered _ _ from to,
+      sought_range_is order (λ p. p.key) l parted g.met.Q.LookupKey.acts_as_key (Included k) (Included k) ordered _ _ from to ∙ between_one order l k,
+    )
 
 pub returns-clause-order : goal.returns-clause-order
 returns-clause-order g c =

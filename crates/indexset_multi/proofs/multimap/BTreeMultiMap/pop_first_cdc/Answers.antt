@@ -34,7 +34,8 @@ returns-in_err-pair-clause-no_event g c none =
 
 pub invariant_of-self-2 : goal.invariant_of-self-2
 invariant_of-self-2 g c =
-    subst (AreNumberedBelow c.self.inside.pair_next) (sym c.in_ok-pair.ensures.changed.contents) (All-drop (λ p. p.discriminator < c.self.inside.pair_next) 1 (concat c.self.inside.set.nodes) c.self.invariant)
+    subst (AreNumberedBelow c.self.inside.pair_next) (sym c.in_ok-pair.ensures.changed.contents)
+    (All-drop (λ p. p.discriminator < c.self.inside.pair_next) 1 (concat c.self.inside.set.nodes) c.self.invariant)
 
 pub returns : goal.returns
 returns g c =
@@ -60,7 +61,10 @@ returns g c =
       dense = made.dense;
     }) in
     let all = subst (λ es. AreTableEvents (IsMultiPairClone g.K.Clone.is_clone g.V.Clone.is_clone) m.next es c.in_ok-pair.events.items) told
-    (subst (λ t. AreTableEvents (IsMultiPairClone g.K.Clone.is_clone g.V.Clone.is_clone) t.next (removal_events_at (by_number g.K.Ord.cmp) t.size t.nodes 0) c.in_ok-pair.events.items) seen done.events.clones) in
+    (subst (λ t.
+    AreTableEvents (IsMultiPairClone g.K.Clone.is_clone g.V.Clone.is_clone) t.next
+    (removal_events_at (by_number g.K.Ord.cmp) t.size t.nodes 0) c.in_ok-pair.events.items)
+    seen done.events.clones) in
     record {
       answer = c.entry_of.ensures ∙ ap (option_map key_and_value) (done.answer ∙ (λ i. slice_get (concat (same i)) 0));
       refusal = tt;

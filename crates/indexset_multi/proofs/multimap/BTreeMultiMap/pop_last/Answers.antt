@@ -43,7 +43,9 @@ returns-in_err-pair-clause-never g c free fits =
 
 pub invariant_of-self-2 : goal.invariant_of-self-2
 invariant_of-self-2 g c =
-    subst (AreNumberedBelow c.self.inside.pair_next) (sym c.in_ok-pair.ensures.changed.contents) (All-take (λ p. p.discriminator < c.self.inside.pair_next) (length (concat c.self.inside.set.nodes) - 1) (concat c.self.inside.set.nodes) c.self.invariant)
+    subst (AreNumberedBelow c.self.inside.pair_next) (sym c.in_ok-pair.ensures.changed.contents)
+    (All-take (λ p. p.discriminator < c.self.inside.pair_next) (length (concat c.self.inside.set.nodes) - 1)
+    (concat c.self.inside.set.nodes) c.self.invariant)
 
 pub returns : goal.returns
 returns g c =

@@ -14,7 +14,10 @@ overflow_add-count g c =
     let k = c.args.key in
     let old = c.args.self.now in
     let at = c.loop-key in
-    let found : is_some (first_pair order (concat at.self.nodes) k) ≡ true = sym (ap is_some (rw c.in-Some.is at c.in_ok-remove_first.ensures.answer) ∙ some_mapped key_and_value (first_pair order (concat at.self.nodes) k)) in
+    let found : is_some (first_pair order (concat at.self.nodes) k) ≡ true =
+    sym
+    (ap is_some (rw c.in-Some.is at c.in_ok-remove_first.ensures.answer)
+    ∙ some_mapped key_and_value (first_pair order (concat at.self.nodes) k)) in
     let one = more_left g.met.K.Ord.total g.met.Q.LookupKey.acts_as_key old c.rule.ensures.tree k at.count at.invariant.tree found in
     record { fits = omega (arith, one, c.len-len.ensures, removed_fit order (concat old.nodes) k, c.len-len.type_inv) }
 
@@ -24,7 +27,10 @@ loop-key-smaller-in-Some g c =
     let k = c.args.key in
     let old = c.args.self.now in
     let at = c.loop-key in
-    let found : is_some (first_pair order (concat at.self.nodes) k) ≡ true = sym (ap is_some (rw c.in-Some.is at c.in_ok-remove_first.ensures.answer) ∙ some_mapped key_and_value (first_pair order (concat at.self.nodes) k)) in
+    let found : is_some (first_pair order (concat at.self.nodes) k) ≡ true =
+    sym
+    (ap is_some (rw c.in-Some.is at c.in_ok-remove_first.ensures.answer)
+    ∙ some_mapped key_and_value (first_pair order (concat at.self.nodes) k)) in
     let one = more_left g.met.K.Ord.total g.met.Q.LookupKey.acts_as_key old c.rule.ensures.tree k at.count at.invariant.tree found in
     let all = length (pairs_of order (concat old.nodes) k) in
     let less : all - (at.count + 1) < all - at.count = omega (arith, one) in
@@ -36,7 +42,10 @@ loop-key-preserved-in-Some g c =
     let k = c.args.key in
     let old = c.args.self.now in
     let at = c.loop-key in
-    let found : is_some (first_pair order (concat at.self.nodes) k) ≡ true = sym (ap is_some (rw c.in-Some.is at c.in_ok-remove_first.ensures.answer) ∙ some_mapped key_and_value (first_pair order (concat at.self.nodes) k)) in
+    let found : is_some (first_pair order (concat at.self.nodes) k) ≡ true =
+    sym
+    (ap is_some (rw c.in-Some.is at c.in_ok-remove_first.ensures.answer)
+    ∙ some_mapped key_and_value (first_pair order (concat at.self.nodes) k)) in
     record {
       tree = one_more g.met.K.Ord.total g.met.Q.LookupKey.acts_as_key old c.rule.ensures.tree k at.count at.invariant.tree c.in_ok-remove_first.ensures.tree;
       within = more_left g.met.K.Ord.total g.met.Q.LookupKey.acts_as_key old c.rule.ensures.tree k at.count at.invariant.tree found;
@@ -48,7 +57,10 @@ returns g c =
     let k = c.args.key in
     let old = c.args.self.now in
     let at = c.loop-key in
-    let none : is_some (first_pair order (concat at.self.nodes) k) ≡ false = sym (ap is_some (rw c.in_default.is at c.in_ok-remove_first.ensures.answer) ∙ some_mapped key_and_value (first_pair order (concat at.self.nodes) k)) in
+    let none : is_some (first_pair order (concat at.self.nodes) k) ≡ false =
+    sym
+    (ap is_some (rw c.in_default.is at c.in_ok-remove_first.ensures.answer)
+    ∙ some_mapped key_and_value (first_pair order (concat at.self.nodes) k)) in
     let same = stays g.met.K.Ord.total g.met.Q.LookupKey.acts_as_key old c.rule.ensures.tree k at.count at.invariant.tree at.invariant.within none c.in_ok-remove_first.ensures.tree in
     let is = same ∙ at.invariant.tree in
     let gone = subst (λ m. is_some (first_pair order (concat m.nodes) k) ≡ false) (sym same) none in
@@ -70,6 +82,12 @@ returns-in_err-remove_first g c =
       contents = search rules;
       gone = search rules;
       refusal = search rules;
-      no_event = λ none. absurd (false≢true (c.in_err-remove_first.ensures.no_event (nothing_told g.met.K.Ord.total g.met.Q.LookupKey.acts_as_key c.args.self.now c.rule.ensures.tree c.args.key at.count at.invariant.tree none)));
+      no_event =
+          λ none.
+          absurd
+          (false≢true
+          (c.in_err-remove_first.ensures.no_event
+          (nothing_told g.met.K.Ord.total g.met.Q.LookupKey.acts_as_key c.args.self.now c.rule.ensures.tree c.args.key
+          at.count at.invariant.tree none)));
       removed = are_removed g.met.K.Ord.total g.met.Q.LookupKey.acts_as_key c.args.self.now c.rule.ensures.tree c.args.key at.count is at.invariant.within;
     }

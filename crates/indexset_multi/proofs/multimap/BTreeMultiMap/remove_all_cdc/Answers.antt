@@ -38,7 +38,10 @@ loop-count-preserved g c =
     record {
       tree = one_more g.met.K.Ord.total g.met.Q.LookupKey.acts_as_key old c.rule.ensures.tree k at.count at.invariant.tree c.in-Ok-true.ensures.tree;
       within = more_left g.met.K.Ord.total g.met.Q.LookupKey.acts_as_key old c.rule.ensures.tree k at.count at.invariant.tree found;
-      events = told_more g.met.K.Ord.total g.met.Q.LookupKey.acts_as_key old c.rule.ensures.tree k at.count at.invariant.tree (IsMultiPairClone g.K.Clone.is_clone g.V.Clone.is_clone) _ _ at.invariant.events (c.in-Ok-true.ensures.events c.in-Ok-true.field-0-test);
+      events =
+          told_more g.met.K.Ord.total g.met.Q.LookupKey.acts_as_key old c.rule.ensures.tree k at.count at.invariant.tree
+          (IsMultiPairClone g.K.Clone.is_clone g.V.Clone.is_clone) _ _ at.invariant.events
+          (c.in-Ok-true.ensures.events c.in-Ok-true.field-0-test);
     }
 
 pub returns-in-Ok-false : goal.returns-in-Ok-false
@@ -53,7 +56,9 @@ returns-in-Ok-false g c =
     let gone = subst (λ m. is_some (first_pair order (concat m.nodes) k) ≡ false) (sym same) none in
     let C = g.K.Clone.is_clone in
     let D = g.V.Clone.is_clone in
-    let told = subst (λ l. AreTableEvents (IsMultiPairClone C D) old.next (removals_events g.K.Ord.cmp order old k at.count) l) (sym (c.in-Ok-false.ensures.untold c.in-Ok-false.field-0-test)) at.invariant.events in
+    let told =
+    subst (λ l. AreTableEvents (IsMultiPairClone C D) old.next (removals_events g.K.Ord.cmp order old k at.count) l)
+    (sym (c.in-Ok-false.ensures.untold c.in-Ok-false.field-0-test)) at.invariant.events in
     record {
       count = all_removed g.met.K.Ord.total g.met.Q.LookupKey.acts_as_key old c.rule.ensures.tree k at.count is at.invariant.within gone;
       contents = all_kept g.met.K.Ord.total g.met.Q.LookupKey.acts_as_key old c.rule.ensures.tree k at.count is at.invariant.within gone;
@@ -79,7 +84,14 @@ returns-in-Err g c =
       contents = tt;
       gone = tt;
       refusal = rw c.in-Err.ensures.unchanged c.in-Err.ensures.refusal;
-      no_event = λ none. absurd (omega (arith, more_left g.met.K.Ord.total g.met.Q.LookupKey.acts_as_key old c.rule.ensures.tree k at.count at.invariant.tree c.in-Err.ensures.contains, ap (λ l. length l) none));
+      no_event =
+          λ none.
+          absurd
+          (omega (
+            arith,
+            more_left g.met.K.Ord.total g.met.Q.LookupKey.acts_as_key old c.rule.ensures.tree k at.count at.invariant.tree c.in-Err.ensures.contains,
+            ap (λ l. length l) none,
+          ));
       removed = are_removed g.met.K.Ord.total g.met.Q.LookupKey.acts_as_key old c.rule.ensures.tree k at.count is at.invariant.within;
       events = tt;
       told_before = removals_told g.met.K.Ord.total g.met.Q.LookupKey.acts_as_key old c.rule.ensures.tree k at.count is at.invariant.within C D _ told;

@@ -13,7 +13,10 @@ returns-in_default-reserve-clause-refusal g c =
     let cmp = g.K.Ord.cmp in
     let m = c.args.self.now in
     let next = ap (λ t. t.next) c.self.view_is in
-    let count : length (first_events cmp g.Q.LookupKey.order m c.args.key.now) ≡ _ = ap (λ p. length (pair_removal_events cmp m.size m.nodes p)) (sym c.first_place.ensures.pair) ∙ taken_count cmp g.met.K.Ord.total c.self.view_is c.rule.ensures.tree c.in-Some.is c.first_place.ensures.place in
+    let count : length (first_events cmp g.Q.LookupKey.order m c.args.key.now) ≡ _ =
+    ap (λ p. length (pair_removal_events cmp m.size m.nodes p)) (sym c.first_place.ensures.pair)
+    ∙ taken_count cmp g.met.K.Ord.total c.self.view_is c.rule.ensures.tree c.in-Some.is
+    c.first_place.ensures.place in
     c.removal_refusal.ensures ∙ (λ i. refusal_for (next i) (sym count i))
 
 pub returns-in_default-reserve-clause-contains : goal.returns-in_default-reserve-clause-contains

@@ -9,5 +9,7 @@ loop-pair-preserved g c =
     let pair = c.pair-item.result in
     let inside : i < length pairs = omega arith in
     let small = c.in_ok-checked_add.ensures.0 in
-    let next = c.in_ok-checked_add.ensures.1 in
-    (rw (free_more pairs i pair inside c.pair-item.is) (omega (arith, c.max-free.ensures, c.loop-pair.invariant.0, next)), greatest_more pairs i pair inside c.pair-item.is (omega (arith, small)) c.loop-pair.invariant.1)
+    let next = c.in_ok-checked_add.ensures.1 in (
+      rw (free_more pairs i pair inside c.pair-item.is) (omega (arith, c.max-free.ensures, c.loop-pair.invariant.0, next)),
+      greatest_more pairs i pair inside c.pair-item.is (omega (arith, small)) c.loop-pair.invariant.1,
+    )

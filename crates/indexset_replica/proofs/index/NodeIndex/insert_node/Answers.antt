@@ -16,7 +16,20 @@ overflow_add-self g c =
     let here = node_read (λ v. v.items) vs k v c.requires.inside c.index-nodes-place.is [] in
     let before = ap (λ t. t.sums) c.self.view_is ∙ c.requires.before in
     let inside : k < length ns = omega (arith, c.requires.inside, length-map vs (λ v. v.items)) in
-    record { fits = omega (arith, c.self.invariant, ap sum before, sum-blocks (remove ls k), sum_by-remove (λ x. x) ls k 0 (omega (arith, inside, count-lengths ns)), length-at ns k inside, ap (λ l. length l) here, v.ok.0, c.len.ensures, c.requires.fits) }
+    record {
+      fits = omega (
+        arith,
+        c.self.invariant,
+        ap sum before,
+        sum-blocks (remove ls k),
+        sum_by-remove (λ x. x) ls k 0 (omega (arith, inside, count-lengths ns)),
+        length-at ns k inside,
+        ap (λ l. length l) here,
+        v.ok.0,
+        c.len.ensures,
+        c.requires.fits,
+      );
+    }
 
 pub invariant_of-self : goal.invariant_of-self
 invariant_of-self g c =
@@ -28,4 +41,16 @@ invariant_of-self g c =
     let here = node_read (λ v. v.items) vs k v c.requires.inside c.index-nodes-place.is [] in
     let before = ap (λ t. t.sums) c.self.view_is ∙ c.requires.before in
     let inside : k < length ns = omega (arith, c.requires.inside, length-map vs (λ v. v.items)) in
-    omega (arith, c.self.invariant, ap sum before, sum-blocks (remove ls k), sum_by-remove (λ x. x) ls k 0 (omega (arith, inside, count-lengths ns)), length-at ns k inside, ap (λ l. length l) here, v.ok.0, c.len.ensures, ap sum c.insert.ensures.sums, sum-blocks ls)
+    omega (
+      arith,
+      c.self.invariant,
+      ap sum before,
+      sum-blocks (remove ls k),
+      sum_by-remove (λ x. x) ls k 0 (omega (arith, inside, count-lengths ns)),
+      length-at ns k inside,
+      ap (λ l. length l) here,
+      v.ok.0,
+      c.len.ensures,
+      ap sum c.insert.ensures.sums,
+      sum-blocks ls,
+    )

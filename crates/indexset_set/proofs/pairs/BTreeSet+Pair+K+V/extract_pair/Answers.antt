@@ -18,7 +18,9 @@ module _ (g : Over) (c : After-f-1 g) where
   left : c.f-1.given.0 ≡ c.extract.new.f.0.now
   left = c.f-1.given.1 (sym (extracts_keep _ (λ s. s.0.ghost_name ≡ c.ask-1.given) (λ s x b t y e same. e.called.met.1.1.1 ∙ same) _ _ _ _ _ c.extract.ensures.extracted refl))
 
-  extracted : Extracts (CalledOnPair g.F.FnMut) c.args.f.now (extract_state (items c.self.inside.spine) c.args.at.now.front c.args.at.now.back) c.extract.result c.f-1.given.0 (extract_state (items c.extract.new.self) c.extract.new.at.front c.extract.new.at.back)
+  extracted : Extracts (CalledOnPair g.F.FnMut) c.args.f.now
+      (extract_state (items c.self.inside.spine) c.args.at.now.front c.args.at.now.back) c.extract.result c.f-1.given.0
+      (extract_state (items c.extract.new.self) c.extract.new.at.front c.extract.new.at.back)
   extracted =
       rw left (extracts_through (λ s. s.0.now) _ (CalledOnPair g.F.FnMut) (λ s x b t y e. rw (e.shows, e.leaves) at e.called.met.1.0) _ _ _ _ _ c.extract.ensures.extracted)
 

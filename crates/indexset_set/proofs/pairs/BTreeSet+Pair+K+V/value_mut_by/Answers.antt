@@ -15,11 +15,23 @@ returns-then-spot g c =
     let spot = c.locate_by-spot.ensures in
     let at = position_found _ _ _ (parted (g.P.Probe.answer c.args.probe.now) (items c.self.inside.spine) (rw c.self.view_is c.requires)) spot.position (sym spot.found ∙ c.if-spot.true) in (
       ap (λ i. inl (c.value_in.result.ghost_name, with_value_at c.args.self.now i)) (rw (← c.self.view_is) spot.position),
-      record { writes_back = tt; value = sym (ap (option_map (λ p. p.value)) (rw (← c.self.view_is) (find_position _ _ _ at)) ∙ c.value_in.ensures.value); fixed = spot.fixed; comparisons = rw (← c.self.view_is) spot.comparisons },
+      record {
+        writes_back = tt;
+        value = sym (ap (option_map (λ p. p.value)) (rw (← c.self.view_is) (find_position _ _ _ at)) ∙ c.value_in.ensures.value);
+        fixed = spot.fixed;
+        comparisons = rw (← c.self.view_is) spot.comparisons;
+      },
     )
 
 pub returns-else-spot : goal.returns-else-spot
 returns-else-spot g c =
     let spot = c.locate_by-spot.ensures in
-    let none = position_absent _ _ _ (parted (g.P.Probe.answer c.args.probe.now) (items c.self.inside.spine) (rw c.self.view_is c.requires)) spot.position (sym spot.found ∙ c.if-spot.false) in
-    (refl, record { writes_back = tt; value = rw (← c.self.view_is) (sym (ap (option_map (λ p. p.value)) (find_absent (λ x. is_eq (g.P.Probe.answer c.args.probe.now x)) (items c.self.inside.spine) none))); fixed = spot.fixed; comparisons = rw (← c.self.view_is) spot.comparisons })
+    let none = position_absent _ _ _ (parted (g.P.Probe.answer c.args.probe.now) (items c.self.inside.spine) (rw c.self.view_is c.requires)) spot.position (sym spot.found ∙ c.if-spot.false) in (
+      refl,
+      record {
+        writes_back = tt;
+        value = rw (← c.self.view_is) (sym (ap (option_map (λ p. p.value)) (find_absent (λ x. is_eq (g.P.Probe.answer c.args.probe.now x)) (items c.self.inside.spine) none)));
+        fixed = spot.fixed;
+        comparisons = rw (← c.self.view_is) spot.comparisons;
+      },
+    )

@@ -37,8 +37,29 @@ rebuild-requires-clause-room g c =
     let ns = vec_items c.other.inside.nodes.items in
     let left = vec_items c.move_nodes-moved.new.from.items in
     let many = c.move_nodes-moved.ensures.as_many in
-    let few = emptied_few left (omega (arith, many, length-vec_items c.move_nodes-moved.new.from.items, length-vec_items c.other.inside.nodes.items, c.other.invariant.is_spine.is_cut.some, count-lengths ns)) in
-    omega (arith, few, many, ap (λ l. length l) c.drop_emptied.ensures, ap (λ v. length v) c.as_slice-2.ensures.value, length-vec_items c.drop_emptied.new.nodes.items, length-vec_items c.move_nodes-moved.new.from.items, length-vec_items c.other.inside.nodes.items, count-lengths ns, c.recall_bounds.ensures.within, ap (λ l. length l) c.other.invariant.index_is)
+    let few =
+    emptied_few left
+    (omega (
+      arith,
+      many,
+      length-vec_items c.move_nodes-moved.new.from.items,
+      length-vec_items c.other.inside.nodes.items,
+      c.other.invariant.is_spine.is_cut.some,
+      count-lengths ns,
+    )) in
+    omega (
+      arith,
+      few,
+      many,
+      ap (λ l. length l) c.drop_emptied.ensures,
+      ap (λ v. length v) c.as_slice-2.ensures.value,
+      length-vec_items c.drop_emptied.new.nodes.items,
+      length-vec_items c.move_nodes-moved.new.from.items,
+      length-vec_items c.other.inside.nodes.items,
+      count-lengths ns,
+      c.recall_bounds.ensures.within,
+      ap (λ l. length l) c.other.invariant.index_is,
+    )
 
 pub rebuild-requires-clause-fits : goal.rebuild-requires-clause-fits
 rebuild-requires-clause-fits g c =
@@ -58,7 +79,10 @@ invariant_of-other g c =
 pub returns-clause-nodes : goal.returns-clause-nodes
 unfolding with_all_last
 returns-clause-nodes g c =
-    rw (← c.other.view_is) (on_ok_weaker c.move_nodes-moved.result (λ none. takes_all (with_last c.args.self.now.size) _ _ _ _ c.move_nodes-moved.ensures.moved none) c.move_nodes-moved.ensures.emptied)
+    rw (← c.other.view_is)
+    (on_ok_weaker c.move_nodes-moved.result
+    (λ none. takes_all (with_last c.args.self.now.size) _ _ _ _ c.move_nodes-moved.ensures.moved none)
+    c.move_nodes-moved.ensures.emptied)
 
 pub returns-clause-emptied : goal.returns-clause-emptied
 returns-clause-emptied g c =

@@ -20,7 +20,9 @@ returns-clause-nodes g c =
 
 pub returns-in_err-append_block-clause-items : goal.returns-in_err-append_block-clause-items
 returns-in_err-append_block-clause-items g c =
-    takes_items c.args.self.now.size _ _ _ _ c.recall_lengths.ensures.cut (takes_more (with_last c.args.self.now.size) _ _ _ _ _ _ c.loop-self.invariant.moved (rw c.loop-self.invariant.size at c.append_block.ensures.moved))
+    takes_items c.args.self.now.size _ _ _ _ c.recall_lengths.ensures.cut
+    (takes_more (with_last c.args.self.now.size) _ _ _ _ _ _ c.loop-self.invariant.moved
+    (rw c.loop-self.invariant.size at c.append_block.ensures.moved))
 
 pub returns-clause-items : goal.returns-clause-items
 returns-clause-items g c = takes_items c.args.self.now.size _ _ _ _ c.recall_lengths.ensures.cut c.loop-self.invariant.moved

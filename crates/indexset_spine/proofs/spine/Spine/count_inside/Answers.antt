@@ -55,5 +55,10 @@ pub returns-clause-below : goal.returns-clause-below
 returns-clause-below g c =
     let at = (goal.at.returns-clause-below g c).After-as_slice-from in
     let spot = spot_in _ _ c.args.self.now c.args.spot.now c.self.view_is c.requires.spot in
-    below_read g.T.Ord.cmp c.args.self.now c.args.other.now (vec_items c.self.inside.nodes.items) c.other.inside.nodes.items c.self.inside.size c.other.inside.size c.args.spot.now.node c.count_below_last-count.result c.as_slice-node.result.now c.as_slice-from.result.now c.self.view_is c.other.view_is
-    (node_is c.self.inside.nodes.items c.args.spot.now.node c.index.result.now spot.node_in c.index.ensures ∙ sym c.as_slice-node.ensures.value) (some_node g at) (from_is g at) c.count_below_last-count.ensures.within c.count_below_last-count.ensures.below
+    below_read g.T.Ord.cmp c.args.self.now c.args.other.now (vec_items c.self.inside.nodes.items)
+    c.other.inside.nodes.items c.self.inside.size c.other.inside.size c.args.spot.now.node
+    c.count_below_last-count.result c.as_slice-node.result.now c.as_slice-from.result.now c.self.view_is
+    c.other.view_is
+    (node_is c.self.inside.nodes.items c.args.spot.now.node c.index.result.now spot.node_in c.index.ensures
+    ∙ sym c.as_slice-node.ensures.value)
+    (some_node g at) (from_is g at) c.count_below_last-count.ensures.within c.count_below_last-count.ensures.below

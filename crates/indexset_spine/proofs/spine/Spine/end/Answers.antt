@@ -8,4 +8,12 @@ use Rattle.indexset_spine.proofs.spine.Spine.end.Goals as goal
 pub returns-clause-position : goal.returns-clause-position
 returns-clause-position g c =
     let vs = c.self.inside.nodes.items in
-    spine_end vs c.self.inside.size _ c.self.view_is _ _ c.index.result.now (omega (arith, c.len-node.ensures, c.self.invariant.is_spine.is_cut.some, length-map (vec_items vs) (λ n. length n), length-vec_items vs)) c.index.ensures (omega (arith, c.len.ensures, c.index.result.now.ok))
+    spine_end vs c.self.inside.size _ c.self.view_is _ _ c.index.result.now
+    (omega (
+      arith,
+      c.len-node.ensures,
+      c.self.invariant.is_spine.is_cut.some,
+      length-map (vec_items vs) (λ n. length n),
+      length-vec_items vs,
+    ))
+    c.index.ensures (omega (arith, c.len.ensures, c.index.result.now.ok))

@@ -7,7 +7,15 @@ use Rattle.indexset_spine.specs.NodeList.{NodeList, items}
 use Rattle.indexset_spine.proofs.spine.Spine.end_of.Goals as goal
 
 pub place_to-place-requires-clause-parted : goal.place_to-place-requires-clause-parted
-place_to-place-requires-clause-parted g c = rw c.as_slice.ensures.value (subst (λ (t : NodeList g.row.T.Denot). IfBounded (λ p. IsParted (g.P.Probe.answer p) (items t)) c.args.end) (sym c.self.view_is) c.requires)
+place_to-place-requires-clause-parted g c =
+    rw c.as_slice.ensures.value
+    (subst (λ (t : NodeList g.row.T.Denot). IfBounded (λ p. IsParted (g.P.Probe.answer p) (items t)) c.args.end)
+    (sym c.self.view_is) c.requires)
 
 pub returns-clause-position : goal.returns-clause-position
-returns-clause-position g c = rw c.spot_at.ensures (subst (λ (t : NodeList g.row.T.Denot). items_before t.nodes c.place_to-place.result ≡ count_by (is_up_to_end (λ x p. g.P.Probe.answer p x) c.args.end) (items t)) c.self.view_is (rw c.as_slice.ensures.value at c.place_to-place.ensures.before))
+returns-clause-position g c =
+    rw c.spot_at.ensures
+    (subst
+    (λ (t : NodeList g.row.T.Denot). items_before t.nodes c.place_to-place.result
+    ≡ count_by (is_up_to_end (λ x p. g.P.Probe.answer p x) c.args.end) (items t))
+    c.self.view_is (rw c.as_slice.ensures.value at c.place_to-place.ensures.before))

@@ -25,8 +25,14 @@ module _ (g : Over) (c : After-remove g) where
       let i = position_of ns spot in
       let y = c.f.new.arg2 in
       let read =
-      sym (ap (λ l. slice_get l (position_of (set_joined ns i y) spot)) (concat-set ns i y) ∙ ap (slice_get (slice_set (items c.loop-at.self) i y)) (asked_at ns spot i y c.spot_near-spot.ensures.spot refl)) ∙ c.remove.ensures.value in
-      sym (get_or_from_slice_get (slice_set (items c.loop-at.self) i y) i c.remove.result y read) ∙ get_or-set_same (items c.loop-at.self) i y y (slice_get_within (items c.loop-at.self) i _ c.item_mut.ensures.value)
+      sym
+      (ap (λ l. slice_get l (position_of (set_joined ns i y) spot)) (concat-set ns i y)
+      ∙ ap (slice_get (slice_set (items c.loop-at.self) i y))
+      (asked_at ns spot i y c.spot_near-spot.ensures.spot refl))
+      ∙ c.remove.ensures.value in
+      sym (get_or_from_slice_get (slice_set (items c.loop-at.self) i y) i c.remove.result y read)
+      ∙ get_or-set_same (items c.loop-at.self) i y y
+      (slice_get_within (items c.loop-at.self) i _ c.item_mut.ensures.value)
 
   taken : items c.remove.new.self ≡ remove (slice_set (items c.loop-at.self) c.loop-at.at.front c.f.new.arg2) c.loop-at.at.front
   taken =
@@ -43,7 +49,10 @@ pub returns-then-f-clause-extracted : goal.returns-then-f-clause-extracted
 returns-then-f-clause-extracted g c =
     let called : CalledAtMut g.F.FnMut c.loop-at.f c.item_mut.result.now c.f.result c.f.new.self c.f.new.arg2 = Called-Mut g.F.FnMut c.f.ensures in
     let read = rw c.spot_near-spot.ensures.position at c.item_mut.ensures.value in
-    c.loop-at.invariant.extracted.run _ _ _ (rw (taken g c, picked_is g c) (picked (CalledAtMut g.F.FnMut) c.loop-at.f (items c.loop-at.self) c.loop-at.at.front c.loop-at.at.back _ _ _ c.loop-at-test.true read (rw c.if-f.true at called)))
+    c.loop-at.invariant.extracted.run _ _ _
+    (rw (taken g c, picked_is g c)
+    (picked (CalledAtMut g.F.FnMut) c.loop-at.f (items c.loop-at.self) c.loop-at.at.front c.loop-at.at.back _ _ _
+    c.loop-at-test.true read (rw c.if-f.true at called)))
 
 pub returns-then-f-clause-lengths : goal.returns-then-f-clause-lengths
 returns-then-f-clause-lengths g c =
@@ -56,7 +65,9 @@ returns-then-f-clause-lengths g c =
 pub returns-then-f-clause-at : goal.returns-then-f-clause-at
 returns-then-f-clause-at g c =
     rw (c.remove.ensures.nodes, c.spot_near-spot.ensures.position)
-    (stretch_without c.loop-at.self.nodes c.spot_near-spot.result c.loop-at.at.front c.f.new.arg2 c.spot_near-spot.ensures.spot c.spot_near-spot.ensures.position c.loop-at.at.back c.loop-at-test.true c.loop-at.invariant.stretch.inside)
+    (stretch_without c.loop-at.self.nodes c.spot_near-spot.result c.loop-at.at.front c.f.new.arg2
+    c.spot_near-spot.ensures.spot c.spot_near-spot.ensures.position c.loop-at.at.back c.loop-at-test.true
+    c.loop-at.invariant.stretch.inside)
 
 pub overflow_add-at : goal.overflow_add-at
 overflow_add-at g c = omega (arith, c.loop-at-test.true, c.loop-at.invariant.back, c.fits-at)
@@ -69,7 +80,10 @@ loop-at-preserved g c =
     let called : CalledAtMut g.F.FnMut c.loop-at.f c.item_mut.result.now c.f.result c.f.new.self c.f.new.arg2 = Called-Mut g.F.FnMut c.f.ensures in
     let read = rw c.spot_near-spot.ensures.position at c.item_mut.ensures.value in
     rw c.spot_near-spot.ensures.position (record {
-      extracted = rw (concat-set ns p y) (turned_down (CalledAtMut g.F.FnMut) c.loop-at.f (items c.loop-at.self) p c.loop-at.at.back _ _ _ _ _ c.loop-at-test.true read (rw c.if-f.false at called) c.loop-at.invariant.extracted);
+      extracted =
+          rw (concat-set ns p y)
+          (turned_down (CalledAtMut g.F.FnMut) c.loop-at.f (items c.loop-at.self) p c.loop-at.at.back _ _ _ _ _
+          c.loop-at-test.true read (rw c.if-f.false at called) c.loop-at.invariant.extracted);
       lengths = node_lengths-set_joined ns p y ∙ c.loop-at.invariant.lengths;
       stretch = stretch_after ns c.spot_near-spot.result p y c.spot_near-spot.ensures.spot c.spot_near-spot.ensures.position c.loop-at.at.back c.loop-at-test.true c.loop-at.invariant.stretch.inside;
       back = c.loop-at.invariant.back;

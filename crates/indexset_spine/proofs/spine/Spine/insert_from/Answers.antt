@@ -28,7 +28,10 @@ invariant_of-self-2 g c =
 pub returns-clause-nodes : goal.returns-clause-nodes
 returns-clause-nodes g c =
     some_is _ c.remove-value.result _ c.remove-value.ensures.value
-    (c.insert_in_room.ensures.nodes ∙ (c.in_ok-to.ensures.nodes c.remove-value.result ∙ ap (λ (t : NodeList g.row.T.Denot). with_inserted t.size t.nodes c.args.spot c.remove-value.result) c.self.view_is))
+    (c.insert_in_room.ensures.nodes
+    ∙ (c.in_ok-to.ensures.nodes c.remove-value.result
+    ∙ ap (λ (t : NodeList g.row.T.Denot). with_inserted t.size t.nodes c.args.spot c.remove-value.result)
+    c.self.view_is))
 
 pub returns-clause-items : goal.returns-clause-items
 returns-clause-items g c =

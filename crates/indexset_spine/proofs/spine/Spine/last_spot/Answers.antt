@@ -28,5 +28,8 @@ returns g c =
     let last : k + 1 ≡ length vs = omega (arith, c.len-node.ensures, is.is_cut.some, count-lengths (vec_items vs), length-vec_items vs) in
     let some : 0 < length (concat (vec_items vs)) = omega (arith, is.total_is, length-concat (vec_items vs)) in
     let node = node_read vs k c.index.result.now (omega arith) c.index.ensures [] in
-    let at = last_spot_in (vec_items vs) _ (record { node = k; offset = c.len.result - 1; found = _ }) is.is_cut some (omega (arith, length-vec_items vs)) (omega (arith, ap (λ l. length l) node, c.len.ensures, c.index.result.now.ok)) in
+    let at =
+    last_spot_in (vec_items vs) _ (record { node = k; offset = c.len.result - 1; found = _ }) is.is_cut some
+    (omega (arith, length-vec_items vs))
+    (omega (arith, ap (λ l. length l) node, c.len.ensures, c.index.result.now.ok)) in
     rw (← c.self.view_is) (at.0, at.1, refl)

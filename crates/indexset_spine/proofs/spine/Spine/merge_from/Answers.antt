@@ -46,7 +46,9 @@ pub returns-in_err-merge_first-clause-unchanged : goal.returns-in_err-merge_firs
 returns-in_err-merge_first-clause-unchanged g c =
     let at = (goal.at.returns-in_err-merge_first-clause-unchanged g c).After-index_mut-2 in
     on_err c.from_residual.result
-    (ap (λ (ns : List (List g.row.T.Denot)). node_list ns c.self.inside.size) (lists_kept c.self.inside.nodes.items c.args.node c.index_mut.result.now c.merge_first.new.items (inside g at) c.index_mut.ensures.value c.in_err-merge_first.ensures.unchanged)
+    (ap (λ (ns : List (List g.row.T.Denot)). node_list ns c.self.inside.size)
+    (lists_kept c.self.inside.nodes.items c.args.node c.index_mut.result.now c.merge_first.new.items (inside g at)
+    c.index_mut.ensures.value c.in_err-merge_first.ensures.unchanged)
     ∙ c.self.view_is)
 
 -- the nodes after it
@@ -103,7 +105,9 @@ pub invariant_of-self-2 : goal.invariant_of-self-2
 invariant_of-self-2 g c =
     let at = (goal.at.invariant_of-self-2 g c).After-len in
     let k = c.args.node in
-    let room : length (node_at (vec_items (vs g at)) k) + c.args.count ≤ c.self.inside.size = subst (λ (t : NodeList g.row.T.Denot). length (node_at t.nodes k) + c.args.count ≤ t.size) (sym c.self.view_is) c.requires.room in
+    let room : length (node_at (vec_items (vs g at)) k) + c.args.count ≤ c.self.inside.size =
+    subst (λ (t : NodeList g.row.T.Denot). length (node_at t.nodes k) + c.args.count ≤ t.size) (sym c.self.view_is)
+    c.requires.room in
     record {
       is_spine = spine_after _ _ _ _ _ _ _ _ _ _ (merges g at) (more g at) (more_is g at) c.self.inside.size c.self.inside.len room c.self.invariant.is_spine;
       index_is = c.add.ensures.lengths ∙ (ap (λ ls. slice_set ls k (get_or ls k 0 + more g at)) c.self.invariant.index_is ∙ lengths_after _ _ _ _ _ _ _ _ _ _ (merges g at) (more g at) (more_is g at));
@@ -131,31 +135,61 @@ returns-clause-rest g c =
     other_items _ _ _ _ _ _ _ _ _ _ (merges g at) _ c.drop_indexed_if_empty.ensures.nodes ∙ ap (λ (t : NodeList g.row.T.Denot). drop c.args.count (items t)) c.other.view_is
 
 pub index-requires : goal.index-requires
-index-requires g c = omega (arith, subst (λ (t : NodeList g.row.T.Denot). c.args.node < length t.nodes) (sym c.self.view_is) c.requires.node, length-vec_items c.self.inside.nodes.items, c.self.inside.nodes.ok)
+index-requires g c = omega (
+  arith,
+  subst (λ (t : NodeList g.row.T.Denot). c.args.node < length t.nodes) (sym c.self.view_is) c.requires.node,
+  length-vec_items c.self.inside.nodes.items,
+  c.self.inside.nodes.ok,
+)
 
 pub index_mut-requires : goal.index_mut-requires
-index_mut-requires g c = omega (arith, subst (λ (t : NodeList g.row.T.Denot). c.args.node < length t.nodes) (sym c.self.view_is) c.requires.node, length-vec_items c.self.inside.nodes.items, c.self.inside.nodes.ok)
+index_mut-requires g c = omega (
+  arith,
+  subst (λ (t : NodeList g.row.T.Denot). c.args.node < length t.nodes) (sym c.self.view_is) c.requires.node,
+  length-vec_items c.self.inside.nodes.items,
+  c.self.inside.nodes.ok,
+)
 
 pub index-requires-2 : goal.index-requires-2
-index-requires-2 g c = omega (arith, subst (λ (t : NodeList g.row.T.Denot). c.args.node < length t.nodes) (sym c.self.view_is) c.requires.node, length-vec_items c.self.inside.nodes.items, c.self.inside.nodes.ok)
+index-requires-2 g c = omega (
+  arith,
+  subst (λ (t : NodeList g.row.T.Denot). c.args.node < length t.nodes) (sym c.self.view_is) c.requires.node,
+  length-vec_items c.self.inside.nodes.items,
+  c.self.inside.nodes.ok,
+)
 
 pub index_mut-requires-2 : goal.index_mut-requires-2
-index_mut-requires-2 g c = omega (arith, subst (λ (t : NodeList g.row.T.Denot). 0 < length t.nodes) (sym c.other.view_is) c.recall_lengths.ensures.some, length-vec_items c.other.inside.nodes.items, c.other.inside.nodes.ok)
+index_mut-requires-2 g c = omega (
+  arith,
+  subst (λ (t : NodeList g.row.T.Denot). 0 < length t.nodes) (sym c.other.view_is) c.recall_lengths.ensures.some,
+  length-vec_items c.other.inside.nodes.items,
+  c.other.inside.nodes.ok,
+)
 
 pub merge_first-requires-clause-within : goal.merge_first-requires-clause-within
 merge_first-requires-clause-within g c =
-    omega (arith, c.requires.within, ap (λ (t : NodeList g.row.T.Denot). length (node_at t.nodes 0)) c.other.view_is, ap (λ l. length l) (node_is c.other.inside.nodes.items 0 c.index_mut-2.result.now (some_node g c) c.index_mut-2.ensures.value))
+    omega (
+      arith,
+      c.requires.within,
+      ap (λ (t : NodeList g.row.T.Denot). length (node_at t.nodes 0)) c.other.view_is,
+      ap (λ l. length l) (node_is c.other.inside.nodes.items 0 c.index_mut-2.result.now (some_node g c) c.index_mut-2.ensures.value),
+    )
 
 pub invariant_of-other : goal.invariant_of-other
 invariant_of-other g c =
     let at = (goal.at.invariant_of-other g c).After-index_mut-2 in
-    rw (lists_kept c.other.inside.nodes.items 0 c.index_mut-2.result.now c.merge_first.new.from (some_node g at) c.index_mut-2.ensures.value c.in_err-merge_first.ensures.from_unchanged) c.other.invariant
+    rw
+    (lists_kept c.other.inside.nodes.items 0 c.index_mut-2.result.now c.merge_first.new.from (some_node g at)
+    c.index_mut-2.ensures.value c.in_err-merge_first.ensures.from_unchanged)
+    c.other.invariant
 
 pub returns-in_err-merge_first-clause-other_unchanged : goal.returns-in_err-merge_first-clause-other_unchanged
 returns-in_err-merge_first-clause-other_unchanged g c =
     let at = (goal.at.returns-in_err-merge_first-clause-other_unchanged g c).After-index_mut-2 in
     on_err c.from_residual.result
-    (ap (λ (ns : List (List g.row.T.Denot)). node_list ns c.other.inside.size) (lists_kept c.other.inside.nodes.items 0 c.index_mut-2.result.now c.merge_first.new.from (some_node g at) c.index_mut-2.ensures.value c.in_err-merge_first.ensures.from_unchanged)
+    (ap (λ (ns : List (List g.row.T.Denot)). node_list ns c.other.inside.size)
+    (lists_kept c.other.inside.nodes.items 0 c.index_mut-2.result.now c.merge_first.new.from (some_node g at)
+    c.index_mut-2.ensures.value c.in_err-merge_first.ensures.from_unchanged)
     ∙ c.other.view_is)
 
 pub add-requires-clause-inside : goal.add-requires-clause-inside

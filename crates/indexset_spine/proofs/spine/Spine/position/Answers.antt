@@ -15,7 +15,17 @@ overflow_add-result g c =
     let s = c.args.self.now in
     let k = c.args.spot.now.node in
     let e = rw c.self.invariant.index_is at c.prefix.ensures in
-    record { fits = omega (arith, e, c.recall_lengths.ensures.fits, prefix-concat (vec_items c.self.inside.nodes.items) k, spine_len _ _ _ s c.self.view_is c.self.invariant.is_spine, offset-le s.nodes k c.args.spot.now.offset c.requires.node_in c.requires.offset_in, ap (λ t. position_of t.nodes c.args.spot.now) c.self.view_is) }
+    record {
+      fits = omega (
+        arith,
+        e,
+        c.recall_lengths.ensures.fits,
+        prefix-concat (vec_items c.self.inside.nodes.items) k,
+        spine_len _ _ _ s c.self.view_is c.self.invariant.is_spine,
+        offset-le s.nodes k c.args.spot.now.offset c.requires.node_in c.requires.offset_in,
+        ap (λ t. position_of t.nodes c.args.spot.now) c.self.view_is,
+      );
+    }
 
 pub returns : goal.returns
 returns g c =

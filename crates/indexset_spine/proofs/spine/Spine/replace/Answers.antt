@@ -20,7 +20,9 @@ returns-clause-value g c =
 
 pub returns-clause-nodes : goal.returns-clause-nodes
 returns-clause-nodes g c =
-    respot_writes _ _ c.args.self.now c.args.spot _ c.replace.new.dest c.self.view_is c.requires c.index_mut-node.ensures.value ∙ ap (with_replaced c.args.self.now.nodes c.args.spot) c.replace.ensures.after
+    respot_writes _ _ c.args.self.now c.args.spot _ c.replace.new.dest c.self.view_is c.requires
+    c.index_mut-node.ensures.value
+    ∙ ap (with_replaced c.args.self.now.nodes c.args.spot) c.replace.ensures.after
 
 pub returns-clause-items : goal.returns-clause-items
 returns-clause-items g c =

@@ -25,12 +25,22 @@ pub rebuild-requires-clause-fits : goal.rebuild-requires-clause-fits
 rebuild-requires-clause-fits g c =
     let few = nodes_shorter (CalledAtMut g.F.FnMut) _ _ _ c.retain_nodes.ensures in
     let nodes = c.retain_nodes.new.nodes.items in
-    omega (arith, few, c.recall_bounds.ensures.fits, ap sum c.self.invariant.index_is, length-concat (vec_items c.self.inside.nodes.items), length-concat (vec_items nodes), ap (λ v. sum (node_lengths (vec_items v))) c.as_slice-2.ensures.value)
+    omega (
+      arith,
+      few,
+      c.recall_bounds.ensures.fits,
+      ap sum c.self.invariant.index_is,
+      length-concat (vec_items c.self.inside.nodes.items),
+      length-concat (vec_items nodes),
+      ap (λ v. sum (node_lengths (vec_items v))) c.as_slice-2.ensures.value,
+    )
 
 pub invariant_of-self : goal.invariant_of-self
 invariant_of-self g c = record {
   is_spine =
-      nodes_spine (CalledAtMut g.F.FnMut) _ _ _ c.retain_nodes.ensures c.self.inside.size c.count_items-self-inside.result c.self.invariant.is_spine.is_cut (rw c.as_slice.ensures.value at c.count_items-self-inside.ensures);
+      nodes_spine (CalledAtMut g.F.FnMut) _ _ _ c.retain_nodes.ensures c.self.inside.size
+      c.count_items-self-inside.result c.self.invariant.is_spine.is_cut
+      (rw c.as_slice.ensures.value at c.count_items-self-inside.ensures);
   index_is = c.rebuild.ensures.lengths ∙ ap (λ v. node_lengths (vec_items v)) c.as_slice-2.ensures.value;
 }
 

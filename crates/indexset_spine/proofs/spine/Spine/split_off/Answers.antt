@@ -24,13 +24,29 @@ pub rebuild-requires-clause-room : goal.rebuild-requires-clause-room
 rebuild-requires-clause-room g c =
     let spot = spot_in _ _ c.args.self.now c.args.spot c.self.view_is c.requires in
     let nodes = ap (λ v. vec_items v) c.as_slice.ensures.value ∙ c.in_ok-nodes.ensures.right in
-    omega (arith, right_few _ c.args.spot spot, ap (λ l. length l) nodes, length-vec_items c.as_slice.result.now, count-lengths (vec_items c.self.inside.nodes.items), ap (λ l. length l) c.self.invariant.index_is, c.len-count.ensures.value, c.in_ok-index.ensures.room)
+    omega (
+      arith,
+      right_few _ c.args.spot spot,
+      ap (λ l. length l) nodes,
+      length-vec_items c.as_slice.result.now,
+      count-lengths (vec_items c.self.inside.nodes.items),
+      ap (λ l. length l) c.self.invariant.index_is,
+      c.len-count.ensures.value,
+      c.in_ok-index.ensures.room,
+    )
 
 pub rebuild-requires-clause-fits : goal.rebuild-requires-clause-fits
 rebuild-requires-clause-fits g c =
     let spot = spot_in _ _ c.args.self.now c.args.spot c.self.view_is c.requires in
     let nodes = ap (λ v. vec_items v) c.as_slice.ensures.value ∙ c.in_ok-nodes.ensures.right in
-    omega (arith, (spine_right _ c.args.spot spot _ _ c.self.invariant.is_spine).total_is, ap (λ l. sum (node_lengths l)) nodes, c.self.invariant.is_spine.total_is, ap sum c.self.invariant.index_is, c.len-count.ensures.fits)
+    omega (
+      arith,
+      (spine_right _ c.args.spot spot _ _ c.self.invariant.is_spine).total_is,
+      ap (λ l. sum (node_lengths l)) nodes,
+      c.self.invariant.is_spine.total_is,
+      ap sum c.self.invariant.index_is,
+      c.len-count.ensures.fits,
+    )
 
 pub rebuild_from-requires-clause-same : goal.rebuild_from-requires-clause-same
 rebuild_from-requires-clause-same g c =
@@ -51,14 +67,30 @@ rebuild_from-requires-clause-room g c =
     let ns = vec_items c.self.inside.nodes.items in
     let spot = spot_in _ _ c.args.self.now c.args.spot c.self.view_is c.requires in
     let nodes = ap (λ v. vec_items v) c.as_slice-2.ensures.value ∙ c.in_ok-nodes.ensures.left in
-    omega (arith, (left_keeps _ c.args.spot spot).few, ap (λ l. length l) nodes, length-vec_items c.as_slice-2.result.now, c.len-count.ensures.within, ap (λ l. length l) c.self.invariant.index_is, count-lengths ns)
+    omega (
+      arith,
+      (left_keeps _ c.args.spot spot).few,
+      ap (λ l. length l) nodes,
+      length-vec_items c.as_slice-2.result.now,
+      c.len-count.ensures.within,
+      ap (λ l. length l) c.self.invariant.index_is,
+      count-lengths ns,
+    )
 
 pub rebuild_from-requires-clause-fits : goal.rebuild_from-requires-clause-fits
 rebuild_from-requires-clause-fits g c =
     let ns = vec_items c.self.inside.nodes.items in
     let spot = spot_in _ _ c.args.self.now c.args.spot c.self.view_is c.requires in
     let nodes = ap (λ v. vec_items v) c.as_slice-2.ensures.value ∙ c.in_ok-nodes.ensures.left in
-    omega (arith, (spine_left _ c.args.spot spot _ _ c.self.invariant.is_spine).total_is, position_below _ _ _ c.args.spot spot c.self.invariant.is_spine, c.self.invariant.is_spine.total_is, ap sum c.self.invariant.index_is, ap (λ l. sum (node_lengths l)) nodes, c.len-count.ensures.fits)
+    omega (
+      arith,
+      (spine_left _ c.args.spot spot _ _ c.self.invariant.is_spine).total_is,
+      position_below _ _ _ c.args.spot spot c.self.invariant.is_spine,
+      c.self.invariant.is_spine.total_is,
+      ap sum c.self.invariant.index_is,
+      ap (λ l. sum (node_lengths l)) nodes,
+      c.len-count.ensures.fits,
+    )
 
 pub invariant_of-right : goal.invariant_of-right
 invariant_of-right g c =

@@ -95,4 +95,10 @@ index_mut-node-requires g c = omega (arith, c.requires.spot.node_in, length-vec_
 
 pub insert_item-requires-clause-within : goal.insert_item-requires-clause-within
 insert_item-requires-clause-within g c =
-    omega (arith, c.requires.spot.node_in, length-vec_items c.args.nodes.now.items, ap (λ l. length l) c.reserve.ensures.items, length-set c.reserve.new.self.items c.args.spot.node c.halve_node.new.node)
+    omega (
+      arith,
+      c.requires.spot.node_in,
+      length-vec_items c.args.nodes.now.items,
+      ap (λ l. length l) c.reserve.ensures.items,
+      length-set c.reserve.new.self.items c.args.spot.node c.halve_node.new.node,
+    )

@@ -49,7 +49,15 @@ rebuild_from-requires-clause-room g c =
     let ns = vec_items c.args.nodes.now.items in
     let keeps = halved_keeps ns c.args.spot.node c.requires.spot.node_in in
     let nodes = ap (λ v. vec_items v) c.as_slice.ensures.value ∙ c.in_ok-to.ensures.halved in
-    omega (arith, keeps.few, ap (λ l. length l) nodes, length-vec_items c.as_slice.result.now, c.in_ok-reserve_one.ensures.room, ap (λ l. length l) (c.reserve_one.ensures.lengths ∙ c.requires.index), count-lengths ns)
+    omega (
+      arith,
+      keeps.few,
+      ap (λ l. length l) nodes,
+      length-vec_items c.as_slice.result.now,
+      c.in_ok-reserve_one.ensures.room,
+      ap (λ l. length l) (c.reserve_one.ensures.lengths ∙ c.requires.index),
+      count-lengths ns,
+    )
 
 pub rebuild_from-requires-clause-fits : goal.rebuild_from-requires-clause-fits
 rebuild_from-requires-clause-fits g c =
@@ -66,7 +74,9 @@ pub returns-clause-sum : goal.returns-clause-sum
 returns-clause-sum g c =
     let ns = vec_items c.args.nodes.now.items in
     let nodes = ap (λ v. vec_items v) c.as_slice.ensures.value ∙ c.in_ok-to.ensures.halved in
-    ap sum c.rebuild_from.ensures.lengths ∙ (ap (λ (l : List (List g.row.T.Denot)). sum (node_lengths l)) nodes ∙ (halved_sum ns c.args.spot.node c.requires.spot.node_in ∙ ap sum (sym c.requires.index)))
+    ap sum c.rebuild_from.ensures.lengths
+    ∙ (ap (λ (l : List (List g.row.T.Denot)). sum (node_lengths l)) nodes
+    ∙ (halved_sum ns c.args.spot.node c.requires.spot.node_in ∙ ap sum (sym c.requires.index)))
 
 pub returns-then-len-size-clause-end : goal.returns-then-len-size-clause-end
 returns-then-len-size-clause-end g c =
@@ -83,4 +93,6 @@ returns-clause-end g c =
 
 pub returns-then-len-size-clause-position : goal.returns-then-len-size-clause-position
 returns-then-len-size-clause-position g c =
-    ap (λ (ns : List (List g.row.T.Denot)). position_of ns c.args.spot) (lists_kept c.args.nodes.now.items c.args.spot.node _ c.reserve.new.self c.requires.spot.node_in c.index_mut.ensures.value c.reserve.ensures.items)
+    ap (λ (ns : List (List g.row.T.Denot)). position_of ns c.args.spot)
+    (lists_kept c.args.nodes.now.items c.args.spot.node _ c.reserve.new.self c.requires.spot.node_in
+    c.index_mut.ensures.value c.reserve.ensures.items)

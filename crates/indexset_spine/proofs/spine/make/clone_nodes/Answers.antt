@@ -11,7 +11,10 @@ loop-node-preserved g c =
     record {
       count = omega (arith, c.push_reserved.ensures.len);
       room = omega (arith, c.push_reserved.ensures.capacity);
-      cloned = rw c.push_reserved.ensures.items (copies_more clones c.loop-node.copies.items c.args.nodes.now c.loop-node.node-index c.node-item.result c.in_ok-from_clones.field-0 c.loop-node-test.true c.node-item.is cloned c.loop-node.invariant.cloned);
+      cloned =
+          rw c.push_reserved.ensures.items
+          (copies_more clones c.loop-node.copies.items c.args.nodes.now c.loop-node.node-index c.node-item.result
+          c.in_ok-from_clones.field-0 c.loop-node-test.true c.node-item.is cloned c.loop-node.invariant.cloned);
     }
 
 pub returns-clause-lengths : goal.returns-clause-lengths

@@ -10,7 +10,11 @@ use Rattle.indexset_spine.proofs.spine.remove.drop_if_empty.Goals as goal
 pub returns-then-len-gt1-clause-nodes : goal.returns-then-len-gt1-clause-nodes
 returns-then-len-gt1-clause-nodes g c =
     let long = node_len c.args.nodes.now.items c.args.k _ c.requires c.index.ensures in
-    ap vec_items c.remove_item.ensures.items ∙ (vec_items-remove c.args.nodes.now.items c.args.k ∙ sym (emptied_goes (vec_items c.args.nodes.now.items) c.args.k (grind (arith, nat_tests)) (omega (arith, length-vec_items c.args.nodes.now.items, c.len.ensures))))
+    ap vec_items c.remove_item.ensures.items
+    ∙ (vec_items-remove c.args.nodes.now.items c.args.k
+    ∙ sym
+    (emptied_goes (vec_items c.args.nodes.now.items) c.args.k (grind (arith, nat_tests))
+    (omega (arith, length-vec_items c.args.nodes.now.items, c.len.ensures))))
 
 pub returns-clause-nodes : goal.returns-clause-nodes
 returns-clause-nodes g c =

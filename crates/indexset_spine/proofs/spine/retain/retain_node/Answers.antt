@@ -27,12 +27,18 @@ loop-i-preserved g c =
       | else-not-f+then-gone-gt0 w ↦ record {
         within = omega (arith, w.gone-is);
         callable = search of_calls;
-        sifted = rw (w.items-is, w.gone-is, w.swap.ensures.after, more) (sifted_moves R _ _ at.f _ at.items k at.i x _ (omega arith) inside read at.invariant.sifted (omega (arith, w.if-gone-gt0.true)) (rw w.if-not-f.false at called));
+        sifted =
+            rw (w.items-is, w.gone-is, w.swap.ensures.after, more)
+            (sifted_moves R _ _ at.f _ at.items k at.i x _ (omega arith) inside read at.invariant.sifted
+            (omega (arith, w.if-gone-gt0.true)) (rw w.if-not-f.false at called));
       }
       | else-not-f+else-gone-gt0 w ↦ record {
         within = omega (arith, w.gone-is);
         callable = search of_calls;
-        sifted = rw (w.items-is, w.gone-is, more) (sifted_stays R _ _ at.f _ at.items k at.i x _ (omega arith) inside read at.invariant.sifted (omega (arith, w.if-gone-gt0.false)) (rw w.if-not-f.false at called));
+        sifted =
+            rw (w.items-is, w.gone-is, more)
+            (sifted_stays R _ _ at.f _ at.items k at.i x _ (omega arith) inside read at.invariant.sifted
+            (omega (arith, w.if-gone-gt0.false)) (rw w.if-not-f.false at called));
       }
     ]
 
@@ -41,4 +47,7 @@ returns-clause-kept g c =
     let at = c.loop-i in
     let whole = with_items_is c.args.node.now at.items (omega (arith, c.as_mut_slice-items.ensures.len)) in
     let ended : length at.items ≡ at.i = omega arith in
-    rw (c.truncate.ensures.items, whole, ended) (rw c.as_mut_slice-items.ensures.value at (sifted_all (CalledAtMut g.F.FnMut) _ _ at.f at.items (at.i - at.gone) at.i (omega arith) at.invariant.sifted))
+    rw (c.truncate.ensures.items, whole, ended)
+    (rw
+    c.as_mut_slice-items.ensures.value at
+    (sifted_all (CalledAtMut g.F.FnMut) _ _ at.f at.items (at.i - at.gone) at.i (omega arith) at.invariant.sifted))

@@ -11,7 +11,9 @@ retain_mut-requires g c = mut_by _ (λ s. always_mut g.F.FnMut s.0) (λ s a i. s
 pub returns-then-is_empty : goal.returns-then-is_empty
 returns-then-is_empty g c =
     rw c.push_reserved.ensures.items
-    (all_emptied (CalledAtMut g.F.FnMut) _ (λ s. s.0) (λ s v b t w called. search rules) _ c.args.nodes.now.items c.retain_mut.new.self.items c.retain_mut.ensures.filtered (grind (arith, nat_tests)) c.new.result c.new.ensures.items)
+    (all_emptied (CalledAtMut g.F.FnMut) _ (λ s. s.0) (λ s v b t w called. search rules) _ c.args.nodes.now.items
+    c.retain_mut.new.self.items c.retain_mut.ensures.filtered (grind (arith, nat_tests)) c.new.result
+    c.new.ensures.items)
 
 pub returns-else-is_empty : goal.returns-else-is_empty
 returns-else-is_empty g c =

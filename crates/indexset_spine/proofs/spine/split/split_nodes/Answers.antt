@@ -41,12 +41,38 @@ push_reserved-requires g c = omega (arith, c.in_ok-right.ensures.len, c.in_ok-ri
 
 pub move_tail-requires-clause-room : goal.move_tail-requires-clause-room
 move_tail-requires-clause-room g c =
-    omega (arith, c.push_reserved.ensures.len, c.push_reserved.ensures.capacity, c.in_ok-right.ensures.len, c.in_ok-right.ensures.capacity, c.len.ensures, c.requires.node_in, length-vec_items c.args.nodes.now.items, c.args.nodes.now.ok, length-set c.args.nodes.now.items c.args.spot.node c.take_back.new.node)
+    omega (
+      arith,
+      c.push_reserved.ensures.len,
+      c.push_reserved.ensures.capacity,
+      c.in_ok-right.ensures.len,
+      c.in_ok-right.ensures.capacity,
+      c.len.ensures,
+      c.requires.node_in,
+      length-vec_items c.args.nodes.now.items,
+      c.args.nodes.now.ok,
+      length-set c.args.nodes.now.items c.args.spot.node c.take_back.new.node,
+    )
 
 pub drop_if_empty-requires : goal.drop_if_empty-requires
 drop_if_empty-requires g c =
-    omega (arith, length-vec_items c.move_tail.new.items.items, ap (λ l. length l) c.move_tail.ensures.left, length-take (c.args.spot.node + 1) (slice_set c.args.nodes.now.items c.args.spot.node c.take_back.new.node), length-set c.args.nodes.now.items c.args.spot.node c.take_back.new.node, c.requires.node_in, length-vec_items c.args.nodes.now.items)
+    omega (
+      arith,
+      length-vec_items c.move_tail.new.items.items,
+      ap (λ l. length l) c.move_tail.ensures.left,
+      length-take (c.args.spot.node + 1) (slice_set c.args.nodes.now.items c.args.spot.node c.take_back.new.node),
+      length-set c.args.nodes.now.items c.args.spot.node c.take_back.new.node,
+      c.requires.node_in,
+      length-vec_items c.args.nodes.now.items,
+    )
 
 pub drop_if_empty-requires-2 : goal.drop_if_empty-requires-2
 drop_if_empty-requires-2 g c =
-    omega (arith, length-vec_items c.move_tail.new.other.items, ap (λ l. length l) c.move_tail.ensures.moved, length-append c.push_reserved.new.self.items (drop (c.args.spot.node + 1) (slice_set c.args.nodes.now.items c.args.spot.node c.take_back.new.node)), ap (λ l. length l) c.push_reserved.ensures.items, length-append c.in_ok-right.right.items (c.in_ok-back.back ∷ []))
+    omega (
+      arith,
+      length-vec_items c.move_tail.new.other.items,
+      ap (λ l. length l) c.move_tail.ensures.moved,
+      length-append c.push_reserved.new.self.items (drop (c.args.spot.node + 1) (slice_set c.args.nodes.now.items c.args.spot.node c.take_back.new.node)),
+      ap (λ l. length l) c.push_reserved.ensures.items,
+      length-append c.in_ok-right.right.items (c.in_ok-back.back ∷ []),
+    )

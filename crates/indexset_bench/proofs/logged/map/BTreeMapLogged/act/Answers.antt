@@ -44,7 +44,10 @@ returns-in_ok-old-in-Insert g c =
       replay = done.events.replay;
       table = done.changed.table;
       at_most_three_events = done.events.at_most_three_events;
-      tree = tree_led (by_key g.K.Ord.cmp) old c.insert_cdc.new.self (put_events (by_key g.K.Ord.cmp) old.size old.nodes (pair c.in-Insert.key c.in-Insert.value)) done.changed.table done.changed.size done.changed.next;
+      tree =
+          tree_led (by_key g.K.Ord.cmp) old c.insert_cdc.new.self
+          (put_events (by_key g.K.Ord.cmp) old.size old.nodes (pair c.in-Insert.key c.in-Insert.value))
+          done.changed.table done.changed.size done.changed.next;
       next = done.changed.next;
       size = done.changed.size;
       dense = done.changed.dense;
@@ -85,7 +88,11 @@ returns-in-Some g c =
       replay = λ same. rw (done.events.events same) done.changed.table;
       table = done.changed.table;
       at_most_three_events = done.events.at_most_three_events;
-      tree = tree_led (by_key g.K.Ord.cmp) old c.checked_insert_cdc.new.self (checked_put_events (by_key g.K.Ord.cmp) old.size old.nodes (pair c.in-CheckedInsert.key c.in-CheckedInsert.value)) done.changed.table done.changed.size done.changed.next;
+      tree =
+          tree_led (by_key g.K.Ord.cmp) old c.checked_insert_cdc.new.self
+          (checked_put_events (by_key g.K.Ord.cmp) old.size old.nodes
+          (pair c.in-CheckedInsert.key c.in-CheckedInsert.value))
+          done.changed.table done.changed.size done.changed.next;
       next = done.changed.next;
       size = done.changed.size;
       dense = done.changed.dense;
@@ -109,7 +116,11 @@ returns-in-None g c =
       replay = λ _. led;
       table = done.changed.table;
       at_most_three_events = omega arith;
-      tree = tree_led (by_key g.K.Ord.cmp) old c.checked_insert_cdc.new.self (checked_put_events (by_key g.K.Ord.cmp) old.size old.nodes (pair c.in-CheckedInsert.key c.in-CheckedInsert.value)) done.changed.table done.changed.size done.changed.next;
+      tree =
+          tree_led (by_key g.K.Ord.cmp) old c.checked_insert_cdc.new.self
+          (checked_put_events (by_key g.K.Ord.cmp) old.size old.nodes
+          (pair c.in-CheckedInsert.key c.in-CheckedInsert.value))
+          done.changed.table done.changed.size done.changed.next;
       next = done.changed.next;
       size = done.changed.size;
       dense = done.changed.dense;

@@ -43,7 +43,11 @@ returns-in_ok-old-in-Insert g c =
       replay = done.events.replay;
       table = done.changed.table;
       at_most_three_events = done.events.at_most_three_events;
-      tree = multi_led g.K.Ord.cmp old c.insert_cdc.new.self (insertion_events g.K.Ord.cmp g.V.PartialEq.eq old c.in-Insert.key c.in-Insert.value) (pair_next_after g.K.Ord.cmp g.V.PartialEq.eq old c.in-Insert.key c.in-Insert.value) done.changed.table done.changed.size done.changed.next done.changed.pair_next;
+      tree =
+          multi_led g.K.Ord.cmp old c.insert_cdc.new.self
+          (insertion_events g.K.Ord.cmp g.V.PartialEq.eq old c.in-Insert.key c.in-Insert.value)
+          (pair_next_after g.K.Ord.cmp g.V.PartialEq.eq old c.in-Insert.key c.in-Insert.value) done.changed.table
+          done.changed.size done.changed.next done.changed.pair_next;
       next = done.changed.next;
       size = done.changed.size;
       dense = done.changed.dense;
@@ -84,7 +88,11 @@ returns-in_ok-out-in-RemoveSome g c =
       replay = done.events.replay;
       table = done.changed.table;
       at_most_three_events = done.events.at_most_three_events;
-      tree = multi_led g.K.Ord.cmp old c.remove_some_cdc.new.self (pair_removal_events g.K.Ord.cmp old.size old.nodes (first_pair g.K.Ord.cmp (concat old.nodes) c.in-RemoveSome.key)) (old.pair_next) done.changed.table done.changed.size done.changed.next done.changed.pair_next;
+      tree =
+          multi_led g.K.Ord.cmp old c.remove_some_cdc.new.self
+          (pair_removal_events g.K.Ord.cmp old.size old.nodes
+          (first_pair g.K.Ord.cmp (concat old.nodes) c.in-RemoveSome.key))
+          (old.pair_next) done.changed.table done.changed.size done.changed.next done.changed.pair_next;
       next = done.changed.next;
       size = done.changed.size;
       dense = done.changed.dense;
@@ -125,7 +133,11 @@ returns-in_ok-out-in-Remove g c =
       replay = done.events.replay;
       table = done.changed.table;
       at_most_three_events = done.events.at_most_three_events;
-      tree = multi_led g.K.Ord.cmp old c.remove_cdc.new.self (pair_removal_events g.K.Ord.cmp old.size old.nodes (equal_pair g.K.Ord.cmp g.V.PartialEq.eq (concat old.nodes) c.in-Remove.key c.in-Remove.value)) (old.pair_next) done.changed.table done.changed.size done.changed.next done.changed.pair_next;
+      tree =
+          multi_led g.K.Ord.cmp old c.remove_cdc.new.self
+          (pair_removal_events g.K.Ord.cmp old.size old.nodes
+          (equal_pair g.K.Ord.cmp g.V.PartialEq.eq (concat old.nodes) c.in-Remove.key c.in-Remove.value))
+          (old.pair_next) done.changed.table done.changed.size done.changed.next done.changed.pair_next;
       next = done.changed.next;
       size = done.changed.size;
       dense = done.changed.dense;

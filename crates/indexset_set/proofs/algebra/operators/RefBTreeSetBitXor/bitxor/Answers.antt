@@ -14,7 +14,9 @@ returns g c =
     let xs = symmetric_difference cmp (items c.args.self.now) (items c.args.other.now) in
     let came = c.in_ok-clones.ensures in
     let clones = c.in_ok-clones.clones.items in
-    let cloned : AllZip g.T.Clone.is_clone xs clones = subst (λ l. AllZip g.T.Clone.is_clone l clones) (shown c.symmetric_difference.result came.0 came.1 ∙ c.symmetric_difference.ensures.rest) came.2 in
+    let cloned : AllZip g.T.Clone.is_clone xs clones =
+    subst (λ l. AllZip g.T.Clone.is_clone l clones)
+    (shown c.symmetric_difference.result came.0 came.1 ∙ c.symmetric_difference.ensures.rest) came.2 in
     let first : IsAscending cmp (items c.args.self.now) = rw (← c.self.view_is) c.self.invariant in
     let up : IsAscending cmp xs = apart_ascending cmp g.met.T.Ord.total (items c.args.self.now) (items c.args.other.now) first in
     let made = c.made_like.ensures in
