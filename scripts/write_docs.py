@@ -3,7 +3,7 @@
 
 docs/reference has each public call of the library crates, a page for each type of the crate `indexset`, and an index,
 in which each call has the first sentence of its docs; docs/reference/internals has the same of each inner crate. A call
-has a summary, examples, errors, its cost (`costs.txt`) and its clauses.
+has a summary, examples, errors, its cost (`costs.txt`) and its clauses, in groups.
 GLOSSARY.md has the terms and the words that the contracts of collections use (`glossary.py`).
 """
 
@@ -24,6 +24,7 @@ import glossary  # noqa: E402
 ROOT = pathlib.Path(__file__).resolve().parent.parent
 HIDDEN_GHOSTS = re.compile(r"ghost (use|laws|Value|view|code|invariant)\b")
 CLAUSE = re.compile(r"(requires|ensures)\b")
+GROUP = re.compile(r"// (Result|Contents|Failure|Memory|Nodes)\.$")  # the comment above some clauses of a contract
 # The pages of types: their title, crate, and the folder or file of its sources. Other crates have a page each.
 PAGES = {
     "set": ("Set", "indexset_set", ""),
@@ -110,11 +111,14 @@ def depth(text: str) -> int:
 
 
 def take_head(lines: list[str], at: int) -> list[str]:
-    """The lines of an item from its first on, up to its body or its semicolon."""
+    """The lines of an item from its first on, up to its body or its semicolon: of its comments those of groups."""
     is_ghost = lines[at].strip().startswith("ghost ")
     taken: list[str] = []
     nested = 0
     for line in lines[at:]:
+        if GROUP.match(line.strip()):
+            taken.append(line)
+            continue
         text = line.split(" // ")[0].rstrip()
         if not text or text.lstrip().startswith("//"):
             continue
@@ -137,10 +141,12 @@ def joined(lines: Iterable[str]) -> str:
 
 
 def head_and_clauses(lines: list[str]) -> tuple[str, list[str]]:
-    """The signature on one line, and the lines of the clauses, indented as in the source."""
-    first = next((at for at, line in enumerate(lines) if CLAUSE.match(line.strip())), len(lines))
+    """The signature on one line, and the clauses, indented as in the source, with a line between groups."""
+    starts = (at for at, line in enumerate(lines) if CLAUSE.match(line.strip()) or GROUP.match(line.strip()))
+    first = next(starts, len(lines))
     clauses = [re.sub(r"\} \{\}$", "}", line) for line in lines[first:]]
-    return joined(lines[:first]), textwrap.dedent("\n".join(clauses)).splitlines()
+    apart = ("\n" + line if at and GROUP.match(line.strip()) else line for at, line in enumerate(clauses))
+    return joined(lines[:first]), textwrap.dedent("\n".join(apart)).splitlines()
 
 
 FAILS = re.compile(r"(?:Fails|A failed call)\b")
@@ -283,7 +289,8 @@ def shown(it: Call, page: Page, taken: dict[str, int], group: str = "") -> None:
     for said in [[it.doc.summary], examples, *([text] for text in texts), [cost]]:
         page.lines.extend([*said, ""] if any(said) else [])
     head = [it.owner] if it.owner else []
-    page.lines.extend(["```text", *head, it.signature, *("    " + clause for clause in it.clauses), "```", ""])
+    clauses = textwrap.indent("\n".join(it.clauses), "    ").splitlines()
+    page.lines.extend(["```text", *head, it.signature, *clauses, "```", ""])
 
 
 def add_ghosts(it: Call, page: Page, last: str) -> None:
@@ -358,7 +365,8 @@ def pages_of_contracts() -> dict[str, Page]:
 
 
 ABOUT = (
-    "A `requires` is a condition on the caller; an `ensures` is proved. Of an `impl` of a trait the lines are its ghost"
+    "A `requires` is a condition on the caller; an `ensures` is proved. A long contract has groups, each under its"
+    " name; the group `Nodes` is for code that follows the nodes. Of an `impl` of a trait the lines are its ghost"
     " members, which the trait's own contract uses. [The glossary]({up}GLOSSARY.md) has the words."
 )
 
@@ -426,7 +434,8 @@ def code_of_collections() -> Iterator[glossary.Code]:
     for name, page in pages_of_contracts().items():
         if name in COLLECTIONS:
             _, crate, part = PAGES[name]
-            fenced = re.findall(r"^```text\n(.*?)^```$", "\n".join(page.lines), re.M | re.S)
+            lines = (line for line in page.lines if not GROUP.match(line.strip()))
+            fenced = re.findall(r"^```text\n(.*?)^```$", "\n".join(lines), re.M | re.S)
             yield glossary.Code("\n".join(fenced), list(files_of(crate, part)))
 
 
