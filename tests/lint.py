@@ -1,9 +1,10 @@
 #!/usr/bin/env python3
-"""Checks the scripts and the sources in C and C++ by the rules beside them, and how wide the lines of the crates are.
+"""Checks the scripts and the sources in C and C++ by the rules beside them, and the crates' lines and contracts.
 
 flake8 has its rules in setup.cfg, shellcheck in .shellcheckrc, clang-format and clang-tidy in files of their names. No
-line is longer than 120 characters; those of the crates have the limits of tests/widths.py. A tool that is not installed
-is a failure: scripts/needs.py installs it. The last line is 'N passed, M failed'.
+line is longer than 120 characters; those of the crates have the limits of tests/widths.py, and their long contracts the
+groups of tests/contracts.py. A tool that is not installed is a failure: scripts/needs.py installs it. The last line is
+'N passed, M failed'.
 """
 
 from __future__ import annotations
@@ -23,6 +24,7 @@ sys.dont_write_bytecode = True
 sys.path.insert(0, str(TOP / "scripts"))
 sys.path.insert(0, str(TOP / "tests"))
 import by_language  # noqa: E402
+import contracts  # noqa: E402
 import widths  # noqa: E402
 
 WIDEST = 120
@@ -79,11 +81,12 @@ def wide_lines() -> str:
 
 
 def main() -> int:
-    ask = argparse.ArgumentParser(description="Checks the scripts, the sources in C and C++ and the widths of lines.")
+    ask = argparse.ArgumentParser(description="Checks the scripts, the sources in C and C++, widths and contracts.")
     ask.add_argument("--jobs", type=int, default=len(os.sched_getaffinity(0)), help="how many at a time")
     given = ask.parse_args()
     with ThreadPoolExecutor(given.jobs) as pool:
-        complaints = [wide_lines(), "".join(map(widths.wide_lines, widths.files())), *pool.map(ran, commands())]
+        crates = ["".join(map(widths.wide_lines, widths.files())), "".join(map(contracts.faults, contracts.files()))]
+        complaints = [wide_lines(), *crates, *pool.map(ran, commands())]
     print("".join(complaints), end="")
     failed = sum(map(bool, complaints))
     print(f"{len(complaints) - failed} passed, {failed} failed")
