@@ -357,7 +357,7 @@ module _ {K V : Type 0} (cmp : K → K → Ordering) (o : IsTotalOrder cmp) (eq 
   inserted same law low {ns = ns} nodes pair made =
       let up = lawful_ascends (by_number cmp) m.size m.nodes law in
       let is = made ∙ (ap (put (by_number cmp) (concat ns)) pair ∙ ap (λ q. put (by_number cmp) (concat q) (inserted_pair cmp eq m k w)) nodes) in
-      record { there = rw is (inserted_there same up); last = rw is (inserted_last low); others = rw is (inserted_others up) }
+      record { contains = rw is (inserted_there same up); last = rw is (inserted_last low); others = rw is (inserted_others up) }
 
 -- a pair that is found has the key, and its value is among those of the key
 module _ {K V : Type 0} (cmp : K → K → Ordering) (eq : V → V → Bool) (l : List (MultiPair K V)) (k : K) (w : V) {x : MultiPair K V} where

@@ -43,6 +43,6 @@ returns g c =
       given_back = tt;
       unchanged = tt;
       number_left = sym c.in_ok-pair.ensures.refusal;
-      inserted = record { there = d.there; last = d.last; others = d.others };
+      inserted = record { contains = d.contains; last = d.last; others = d.others };
       changed = changed;
     }

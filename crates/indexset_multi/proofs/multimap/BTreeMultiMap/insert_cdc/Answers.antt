@@ -43,7 +43,7 @@ returns g c =
       given_back = tt;
       unchanged = tt;
       number_left = sym c.in_ok-pair.ensures.refusal;
-      inserted = record { there = d.there; last = d.last; others = d.others };
+      inserted = record { contains = d.contains; last = d.last; others = d.others };
       changed = changed;
       events = put_told cmp eq m k w seen pair (ap (λ q. q.1) c.in_ok-pair.ensures.answer) done.changed c.in_ok-old.events.items done.events.clones;
     }
