@@ -9,13 +9,13 @@
 #![tactic(auto)]
 
 pub mod answer;
-pub mod early;
+mod early;
 pub mod echo;
 pub mod event;
 pub mod follower;
 pub mod laws;
 pub mod leader;
-pub mod leading;
+mod leading;
 pub mod mark;
 mod node;
 mod numbers;

@@ -4,17 +4,17 @@
 //! lines that a follower reads: those of a snapshot, and after it events and `done` lines.
 #![tactic(auto)]
 
-pub mod answer;
+mod answer;
 mod batch;
 mod fault;
 pub mod followed;
 pub mod kept;
 pub mod laws;
 pub mod manner;
-pub mod restore;
-pub mod role;
+mod restore;
+mod role;
 pub mod run;
 mod seal;
-pub mod text;
+mod text;
 
 pub use fault::KeepFault;

@@ -30,7 +30,7 @@ pub mod iter;
 pub mod laws;
 pub mod lookup;
 mod places;
-pub mod positions;
+mod positions;
 mod range;
 mod text;
 

@@ -13,5 +13,5 @@ pub mod scarce;
 pub mod script;
 pub mod sized;
 pub mod tagged;
-pub mod texts;
+mod texts;
 pub mod word;
