@@ -7,14 +7,14 @@ ghost use Rattle.std.specs.List.{All, filter, list_any};
 ghost use Rattle.std.specs.Option.{option_map};
 ghost use Rattle.std.specs.Ordering.{nat_cmp};
 ghost use Rattle.std.specs.declared.ops.Bound.TheVariants.{Included, Excluded, Unbounded};
-ghost use Rattle.indexset.specs.Words.{has_key, pair_keys, pair_values, pairs_within};
-ghost use Rattle.indexset.specs.Words.{put_value, set_value, value_of, without_key};
+ghost use Rattle.indexset.specs.Words.{are_ordered, has_key, pair_keys, pair_values};
+ghost use Rattle.indexset.specs.Words.{pairs_within, put_value, set_value, value_of, without_key};
 
 use indexset::base::Text;
 use indexset::base::refusal::{Refusal, Refused};
 use indexset::{BTreeMap, Entry};
 use std::alloc::{AllocError, Global};
-use std::ops::Bound;
+use std::ops::{Bound, RangeBounds};
 
 /// `BTreeMap::from([(1, 2), (3, 4)])`: takes the allocator, and returns a `Result`.
 pub fn two(alloc: Global) -> Result<BTreeMap<u64, u64>, Refusal> {
@@ -155,10 +155,10 @@ pub fn has_value(map: &BTreeMap<u64, u64>, sought: u64) -> bool
 }
 
 // `for (k, v) in &mut map`, `for v in map.values_mut()` and `for (k, v) in map.range_mut(..)` are
-// not supported: such an iterator lends from itself, and takes back what it lends before the next
-// (docs/design.md has the smallest case). Write `let mut values = map.values_mut(); while let
-// Some(value) = values.next() { .. }`; `raise` in `prices.rt` has the proof of what such a loop
-// writes.
+// not supported, nor is `for_each` of these iterators: such an iterator lends from itself, and
+// takes back what it lends before the next (docs/design.md has the smallest case). Write `let mut
+// values = map.values_mut(); while let Some(value) = values.next() { .. }`; `raise` in `prices.rt`
+// has the proof of what such a loop writes.
 
 /// `map.values().copied().max()`.
 pub fn greatest(map: &BTreeMap<u64, u64>) -> Option<u64> {
@@ -188,6 +188,16 @@ pub fn next_key(map: &BTreeMap<u64, u64>, key: u64) -> Option<u64>
 {
     let (found, _) = map.range((Bound::Excluded(&key), Bound::Unbounded)).next()?;
     Some(*found)
+}
+
+/// `map.range(range)` at any `R: RangeBounds<K>`: here it takes the two bounds.
+pub fn count_within<K: Ord, V, R: RangeBounds<K>>(map: &BTreeMap<K, V>, range: R) -> usize
+    requires bounds { R.has_bounds range }
+    requires ordered { IsTrue (are_ordered K.cmp (R.start_bound range) (R.end_bound range)) }
+    ensures { result ≡ length (pairs_within K.cmp map.now.pairs (R.start_bound range)
+        (R.end_bound range)) }
+{
+    map.range((range.start_bound(), range.end_bound())).len()
 }
 
 /// `map.iter().rev().take(n)`: the last n pairs, in descending order.
