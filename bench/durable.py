@@ -422,7 +422,7 @@ def main() -> int:
     ask.add_argument(
         "--folder", type=pathlib.Path, default=pathlib.Path(tempfile.gettempdir()), help="on the disk that is measured"
     )
-    ask.add_argument("--large", action="store_true", help="the starts of maps of 1,000,000 to 10,000,000 pairs alone")
+    ask.add_argument("--large", action="store_true", help="the starts of maps of 1,000,000 to 10,000,000 pairs only")
     given = ask.parse_args()
     with tempfile.TemporaryDirectory(dir=given.folder) as folder:
         print(f"SQLite {sqlite3.sqlite_version}, {os.cpu_count()} processors\n")

@@ -1,13 +1,13 @@
 #!/usr/bin/env python3
 """Checks the pages: links, pictures, phrases and the version.
 
-    tests/prose.py [--sources]
+    tests/prose.py
 
 A link names a file of the repository, and a heading of that page; what is shown as code for a call of the reference, as
 a clause, is a word of that call. A path that is shown as code exists. A picture has colours for light and for dark: an
-SVG by its style, any other by a `<picture>` of two files. No page has a phrase of `PHRASES`; with --sources
-the lines of sources that have one are counted, which is no fault. The version is the one of
-bindings/python/pyproject.toml, which pkg-config, CMake and Python read. The last line is 'N pages, M faults'.
+SVG by its style, any other by a `<picture>` of two files. No page and no comment of a source has a phrase of `PHRASES`.
+The version is the one of bindings/python/pyproject.toml, which pkg-config, CMake and Python read. The last line is
+'N pages, M faults'.
 """
 
 from __future__ import annotations
@@ -27,7 +27,14 @@ PHRASES = re.compile(
 )
 REFERENCE = TOP / "docs/reference"
 DARK = "prefers-color-scheme:dark"
-COMMENT = re.compile(r"(?://|--|#|/?\*|\"\"\").*")
+COMMENTS = {  # by the kind of source; a name in backticks may be one of the phrases
+    ".py": re.compile(r"(?:#|\"\"\").*"),
+    ".rt": re.compile(r"//.*"),
+    ".antt": re.compile(r"(?:^|\s)--\s.*"),
+    ".h": re.compile(r"(?://|/\*|^ \*).*"),
+    ".hpp": re.compile(r"(?://|/\*|^ \*).*"),
+    ".c": re.compile(r"(?://|/\*|^ \*).*"),
+}
 GENERATED = ("docs/reference", "docs/GLOSSARY.md")  # from comments in the sources
 PAGES = ["*.md", "docs/**/*.md", "bindings/**/*.md", "crates/*/README.md", "examples/**/*.md", "tests/**/*.md"]
 
@@ -109,13 +116,14 @@ def phrases_of(page: pathlib.Path) -> Iterator[str]:
 
 
 def phrases_in_sources() -> Iterator[str]:
-    """Yields the sources with comments that have one of the phrases, and the number of such lines."""
-    for file in sorted(it for form in ("*.rt", "*.antt", "*.py", "*.h", "*.hpp") for it in TOP.rglob(form)):
-        if "out" not in file.relative_to(TOP).parts:
-            lines = file.read_text(encoding="utf-8").splitlines()
-            comments = (it[0] for it in map(COMMENT.search, lines) if it)
-            if count := sum(bool(PHRASES.search(it)) for it in comments):
-                yield f"{file.relative_to(TOP)}: {count}"
+    """Yields the comments of sources that have one of the phrases."""
+    for file in sorted(it for form in COMMENTS for it in TOP.rglob(f"*{form}")):
+        if "out" in file.relative_to(TOP).parts:
+            continue
+        for number, line in enumerate(file.read_text(encoding="utf-8").splitlines(), 1):
+            comment = COMMENTS[file.suffix].search(line)
+            for phrase in PHRASES.findall(re.sub(r"`[^`]*`", "", comment[0])) if comment else ():
+                yield f"{file.relative_to(TOP)}:{number}: {phrase}"
 
 
 def other_versions() -> Iterator[str]:
@@ -136,14 +144,11 @@ def other_versions() -> Iterator[str]:
 
 def main() -> int:
     """Prints each fault."""
-    ask = argparse.ArgumentParser(description=__doc__, formatter_class=argparse.RawDescriptionHelpFormatter)
-    ask.add_argument("--sources", action="store_true", help="count the lines of sources with a phrase")
-    if ask.parse_args().sources:
-        print(*phrases_in_sources(), sep="\n")
+    argparse.ArgumentParser(description=__doc__, formatter_class=argparse.RawDescriptionHelpFormatter).parse_args()
     read, sections_of = pages(), dict[pathlib.Path, dict[str, str]]()
     faults = [fault for page in read for fault in lost_links(page, sections_of)]
     faults += [fault for page in read for fault in [*lost_paths(page), *lost_pictures(page), *phrases_of(page)]]
-    faults += other_versions()
+    faults += [*phrases_in_sources(), *other_versions()]
     print(*faults, sep="\n")
     print(f"{len(read)} pages, {len(faults)} faults")
     return 1 if faults else 0

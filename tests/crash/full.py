@@ -136,7 +136,7 @@ def can_mount() -> bool:
 
 def main() -> int:
     ask = argparse.ArgumentParser(description="Fills the disk of a map that is kept.")
-    ask.add_argument("--few", action="store_true", help="fill two disks alone")
+    ask.add_argument("--few", action="store_true", help="fill two disks only")
     given = ask.parse_args()
     if not can_mount():
         print("a disk cannot be mounted here, which takes the rights of root: nothing was tried")

@@ -78,7 +78,7 @@ def lines_and_replies(name: str) -> tuple[bytes, list[bytes]]:
 def main() -> int:
     ask = argparse.ArgumentParser(description="Has each request of the follower fail in turn.")
     ask.add_argument("--follower", type=pathlib.Path, help="the program indexset_store")
-    ask.add_argument("--linked", action="store_true", help="refuse.c stands in the program")
+    ask.add_argument("--linked", action="store_true", help="the program contains refuse.c")
     arguments = ask.parse_args()
     follower = (arguments.follower or built("indexset_store")).resolve()
     given, replies = lines_and_replies("follower")

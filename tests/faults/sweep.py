@@ -96,7 +96,7 @@ def main() -> int:
     ask.add_argument("words", nargs="*", metavar="WORD")
     ask.add_argument("--player", type=pathlib.Path, help="the program test_script_runner")
     ask.add_argument("--program", type=pathlib.Path, help="the program indexset_program")
-    ask.add_argument("--linked", action="store_true", help="refuse.c stands in both programs")
+    ask.add_argument("--linked", action="store_true", help="both programs contain refuse.c")
     ask.add_argument("--jobs", type=int, default=len(os.sched_getaffinity(0)))
     ask.add_argument("--write", action="store_true", help="write requests.txt")
     given = ask.parse_args()

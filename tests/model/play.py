@@ -72,7 +72,7 @@ def main() -> int:
     parser.add_argument("--calls", type=int, default=100_000, help="how many calls, over all families")
     parser.add_argument("--seed", type=int, default=1)
     parser.add_argument("--jobs", type=int, default=os.cpu_count() or 1, help="how many players at a time")
-    parser.add_argument("--family", choices=PLAYED, help="this family alone, with all calls")
+    parser.add_argument("--family", choices=PLAYED, help="only this family, with all calls")
     parser.add_argument("--keep", type=pathlib.Path, help="where scripts that fail are kept")
     given = parser.parse_args()
     folder = given.keep or pathlib.Path(tempfile.mkdtemp(prefix="scripts-"))

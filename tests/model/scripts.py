@@ -153,7 +153,7 @@ def main() -> None:
     parser.add_argument("--calls", type=int, default=100_000, help="how many calls, over all families")
     parser.add_argument("--seed", type=int, default=1)
     parser.add_argument("--out", type=pathlib.Path, required=True, help="the folder of the scripts")
-    parser.add_argument("--family", choices=PLAYED, help="this family alone, with all calls")
+    parser.add_argument("--family", choices=PLAYED, help="only this family, with all calls")
     given = parser.parse_args()
     for family in [given.family] if given.family else PLAYED:
         calls = given.calls if given.family else share(family, given.calls)

@@ -238,7 +238,7 @@ def of_cpython(folder, what):
 
 def main():
     words = argparse.ArgumentParser(description=__doc__, formatter_class=argparse.RawDescriptionHelpFormatter)
-    words.add_argument("--part", help="runs this file alone, and prints its outcomes as JSON")
+    words.add_argument("--part", help="runs only this file, and prints its outcomes as JSON")
     words.add_argument("--whose", choices=("ours", "theirs"), default="ours")
     words.add_argument("--folder", type=pathlib.Path, help="the source package, where it is unpacked already")
     given = words.parse_args()

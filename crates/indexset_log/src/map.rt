@@ -93,7 +93,7 @@ impl<K: Ord + Clone + Drop, V: Clone + Drop, Node: NodeLike<Pair<K, V>>> BTreeMa
     /// # Examples
     ///
     /// ```
-    /// // A replica goes on as the map.
+    /// // A replica continues as the map.
     /// let mut replica: Replica<Pair<u64, u64>> = Replica::new(alloc, 0);
     /// replica.apply(&ChangeEvent::CreateNode {
     ///     event_id: Id::from(0),

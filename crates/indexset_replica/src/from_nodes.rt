@@ -76,7 +76,7 @@ impl<T: Ord + Clone + Drop> Replica<T> {
     /// # Examples
     ///
     /// ```
-    /// // The replica goes on as the tree.
+    /// // The replica continues as the tree.
     /// let nodes = vec![in alloc; vec![in alloc; 10, 20]?, vec![in alloc; 30]?]?;
     /// let replica = Replica::from_nodes(nodes, 3)?;
     /// let next = replica.next();

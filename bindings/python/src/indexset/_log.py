@@ -15,7 +15,7 @@ V = TypeVar("V")
 
 
 class LoggedDict(Noded[K, V], MutableMapping[K, V], Generic[K, V]):
-    """A sorted dictionary that reports each change to `tell`.
+    """A sorted dictionary that passes each change to `tell`.
 
     `keys` and `values` name the kinds of its keys and values, as for `SortedSet`; without names these are the kinds of
     the first pair. Raises TypeError, OverflowError or ValueError if an item is of another kind. A node holds at most
