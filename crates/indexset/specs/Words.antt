@@ -46,11 +46,11 @@
 -- an error with the value that the call was given; `digits` is the bit length; `_cdc` marks a call
 -- that returns its events (change data capture).
 --
--- The model of a value in contracts: of a set `cut nodes size`, whose list is `items s`; of a map
--- `Contents`: `pairs`, node lengths, node size; of a logged tree `Tree`: nodes, node size, number
--- of the next event, whose list is `concat t.nodes`; of a multimap `MultiTree`, with the number of
--- the next new pair; of a replica `ReplicaState`: nodes and the number of the event that it
--- expects.
+-- The model of a value in contracts: of a set `node_list nodes size`, whose list is `items s`; of a
+-- map `Contents`: `pairs`, node lengths, node size; of a logged tree `Tree`: nodes, node size,
+-- number of the next event, whose list is `concat t.nodes`; of a multimap `MultiTree`, with the
+-- number of the next new pair; of a replica `ReplicaState`: nodes and the number of the event that
+-- it expects.
 
 pub use Rattle.indexset_spine.specs.NodeList.{items}
 pub use Rattle.indexset_spine.specs.Extract.{Extracts, ExtractState, extract_state}
