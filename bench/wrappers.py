@@ -59,7 +59,7 @@ def c_cells(keys: list[str]) -> Cells:
 def is_built(backend: str) -> bool:
     """Returns whether the package is built with a backend, and `sortedcontainers` is installed."""
     package = OUT / "python/out"
-    has_module = any((package / "indexset").glob("_fast*")) or backend == "ctypes"
+    has_module = any((package / "indexset").glob("_speedups*")) or backend == "ctypes"
     if not (package / "indexset").is_dir() or not importlib.util.find_spec("sortedcontainers") or not has_module:
         print(f"Python by {BACKENDS[backend]} is left out: it needs `bindings/test.sh` and `sortedcontainers`")
         return False

@@ -65,7 +65,7 @@ for backend in ctypes extension; do
     try env "INDEXSET_BACKEND=$backend" python3 python/out/peer_tests.py
 done
 try sanitized
-try mypy --strict --no-incremental --cache-dir=/dev/null python/src/indexset python/tests/sample.py
+try mypy --strict --no-incremental --cache-dir=/dev/null python/src/indexset python/tests/typing_sample.py
 # By Debian's Python, which has numpy.
 if ! python3 -c 'import numpy' 2> /dev/null; then
     for test in test_answers test_equals; do

@@ -72,7 +72,7 @@ def speedups():
     """Returns the compiled module. It has no debug information, unless CFLAGS asks for some."""
     debug = [] if "-g" in os.environ.get("CFLAGS", "").split() else ["-g0"]
     return setuptools.Extension(
-        "indexset._fast",
+        "indexset._speedups",
         sorted(str(it.relative_to(HERE)) for it in HERE.glob("src/speedups/*.c")),
         include_dirs=["src/speedups", str(native("indexset.h").parent)],
         extra_compile_args=["-O2", *debug, "-fvisibility=hidden"],
@@ -116,7 +116,7 @@ if bdist_wheel is not None:
 
         def get_tag(self):
             python, abi, platform = super().get_tag()
-            has_module = any(pathlib.Path(self.bdist_dir, "indexset").glob("_fast*"))
+            has_module = any(pathlib.Path(self.bdist_dir, "indexset").glob("_speedups*"))
             return (python, abi, platform) if has_module else ("py3", "none", platform)
 
     COMMANDS["bdist_wheel"] = Wheel

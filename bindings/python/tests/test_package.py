@@ -114,7 +114,7 @@ class Package(unittest.TestCase):
         self.assertRegex("\n".join(names), "(?m)^indexset-0.2.0.dist-info/(licenses/)?LICENSE$")
         made = self.wheel(PATH="/nowhere", CC="no-compiler")
         self.assertEqual(made.name, f"indexset-0.2.0-{tags['ctypes']}.whl")
-        self.assertNotIn("_fast", "".join(zipfile.ZipFile(made).namelist()))
+        self.assertNotIn("_speedups", "".join(zipfile.ZipFile(made).namelist()))
 
     def test_without_the_library(self):
         shutil.copytree(HERE, self.folder / "bare/bindings/python", ignore=shutil.ignore_patterns("out"))

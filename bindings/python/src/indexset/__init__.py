@@ -12,7 +12,7 @@ from ._library import PROVED, version
 from ._list import SortedKeyList, SortedList, SortedListWithKey
 from ._log import LoggedDict
 from ._multi import SortedMultiDict
-from ._native import BACKEND
+from ._backend import BACKEND
 from ._nodes import Change
 from ._replica import Gap, Refused, Replica
 from ._set import SortedSet

@@ -1,11 +1,11 @@
-"""Orders of objects by Python's own `<` in the ctypes backend: the class that the compiled module `_fast` has too."""
+"""Orders of objects by Python's own `<` in the ctypes backend: a class that the module `_speedups` has too."""
 from __future__ import annotations
 
 from bisect import bisect_left, bisect_right
 from itertools import accumulate, chain
 from typing import Any, Callable, Iterable, Optional, TypeVar
 
-from ._held import Held
+from ._object_index import ObjectIndex
 
 T = TypeVar("T")
 
@@ -20,7 +20,7 @@ def _sort(items: list[Any], key: Any) -> None:
     items.sort(key=key)
 
 
-class Blocks(Held[T]):
+class Blocks(ObjectIndex[T]):
     """Objects in blocks, in the order of their sort keys, equal ones in insertion order."""
 
     __slots__ = ("_blocks", "_keys", "_lasts", "_ends", "_length")

@@ -19,7 +19,7 @@ from typing import (
 )
 
 from ._kinds import OBJECT, known
-from ._native import DictFront
+from ._backend import DictBase
 from ._orders import KeyFunction, Run, duplicate, fitted, gathered, order_of, own_kind, settled
 from ._placed import Placed
 from ._views import SortedItemsView, SortedKeysView, SortedValuesView
@@ -153,7 +153,7 @@ class SortedDict(Placed[K, V], Generic[K, V]):
         if key in self:
             return self[key]
         value: Any = default
-        DictFront.__setitem__(self, key, value)
+        DictBase.__setitem__(self, key, value)
         return default
 
     @overload

@@ -5,7 +5,7 @@ from collections.abc import MutableSequence, Sequence
 from operator import eq, ge, gt, le, lt, ne
 from typing import Any, Callable, Generic, Iterable, Literal, Optional, TypeVar, overload
 
-from ._native import Numbers
+from ._backend import Numbers
 from ._orders import Run, order_of, repeating
 from ._sorted import OWN_INITS, Sorted
 

@@ -5,7 +5,7 @@ from itertools import product
 from typing import TYPE_CHECKING, Any, Callable, Iterable, Iterator, Optional, TypeVar, Union
 
 from ._kinds import ALL, BYTES, NUMBERS, OBJECT, TOP, real, whole
-from ._native import BACKEND, Blocks, Coded, Held, Multi, Numbers
+from ._backend import BACKEND, Blocks, Coded, Multi, Numbers, ObjectIndex
 
 T = TypeVar("T")
 KeyFunction = Optional[Callable[[Any], Any]]
@@ -29,7 +29,7 @@ def forms(key: Any) -> list[Any]:
     return found + [bool(number)] * (number in (0, 1)) or [key]
 
 
-class Keyed(Held[T]):
+class Keyed(ObjectIndex[T]):
     """Objects in the order of their sort keys, equal ones in insertion order. A subclass also keeps the order in the
     library."""
 

@@ -3,13 +3,13 @@ from __future__ import annotations
 
 from typing import Callable, Generic, Iterator, Optional, SupportsIndex, TypeVar
 
-from ._native import DictFront
+from ._backend import DictBase
 
 K = TypeVar("K")
 V = TypeVar("V")
 
 
-class Placed(DictFront[K, V], Generic[K, V]):
+class Placed(DictBase[K, V], Generic[K, V]):
     """The access by position of a sorted dictionary."""
 
     __slots__ = ()

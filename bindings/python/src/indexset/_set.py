@@ -7,7 +7,7 @@ from itertools import chain, filterfalse
 from typing import Any, Callable, Generic, Iterable, Literal, Optional, SupportsIndex, TypeVar, Union, overload
 
 from ._kinds import items_of
-from ._native import Numbers
+from ._backend import Numbers
 from ._sorted import OWN_INITS, Sorted
 
 T = TypeVar("T")

@@ -9,9 +9,9 @@ from reprlib import recursive_repr
 from typing import Any, Callable, Generic, Iterable, Iterator, Optional, SupportsIndex, TypeVar, Union, overload
 
 from ._kinds import items_of, known
-from ._native import Front, Numbers
+from ._backend import IndexedBase, Numbers
 from ._orders import Compared, KeyFunction, Order, Repeated, Run, duplicate, fitted, gathered, order_of, settled
-from ._pure import ARRAYS
+from ._ctypes import ARRAYS
 
 T = TypeVar("T")
 S = TypeVar("S", bound="Sorted[Any]")
@@ -21,7 +21,7 @@ OWN_INITS: set[Any] = set()
 _PART = 8
 
 
-class Sorted(Front[T], Sequence[T], Generic[T]):
+class Sorted(IndexedBase[T], Sequence[T], Generic[T]):
     """Items in order, each at a position. A subclass determines which items it takes."""
 
     __slots__ = ("_named",)

@@ -1,9 +1,9 @@
 /* All numbers of an order, contiguous in memory. */
-#include "fast.h"
+#include "speedups.h"
 
 static enum kind kind_of(PyObject *owner) {
     if (Py_TYPE(owner) == &NumbersType) return ((Numbers *)owner)->kind;
-    return IS_BLOCKS(owner) ? ((Blocks *)owner)->by : ((Held *)owner)->kind;
+    return IS_BLOCKS(owner) ? ((Blocks *)owner)->by : ((ObjectIndex *)owner)->kind;
 }
 
 /* Writes the number of a code. Both zeros have one code: for these the object is read. */

@@ -1,5 +1,5 @@
 /* Calls of a set of numbers on many of them at once. */
-#include "fast.h"
+#include "speedups.h"
 
 /* Allocates room for numbers; NULL with an error set. */
 static uint64_t *room(size_t count) {

@@ -1,6 +1,6 @@
 /* Objects in blocks: their places, insertion and removal. Nothing here compares. Memory is allocated before anything
  * changes. */
-#include "fast.h"
+#include "speedups.h"
 
 /* The maximum number of objects of a block, and the number of objects below which two blocks are merged. */
 #define MOST 512

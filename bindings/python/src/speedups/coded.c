@@ -1,5 +1,5 @@
 /* Objects at byte strings, in the order of these, in a map of the library from byte strings to objects. */
-#include "fast.h"
+#include "speedups.h"
 
 /* The map of an object that is being collected: it has no items and takes none. */
 static indexset_text_map nowhere = INDEXSET_HANDLE;
@@ -277,11 +277,12 @@ static PyMemberDef members[] = {
     {"key", T_OBJECT, offsetof(Coded, key), READONLY, "The function that makes sort keys, or None."},
     {0},
 };
-static PySequenceMethods sequence = {.sq_length = (lenfunc)coded_length, .sq_contains = (objobjproc)held_contains};
+static PySequenceMethods sequence = {.sq_length = (lenfunc)coded_length,
+                                     .sq_contains = (objobjproc)object_index_contains};
 static PyMappingMethods mapping = {.mp_length = (lenfunc)coded_length, .mp_subscript = (binaryfunc)item_method};
 
 PyTypeObject CodedType = {
-    PyVarObject_HEAD_INIT(NULL, 0).tp_name = "indexset._fast.Coded",
+    PyVarObject_HEAD_INIT(NULL, 0).tp_name = "indexset._speedups.Coded",
     .tp_doc = "Objects at byte strings, in the order of these, in a map of the library.",
     .tp_basicsize = sizeof(Coded),
     .tp_flags = Py_TPFLAGS_DEFAULT | Py_TPFLAGS_BASETYPE | Py_TPFLAGS_HAVE_GC,

@@ -1,5 +1,5 @@
 /* The codes of numbers, which are 64-bit numbers in the same order, and back. */
-#include "fast.h"
+#include "speedups.h"
 
 static uint64_t code_of_double(double number) {
     uint64_t bits;

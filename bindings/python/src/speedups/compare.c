@@ -1,6 +1,6 @@
 /* Comparisons of objects in blocks. One by `<` may run any code: its arguments are held meanwhile, and it is an error
  * if the blocks have changed. */
-#include "fast.h"
+#include "speedups.h"
 
 /* The sought key, and its code if the kind is one of numbers. */
 typedef struct {

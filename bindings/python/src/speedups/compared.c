@@ -1,5 +1,5 @@
-/* The type `Blocks`, and the calls of front.c and held.c on it. */
-#include "fast.h"
+/* The type `Blocks`, and the calls of base.c and object_index.c on it. */
+#include "speedups.h"
 
 /* ---- the object */
 
@@ -265,11 +265,12 @@ static PyMemberDef members[] = {
     {"key", T_OBJECT, offsetof(Blocks, key), READONLY, "The function that makes sort keys, or None."},
     {0},
 };
-static PySequenceMethods sequence = {.sq_length = (lenfunc)blocks_length, .sq_contains = (objobjproc)held_contains};
+static PySequenceMethods sequence = {.sq_length = (lenfunc)blocks_length,
+                                     .sq_contains = (objobjproc)object_index_contains};
 static PyMappingMethods mapping = {.mp_length = (lenfunc)blocks_length, .mp_subscript = (binaryfunc)item_method};
 
 PyTypeObject BlocksType = {
-    PyVarObject_HEAD_INIT(NULL, 0).tp_name = "indexset._fast.Blocks",
+    PyVarObject_HEAD_INIT(NULL, 0).tp_name = "indexset._speedups.Blocks",
     .tp_doc = "Objects in blocks, in the order of their sort keys.",
     .tp_basicsize = sizeof(Blocks),
     .tp_flags = Py_TPFLAGS_DEFAULT | Py_TPFLAGS_BASETYPE | Py_TPFLAGS_HAVE_GC,

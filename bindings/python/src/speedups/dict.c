@@ -1,17 +1,17 @@
 /* A dict with an order of its keys: a change of one key goes straight to the dict and to the order. */
-#include "fast.h"
+#include "speedups.h"
 
-static int dict_traverse(DictFront *self, visitproc visit, void *arg) {
+static int dict_traverse(DictBase *self, visitproc visit, void *arg) {
     Py_VISIT(self->order);
     return PyDict_Type.tp_traverse((PyObject *)self, visit, arg);
 }
 
-static int dict_clear(DictFront *self) {
+static int dict_clear(DictBase *self) {
     Py_CLEAR(self->order);
     return PyDict_Type.tp_clear((PyObject *)self);
 }
 
-static void dict_dealloc(DictFront *self) {
+static void dict_dealloc(DictBase *self) {
     PyObject_GC_UnTrack(self);
     Py_CLEAR(self->order);
     PyDict_Type.tp_dealloc((PyObject *)self);
@@ -19,7 +19,7 @@ static void dict_dealloc(DictFront *self) {
 
 /* Returns the order of the keys, as a new reference: it outlives the code that runs meanwhile. There is none before
  * `__init__`. */
-static PyObject *order_of(DictFront *self) {
+static PyObject *order_of(DictBase *self) {
     if (self->order == NULL) PyErr_SetString(PyExc_RuntimeError, "the object was not made");
     Py_XINCREF(self->order);
     return self->order;
@@ -30,7 +30,7 @@ static PyObject *order_of(DictFront *self) {
 /* Adds an absent key to the order. Returns 1, NOT_OWN, or -1 with an error set. */
 static int add_key(PyObject *order, PyObject *key) {
     uint64_t code;
-    if (Py_TYPE(order) != &NumbersType) return is_fresh(order) ? NOT_OWN : held_add(order, key, NULL);
+    if (Py_TYPE(order) != &NumbersType) return is_fresh(order) ? NOT_OWN : object_index_add(order, key, NULL);
     return number_code(((Numbers *)order)->kind, key, &code) ? numbers_add((Numbers *)order, key) : NOT_OWN;
 }
 
@@ -38,11 +38,11 @@ static int add_key(PyObject *order, PyObject *key) {
 static int discard_key(PyObject *order, PyObject *key) {
     if (Py_TYPE(order) == &NumbersType) return numbers_discard((Numbers *)order, key);
     int state = IS_MULTI(order) || IS_BLOCKS(order) ? NOT_OWN : own_drop((Coded *)order, key);
-    return state == NOT_OWN ? held_discard(order, key) : state;
+    return state == NOT_OWN ? object_index_discard(order, key) : state;
 }
 
 /* Adds a key by `_order_keys` of the class, which finds the kind. */
-static int order_key(DictFront *self, PyObject *key) {
+static int order_key(DictBase *self, PyObject *key) {
     PyObject *keys = PyList_New(1);
     if (keys == NULL) return -1;
     Py_INCREF(key);
@@ -53,7 +53,7 @@ static int order_key(DictFront *self, PyObject *key) {
     return done == NULL ? -1 : 1;
 }
 
-static int add(DictFront *self, PyObject *key) {
+static int add(DictBase *self, PyObject *key) {
     PyObject *order = order_of(self);
     int state = order ? add_key(order, key) : -1;
     Py_XDECREF(order);
@@ -61,7 +61,7 @@ static int add(DictFront *self, PyObject *key) {
 }
 
 /* Returns the order of the keys, ready for changes: a read-only one is replaced first. */
-static PyObject *changing_order(DictFront *self) {
+static PyObject *changing_order(DictBase *self) {
     PyObject *order = order_of(self);
     if (order == NULL || Py_TYPE(order) == &NumbersType || !IS_BLOCKS(order) || ((Blocks *)order)->by > FLOAT64)
         return order;
@@ -70,7 +70,7 @@ static PyObject *changing_order(DictFront *self) {
 }
 
 /* Removes a key from the order; an error that is set stays set. */
-static int discard(DictFront *self, PyObject *key) {
+static int discard(DictBase *self, PyObject *key) {
     PyObject *type, *value, *trace, *order;
     PyErr_Fetch(&type, &value, &trace);
     order = changing_order(self);
@@ -80,7 +80,7 @@ static int discard(DictFront *self, PyObject *key) {
     return state;
 }
 
-static int set_value(DictFront *self, PyObject *key, PyObject *value) {
+static int set_value(DictBase *self, PyObject *key, PyObject *value) {
     int is_there = PyDict_Contains((PyObject *)self, key);
     if (is_there < 0 || (!is_there && add(self, key) < 0)) return -1;
     if (PyDict_SetItem((PyObject *)self, key, value) == 0) return 0;
@@ -88,7 +88,7 @@ static int set_value(DictFront *self, PyObject *key, PyObject *value) {
     return -1;
 }
 
-static int delete (DictFront *self, PyObject *key) {
+static int delete (DictBase *self, PyObject *key) {
     int is_there = PyDict_Contains((PyObject *)self, key);
     if (is_there == 0) {
         PyObject *words = PyTuple_Pack(1, key);
@@ -99,11 +99,11 @@ static int delete (DictFront *self, PyObject *key) {
     return PyDict_DelItem((PyObject *)self, key);
 }
 
-static int assign(DictFront *self, PyObject *key, PyObject *value) {
+static int assign(DictBase *self, PyObject *key, PyObject *value) {
     return value == NULL ? delete (self, key) : set_value(self, key, value);
 }
 
-static PyObject *walk(DictFront *self) {
+static PyObject *walk(DictBase *self) {
     PyObject *order = order_of(self);
     PyObject *made = order ? walk_new(order, 0, PY_SSIZE_T_MAX, 0) : NULL;
     Py_XDECREF(order);
@@ -112,7 +112,7 @@ static PyObject *walk(DictFront *self) {
 
 /* ---- the type */
 
-static int set_order(DictFront *self, PyObject *order, void *nothing) {
+static int set_order(DictBase *self, PyObject *order, void *nothing) {
     (void)nothing;
     if (!is_order(order)) return -1;
     Py_INCREF(order);
@@ -120,7 +120,7 @@ static int set_order(DictFront *self, PyObject *order, void *nothing) {
     return 0;
 }
 
-static PyObject *get_order(DictFront *self, void *nothing) {
+static PyObject *get_order(DictBase *self, void *nothing) {
     (void)nothing;
     return order_of(self);
 }
@@ -133,9 +133,9 @@ static PyMappingMethods mapping = {.mp_ass_subscript = (objobjargproc)assign};
 static PySequenceMethods sequence = {.sq_contains = PyDict_Contains};
 
 PyTypeObject DictFrontType = {
-    PyVarObject_HEAD_INIT(NULL, 0).tp_name = "indexset._fast.DictFront",
+    PyVarObject_HEAD_INIT(NULL, 0).tp_name = "indexset._speedups.DictBase",
     .tp_doc = "A dict with an order of its keys.",
-    .tp_basicsize = sizeof(DictFront),
+    .tp_basicsize = sizeof(DictBase),
     .tp_flags = Py_TPFLAGS_DEFAULT | Py_TPFLAGS_BASETYPE | Py_TPFLAGS_HAVE_GC,
     .tp_dealloc = (destructor)dict_dealloc,
     .tp_traverse = (traverseproc)dict_traverse,

@@ -1,7 +1,7 @@
 /* Pending changes of texts and byte strings, made together in the order of their bytes: of changes that are near each
  * other, the later ones find in the cache what the first have read. The caller knows that added keys were absent and
  * that removed keys were present. */
-#include "fast.h"
+#include "speedups.h"
 
 /* The maximum number of pending changes, and of bytes of their keys: removed keys are released with some delay. */
 #define MOST 8192

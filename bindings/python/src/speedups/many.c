@@ -1,6 +1,6 @@
 /* Insertion and removal of many objects in blocks: new objects are compared first, and then all are added, or none with
  * an error set. */
-#include "fast.h"
+#include "speedups.h"
 
 /* If one object or more is new for this many present ones, all are sorted; otherwise the new ones are inserted one by
  * one. */
@@ -157,7 +157,7 @@ static int settle(Blocks *self, PyObject *order) {
         const Block *block = self->blocks + b;
         for (size_t i = 0; state == 1 && i < block->count; i++)
             if (Py_TYPE(order) != &NumbersType)
-                state = held_add_keyed(order, block->items[i], block->keys[i]);
+                state = object_index_add_keyed(order, block->items[i], block->keys[i]);
             else
                 state = number_code(self->by, block->items[i], &code)
                             ? numbers_put((Numbers *)order, code, block->items[i])

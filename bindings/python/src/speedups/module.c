@@ -1,13 +1,13 @@
-/* The module `indexset._fast`. */
-#include "fast.h"
+/* The module `indexset._speedups`. */
+#include "speedups.h"
 
 PyObject *kinds;
 struct names names;
 
 static struct PyModuleDef module = {
     PyModuleDef_HEAD_INIT,
-    .m_name = "indexset._fast",
-    .m_doc = "The compiled classes that order keys, as in `indexset._pure`.",
+    .m_name = "indexset._speedups",
+    .m_doc = "The compiled classes that order keys, as in `indexset._ctypes`.",
     .m_size = -1,
 };
 
@@ -23,7 +23,7 @@ static int make_names(void) {
 
 static int add_types(PyObject *made) {
     PyTypeObject *types[] = {&NumbersType, &CodedType, &MultiType, &BlocksType, &FrontType, &DictFrontType};
-    const char *names[] = {"Numbers", "Coded", "Multi", "Blocks", "Front", "DictFront"};
+    const char *names[] = {"Numbers", "Coded", "Multi", "Blocks", "IndexedBase", "DictBase"};
     DictFrontType.tp_base = &PyDict_Type;
     DictFrontType.tp_as_mapping->mp_subscript = PyDict_Type.tp_as_mapping->mp_subscript;
     if (PyType_Ready(&WalkType) < 0) return 0;
@@ -35,7 +35,7 @@ static int add_types(PyObject *made) {
     return PyModule_AddStringConstant(made, "BACKEND", "extension") == 0;
 }
 
-PyMODINIT_FUNC PyInit__fast(void) {
+PyMODINIT_FUNC PyInit__speedups(void) {
     kinds = PyImport_ImportModule("indexset._kinds");
     PyObject *made = kinds && make_names() ? PyModule_Create(&module) : NULL;
     if (made != NULL && !add_types(made)) Py_CLEAR(made);

@@ -1,6 +1,6 @@
 /* Objects at numbers of 64 bits, in the order of these, those of one number in insertion order, in a multimap of the
  * library from numbers to objects. No call compares objects of one number. */
-#include "fast.h"
+#include "speedups.h"
 
 /* ---- the object */
 
@@ -279,11 +279,12 @@ static PyMemberDef members[] = {
     {"key", T_OBJECT, offsetof(Multi, key), READONLY, "The function that makes sort keys, or None."},
     {0},
 };
-static PySequenceMethods sequence = {.sq_length = (lenfunc)multi_length, .sq_contains = (objobjproc)held_contains};
+static PySequenceMethods sequence = {.sq_length = (lenfunc)multi_length,
+                                     .sq_contains = (objobjproc)object_index_contains};
 static PyMappingMethods mapping = {.mp_length = (lenfunc)multi_length, .mp_subscript = (binaryfunc)item_method};
 
 PyTypeObject MultiType = {
-    PyVarObject_HEAD_INIT(NULL, 0).tp_name = "indexset._fast.Multi",
+    PyVarObject_HEAD_INIT(NULL, 0).tp_name = "indexset._speedups.Multi",
     .tp_doc = "Objects at numbers of 64 bits, in the order of these, in a multimap of the library.",
     .tp_basicsize = sizeof(Multi),
     .tp_flags = Py_TPFLAGS_DEFAULT | Py_TPFLAGS_BASETYPE | Py_TPFLAGS_HAVE_GC,

@@ -1,5 +1,5 @@
 /* Distinct numbers of a kind, in order, in a map of the library from their codes to the objects that were given. */
-#include "fast.h"
+#include "speedups.h"
 
 /* ---- codes */
 
@@ -251,7 +251,7 @@ static PySequenceMethods sequence = {.sq_length = (lenfunc)numbers_length, .sq_c
 static PyMappingMethods mapping = {.mp_length = (lenfunc)numbers_length, .mp_subscript = (binaryfunc)subscript};
 
 PyTypeObject NumbersType = {
-    PyVarObject_HEAD_INIT(NULL, 0).tp_name = "indexset._fast.Numbers",
+    PyVarObject_HEAD_INIT(NULL, 0).tp_name = "indexset._speedups.Numbers",
     .tp_doc = "Distinct numbers of a kind, in order, in a map of the library.",
     .tp_basicsize = sizeof(Numbers),
     .tp_flags = Py_TPFLAGS_DEFAULT,

@@ -1,5 +1,5 @@
 /* Items whose sort keys are of the kind's own type: encoded, added, found and removed without Python code. */
-#include "fast.h"
+#include "speedups.h"
 
 #define SHORT 120
 

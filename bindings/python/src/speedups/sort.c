@@ -1,5 +1,5 @@
 /* Sorting of objects by their sort keys: numbers by their codes, others as `list.sort` does. */
-#include "fast.h"
+#include "speedups.h"
 
 /* A number to sort: its code, and its index. */
 typedef struct {

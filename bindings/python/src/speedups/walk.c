@@ -1,5 +1,5 @@
 /* Iterators over positions, and functions shared by the methods of the collections. */
-#include "fast.h"
+#include "speedups.h"
 
 /* The number of objects that are prefetched before they are returned. */
 #define AHEAD 32
@@ -176,7 +176,7 @@ PyObject *walk_new(PyObject *owner, size_t first, size_t past, int reverse) {
     self->owner = owner;
     self->past = past < length ? past : length;
     self->first = first < self->past ? first : self->past;
-    self->counter = is_numbers ? &((Numbers *)owner)->changes : &((Held *)owner)->changes;
+    self->counter = is_numbers ? &((Numbers *)owner)->changes : &((ObjectIndex *)owner)->changes;
     self->changes = *self->counter;
     self->reverse = reverse;
     self->at = self->part.count = 0;
@@ -285,7 +285,7 @@ static PyMethodDef methods[] = {
 };
 
 PyTypeObject WalkType = {
-    PyVarObject_HEAD_INIT(NULL, 0).tp_name = "indexset._fast.Walk",
+    PyVarObject_HEAD_INIT(NULL, 0).tp_name = "indexset._speedups.Walk",
     .tp_doc = "An iterator over positions. Raises RuntimeError after a change.",
     .tp_basicsize = sizeof(Walk),
     .tp_flags = Py_TPFLAGS_DEFAULT | Py_TPFLAGS_HAVE_GC,

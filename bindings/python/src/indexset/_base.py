@@ -1,4 +1,4 @@
-"""Base classes of the ctypes backend: the classes that the compiled module `_fast` has too."""
+"""Base classes of the ctypes backend: the classes that the compiled module `_speedups` has too."""
 from __future__ import annotations
 
 from typing import Any, Dict, Generic, Iterator, SupportsIndex, TypeVar, overload
@@ -11,7 +11,7 @@ _set: Any = dict.__setitem__
 _delete: Any = dict.__delitem__
 
 
-class Front(Generic[T]):
+class IndexedBase(Generic[T]):
     """A collection over an order: its calls on one item go straight to the order."""
 
     __slots__ = ("_order", "_members")
@@ -107,7 +107,7 @@ class Front(Generic[T]):
     bisect = bisect_right
 
 
-class DictFront(Dict[K, V], Generic[K, V]):
+class DictBase(Dict[K, V], Generic[K, V]):
     """A dict with an order of its keys: a change of one key goes straight to the dict and to the order."""
 
     __slots__ = ("_order",)

@@ -1,55 +1,55 @@
 /* A collection over an order: its calls on one item go straight to the order. */
-#include "fast.h"
+#include "speedups.h"
 
-static int front_traverse(Front *self, visitproc visit, void *arg) {
+static int base_traverse(IndexedBase *self, visitproc visit, void *arg) {
     Py_VISIT(self->order);
     Py_VISIT(self->members);
     return 0;
 }
 
-static int front_clear(Front *self) {
+static int base_clear(IndexedBase *self) {
     Py_CLEAR(self->order);
     Py_CLEAR(self->members);
     return 0;
 }
 
-static void front_dealloc(Front *self) {
+static void base_dealloc(IndexedBase *self) {
     PyObject_GC_UnTrack(self);
-    front_clear(self);
+    base_clear(self);
     Py_TYPE(self)->tp_free((PyObject *)self);
 }
 
 /* Returns whether there is an order; there is none before `__init__`. */
-static int is_made(Front *self) {
+static int is_made(IndexedBase *self) {
     if (self->order == NULL) PyErr_SetString(PyExc_RuntimeError, "the object was not made");
     return self->order != NULL;
 }
 
-static int has_members(Front *self) { return self->members != NULL && PySet_Check(self->members); }
+static int has_members(IndexedBase *self) { return self->members != NULL && PySet_Check(self->members); }
 
-static Py_ssize_t front_length(Front *self) { return is_made(self) ? (Py_ssize_t)length_of(self->order) : -1; }
+static Py_ssize_t base_length(IndexedBase *self) { return is_made(self) ? (Py_ssize_t)length_of(self->order) : -1; }
 
 /* The container that is asked for a value outlives the code of its type that runs meanwhile. */
-static int front_contains(Front *self, PyObject *value) {
+static int base_contains(IndexedBase *self, PyObject *value) {
     if (!is_made(self)) return -1;
     if (!has_members(self) && length_of(self->order) == 0) return 0;
     PyObject *asked = has_members(self) ? self->members : self->order;
     Py_INCREF(asked);
     int is_there = asked == self->members           ? PySequence_Contains(asked, value)
                    : Py_TYPE(asked) == &NumbersType ? numbers_contains((Numbers *)asked, value)
-                                                    : held_contains(asked, value);
+                                                    : object_index_contains(asked, value);
     Py_DECREF(asked);
     return is_there;
 }
 
-static PyObject *front_iter(Front *self) {
-    Py_ssize_t length = front_length(self);
+static PyObject *base_iter(IndexedBase *self) {
+    Py_ssize_t length = base_length(self);
     return length < 0 ? NULL : walk_new(self->order, 0, (size_t)length, 0);
 }
 
 /* Returns the items at a slice; `_slice` of the class handles steps. */
-static PyObject *slice(Front *self, PyObject *index) {
-    Py_ssize_t first, past, step, length = front_length(self);
+static PyObject *slice(IndexedBase *self, PyObject *index) {
+    Py_ssize_t first, past, step, length = base_length(self);
     if (length < 0 || PySlice_Unpack(index, &first, &past, &step) < 0) return NULL;
     if (step != 1) return PyObject_CallMethodOneArg((PyObject *)self, names.slice, index);
     PySlice_AdjustIndices(length, &first, &past, step);
@@ -57,18 +57,18 @@ static PyObject *slice(Front *self, PyObject *index) {
     return chunk_of(self->order, (size_t)first, (size_t)past);
 }
 
-static PyObject *front_subscript(Front *self, PyObject *index) {
+static PyObject *base_subscript(IndexedBase *self, PyObject *index) {
     if (PySlice_Check(index)) return slice(self, index);
     Py_ssize_t position = PyNumber_AsSsize_t(index, PyExc_IndexError);
     if (position == -1 && PyErr_Occurred()) return NULL;
     if (position < 0) {
-        Py_ssize_t length = front_length(self);
+        Py_ssize_t length = base_length(self);
         if (length < 0) return NULL;
         position += length;
     }
     if (!is_made(self)) return NULL;
     int is_numbers = Py_TYPE(self->order) == &NumbersType;
-    return is_numbers ? numbers_item((Numbers *)self->order, position) : held_item(self->order, position);
+    return is_numbers ? numbers_item((Numbers *)self->order, position) : object_index_item(self->order, position);
 }
 
 /* Adds a number of the kind's own type, also to the set of the items, if given. Returns 1, 0 if it is present, NOT_OWN,
@@ -85,7 +85,7 @@ int is_fresh(PyObject *order) {
 }
 
 /* `_add` of the class finds the kind, and handles equal items. */
-static PyObject *add(Front *self, PyObject *value) {
+static PyObject *add(IndexedBase *self, PyObject *value) {
     if (!is_made(self)) return NULL;
     /* They outlive the key function and the comparisons that run meanwhile. */
     PyObject *order = self->order, *members = has_members(self) ? self->members : NULL;
@@ -94,7 +94,7 @@ static PyObject *add(Front *self, PyObject *value) {
     int is_numbers = Py_TYPE(order) == &NumbersType, may_repeat = members == NULL;
     int state = is_fresh(order) ? NOT_OWN
                 : is_numbers    ? add_number((Numbers *)order, members, value)
-                                : held_add(order, value, members);
+                                : object_index_add(order, value, members);
     Py_DECREF(order);
     Py_XDECREF(members);
     if (state == NOT_OWN || (state == 0 && may_repeat))
@@ -103,7 +103,7 @@ static PyObject *add(Front *self, PyObject *value) {
     Py_RETURN_NONE;
 }
 
-static PyObject *discard(Front *self, PyObject *value) {
+static PyObject *discard(IndexedBase *self, PyObject *value) {
     PyObject *answer = PyObject_CallMethodOneArg((PyObject *)self, names.discard, value);
     if (answer == NULL) return NULL;
     Py_DECREF(answer);
@@ -113,13 +113,13 @@ static PyObject *discard(Front *self, PyObject *value) {
 static PyObject *bisect_of(PyObject *order, PyObject *value, int right) {
     int is_numbers = Py_TYPE(order) == &NumbersType;
     Py_ssize_t position =
-        is_numbers ? numbers_bisect((Numbers *)order, value, right) : held_bisect(order, value, right);
+        is_numbers ? numbers_bisect((Numbers *)order, value, right) : object_index_bisect(order, value, right);
     if (position == NOT_OWN)
         return PyObject_CallMethodObjArgs(order, names.bisect, value, right ? Py_True : Py_False, NULL);
     return position < 0 ? NULL : PyLong_FromSsize_t(position);
 }
 
-static PyObject *bisect(Front *self, PyObject *value, int right) {
+static PyObject *bisect(IndexedBase *self, PyObject *value, int right) {
     PyObject *order = is_made(self) ? self->order : NULL;
     Py_XINCREF(order);
     PyObject *position = order ? bisect_of(order, value, right) : NULL;
@@ -127,8 +127,8 @@ static PyObject *bisect(Front *self, PyObject *value, int right) {
     return position;
 }
 
-static PyObject *bisect_left(Front *self, PyObject *value) { return bisect(self, value, 0); }
-static PyObject *bisect_right(Front *self, PyObject *value) { return bisect(self, value, 1); }
+static PyObject *bisect_left(IndexedBase *self, PyObject *value) { return bisect(self, value, 0); }
+static PyObject *bisect_right(IndexedBase *self, PyObject *value) { return bisect(self, value, 1); }
 
 int is_order(PyObject *order) {
     if (order != NULL
@@ -139,7 +139,7 @@ int is_order(PyObject *order) {
     return 0;
 }
 
-static int set_order(Front *self, PyObject *order, void *nothing) {
+static int set_order(IndexedBase *self, PyObject *order, void *nothing) {
     (void)nothing;
     if (!is_order(order)) return -1;
     Py_INCREF(order);
@@ -147,7 +147,7 @@ static int set_order(Front *self, PyObject *order, void *nothing) {
     return 0;
 }
 
-static PyObject *get_order(Front *self, void *nothing) {
+static PyObject *get_order(IndexedBase *self, void *nothing) {
     (void)nothing;
     if (!is_made(self)) return NULL;
     Py_INCREF(self->order);
@@ -192,21 +192,21 @@ static PyMethodDef methods[] = {
     {"__class_getitem__", Py_GenericAlias, METH_O | METH_CLASS, NULL},
     {0},
 };
-static PyMemberDef members[] = {{"_members", T_OBJECT, offsetof(Front, members), 0, NULL}, {0}};
+static PyMemberDef members[] = {{"_members", T_OBJECT, offsetof(IndexedBase, members), 0, NULL}, {0}};
 static PyGetSetDef properties[] = {{"_order", (getter)get_order, (setter)set_order, NULL, NULL}, {0}};
-static PySequenceMethods sequence = {.sq_length = (lenfunc)front_length, .sq_contains = (objobjproc)front_contains};
-static PyMappingMethods mapping = {.mp_length = (lenfunc)front_length, .mp_subscript = (binaryfunc)front_subscript};
+static PySequenceMethods sequence = {.sq_length = (lenfunc)base_length, .sq_contains = (objobjproc)base_contains};
+static PyMappingMethods mapping = {.mp_length = (lenfunc)base_length, .mp_subscript = (binaryfunc)base_subscript};
 
 PyTypeObject FrontType = {
-    PyVarObject_HEAD_INIT(NULL, 0).tp_name = "indexset._fast.Front",
+    PyVarObject_HEAD_INIT(NULL, 0).tp_name = "indexset._speedups.IndexedBase",
     .tp_doc = "A collection over an order.",
-    .tp_basicsize = sizeof(Front),
+    .tp_basicsize = sizeof(IndexedBase),
     .tp_flags = Py_TPFLAGS_DEFAULT | Py_TPFLAGS_BASETYPE | Py_TPFLAGS_HAVE_GC,
     .tp_new = PyType_GenericNew,
-    .tp_dealloc = (destructor)front_dealloc,
-    .tp_traverse = (traverseproc)front_traverse,
-    .tp_clear = (inquiry)front_clear,
-    .tp_iter = (getiterfunc)front_iter,
+    .tp_dealloc = (destructor)base_dealloc,
+    .tp_traverse = (traverseproc)base_traverse,
+    .tp_clear = (inquiry)base_clear,
+    .tp_iter = (getiterfunc)base_iter,
     .tp_methods = methods,
     .tp_members = members,
     .tp_getset = properties,

@@ -1,5 +1,5 @@
-/* The classes that order keys, as C types over the library: those of `indexset/_pure.py`, `_held.py` and `_blocks.py`,
- * which use ctypes or Python.
+/* The classes that order keys, as C types over the library: those of `indexset/_ctypes.py`, `_object_index.py` and
+ * `_blocks.py`, which use ctypes or Python.
  *
  * The library's maps and multimaps map codes to the addresses of objects, and each address in one counts as one
  * reference. An address that was read from one is used before any Python code runs, or after a check that `changes` is
@@ -43,7 +43,7 @@ typedef struct {
 
 typedef struct {
     HELD_HEAD
-} Held;
+} ObjectIndex;
 
 /* Objects at numbers of 64 bits, the codes of their sort keys: in the order of the codes, those of one code in
  * insertion order. The kind is one of numbers. */
@@ -53,8 +53,8 @@ typedef struct {
 } Multi;
 
 /* For an order that is not a Numbers. */
-#define IS_MULTI(order) (((Held *)(order))->kind <= FLOAT64)
-#define IS_BLOCKS(order) (((Held *)(order))->kind == COMPARED)
+#define IS_MULTI(order) (((ObjectIndex *)(order))->kind <= FLOAT64)
+#define IS_BLOCKS(order) (((ObjectIndex *)(order))->kind == COMPARED)
 
 /* Contiguous objects, in the order of their sort keys, which are the objects themselves if no function makes them. */
 typedef struct {
@@ -110,13 +110,13 @@ typedef struct {
 typedef struct {
     PyObject_HEAD PyObject *order;
     PyObject *members; /* the items as a set, or None if they may repeat */
-} Front;
+} IndexedBase;
 
 /* A dict with an order of its keys. */
 typedef struct {
     PyDictObject dict;
     PyObject *order;
-} DictFront;
+} DictBase;
 
 extern PyTypeObject NumbersType, CodedType, MultiType, BlocksType, FrontType, DictFrontType, WalkType;
 
@@ -237,7 +237,7 @@ int blocks_sort(enum kind by, PyObject *items, PyObject *keys);
 /* Writes the codes of sorted keys that are numbers of a kind, one of each GROUP. */
 void codes_of_groups(enum kind by, PyObject *const *keys, size_t count, uint64_t *codes);
 
-/* ---- compared.c: calls of front.c and held.c on blocks */
+/* ---- compared.c: calls of base.c and object_index.c on blocks */
 int blocks_add(Blocks *self, PyObject *item, PyObject *members);
 int blocks_discard(Blocks *self, PyObject *item);
 int blocks_contains(Blocks *self, PyObject *item);
@@ -251,15 +251,15 @@ PyObject *blocks_take_method(Blocks *self, PyObject *values);
 PyObject *blocks_fill_method(Blocks *self, PyObject *values);
 PyObject *blocks_cut_method(Blocks *self, PyObject *const *given, Py_ssize_t count);
 
-/* ---- held.c: the same calls on any collection of objects */
-int held_add(PyObject *self, PyObject *item, PyObject *members);
+/* ---- object_index.c: the same calls on any collection of objects */
+int object_index_add(PyObject *self, PyObject *item, PyObject *members);
 /* Adds an item with a sort key of the kind's own type. Returns 1, or -1 with an error set. */
-int held_add_keyed(PyObject *self, PyObject *item, PyObject *key);
-Py_ssize_t held_bisect(PyObject *self, PyObject *value, int right);
-PyObject *held_item(PyObject *self, Py_ssize_t position);
+int object_index_add_keyed(PyObject *self, PyObject *item, PyObject *key);
+Py_ssize_t object_index_bisect(PyObject *self, PyObject *value, int right);
+PyObject *object_index_item(PyObject *self, Py_ssize_t position);
 /* Removes the first object that equals a value. Returns 1, 0 if there is none, or -1 with an error set. */
-int held_discard(PyObject *self, PyObject *value);
-int held_contains(PyObject *self, PyObject *value);
+int object_index_discard(PyObject *self, PyObject *value);
+int object_index_contains(PyObject *self, PyObject *value);
 /* Returns a position counted from 0, or -1 with an error set. */
 Py_ssize_t position_of(PyObject *self, PyObject *index);
 /* The methods of all collections of objects. */
@@ -273,7 +273,7 @@ PyObject *place_method(PyObject *self, PyObject *const *given, Py_ssize_t count)
 PyObject *find_method(PyObject *self, PyObject *value);
 /* Writes the position of the first object that equals a value, from a position on, by a sort key that a function makes.
  * Returns 1, 0 if there is none, NOT_OWN, or -1 with an error set. */
-int held_find(PyObject *self, PyObject *value, size_t from, size_t *position);
+int object_index_find(PyObject *self, PyObject *value, size_t from, size_t *position);
 /* Removes an item from a set; an error that is set stays set. */
 void discard_quietly(PyObject *members, PyObject *item);
 /* Adds an item to the set of the items, if given. Returns 1, 0 if it is present, or -1 with an error set. */
@@ -306,7 +306,7 @@ PyObject *chunk_method(PyObject *self, PyObject *const *given, Py_ssize_t count)
 /* ---- array.c: the method `numbers` of Numbers, Multi and Blocks */
 PyObject *numbers_method(PyObject *owner, PyObject *nothing);
 
-/* ---- front.c */
+/* ---- base.c */
 /* Returns whether an object can be an order of items; sets an error if not. */
 int is_order(PyObject *order);
 /* Returns whether it has no items and takes any: the class then finds their kind. */

@@ -1,24 +1,24 @@
 /* Calls shared by the collections of objects: calls on one item, by the kind's own type here, and otherwise by a method
  * of the class. */
-#include "fast.h"
+#include "speedups.h"
 
 /* ---- one item, if its sort key is of the kind's own type */
 
-int held_add(PyObject *self, PyObject *item, PyObject *members) {
+int object_index_add(PyObject *self, PyObject *item, PyObject *members) {
     if (IS_BLOCKS(self)) return blocks_add((Blocks *)self, item, members);
     return IS_MULTI(self) ? multi_add((Multi *)self, item, members) : own_add((Coded *)self, item, members);
 }
 
-int held_add_keyed(PyObject *self, PyObject *item, PyObject *key) {
+int object_index_add_keyed(PyObject *self, PyObject *item, PyObject *key) {
     return IS_MULTI(self) ? multi_add_keyed((Multi *)self, item, key) : own_add_keyed((Coded *)self, item, key);
 }
 
-Py_ssize_t held_bisect(PyObject *self, PyObject *value, int right) {
+Py_ssize_t object_index_bisect(PyObject *self, PyObject *value, int right) {
     if (IS_BLOCKS(self)) return blocks_bisect((Blocks *)self, value, right);
     return IS_MULTI(self) ? multi_bisect((Multi *)self, value, right) : own_bisect((Coded *)self, value, right);
 }
 
-PyObject *held_item(PyObject *self, Py_ssize_t position) {
+PyObject *object_index_item(PyObject *self, Py_ssize_t position) {
     if (IS_BLOCKS(self)) return blocks_item((Blocks *)self, position);
     return IS_MULTI(self) ? multi_item((Multi *)self, position) : coded_item((Coded *)self, position);
 }
@@ -32,21 +32,21 @@ static int places_of(PyObject *self, PyObject *key, size_t *first, size_t *past)
 /* Returns whether the object at a position equals a value: 1, 0, or -1 with an error set, also if there was a
  * change. */
 static int is_equal(PyObject *self, size_t position, PyObject *value) {
-    unsigned long long changes = ((Held *)self)->changes;
-    PyObject *item = held_item(self, (Py_ssize_t)position);
+    unsigned long long changes = ((ObjectIndex *)self)->changes;
+    PyObject *item = object_index_item(self, (Py_ssize_t)position);
     int state = item ? PyObject_RichCompareBool(item, value, Py_EQ) : -1;
     Py_XDECREF(item);
-    if (state >= 0 && changes != ((Held *)self)->changes) {
+    if (state >= 0 && changes != ((ObjectIndex *)self)->changes) {
         PyErr_SetString(PyExc_RuntimeError, "it changed during a comparison");
         return -1;
     }
     return state;
 }
 
-int held_find(PyObject *self, PyObject *value, size_t from, size_t *position) {
+int object_index_find(PyObject *self, PyObject *value, size_t from, size_t *position) {
     size_t first = 0, past = 0;
-    if (((Held *)self)->key == NULL) return NOT_OWN;
-    PyObject *key = PyObject_CallOneArg(((Held *)self)->key, value);
+    if (((ObjectIndex *)self)->key == NULL) return NOT_OWN;
+    PyObject *key = PyObject_CallOneArg(((ObjectIndex *)self)->key, value);
     int state = key ? places_of(self, key, &first, &past) : -1;
     Py_XDECREF(key);
     if (state != 1) return state;
@@ -80,20 +80,20 @@ static int asked(PyObject *self, PyObject *name, PyObject *value, int state) {
 static PyObject *truth(int state) { return state < 0 ? NULL : PyBool_FromLong(state); }
 
 PyObject *add_method(PyObject *self, PyObject *item) {
-    return truth(asked(self, names.add, item, held_add(self, item, NULL)));
+    return truth(asked(self, names.add, item, object_index_add(self, item, NULL)));
 }
 
 /* Removes the object that equals a value, if a function makes the sort keys. */
 static int discard_found(PyObject *self, PyObject *value) {
     size_t position;
-    int state = unfit(held_find(self, value, 0, &position));
+    int state = unfit(object_index_find(self, value, 0, &position));
     if (state != 1) return state;
     PyObject *item = IS_MULTI(self) ? multi_pop((Multi *)self, position) : coded_pop((Coded *)self, position);
     Py_XDECREF(item);
     return item ? 1 : -1;
 }
 
-int held_discard(PyObject *self, PyObject *value) {
+int object_index_discard(PyObject *self, PyObject *value) {
     int state = IS_BLOCKS(self)  ? blocks_discard((Blocks *)self, value)
                 : IS_MULTI(self) ? multi_discard((Multi *)self, value)
                                  : own_discard((Coded *)self, value);
@@ -101,14 +101,14 @@ int held_discard(PyObject *self, PyObject *value) {
     return asked(self, names.discard, value, state);
 }
 
-PyObject *discard_method(PyObject *self, PyObject *value) { return truth(held_discard(self, value)); }
+PyObject *discard_method(PyObject *self, PyObject *value) { return truth(object_index_discard(self, value)); }
 
-int held_contains(PyObject *self, PyObject *value) {
+int object_index_contains(PyObject *self, PyObject *value) {
     size_t position;
     int state = IS_BLOCKS(self)  ? blocks_contains((Blocks *)self, value)
                 : IS_MULTI(self) ? multi_contains((Multi *)self, value)
                                  : own_contains((Coded *)self, value);
-    if (state == NOT_OWN) state = unfit(held_find(self, value, 0, &position));
+    if (state == NOT_OWN) state = unfit(object_index_find(self, value, 0, &position));
     return asked(self, names.contains, value, state);
 }
 
@@ -118,7 +118,7 @@ PyObject *bisect_method(PyObject *self, PyObject *const *given, Py_ssize_t count
         PyErr_SetString(PyExc_TypeError, "bisect takes a value and a bool");
         return NULL;
     }
-    Py_ssize_t position = held_bisect(self, given[0], right);
+    Py_ssize_t position = object_index_bisect(self, given[0], right);
     if (position == NOT_OWN) return PyObject_CallMethodObjArgs(self, names.bisect, given[0], given[1], NULL);
     return position == -1 ? NULL : PyLong_FromSsize_t(position);
 }
@@ -140,7 +140,7 @@ PyObject *place_method(PyObject *self, PyObject *const *given, Py_ssize_t count)
 
 PyObject *find_method(PyObject *self, PyObject *value) {
     size_t position = 0;
-    int state = unfit(held_find(self, value, 0, &position));
+    int state = unfit(object_index_find(self, value, 0, &position));
     if (state == NOT_OWN) return PyObject_CallMethodOneArg(self, names.found, value);
     return state < 0 ? NULL : PyLong_FromSsize_t(state ? (Py_ssize_t)position : -1);
 }
@@ -154,7 +154,7 @@ PyObject *own_span_method(PyObject *self, PyObject *key) {
 
 PyObject *changed_method(PyObject *self, PyObject *nothing) {
     (void)nothing;
-    ((Held *)self)->changes++;
+    ((ObjectIndex *)self)->changes++;
     Py_RETURN_NONE;
 }
 
@@ -173,7 +173,7 @@ Py_ssize_t position_of(PyObject *self, PyObject *index) {
 
 PyObject *item_method(PyObject *self, PyObject *index) {
     Py_ssize_t position = position_of(self, index);
-    return position < 0 ? NULL : held_item(self, position);
+    return position < 0 ? NULL : object_index_item(self, position);
 }
 
 /* ---- the set of the items */

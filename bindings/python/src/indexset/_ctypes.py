@@ -1,4 +1,4 @@
-"""Orders of numbers in the ctypes backend: a class that the compiled module `_fast` has too."""
+"""Orders of numbers in the ctypes backend: a class that the compiled module `_speedups` has too."""
 from __future__ import annotations
 
 from array import array

@@ -1,4 +1,4 @@
-"""Orders of objects in the ctypes backend: the classes that the compiled module `_fast` has too."""
+"""Orders of objects in the ctypes backend: the classes that the compiled module `_speedups` has too."""
 from __future__ import annotations
 
 import ctypes
@@ -8,13 +8,13 @@ from typing import Any, Callable, Optional, TypeVar
 from . import _library as library
 from ._kinds import ALL, NUMBERS
 from ._library import Count, Number, check, lib, memory, place, zeros
-from ._pure import ARRAYS, Ordered
+from ._ctypes import ARRAYS, Ordered
 
 T = TypeVar("T")
 _OWN: dict[str, type] = {"str": str, "bytes": bytes}
 
 
-class Held(Ordered[T]):
+class ObjectIndex(Ordered[T]):
     """Objects in an order, each at a place of its own, which the library stores. A subclass finds them by their sort
     keys."""
 
@@ -77,7 +77,7 @@ class Held(Ordered[T]):
         self._unused.append(at)
         return item
 
-    def _copied(self, other: Held[T]) -> None:
+    def _copied(self, other: ObjectIndex[T]) -> None:
         self._objects, self._unused = other._objects.copy(), other._unused.copy()
 
     def clear(self) -> None:
@@ -91,7 +91,7 @@ class Held(Ordered[T]):
         raise NotImplementedError
 
 
-class Multi(Held[T]):
+class Multi(ObjectIndex[T]):
     """Objects at numbers of 64 bits, the codes of their sort keys: in the order of the codes, those of one code in
     insertion order. A multimap of the library maps codes to places."""
 
@@ -199,7 +199,7 @@ class Multi(Held[T]):
         lib.indexset_multi_clear(self._handle)
 
 
-class Coded(Held[T]):
+class Coded(ObjectIndex[T]):
     """Objects at byte strings, in the order of these. A map of the library maps byte strings to places.
 
     A subclass encodes an object as a byte string, by the kind of its sort keys.
