@@ -58,7 +58,7 @@ returns c =
           record {
             before = (λ h. not_at s NO YES w.status-is refl h, λ h. sym e.before ∙ w.write.ensures.found w.if-write.true ∙ ap Some (sym w.before-is));
             ok = λ h. rw told (new ∙ ap Some e.ok);
-            events = λ h. record { events = told; events = rw told e.events };
+            events = λ h. record { told = told; events = rw told e.events };
             led = λ h. rw new e.led;
             at_most_three_events = rw w.told-is e.at_most_three_events;
             unwritten = λ h. absurd (h w.status-is);
@@ -76,7 +76,7 @@ returns c =
           record {
             before = (λ h. sym e.before ∙ w.write.ensures.absent w.if-write.false, λ h. not_at s YES NO w.status-is refl h);
             ok = λ h. rw told (new ∙ ap Some e.ok);
-            events = λ h. record { events = told; events = rw told e.events };
+            events = λ h. record { told = told; events = rw told e.events };
             led = λ h. rw new e.led;
             at_most_three_events = rw w.told-is e.at_most_three_events;
             unwritten = λ h. w.before-is ∙ w.write.ensures.unwritten w.if-write.false;

@@ -59,7 +59,7 @@ returns c =
             rest = λ h. rw new e.changed.contents;
             changed = λ h. rw new e.changed;
             contains = (λ h. absurd (none-some _ (sym h ∙ new)), λ h. absurd (none-some _ (sym h)));
-            events = λ h. record { events = told; events = rw told e.events };
+            events = λ h. record { told = told; events = rw told e.events };
             at_most_three_events = rw w.told-is e.at_most_three_events;
             unchanged = λ h. absurd (h w.status-is);
             cause = record { memory = λ h. not_at s YES MEMORY w.status-is refl h; numbers = λ h. not_at s YES NUMBERS w.status-is refl h };
@@ -78,7 +78,7 @@ returns c =
             rest = λ h. rw new e.changed.contents;
             changed = λ h. not_at s NO YES w.status-is refl h;
             contains = (λ h. absurd (none-some _ (sym h ∙ new)), λ h. absurd (none-some _ (sym h)));
-            events = λ h. record { events = told; events = rw told e.events };
+            events = λ h. record { told = told; events = rw told e.events };
             at_most_three_events = rw w.told-is e.at_most_three_events;
             unchanged = λ h. ((w.out-is ∙ w.write.ensures.unwritten w.if-write.false), (w.told-is ∙ gone.0), (e.events ∙ rw zero refl), (new ∙ ap Some gone.1));
             cause = record { memory = λ h. not_at s NO MEMORY w.status-is refl h; numbers = λ h. not_at s NO NUMBERS w.status-is refl h };

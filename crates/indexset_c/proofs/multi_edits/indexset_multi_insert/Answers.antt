@@ -75,7 +75,7 @@ returns c =
             ok = λ h. refused_not_yes s _ r h;
             last = λ h. refused_not_yes s _ r h;
             others = λ h. refused_not_yes s _ r h;
-            unchanged = λ h. new ∙ ap Some e.same;
+            unchanged = λ h. new ∙ ap Some e.unchanged;
             none = (λ h. refused_not_none s _ r h, λ h. absurd (none-some _ (sym h)));
             cause = record { memory = r.memory; numbers = r.numbers };
             tree = λ h. refused_not_yes s _ r h;
