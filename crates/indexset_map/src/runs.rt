@@ -25,9 +25,9 @@ impl<K: Ord + Drop, V: Drop> BTreeMap<K, V> {
         ensures refusal { IfErr result (λ e. e ≡ Refusal.Memory) }
     {
         inner::recall_order(&self.set);
-        let concat = inner::join_run(&mut self.set, run, Pair { key, value });
+        let joined = inner::join_run(&mut self.set, run, Pair { key, value });
         inner::recall_order(&self.set);
-        match concat {
+        match joined {
             Ok(None) => Ok(()),
             Ok(Some(Pair { key, value })) => {
                 self.insert(key, value)?;
