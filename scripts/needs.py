@@ -46,9 +46,9 @@ FILES = {
     "/usr/lib/python3/dist-packages/setuptools/__init__.py": "python3-setuptools",
     "/usr/lib/python3/dist-packages/wheel/__init__.py": "python3-wheel",
 }
-# What the first Python on the path needs to build the compiled module.
+# What the first Python on the path needs to build the compiled module, and CPython's own tests.
 HEADER = os.path.join(sysconfig.get_path("include"), "Python.h")
-MODULES = {"setuptools": "python3-setuptools"}
+MODULES = {"setuptools": "python3-setuptools", "test.test_set": "libpython3-testsuite"}
 
 
 def missing() -> list[str]:

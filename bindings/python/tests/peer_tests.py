@@ -1,7 +1,8 @@
 """Runs the tests of `sortedcontainers`, and CPython's tests of sets, mappings and lists, with our classes.
 
-The former are fetched from Debian's source package into a folder outside the repository. Tests of the internals of
-`sortedcontainers` are left out, by name. The last line counts the others.
+The former are fetched from Debian's source package into a folder outside the repository, from the mirror that
+INDEXSET_DEBIAN names; `--folder` is one where it is unpacked already. If the tests cannot be fetched, that is a failure.
+Tests of the internals of `sortedcontainers` are left out, by name. The last line counts the others.
 """
 import argparse
 import collections
@@ -82,7 +83,7 @@ CPYTHON = {"set": "test.test_set", "dict": "test.mapping_tests", "list": "test.l
 
 
 def fetched():
-    """Returns the folder of the source package, or None if it cannot be fetched."""
+    """Returns the folder of the source package, or None if it cannot be fetched, which it prints."""
     folder = FOLDER / "python-sortedcontainers-2.4.0"
     if folder.is_dir():
         return folder
@@ -91,7 +92,7 @@ def fetched():
         with urllib.request.urlopen(MIRROR + PLACE + NAME, timeout=30) as answer:
             archive = answer.read()
     except OSError as error:
-        print(f"sortedcontainers' tests are left out: {MIRROR} cannot be reached ({error})")
+        print(f"sortedcontainers' tests cannot be fetched: {MIRROR} cannot be reached ({error})")
         return None
     if hashlib.sha256(archive).hexdigest() != SUM:
         raise SystemExit(f"{NAME} is not the file that is known")
@@ -244,16 +245,15 @@ def main():
     given = words.parse_args()
     folder = given.folder or fetched()
     if folder is None:
-        return 0
+        return 1
     if given.part:
         lay_ours() if given.whose == "ours" else sys.path.insert(0, str(folder))
         print(json.dumps(run_cpython(given.part) if given.part in CPYTHON else run_file(folder, given.part)))
         return 0
-    parts = [(of_peer, kind) for kind in KINDS]
-    if importlib.util.find_spec("test.test_set"):
-        parts += [(of_cpython, what) for what in CPYTHON]
-    else:
-        print("CPython's own tests are left out: this Python comes without them")
+    if not importlib.util.find_spec("test.test_set"):
+        print("CPython's own tests are missing; Debian has them in libpython3-testsuite")
+        return 1
+    parts = [*((of_peer, kind) for kind in KINDS), *((of_cpython, what) for what in CPYTHON)]
     with concurrent.futures.ThreadPoolExecutor(4) as pool:
         found = [pool.submit(call, folder, part) for call, part in parts]
     total = collections.Counter()

@@ -1,10 +1,11 @@
 """Tests of single results, which equal those of `sortedcontainers`."""
+import copy
 import enum
 import pickle
-import sys
 import unittest
 from array import array
 
+import counted
 import indexset
 from indexset import (
     Change,
@@ -15,6 +16,7 @@ from indexset import (
     SortedKeyList,
     SortedList,
     SortedListWithKey,
+    SortedMultiDict,
     SortedSet,
 )
 
@@ -97,6 +99,40 @@ class Given(unittest.TestCase):
             ours = SortedSet([first, second])
             ours.add(second)
             self.assertEqual(list(map(repr, ours)), [repr(first)])
+
+    def test_zero_of_logged(self):
+        told = []
+        ours = LoggedDict(told.append, {-0.0: -0.0, 1.5: 0.0}, size=2)
+        self.assertEqual(repr(ours), "LoggedDict({-0.0: -0.0, 1.5: 0.0})")
+        ours[0.0] = 0.0
+        self.assertEqual(repr(ours), "LoggedDict({-0.0: 0.0, 1.5: 0.0})")
+        ours[1.5] = -0.0
+        late = Replica(ours)
+        del ours[0]
+        ours[0.0] = -0.0
+        ours[2.5] = 1.0
+        every, one_by_one = Replica(keys="float64", values="float64"), Replica()
+        every.apply_all(told)
+        for change in told:
+            one_by_one.apply(change)
+        late.apply_all(told)
+        for replica in (every, one_by_one, late, pickle.loads(pickle.dumps(late))):
+            self.assertEqual(repr(replica), "Replica({0.0: -0.0, 1.5: -0.0, 2.5: 1.0})")
+        self.assertEqual(repr(pickle.loads(pickle.dumps(ours))), repr(ours))
+        del ours[0.0]
+        ours[-0.0] = 5.0
+        late.apply_all(told)
+        self.assertEqual((repr(late.peekitem(0)), repr(ours.peekitem(0))), ("(-0.0, 5.0)", "(-0.0, 5.0)"))
+        self.assertEqual(repr(LoggedDict(None, {Level.LOW: Flag.READ}).items()[0]), repr((Level.LOW, Flag.READ)))
+
+    def test_zero_of_pairs(self):
+        for named in ({}, {"keys": "float64", "values": "float64"}):
+            ours = SortedMultiDict([(1.5, 0.0), (-0.0, -0.0), (0.0, 2.5)], **named)
+            self.assertEqual(repr(list(ours.items())), "[(-0.0, -0.0), (0.0, 2.5), (1.5, 0.0)]")
+            self.assertFalse(ours.add(0, 0.0))
+            self.assertIn((0.0, 0.0), ours)
+            self.assertEqual(ours.get(0), [0, 2.5])
+        self.assertEqual(repr(SortedMultiDict([(Level.LOW, Flag.READ)]).first()), repr((Level.LOW, Flag.READ)))
 
     @unittest.skipUnless(numpy, "numpy is not installed")
     def test_items_of_arrays(self):
@@ -243,6 +279,23 @@ class Subclasses(unittest.TestCase):
             for made, items in ((ours.copy(), [1, 2]), (ours | {3: 0}, [1, 2, 3]), ({3: 0} | ours, [1, 2, 3])):
                 self.check(made, ours, items)
 
+    def test_pairs(self):
+        class TaggedMulti(SortedMultiDict):
+            pass
+
+        class TaggedLog(LoggedDict):
+            pass
+
+        class TaggedReplica(Replica):
+            pass
+
+        log = TaggedLog(None, {1: "a"})
+        for ours in (TaggedMulti([(1, 2)]), log, TaggedReplica(log)):
+            ours.tag = ["x"]
+            for made in (ours.copy(), copy.copy(ours)):
+                self.assertEqual((type(made), made.tag, repr(made)), (type(ours), ["x"], repr(ours)))
+                self.assertIs(made.tag, ours.tag)
+
     def test_setdefault(self):
         class Loud(SortedDict):
             def __setitem__(self, key, value):
@@ -253,6 +306,29 @@ class Subclasses(unittest.TestCase):
         self.assertEqual(list(ours.items()), [(0, "c"), (1, "a"), (5, None)])
         ours.update({7: 8})
         self.assertEqual(ours.peekitem(), (7, 8))
+
+
+class Values(unittest.TestCase):
+    """A value of a kind that has a name fits it, whatever the kind of the keys."""
+
+    def test_kinds(self):
+        for values, good, bad in (
+            ("int64", 5, "x"),
+            ("uint64", 5, -1),
+            ("float64", 0.5, "x"),
+            ("str", "x", b"x"),
+            ("bytes", b"x", "x"),
+            ("any", (1, "x"), {1}),
+        ):
+            for keys, key in (("str", "a"), ("int64", 1), ("object", (1,))):
+                ours = SortedMultiDict(keys=keys, values=values)
+                self.assertTrue(ours.add(key, good))
+                self.assertRaises((TypeError, OverflowError), ours.add, key, bad)
+                self.assertEqual(list(ours), [(key, good)])
+                log = LoggedDict(None, {key: good}, keys=keys, values=values)
+                self.assertRaises((TypeError, OverflowError), log.__setitem__, key, bad)
+                self.assertEqual(dict(log), {key: good})
+        self.assertEqual(repr(SortedMultiDict([("a", 1)], keys="str", values="float64").first()), "('a', 1.0)")
 
 
 class Corrupted(unittest.TestCase):
@@ -293,7 +369,4 @@ class Names(unittest.TestCase):
 
 
 if __name__ == "__main__":
-    result = unittest.main(exit=False, verbosity=0).result
-    wrong = len(result.failures) + len(result.errors)
-    print(f"{indexset.BACKEND}: {result.testsRun - wrong} passed, {wrong} failed")
-    sys.exit(1 if wrong else 0)
+    counted.main(indexset.BACKEND)

@@ -4,7 +4,6 @@ import gc
 import itertools
 import pickle
 import random
-import sys
 import unittest
 import weakref
 from bisect import bisect_left, bisect_right, insort
@@ -16,6 +15,7 @@ try:
 except ImportError:
     _testcapi = None
 
+import counted
 import indexset
 from indexset import SortedDict, SortedKeyList, SortedList, SortedSet
 
@@ -353,7 +353,4 @@ class Changes(unittest.TestCase):
 
 
 if __name__ == "__main__":
-    result = unittest.main(exit=False, verbosity=0).result
-    wrong = len(result.failures) + len(result.errors)
-    print(f"{indexset.BACKEND}: {result.testsRun - wrong} passed, {wrong} failed")
-    sys.exit(1 if wrong else 0)
+    counted.main(indexset.BACKEND)

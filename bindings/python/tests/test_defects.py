@@ -15,6 +15,7 @@ try:
 except ImportError:
     _testcapi = None
 
+import counted
 import indexset
 from indexset import LoggedDict, Replica, SortedDict, SortedKeyList, SortedList, SortedMultiDict, SortedSet
 
@@ -437,7 +438,4 @@ class Refused(unittest.TestCase):
 
 
 if __name__ == "__main__":
-    result = unittest.main(exit=False, verbosity=0).result
-    wrong = len(result.failures) + len(result.errors)
-    print(f"{indexset.BACKEND}: {result.testsRun - wrong} passed, {wrong} failed")
-    sys.exit(1 if wrong else 0)
+    counted.main(indexset.BACKEND)

@@ -3,11 +3,11 @@ import decimal
 import fractions
 import math
 import numbers
-import sys
 import unittest
 from array import array
 from bisect import bisect_left, bisect_right
 
+import counted
 import indexset
 from indexset import LoggedDict, Replica, SortedDict, SortedList, SortedMultiDict, SortedSet
 
@@ -186,7 +186,4 @@ class Arrays(unittest.TestCase):
 
 
 if __name__ == "__main__":
-    result = unittest.main(exit=False, verbosity=0).result
-    wrong = len(result.failures) + len(result.errors)
-    print(f"{indexset.BACKEND}: {result.testsRun - wrong} passed, {wrong} failed")
-    sys.exit(1 if wrong else 0)
+    counted.main(indexset.BACKEND)

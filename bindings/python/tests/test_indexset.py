@@ -12,6 +12,7 @@ import weakref
 from array import array
 from bisect import bisect_left, insort
 
+import counted
 import indexset
 from indexset import SortedDict, SortedList, SortedSet, _dict, _set
 
@@ -390,7 +391,4 @@ class Dictionaries(unittest.TestCase):
 
 
 if __name__ == "__main__":
-    result = unittest.main(exit=False, verbosity=0).result
-    wrong = len(result.failures) + len(result.errors)
-    print(f"{indexset.BACKEND}: {result.testsRun - wrong} passed, {wrong} failed")
-    sys.exit(1 if wrong else 0)
+    counted.main(indexset.BACKEND)

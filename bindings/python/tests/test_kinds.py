@@ -6,11 +6,11 @@ import inspect
 import math
 import pickle
 import random
-import sys
 import unittest
 from bisect import bisect_left, bisect_right
 from functools import total_ordering
 
+import counted
 import indexset
 from indexset import SortedDict, SortedKeyList, SortedList, SortedMultiDict, SortedSet, pack, unpack
 
@@ -374,7 +374,4 @@ class KeyLists(unittest.TestCase):
 
 
 if __name__ == "__main__":
-    result = unittest.main(exit=False, verbosity=0).result
-    wrong = len(result.failures) + len(result.errors)
-    print(f"{indexset.BACKEND}: {result.testsRun - wrong} passed, {wrong} failed")
-    sys.exit(1 if wrong else 0)
+    counted.main(indexset.BACKEND)

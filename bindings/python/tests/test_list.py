@@ -3,12 +3,12 @@ import copy
 import gc
 import math
 import random
-import sys
 import unittest
 import weakref
 from bisect import bisect_left, bisect_right, insort
 from unittest import mock
 
+import counted
 import indexset
 from indexset import SortedDict, SortedKeyList, SortedList, SortedSet
 
@@ -290,7 +290,4 @@ class Calls(unittest.TestCase):
 
 
 if __name__ == "__main__":
-    result = unittest.main(exit=False, verbosity=0).result
-    wrong = len(result.failures) + len(result.errors)
-    print(f"{indexset.BACKEND}: {result.testsRun - wrong} passed, {wrong} failed")
-    sys.exit(1 if wrong else 0)
+    counted.main(indexset.BACKEND)

@@ -2,9 +2,9 @@
 import copy
 import pickle
 import random
-import sys
 import unittest
 
+import counted
 import indexset
 from indexset import Change, Gap, LoggedDict, Refused, Replica
 
@@ -136,7 +136,4 @@ class Calls(unittest.TestCase):
 
 
 if __name__ == "__main__":
-    result = unittest.main(exit=False, verbosity=0).result
-    wrong = len(result.failures) + len(result.errors)
-    print(f"{indexset.BACKEND}: {result.testsRun - wrong} passed, {wrong} failed")
-    sys.exit(1 if wrong else 0)
+    counted.main(indexset.BACKEND)

@@ -4,9 +4,9 @@ import doctest
 import math
 import pickle
 import random
-import sys
 import unittest
 
+import counted
 import indexset
 from indexset import Gap, LoggedDict, Refused, Replica, SortedMultiDict, _log, _multi, _nodes, _replica
 
@@ -250,7 +250,4 @@ class Replicas(unittest.TestCase):
 
 
 if __name__ == "__main__":
-    result = unittest.main(exit=False, verbosity=0).result
-    wrong = len(result.failures) + len(result.errors)
-    print(f"{indexset.BACKEND}: {result.testsRun - wrong} passed, {wrong} failed")
-    sys.exit(1 if wrong else 0)
+    counted.main(indexset.BACKEND)

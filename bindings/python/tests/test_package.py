@@ -13,6 +13,8 @@ import tempfile
 import unittest
 import zipfile
 
+import counted
+
 HERE = pathlib.Path(__file__).resolve().parent.parent
 IS_PROVED = not os.environ.get("UNPROVED")
 MADE_BY = "make -C bindings/c" if IS_PROVED else "make -C bindings/c UNPROVED=1"
@@ -55,7 +57,7 @@ class Package(unittest.TestCase):
         cls.backend = "extension" if has_compiler() else "ctypes"
         status, said = ran(sys.executable, "-m", "venv", "--system-site-packages", cls.folder / "fresh")
         if status:
-            raise unittest.SkipTest(f"no environment can be made: {said.splitlines()[-1]}")
+            raise RuntimeError(f"no environment can be made: {said.splitlines()[-1]}")
         cls.python = cls.folder / "fresh/bin/python"
         cls.pip = cls.python, "-m", "pip", "--disable-pip-version-check"
 
@@ -128,7 +130,4 @@ class Package(unittest.TestCase):
 
 
 if __name__ == "__main__":
-    result = unittest.main(exit=False, verbosity=0).result
-    wrong = len(result.failures) + len(result.errors)
-    print(f"package: {result.testsRun - wrong} passed, {wrong} failed")
-    sys.exit(1 if wrong else 0)
+    counted.main("package")

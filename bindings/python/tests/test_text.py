@@ -7,6 +7,7 @@ import unittest
 import weakref
 from bisect import bisect_left, bisect_right
 
+import counted
 import indexset
 from indexset import SortedDict, SortedSet
 
@@ -251,7 +252,4 @@ class Noted(unittest.TestCase):
 
 
 if __name__ == "__main__":
-    result = unittest.main(exit=False, verbosity=0).result
-    wrong = len(result.failures) + len(result.errors)
-    print(f"{indexset.BACKEND}: {result.testsRun - wrong} passed, {wrong} failed")
-    sys.exit(1 if wrong else 0)
+    counted.main(indexset.BACKEND)

@@ -3,7 +3,7 @@ from __future__ import annotations
 
 from typing import Any, Optional, Union
 
-from ._kinds import ALL, KINDS, NUMBERS, OBJECT
+from ._kinds import ALL, KINDS, NUMBERS, OBJECT, TOP, DoubleKeys, DoubleValues
 from ._orders import Order, order_of
 from ._pairs import between, bound
 
@@ -15,17 +15,26 @@ class Numbered:
 
     __slots__ = ("name", "_kind", "find", "decode")
 
-    def __init__(self, name: str) -> None:
-        self.name, self._kind = name, NUMBERS[name]
-        self.find, self.decode = self._kind.find, self._kind.decode
+    def __init__(self, kind: Any) -> None:
+        self.name, self._kind = kind.name, kind
+        self.find, self.decode = kind.find, kind.decode
+
+    def code(self, value: Any) -> int:
+        """Returns the code of a value."""
+        code: int = self._kind.code(value)
+        return code
 
     def take(self, value: Any) -> int:
         """Returns the code of a value, which is stored."""
-        code: int = self._kind.code(value)
+        code = self.code(value)
+        if code == TOP and isinstance(self._kind, DoubleKeys) and self._kind.zero is None:
+            self._kind.zero = float(value)
         return code
 
     def drop(self, code: int) -> None:
         """Notes that a value is not stored any more."""
+        if code == TOP and isinstance(self._kind, DoubleKeys):
+            self._kind.zero = None
 
     def moves(self, value: Any) -> Moves:
         """Returns the codes that must change before a key is stored, with their new codes."""
@@ -40,10 +49,12 @@ class Numbered:
 
     def code_of(self, value: Any, label: int) -> int:
         """Returns the code of such a key."""
-        return self.take(value)
+        return self.code(value)
 
     def put(self, value: Any, label: int) -> None:
-        """Stores such a key."""
+        """Stores such a key, which was absent."""
+        if isinstance(self._kind, DoubleKeys) and not value:
+            self._kind.zero = float(value)
 
     def label(self, value: Any) -> int:
         """Returns the label of a value, which another dictionary needs beside it."""
@@ -60,7 +71,7 @@ class Numbered:
 
     def clone(self) -> Numbered:
         """Returns a clone."""
-        return self
+        return Numbered(DoubleKeys(self._kind.zero)) if isinstance(self._kind, DoubleKeys) else self
 
 
 class Objects:
@@ -201,9 +212,13 @@ class Labels:
 
 def keys_of(name: str) -> Union[Numbered, Labels]:
     """Returns the encoding of keys of a kind."""
-    return Numbered(name) if name in NUMBERS else Labels(name)
+    if name not in NUMBERS:
+        return Labels(name)
+    return Numbered(DoubleKeys() if name == "float64" else NUMBERS[name])
 
 
 def values_of(name: str) -> Union[Numbered, Objects]:
     """Returns the encoding of values of a kind."""
-    return Numbered(name) if name in NUMBERS else Objects(name)
+    if name not in NUMBERS:
+        return Objects(name)
+    return Numbered(DoubleValues() if name == "float64" else NUMBERS[name])

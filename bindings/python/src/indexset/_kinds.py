@@ -149,6 +149,24 @@ class Doubles:
         return number
 
 
+class DoubleKeys(Doubles):
+    """Floating-point numbers that are distinct keys. Both zeros have one code; the one that was stored is returned."""
+
+    def __init__(self, zero: Optional[float] = None) -> None:
+        self.zero = zero
+
+    def decode(self, code: int) -> float:
+        return self.zero if code == TOP and self.zero is not None else super().decode(code)
+
+
+class DoubleValues(Doubles):
+    """Floating-point numbers that are only stored: -0.0 has a code of its own."""
+
+    @staticmethod
+    def _code(number: float) -> int:
+        return Doubles._code(number) if number or math.copysign(1, number) > 0 else TOP - 1
+
+
 class Texts:
     """Texts, as their bytes in UTF-8, whose order is that of the code points."""
 

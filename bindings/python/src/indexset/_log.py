@@ -85,7 +85,7 @@ class LoggedDict(Noded[K, V], MutableMapping[K, V], Generic[K, V]):
                 self._values.drop(written)
                 raise
         except BaseException:
-            if fresh:
+            if fresh or not self._has(code):
                 self._keys.drop(code)
             raise
         if before is not None:

@@ -1,6 +1,7 @@
 """An ordered dictionary whose keys may have several values."""
 from __future__ import annotations
 
+import math
 from typing import Any, Generic, Iterable, Iterator, Literal, Optional, TypeVar, Union, overload
 
 from ._kinds import NUMBERS, OBJECT, known
@@ -72,10 +73,13 @@ class SortedMultiDict(Generic[K, V]):
         if len(self):
             wanted = [old if old == new or old == OBJECT else OBJECT for old, new in zip(now, wanted)]
         if tuple(wanted) != now:
-            made = self._of(*wanted)
-            for pair in self.items():
-                made.add(*pair)
-            self._pairs = made
+            self._move(self._of(*wanted))
+
+    def _move(self, made: Union[NumberPairs, ObjectPairs]) -> None:
+        """Moves the pairs into an empty collection of them."""
+        for pair in self.items():
+            made.add(*pair)
+        self._pairs = made
 
     @property
     def kinds(self) -> tuple[str, str]:
@@ -103,6 +107,8 @@ class SortedMultiDict(Generic[K, V]):
             if self._pairs.contains(key, value):
                 return False
             self._fit(key, value)
+        if isinstance(self._pairs, NumberPairs) and (_is_negative_zero(key) or _is_negative_zero(value)):
+            self._move(ObjectPairs(*self._pairs.kinds))
         return self._pairs.add(key, value)
 
     def update(self, pairs: Iterable[tuple[K, V]]) -> None:
@@ -287,19 +293,19 @@ class SortedMultiDict(Generic[K, V]):
     # ---- the object
 
     def copy(self: C) -> C:
-        """Returns a dictionary of the same pairs. Linear in their number.
+        """Returns a dictionary of the same pairs and, of a subclass, the same attributes. Linear in the number of
+        pairs. Raises MemoryError if memory runs out.
 
         >>> SortedMultiDict([(2, 4), (1, 5)]).copy()
         SortedMultiDict([(1, 5), (2, 4)])
         """
         made: C = _restored(type(self), list(self.items()), *self._named)
-        return made
-
-    def __copy__(self: C) -> C:
-        made = self.copy()
         if hasattr(self, "__dict__"):
             made.__dict__.update(self.__dict__)
         return made
+
+    def __copy__(self: C) -> C:
+        return self.copy()
 
     def __eq__(self, other: object) -> bool:
         if not isinstance(other, SortedMultiDict):
@@ -313,6 +319,10 @@ class SortedMultiDict(Generic[K, V]):
     def __reduce__(self) -> tuple[object, ...]:
         state = getattr(self, "__dict__", None) or None
         return _restored, (type(self), list(self.items()), *self._named), state
+
+
+def _is_negative_zero(item: object) -> bool:
+    return type(item) is float and not item and math.copysign(1, item) < 0
 
 
 def _restored(cls: Any, pairs: list[Any], keys: Optional[str], values: Optional[str]) -> Any:

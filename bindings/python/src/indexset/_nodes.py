@@ -98,7 +98,11 @@ class Noded(Mapping[K, V], Generic[K, V]):
     def __contains__(self, key: object) -> bool:
         """Returns whether a key is present."""
         code = self._keys.find(key)
-        return code is not None and self._get(self._handle, code, place(Number()))
+        return code is not None and self._has(code)
+
+    def _has(self, code: int) -> bool:
+        found: bool = self._get(self._handle, code, place(Number()))
+        return found
 
     def __len__(self) -> int:
         size: int = self._length(self._handle)
@@ -258,21 +262,22 @@ class Noded(Mapping[K, V], Generic[K, V]):
     # ---- the object
 
     def copy(self: C) -> C:
-        """Returns a copy with the same pairs. Linear in their number.
+        """Returns a copy with the same pairs and, of a subclass, the same attributes. Linear in the number of pairs.
+        Raises MemoryError if memory runs out.
 
         >>> from indexset import LoggedDict
         >>> LoggedDict(entries={2: "b", 1: "a"}).copy()
         LoggedDict({1: 'a', 2: 'b'})
         """
         reduced: Any = self.__reduce__()
-        made: C = reduced[0](*reduced[1])
+        make, words, attributes = reduced
+        made: C = make(*words)
+        if attributes:
+            made.__dict__.update(attributes)
         return made
 
     def __copy__(self: C) -> C:
-        made = self.copy()
-        if hasattr(self, "__dict__"):
-            made.__dict__.update(self.__dict__)
-        return made
+        return self.copy()
 
     def __reduce__(self) -> tuple[object, ...]:
         raise NotImplementedError

@@ -5,7 +5,7 @@ from operator import itemgetter
 from typing import Any, Iterable, Iterator, Optional
 
 from . import _library as library
-from ._kinds import ALL, NUMBERS
+from ._kinds import ALL, KINDS, NUMBERS
 from ._library import Number, check, lib, memory, place, zeros
 from ._orders import order_of
 
@@ -128,6 +128,17 @@ class NumberPairs:
         lib.indexset_multi_clear(self._handle)
 
 
+def stored(kind: str, item: Any) -> Any:
+    """Returns a key or a value as it is stored: a number of another type becomes one of Python. Raises TypeError,
+    OverflowError or ValueError if it does not fit the kind."""
+    if kind in NUMBERS:
+        code = NUMBERS[kind].code(item)
+        return item if type(item) is (float if kind == "float64" else int) else NUMBERS[kind].decode(code)
+    if kind in KINDS:
+        KINDS[kind].raw(item)
+    return item
+
+
 class ObjectPairs:
     """Pairs of any keys with an order, and of values with a hash."""
 
@@ -143,6 +154,7 @@ class ObjectPairs:
         return len(self._order)
 
     def add(self, key: Any, value: Any) -> bool:
+        key, value = map(stored, self.kinds, (key, value))
         if value in self._values.get(key, ()):
             return False
         pair = key, value

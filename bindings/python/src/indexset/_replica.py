@@ -126,12 +126,20 @@ class Replica(Noded[K, V], Generic[K, V]):
 
     def _apply_numbers(self, every: list[Change]) -> None:
         events, taken = (Event * len(every))(), Count()
-        written, error = self._written(every, events)
+        first, (written, error) = self.next, self._written(every, events)
         status = lib.indexset_replica_apply_all(self._handle, place(events), written, place(taken))
+        if self._keys.name == "float64":
+            self._put_keys(change for change in every[: taken.value] if change.number >= first)
         if status not in (library.NO, library.YES):
             self._refuse(status, taken.value, every[min(taken.value, len(every) - 1)])
         if error is not None:
             raise Refused(library.UNFIT, written, every[written]) from error
+
+    def _put_keys(self, changes: Iterable[Change]) -> None:
+        """Stores the keys of changes that were applied."""
+        for change in changes:
+            if change.kind in ("create", "insert"):
+                self._keys.put((change.node if change.kind == "create" else change.pair)[0], 0)
 
     def _written(self, every: list[Change], events: Any) -> tuple[int, Optional[Exception]]:
         """Returns the number of changes that become records of the library, and the error of the first that does
@@ -146,14 +154,11 @@ class Replica(Noded[K, V], Generic[K, V]):
     def _write(self, change: Change, event: Event) -> None:
         """Writes the library's record of a change of numbers. Raises ValueError if its kind is unknown."""
         self._begin_event(change, event)
-        event.node_key, event.node_value = map(self._code, (self._keys, self._values), change.node)
+        (key, value), code, code_of_value = change.node, self._keys.code, self._values.code
+        event.node_key, event.node_value = code(key), code_of_value(value)
         if change.kind in PAIRED:
-            event.key, event.value = map(self._code, (self._keys, self._values), change.pair)
-
-    @staticmethod
-    def _code(codec: Any, value: Any) -> int:
-        code: int = codec.take(value)
-        return code
+            key, value = change.pair
+            event.key, event.value = code(key), code_of_value(value)
 
     @staticmethod
     def _begin_event(change: Change, event: Event) -> None:
