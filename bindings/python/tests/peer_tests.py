@@ -1,7 +1,7 @@
 """Runs the tests of `sortedcontainers`, and CPython's tests of sets, mappings and lists, with our classes.
 
 The former are fetched from Debian's source package into a folder outside the repository, from the mirror that
-INDEXSET_DEBIAN names; `--folder` is one where it is unpacked already. If the tests cannot be fetched, that is a failure.
+INDEXSET_DEBIAN names; `--folder` is one where it is unpacked already. It is a failure if they cannot be fetched.
 Tests of the internals of `sortedcontainers` are left out, by name. The last line counts the others.
 """
 import argparse

@@ -174,6 +174,14 @@ class Many(unittest.TestCase):
         self.assertEqual((ours.pop(0), ours[2], len(list(ours.irange_key((3,), (9,))))), (0, 2, 10))
         self.assertLess(len(called), 2 * (1000 + 5 + 1000 + 1) + 5)
 
+    @unittest.skipUnless(indexset.BACKEND == "extension", "by ctypes it is called again where many come")
+    def test_key_of_a_new_list(self):
+        """A new list calls the key function once for each item, whatever the sort keys are."""
+        for order in (lambda it: (it,), lambda it: it, str, lambda it: it + 0.5 if it % 3 else it):
+            called = []
+            ours = SortedKeyList(range(100), key=lambda it: called.append(it) or order(it))
+            self.assertEqual((list(ours), called), (sorted(range(100), key=order), list(range(100))))
+
     def test_comparisons(self):
         """A search makes as many comparisons as a binary search."""
         items = [Counted(number) for number in range(20000)]
@@ -350,6 +358,93 @@ class Changes(unittest.TestCase):
                     self.assertEqual(held, before)
                 if done or start > 60:
                     break
+
+
+@unittest.skipUnless(indexset.BACKEND == "extension", "only the compiled module keeps numbers in blocks")
+class Due(unittest.TestCase):
+    """Numbers that arrived at once stay in blocks, and move into the library once a fourth as many have changed."""
+
+    def check(self, ours, wanted):
+        self.assertEqual((len(ours), list(ours), ours[3:7]), (len(wanted), wanted, wanted[3:7]))
+        for at in range(0, len(wanted), 37):
+            item = wanted[at]
+            self.assertEqual(
+                (ours[at], ours.bisect_left(item), ours.bisect_right(item), ours.index(item), item in ours),
+                (item, bisect_left(wanted, item), bisect_right(wanted, item), wanted.index(item), True),
+            )
+            self.assertEqual(
+                (ours.bisect_left(item + 0.1), item + 0.1 in ours), (bisect_left(wanted, item + 0.1), False)
+            )
+
+    def test_lists(self):
+        for items in (list(range(-500, 1500)), [number / 4 for number in range(2000)], [at // 3 for at in range(2000)]):
+            rng, kind = random.Random(1), type(items[0])
+            ours, wanted = SortedList(rng.sample(items, len(items))), items[:]
+            for turn in range(800):
+                item = kind(rng.randrange(-600, 1600))
+                if turn % 3 < 2:
+                    ours.add(item)
+                    insort(wanted, item)
+                elif rng.random() < 0.5:
+                    at = rng.randrange(len(wanted))
+                    self.assertEqual(ours.pop(at), wanted.pop(at))
+                else:
+                    ours.discard(item)
+                    wanted.remove(item) if item in wanted else None
+                if turn == 400:
+                    self.assertEqual(type(ours._order).__name__, "Run")
+                if turn % 50 == 0:
+                    self.check(ours, wanted)
+            self.check(ours, wanted)
+            self.assertNotEqual(type(ours._order).__name__, "Run")
+
+    def test_sets_and_dictionaries(self):
+        rng = random.Random(2)
+        items = [rng.randrange(10**6) for _ in range(2000)]
+        ours, ages, peer = SortedSet(items), SortedDict.fromkeys(items), set(items)
+        for turn in range(800):
+            item = rng.choice(items) if turn % 2 else rng.randrange(10**6)
+            if item in peer:
+                ours.remove(item)
+                del ages[item]
+                peer.remove(item)
+            else:
+                ours.add(item)
+                ages[item] = turn
+                peer.add(item)
+            if turn % 80 == 0:
+                self.check(ours, sorted(peer))
+                self.assertEqual((list(ages), ages.peekitem(5)[0]), (sorted(peer), sorted(peer)[5]))
+        self.assertEqual((type(ours._order).__name__, type(ages._order).__name__), ("Numbers", "Numbers"))
+
+    def test_many(self):
+        """An update by few numbers, a cut, and items of other types."""
+        ours, wanted = SortedList(range(0, 4000, 2)), list(range(0, 4000, 2))
+        for more in ([5, 7, 5], list(range(1, 90, 2)), [10**15]):
+            ours.update(more)
+            wanted = sorted(wanted + more)
+            del ours[100:130], wanted[100:130]
+            self.check(ours, wanted)
+        self.assertEqual(type(ours._order).__name__, "Run")
+        self.assertRaises(TypeError, ours.update, [1, "a"])
+        self.check(ours, wanted)
+        ours.add(True)
+        insort(wanted, True)
+        ours.add(2.5)
+        insort(wanted, 2.5)
+        self.assertEqual((list(map(repr, ours)), ours.kind), (list(map(repr, wanted)), "object"))
+        for other in ([1.5], [1 << 63], [True]):
+            ours = SortedSet(range(0, 100, 2))
+            ours.update(other)
+            self.assertEqual((list(ours), ours.kind), (sorted([*range(0, 100, 2), *other]), "object"))
+        ours = SortedSet(range(100), keys="int64")
+        ours.add(100.0)
+        self.assertEqual(repr(ours[-1]), "100")
+        self.assertRaises(OverflowError, ours.add, 1 << 63)
+        walk = iter(ours)
+        next(walk)
+        ours.add(200)
+        self.assertRaises(RuntimeError, next, walk)
 
 
 if __name__ == "__main__":

@@ -8,12 +8,13 @@ if TYPE_CHECKING:
     from ._base import DictBase, IndexedBase
     from ._blocks import Blocks
     from ._ctypes import BACKEND, Numbers
+    from ._lists import are_alike, keep
     from ._object_index import Coded, Multi, ObjectIndex
 else:
     try:
         if os.environ.get("INDEXSET_BACKEND") == "ctypes":
             raise ImportError
-        from ._speedups import BACKEND, Blocks, Coded, DictBase, IndexedBase, Multi, Numbers
+        from ._speedups import BACKEND, Blocks, Coded, DictBase, IndexedBase, Multi, Numbers, are_alike, keep
 
         class ObjectIndex(Generic[TypeVar("T")]):
             """The base of Blocks, Coded and Multi, which each implement in C."""
@@ -24,6 +25,18 @@ else:
         from ._base import DictBase, IndexedBase
         from ._blocks import Blocks
         from ._ctypes import BACKEND, Numbers
+        from ._lists import are_alike, keep
         from ._object_index import Coded, Multi, ObjectIndex
 
-__all__ = ["BACKEND", "Blocks", "Coded", "DictBase", "IndexedBase", "Multi", "Numbers", "ObjectIndex"]
+__all__ = [
+    "BACKEND",
+    "Blocks",
+    "Coded",
+    "DictBase",
+    "IndexedBase",
+    "Multi",
+    "Numbers",
+    "ObjectIndex",
+    "are_alike",
+    "keep",
+]

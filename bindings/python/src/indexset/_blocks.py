@@ -200,8 +200,8 @@ class Blocks(ObjectIndex[T]):
             found += self._blocks[block][: past - first - len(found)]
         return found
 
-    def take(self, items: Iterable[T]) -> None:
-        """Adds objects, or none if one does not fit."""
+    def take(self, items: Iterable[T], sort_keys: Optional[list[Any]] = None) -> None:
+        """Adds objects, or none if one does not fit. Their sort keys are made again."""
         given, changes = list(items), self.changes
         _sort(given, self.key)
         if len(given) * _PART < self._length:

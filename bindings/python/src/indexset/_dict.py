@@ -18,9 +18,9 @@ from typing import (
     overload,
 )
 
-from ._kinds import OBJECT, known
+from ._kinds import known
 from ._backend import DictBase
-from ._orders import KeyFunction, Run, duplicate, fitted, gathered, order_of, own_kind, settled
+from ._orders import KeyFunction, Run, duplicate, fitted, gathered, order_of, settled
 from ._placed import Placed
 from ._views import SortedItemsView, SortedKeysView, SortedValuesView
 
@@ -199,7 +199,7 @@ class SortedDict(Placed[K, V], Generic[K, V]):
     def _settled(self) -> Any:
         """Returns the order of the keys, ready for changes."""
         order = self._order
-        if isinstance(order, Run) and order.is_fixed:
+        if isinstance(order, Run) and order.is_due:
             self._become(order.settled())
         return self._order
 
@@ -225,10 +225,12 @@ class SortedDict(Placed[K, V], Generic[K, V]):
         SortedDict({1: 'b', 2: 'c'})
         """
         others: Any = given
-        if len(others) == 1 and type(others[0]) is dict and not words and self._laid(others[0]):
+        is_dict = len(others) == 1 and type(others[0]) is dict and not words
+        entries: Any = others[0] if is_dict and not dict.__len__(self) else dict(*others, **words)
+        if not dict.__len__(self):
+            self._begin_with(entries)
             return
-        entries: Any = dict(*others, **words)
-        fresh = list(filterfalse(self.__contains__, entries) if dict.__len__(self) else entries)
+        fresh = list(filterfalse(self.__contains__, entries))
         if fresh:
             self._order_keys(fresh)
         try:
@@ -239,16 +241,19 @@ class SortedDict(Placed[K, V], Generic[K, V]):
                     self._settled().discard(key)
             raise
 
-    def _laid(self, entries: dict[K, V]) -> bool:
-        """Takes over the entries of a dict if this dictionary is empty and the keys are of a kind's own type; returns
-        whether it did. Only code of such types runs meanwhile, so the dict stays as it is."""
-        if dict.__len__(self) or self.key is not None or own_kind(entries) == OBJECT:
-            return False
-        order = gathered(self._order, list(entries), self._named, None, False)
-        if order is not None:
+    def _begin_with(self, entries: dict[K, V]) -> None:
+        """Sets the value of each key of an empty dictionary."""
+        try:
             super().update(entries)
-            self._become(order)
-        return order is not None
+            keys = list(dict.__iter__(self))
+            if keys:
+                self._order_keys(keys)
+            if len(self._order) != dict.__len__(self):
+                raise RuntimeError("it changed meanwhile")
+        except BaseException:
+            super().clear()
+            self._order.clear()
+            raise
 
     @overload
     def get_all(self, keys: Iterable[object], default: None = None) -> list[Optional[V]]:

@@ -6,7 +6,8 @@ from operator import eq, ge, gt, le, lt, ne
 from typing import Any, Callable, Generic, Iterable, Literal, Optional, TypeVar, overload
 
 from ._backend import Numbers
-from ._orders import Run, order_of, repeating
+from ._kinds import items_of, known
+from ._orders import Run, begun, order_of, repeating
 from ._sorted import OWN_INITS, Sorted
 
 T = TypeVar("T")
@@ -90,15 +91,21 @@ class SortedList(Sorted[T], MutableSequence[T], Generic[T]):
         *,
         keys: Optional[str] = None,
     ) -> None:
+        items = None if iterable is None else items_of(iterable)
+        order = begun(items, keys, key, True) if items else None
+        if order is not None:
+            known(keys)
+            self._named, self._order, self._members = keys, order, None
+            return
         self._begin(keys, key)
-        if iterable is not None:
-            self._fill(iterable)
+        if items:
+            self._added(items)
 
     # ---- one item
 
     def _add(self, value: T) -> None:
         order = self._order
-        if isinstance(order, Run) and order.is_fixed and order.find(value) >= 0:
+        if isinstance(order, Run) and order.is_due and order.find(value) >= 0:
             order = order.settled(True)
         else:
             order = self._fitting([value])
@@ -111,7 +118,7 @@ class SortedList(Sorted[T], MutableSequence[T], Generic[T]):
         order = self._order
         if not len(order):
             return False
-        if isinstance(order, Run) and order.is_fixed:
+        if isinstance(order, Run) and order.is_due:
             if order.find(value) < 0:
                 return False
             order = self._settled()
@@ -162,9 +169,13 @@ class SortedList(Sorted[T], MutableSequence[T], Generic[T]):
 
     def _filled(self, given: list[T]) -> None:
         gathered = self._gathered(self._order, given)
-        if gathered is not None:
+        if gathered is None:
+            self._added(given)
+        else:
             self._become(gathered)
-            return
+
+    def _added(self, given: list[T]) -> None:
+        """Adds items to the order."""
         order = self._fitting(given)
         if isinstance(order, Numbers) and self._repeat(given, order):
             order = repeating(order)

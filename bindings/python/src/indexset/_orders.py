@@ -5,7 +5,7 @@ from itertools import product
 from typing import TYPE_CHECKING, Any, Callable, Iterable, Iterator, Optional, TypeVar, Union
 
 from ._kinds import ALL, BYTES, NUMBERS, OBJECT, TOP, real, whole
-from ._backend import BACKEND, Blocks, Coded, Multi, Numbers, ObjectIndex
+from ._backend import BACKEND, Blocks, Coded, Multi, Numbers, ObjectIndex, are_alike
 
 T = TypeVar("T")
 KeyFunction = Optional[Callable[[Any], Any]]
@@ -197,20 +197,24 @@ def _number_span(order: Union[Repeated[Any], Run[Any]], below: Callable[[int], i
 
 
 class Run(Blocks[T], Spanned[T]):
-    """Objects that were added at once, with sort keys of the own type of a kind. Numbers are read-only: the first
-    change moves them into another order."""
+    """Objects that were added at once, with sort keys of the own type of a kind. Numbers move into another order once
+    they are due: after one change for some present ones."""
 
-    __slots__ = ("kind", "is_fixed", "_repeats")
+    __slots__ = ("kind", "_repeats")
 
     if TYPE_CHECKING:  # (only in the compiled module)
+        is_due: bool
 
         def are_distinct(self) -> bool:
+            ...
+
+        def are_own(self, items: list[Any]) -> bool:
             ...
 
         def below(self, code: int) -> int:
             ...
 
-        def fill(self, items: list[Any]) -> bool:
+        def fill(self, items: list[Any], keys: Optional[list[Any]] = None) -> bool:
             ...
 
         def settle(self, order: Order) -> bool:
@@ -221,12 +225,10 @@ class Run(Blocks[T], Spanned[T]):
     def __init__(self, kind: str, key: KeyFunction, repeats: bool) -> None:
         super().__init__(kind, key)
         self.kind, self._repeats = kind, repeats
-        self.is_fixed = kind in NUMBERS  # (read-only)
 
     def takes(self, items: list[Any]) -> bool:
-        """Returns whether items can be added, or, without items, removed."""
-        own = str if self.kind == "str" else bytes
-        return not self.is_fixed and all(type(self.sort_key(item)) is own for item in items)
+        """Returns whether items can be added."""
+        return not self.is_due and self.are_own(items)
 
     def clone(self) -> Run[T]:
         made = Run[T](self.kind, self.key, self._repeats)
@@ -246,7 +248,7 @@ class Run(Blocks[T], Spanned[T]):
         """Returns an order with the same items that takes others, also equal ones."""
         if self.kind not in NUMBERS:
             made: Order = Encoded[Any](self.kind, self.key, self._repeats or self.key is not None)
-        elif self.key is None and not repeats and self.are_distinct():
+        elif self.key is None and not repeats and (not self._repeats or self.are_distinct()):
             made = Numbers(self.kind)
         else:
             made = Repeated[Any](self.kind, self.key)
@@ -358,16 +360,23 @@ def kind_of(keys: list[Any]) -> str:
     """Returns the kind for sort keys without a named kind, which orders them as Python does. Subclasses of int, float,
     str and bytes may have another order, and are returned as they are."""
     kind = _EXACT.get(type(keys[0]), OBJECT)
-    if kind == OBJECT or len(set(map(type, keys))) > 1:
+    if kind == OBJECT or not are_alike(keys):
         return OBJECT
     if kind == "int64" and not (-TOP <= min(keys) and max(keys) < TOP):
         return OBJECT
     return kind
 
 
+def found_kind(items: list[Any], key: KeyFunction) -> str:
+    """Returns the kind for items without a named kind; calls the function for the first one only if its result is an
+    object."""
+    if key is None:
+        return kind_of(items)
+    return OBJECT if own_kind([key(items[0])]) == OBJECT else kind_of(list(map(key, items)))
+
+
 def settled(order: Order, items: list[Any]) -> Order:
-    """Returns an order that takes these items, or, without items, removals: another one if the order is a run of
-    numbers."""
+    """Returns an order that takes these items: another one if the order is a run that does not."""
     return order.settled() if isinstance(order, Run) and not order.takes(items) else order
 
 
@@ -376,7 +385,7 @@ def fitted(order: Order, items: list[Any], key: KeyFunction, repeats: bool) -> O
     empty order gets a new kind."""
     if not items or (order.kind == OBJECT and len(order)) or (isinstance(order, Numbers) and order.are_own(items)):
         return order
-    kind = kind_of(items if key is None else [key(item) for item in items])
+    kind = found_kind(items, key)
     if kind == order.kind:
         return order
     if not len(order):
@@ -391,11 +400,26 @@ def gathered(order: Order, items: list[Any], named: Optional[str], key: KeyFunct
     list may be empty afterwards."""
     if BACKEND != "extension" or not items or len(items) * _PART < len(order):
         return None
-    kind = named or _EXACT.get(type(items[0] if key is None else key(items[0])), OBJECT)
+    kind = named or own_kind([items[0] if key is None else key(items[0])])
     if kind not in _OWN or (len(order) and order.kind != kind):
         return None
     made, before = Run[Any](kind, key, repeats), len(order)
     return made if made.fill(order.chunk(0, before) + items if before else items) else None
+
+
+def begun(items: list[Any], named: Optional[str], key: KeyFunction, repeats: bool) -> Optional[Order]:
+    """Returns an order of items, if they are a run or objects that `<` compares."""
+    keys = items if key is None else list(map(key, items))
+    kind = named or own_kind(keys)
+    if BACKEND == "extension" and kind in _OWN:
+        run: Run[Any] = Run(kind, key, repeats)
+        if run.fill(items, keys):
+            return run
+    if (named or kind_of(keys)) != OBJECT:
+        return None
+    made: Compared[Any] = Compared(key)
+    made.take(items, keys)
+    return made
 
 
 def duplicate(order: Order, repeats: bool) -> Order:

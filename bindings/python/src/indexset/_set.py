@@ -7,7 +7,7 @@ from itertools import chain, filterfalse
 from typing import Any, Callable, Generic, Iterable, Literal, Optional, SupportsIndex, TypeVar, Union, overload
 
 from ._kinds import items_of
-from ._backend import Numbers
+from ._backend import Numbers, keep
 from ._sorted import OWN_INITS, Sorted
 
 T = TypeVar("T")
@@ -162,9 +162,14 @@ class SortedSet(Sorted[T], MutableSet[T], Generic[T]):
     def _filled(self, given: list[T]) -> None:
         members = self._members
         if members:
-            given = list(filterfalse(members.__contains__, given))
+            keep(given, members, False)
         found = set(given)
         fresh = given if len(found) == len(given) else list(dict.fromkeys(given))
+        self._fill_distinct(fresh, found)
+
+    def _fill_distinct(self, fresh: list[T], found: set[T]) -> None:
+        """Adds absent items, which are distinct. The set of them is not used afterwards."""
+        members = self._members
         order = self._gathered(self._order, fresh)
         if order is None:
             order = self._fitting(fresh)
@@ -233,11 +238,14 @@ class SortedSet(Sorted[T], MutableSet[T], Generic[T]):
         >>> SortedSet([1, 2, 3]) & [3, 4, 1]
         SortedSet([1, 3])
         """
-        kept = list(self)
-        for iterable in iterables:
-            kept = list(filter(_asked(iterable).__contains__, kept))
-        made: SortedSet[T] = self._made(kept)
-        return made
+        return self._kept(self._members.intersection(*map(_asked, iterables)))
+
+    def _kept(self, found: set[T]) -> SortedSet[T]:
+        """Returns a set of the items that are in another, which is not used afterwards."""
+        made, kept = self._empty(), list(self)
+        keep(kept, found, True)
+        made._fill_distinct(kept, found)
+        return made  # type: ignore[no-any-return]
 
     def intersection_update(self, *iterables: Iterable[object]) -> SortedSet[T]:
         """Keeps the items that each iterable has too, and returns the set. Raises TypeError if an item has no hash.
@@ -253,11 +261,7 @@ class SortedSet(Sorted[T], MutableSet[T], Generic[T]):
         >>> SortedSet([1, 2, 3]) - [2]
         SortedSet([1, 3])
         """
-        kept = list(self)
-        for iterable in iterables:
-            kept = list(filterfalse(_asked(iterable).__contains__, kept))
-        made: SortedSet[T] = self._made(kept)
-        return made
+        return self._kept(self._members.difference(*map(_asked, iterables)))
 
     def difference_update(self, *iterables: Iterable[object]) -> SortedSet[T]:
         """Removes the items that an iterable has, and returns the set. Raises TypeError if an item has no hash.
@@ -267,7 +271,7 @@ class SortedSet(Sorted[T], MutableSet[T], Generic[T]):
         """
         others = set(chain.from_iterable(iterables))
         if len(others) * 4 > len(self):
-            return self._take_over(self._made(list(filterfalse(others.__contains__, self))))
+            return self._take_over(self.difference(others))
         for value in others:
             self._discard(value)
         return self
@@ -280,9 +284,14 @@ class SortedSet(Sorted[T], MutableSet[T], Generic[T]):
         SortedSet([1, 3])
         """
         given: Any = iterable if isinstance(iterable, SortedSet) else dict.fromkeys(iterable)
-        kept: list[Any] = list(filterfalse(_asked(given).__contains__, self))
-        kept.extend(filterfalse(self._members.__contains__, given))
-        made: SortedSet[Any] = self._made(kept)
+        others: set[Any] = given._members if isinstance(given, SortedSet) else set(given)
+        kept: list[Any] = list(self)
+        more: list[Any] = list(given)
+        keep(kept, others, False)
+        keep(more, self._members, False)
+        kept += more
+        made: SortedSet[Any] = self._empty()
+        made._fill_distinct(kept, self._members ^ others)
         return made
 
     def symmetric_difference_update(self, iterable: Iterable[T]) -> SortedSet[T]:

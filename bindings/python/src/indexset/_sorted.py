@@ -69,7 +69,7 @@ class Sorted(IndexedBase[T], Sequence[T], Generic[T]):
     def _settled(self) -> Any:
         """Returns the order of the items, ready for changes."""
         order = self._order
-        if isinstance(order, Run) and order.is_fixed:
+        if isinstance(order, Run) and order.is_due:
             self._become(order.settled())
         return self._order
 

@@ -6,6 +6,9 @@
 #define MOST 512
 #define FEW 96
 
+/* The number of objects that are fetched before they are released. */
+#define AHEAD 16
+
 /* ---- positions: a Fenwick tree over the lengths of the blocks, rebuilt once their number has changed */
 
 static void index_blocks(Blocks *self) {
@@ -40,6 +43,17 @@ Place blocks_place(Blocks *self, size_t position) {
     for (; step > 0; step /= 2)
         if (block + step <= self->count && self->tree[block + step] <= position) position -= self->tree[block += step];
     return (Place){block, position};
+}
+
+/* ---- changes */
+
+int blocks_is_due(const Blocks *self) { return self->by <= FLOAT64 && self->moved * DUE > self->length; }
+
+/* Forgets what only unchanged blocks have. */
+static void loosen(Blocks *self) {
+    PyMem_Free(self->codes);
+    self->codes = NULL;
+    self->is_even = 0;
 }
 
 /* ---- room */
@@ -116,7 +130,7 @@ static int split(Blocks *self, size_t at) {
 }
 
 int blocks_insert(Blocks *self, Place at, PyObject *item, PyObject *key) {
-    self->is_even = 0;
+    loosen(self);
     if (self->count == 0) {
         Block made = {0};
         if (!has_blocks(self, 1) || !has_room(&made, 8, self->key != NULL)) {
@@ -138,6 +152,7 @@ int blocks_insert(Blocks *self, Place at, PyObject *item, PyObject *key) {
     block->last = block->keys[block->count++];
     count_in(self, at.block, 1);
     self->changes++;
+    self->moved++;
     return 1;
 }
 
@@ -169,13 +184,14 @@ static void merge(Blocks *self, size_t at) {
 PyObject *blocks_remove(Blocks *self, Place at, PyObject **key) {
     Block *block = self->blocks + at.block;
     PyObject *item = block->items[at.index];
-    self->is_even = 0;
+    loosen(self);
     size_t after = --block->count - at.index;
     *key = block->keys != block->items ? block->keys[at.index] : NULL;
     memmove(block->items + at.index, block->items + at.index + 1, after * sizeof *block->items);
     if (*key != NULL) memmove(block->keys + at.index, block->keys + at.index + 1, after * sizeof *block->keys);
     count_in(self, at.block, (size_t)-1);
     self->changes++;
+    self->moved++;
     if (block->count == 0)
         drop_block(self, at.block);
     else
@@ -202,7 +218,7 @@ static void forget(Blocks *self) {
     self->blocks = NULL;
     self->tree = NULL;
     self->codes = NULL;
-    self->count = self->room = self->length = 0;
+    self->count = self->room = self->length = self->moved = 0;
     self->is_indexed = self->is_even = 0;
 }
 
@@ -212,16 +228,23 @@ static void free_blocks(Blocks *self) {
     PyMem_Free(self->codes);
 }
 
+/* Releases objects, each fetched some objects before. */
+static void release(PyObject **items, size_t count) {
+    for (size_t i = 0; i < AHEAD && i < count; i++) __builtin_prefetch(items[i], 1);
+    for (size_t i = 0; i < count; i++) {
+        if (i + AHEAD < count) __builtin_prefetch(items[i + AHEAD], 1);
+        Py_DECREF(items[i]);
+    }
+}
+
 void blocks_drop(Blocks *self) {
     Blocks before = *self;
     forget(self);
     self->changes++;
     for (size_t b = 0; b < before.count; b++) {
         Block *block = before.blocks + b;
-        for (size_t i = 0; i < block->count; i++) {
-            if (block->keys != block->items) Py_DECREF(block->keys[i]);
-            Py_DECREF(block->items[i]);
-        }
+        release(block->items, block->count);
+        if (block->keys != block->items) release(block->keys, block->count);
         free_block(block);
     }
     free_blocks(&before);
@@ -301,8 +324,9 @@ static void cut_block(Block *block, size_t first, size_t past, PyObject **items,
 void blocks_cut(Blocks *self, size_t first, size_t past, PyObject **items, PyObject **keys) {
     Place from = blocks_place(self, first);
     size_t left = past - first, kept = from.block, at = from.block, done = 0;
+    loosen(self);
     self->changes++;
-    self->is_indexed = self->is_even = 0;
+    self->is_indexed = 0;
     self->length -= left;
     for (size_t index = from.index; left > 0; index = 0, at++) {
         Block *block = self->blocks + at;

@@ -121,7 +121,7 @@ static int bound_number(Blocks *self, uint64_t code, int right, Place *place) {
 }
 
 static int bound(Blocks *self, const Probe *probe, int right, Place *place) {
-    if (self->by <= FLOAT64) return bound_number(self, probe->code, right, place);
+    if (self->codes != NULL) return bound_number(self, probe->code, right, place);
     Py_ssize_t at = block_of(self, probe, right);
     if (at < 0) return -1;
     if ((size_t)at == self->count) { /* after all */

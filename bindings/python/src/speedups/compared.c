@@ -89,7 +89,7 @@ static size_t position_at(Blocks *self, Place place) { return blocks_before(self
 
 int blocks_add(Blocks *self, PyObject *item, PyObject *members) {
     Place place;
-    if (self->by <= FLOAT64) return NOT_OWN;
+    if (blocks_is_due(self)) return NOT_OWN;
     PyObject *key = blocks_key(self, item);
     int state = key == NULL ? -1 : blocks_is_own(self, key) ? join(members, item) : NOT_OWN;
     if (state == 1) {
@@ -109,7 +109,6 @@ static void let_go(Blocks *self, Place place) {
 
 int blocks_discard(Blocks *self, PyObject *item) {
     Place place;
-    if (self->by <= FLOAT64) return NOT_OWN;
     int state = unfit(self, item, blocks_find(self, item, 0, &place));
     if (state == 1) let_go(self, place);
     return state;
@@ -223,12 +222,28 @@ static PyObject *are_distinct(Blocks *self, PyObject *nothing) {
     Py_RETURN_TRUE;
 }
 
+/* Returns whether all items of a list have sort keys of the kind's own type. */
+static PyObject *are_own(Blocks *self, PyObject *items) {
+    int state = PyList_CheckExact(items);
+    for (Py_ssize_t i = 0; state == 1 && i < PyList_GET_SIZE(items); i++) {
+        PyObject *item = PyList_GET_ITEM(items, i);
+        Py_INCREF(item);
+        PyObject *key = blocks_key(self, item);
+        Py_DECREF(item);
+        state = key ? blocks_is_own(self, key) : -1;
+        Py_XDECREF(key);
+    }
+    return state < 0 ? NULL : PyBool_FromLong(state);
+}
+
 /* ---- the type: `fill`, `take` and `cut` are in many.c */
 
 static PyMethodDef methods[] = {
     {"add", (PyCFunction)add_method, METH_O, "Adds an object after its equals."},
     {"are_distinct", (PyCFunction)are_distinct, METH_NOARGS,
      "Returns whether no two sort keys are equal, for kinds with own types."},
+    {"are_own", (PyCFunction)are_own, METH_O,
+     "Returns whether all items of a list have sort keys of the kind's own type."},
     {"below", (PyCFunction)below, METH_O, "Returns the number of objects with codes below one, for a kind of numbers."},
     {"bisect", (PyCFunction)(void (*)(void))bisect_method, METH_FASTCALL,
      "Returns the number of objects below a value, or not above it."},
@@ -242,8 +257,10 @@ static PyMethodDef methods[] = {
      "Removes the objects at the positions from the first and before the second."},
     {"discard", (PyCFunction)discard_method, METH_O,
      "Removes the first object that equals a value; returns whether there was one."},
-    {"fill", (PyCFunction)blocks_fill_method, METH_O,
-     "Adds the objects of a list at once; returns False if one is not of the kind's own type."},
+    {"fill", (PyCFunction)(void (*)(void))blocks_fill_method, METH_FASTCALL,
+     "Adds the objects of a list at once, whose sort keys may be another; returns False if one is not of the kind's "
+     "own "
+     "type."},
     {"find", (PyCFunction)find, METH_O, "Returns the position of the first object that equals a value, or -1."},
     {"find_from", (PyCFunction)(void (*)(void))find_from, METH_FASTCALL,
      "Returns the position of an equal object from a position on, or -1; raises if it cannot be compared."},
@@ -255,7 +272,8 @@ static PyMethodDef methods[] = {
     {"pop", (PyCFunction)pop, METH_O, "Removes the object at a position and returns it."},
     {"settle", (PyCFunction)blocks_settle_method, METH_O,
      "Adds all objects to an empty order of the library; returns whether it could."},
-    {"take", (PyCFunction)blocks_take_method, METH_O, "Adds the objects of a list, or none if one does not fit."},
+    {"take", (PyCFunction)(void (*)(void))blocks_take_method, METH_FASTCALL,
+     "Adds the objects of a list, whose sort keys may be another, or none if one does not fit."},
     {"walk", (PyCFunction)(void (*)(void))walk_method, METH_FASTCALL, "Iterates over the objects at positions."},
     {"__class_getitem__", Py_GenericAlias, METH_O | METH_CLASS, NULL},
     {0},
@@ -265,6 +283,13 @@ static PyMemberDef members[] = {
     {"key", T_OBJECT, offsetof(Blocks, key), READONLY, "The function that makes sort keys, or None."},
     {0},
 };
+static PyObject *get_due(Blocks *self, void *nothing) {
+    (void)nothing;
+    return PyBool_FromLong(blocks_is_due(self));
+}
+
+static PyGetSetDef properties[] = {
+    {"is_due", (getter)get_due, NULL, "Whether numbers are due to move into an order of the library.", NULL}, {0}};
 static PySequenceMethods sequence = {.sq_length = (lenfunc)blocks_length,
                                      .sq_contains = (objobjproc)object_index_contains};
 static PyMappingMethods mapping = {.mp_length = (lenfunc)blocks_length, .mp_subscript = (binaryfunc)item_method};
@@ -281,6 +306,7 @@ PyTypeObject BlocksType = {
     .tp_clear = (inquiry)blocks_clear,
     .tp_methods = methods,
     .tp_members = members,
+    .tp_getset = properties,
     .tp_as_sequence = &sequence,
     .tp_as_mapping = &mapping,
 };

@@ -60,10 +60,10 @@ static int add(DictBase *self, PyObject *key) {
     return state == NOT_OWN ? order_key(self, key) : state;
 }
 
-/* Returns the order of the keys, ready for changes: a read-only one is replaced first. */
+/* Returns the order of the keys, ready for changes: one that is due is replaced first. */
 static PyObject *changing_order(DictBase *self) {
     PyObject *order = order_of(self);
-    if (order == NULL || Py_TYPE(order) == &NumbersType || !IS_BLOCKS(order) || ((Blocks *)order)->by > FLOAT64)
+    if (order == NULL || Py_TYPE(order) == &NumbersType || !IS_BLOCKS(order) || !blocks_is_due((Blocks *)order))
         return order;
     Py_DECREF(order);
     return PyObject_CallMethodNoArgs((PyObject *)self, names.settled);

@@ -6,17 +6,14 @@
  * one. */
 #define PART 4
 
+/* The number of objects that are fetched before they are moved. */
+#define AHEAD 16
+
 /* Returns the sort keys of the items of a list, as a list; NULL with an error set. */
 static PyObject *keys_of(Blocks *self, PyObject *items) {
-    PyObject *made = PyList_New(0);
-    for (Py_ssize_t i = 0; made != NULL && i < PyList_GET_SIZE(items); i++) {
-        PyObject *item = PyList_GET_ITEM(items, i);
-        Py_INCREF(item);
-        PyObject *key = PyObject_CallOneArg(self->key, item);
-        Py_DECREF(item);
-        if (key == NULL || PyList_Append(made, key) < 0) Py_CLEAR(made);
-        Py_XDECREF(key);
-    }
+    PyObject *keys = PyObject_CallFunctionObjArgs((PyObject *)&PyMap_Type, self->key, items, NULL);
+    PyObject *made = keys ? PySequence_List(keys) : NULL;
+    Py_XDECREF(keys);
     return made;
 }
 
@@ -104,31 +101,44 @@ static int insert_list(Blocks *self, PyObject *items, PyObject *keys) {
     return state;
 }
 
-static int take(Blocks *self, PyObject *values) {
-    PyObject *keys = self->key ? keys_of(self, values) : values;
-    if (keys == NULL) return -1;
+static int take(Blocks *self, PyObject *values, PyObject *keys) {
     int is_part = (size_t)PyList_GET_SIZE(values) * PART < self->length;
-    int state = is_part ? insert_list(self, values, keys) : fill(self, values, keys);
-    if (keys != values) Py_DECREF(keys);
-    return state;
+    return is_part ? insert_list(self, values, keys) : fill(self, values, keys);
 }
 
 /* ---- methods */
 
-PyObject *blocks_take_method(Blocks *self, PyObject *values) {
-    if (self->by <= FLOAT64 || !PyList_CheckExact(values))
-        return PyErr_Format(PyExc_TypeError, "a list is needed, and no numbers");
-    int state = take(self, values);
+/* Reads a list of objects, and that of their sort keys, if given, or else makes it if a function makes sort keys: it is
+ * the first list if none does. Returns 0 with an error set. */
+static int two_lists(Blocks *self, PyObject *const *given, Py_ssize_t count, PyObject **items, PyObject **keys) {
+    int has_keys = count == 2 && given[1] != Py_None;
+    if (count < 1 || count > 2 || !PyList_CheckExact(given[0]) || (has_keys && !PyList_CheckExact(given[1]))
+        || (has_keys && PyList_GET_SIZE(given[1]) != PyList_GET_SIZE(given[0]))) {
+        PyErr_SetString(PyExc_TypeError, "a list is needed, or two of one length");
+        return 0;
+    }
+    *items = given[0];
+    if (self->key != NULL && !has_keys) return (*keys = keys_of(self, *items)) != NULL;
+    *keys = self->key ? given[1] : given[0];
+    Py_INCREF(*keys);
+    return 1;
+}
+
+PyObject *blocks_take_method(Blocks *self, PyObject *const *given, Py_ssize_t count) {
+    PyObject *items, *keys;
+    if (!two_lists(self, given, count, &items, &keys)) return NULL;
+    int state = take(self, items, keys);
+    Py_DECREF(keys);
     if (state == 0) return PyErr_Format(PyExc_TypeError, "a sort key of the kind's own type is needed");
     if (state < 0) return NULL;
     Py_RETURN_NONE;
 }
 
-PyObject *blocks_fill_method(Blocks *self, PyObject *values) {
-    if (!PyList_CheckExact(values)) return PyErr_Format(PyExc_TypeError, "a list is needed");
-    PyObject *keys = self->key ? keys_of(self, values) : NULL;
-    int state = self->key && keys == NULL ? -1 : fill(self, values, keys);
-    Py_XDECREF(keys);
+PyObject *blocks_fill_method(Blocks *self, PyObject *const *given, Py_ssize_t count) {
+    PyObject *items, *keys;
+    if (!two_lists(self, given, count, &items, &keys)) return NULL;
+    int state = fill(self, items, keys);
+    Py_DECREF(keys);
     return state < 0 ? NULL : PyBool_FromLong(state);
 }
 
@@ -155,13 +165,16 @@ static int settle(Blocks *self, PyObject *order) {
     int state = 1;
     for (size_t b = 0; b < self->count; b++) {
         const Block *block = self->blocks + b;
-        for (size_t i = 0; state == 1 && i < block->count; i++)
+        for (size_t i = 0; i < AHEAD && i < block->count; i++) __builtin_prefetch(block->items[i], 1);
+        for (size_t i = 0; state == 1 && i < block->count; i++) {
+            if (i + AHEAD < block->count) __builtin_prefetch(block->items[i + AHEAD], 1);
             if (Py_TYPE(order) != &NumbersType)
                 state = object_index_add_keyed(order, block->items[i], block->keys[i]);
             else
                 state = number_code(self->by, block->items[i], &code)
                             ? numbers_put((Numbers *)order, code, block->items[i])
                             : NOT_OWN;
+        }
     }
     return state;
 }
@@ -192,7 +205,6 @@ PyObject *blocks_cut_method(Blocks *self, PyObject *const *given, Py_ssize_t cou
     past = past < self->length ? past : self->length;
     if (first >= past) Py_RETURN_NONE;
     int is_most = 2 * (past - first) > self->length;
-    if ((self->by <= FLOAT64 || is_most ? cut_run(self, first, past, self->key != NULL) : cut(self, first, past)) < 0)
-        return NULL;
+    if ((is_most ? cut_run(self, first, past, self->key != NULL) : cut(self, first, past)) < 0) return NULL;
     Py_RETURN_NONE;
 }

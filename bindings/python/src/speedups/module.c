@@ -4,11 +4,19 @@
 PyObject *kinds;
 struct names names;
 
+static PyMethodDef functions[] = {
+    {"are_alike", are_alike, METH_O, "Returns whether all items of a list are of exactly one type."},
+    {"keep", (PyCFunction)(void (*)(void))keep, METH_FASTCALL,
+     "Keeps the items of a list that are in a set, or those that are not, and removes the others."},
+    {0},
+};
+
 static struct PyModuleDef module = {
     PyModuleDef_HEAD_INIT,
     .m_name = "indexset._speedups",
     .m_doc = "The compiled classes that order keys, as in `indexset._ctypes`.",
     .m_size = -1,
+    .m_methods = functions,
 };
 
 static int make_names(void) {

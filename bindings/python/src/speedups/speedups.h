@@ -71,7 +71,7 @@ typedef struct {
 /* Objects in the order of their sort keys, equal ones in insertion order, in blocks that are never empty.
  *
  * Sort keys are compared by `<`, and then `by` is OTHER; or all are of the own type of the kind `by`, and are compared
- * as its codes are. Numbers are read-only: another order makes changes of them. */
+ * as its codes are. After some changes of numbers, the class moves them into another order. */
 typedef struct {
     HELD_HEAD
     enum kind by;
@@ -79,12 +79,15 @@ typedef struct {
     size_t count, room, length;
     size_t *tree;            /* of the lengths of the blocks, if `is_indexed` */
     int is_indexed, is_even; /* all blocks but the last have FILLED objects */
-    uint64_t *codes;         /* of the last of each GROUP sort keys, if these are numbers of a kind */
+    uint64_t *codes;         /* of the last of each GROUP sort keys, if these are numbers of a kind and unchanged */
+    size_t moved;            /* how many objects were added and removed one by one */
 } Blocks;
 
-/* The number of objects of a block if many are added at once, and the number of consecutive sort keys for each code. */
+/* The number of objects of a block if many are added at once, the number of consecutive sort keys for each code, and
+ * the number of present numbers for each changed one before they are due to move. */
 #define FILLED 384
 #define GROUP 4
+#define DUE 4
 
 /* Objects at byte strings, in the order of these. The kind is not one of numbers.
  *
@@ -191,6 +194,9 @@ PyObject *multi_pop(Multi *self, size_t position);
 int multi_places(Multi *self, PyObject *key, size_t *first, size_t *past);
 
 /* ---- blocks.c: places of objects in blocks, without comparisons */
+/* Returns whether the objects are numbers, of which so many have changed that they are due to move into an order of the
+ * library. */
+int blocks_is_due(const Blocks *self);
 /* Returns the number of objects before a block. */
 size_t blocks_before(Blocks *self, size_t block);
 /* Returns the place of the object at a position, which has one. */
@@ -247,8 +253,8 @@ PyObject *blocks_item(Blocks *self, Py_ssize_t position);
 
 /* ---- many.c: the methods `take`, `fill`, `cut` and `settle` of blocks */
 PyObject *blocks_settle_method(Blocks *self, PyObject *order);
-PyObject *blocks_take_method(Blocks *self, PyObject *values);
-PyObject *blocks_fill_method(Blocks *self, PyObject *values);
+PyObject *blocks_take_method(Blocks *self, PyObject *const *given, Py_ssize_t count);
+PyObject *blocks_fill_method(Blocks *self, PyObject *const *given, Py_ssize_t count);
 PyObject *blocks_cut_method(Blocks *self, PyObject *const *given, Py_ssize_t count);
 
 /* ---- object_index.c: the same calls on any collection of objects */
@@ -305,6 +311,10 @@ PyObject *chunk_method(PyObject *self, PyObject *const *given, Py_ssize_t count)
 
 /* ---- array.c: the method `numbers` of Numbers, Multi and Blocks */
 PyObject *numbers_method(PyObject *owner, PyObject *nothing);
+
+/* ---- lists.c: functions of the module */
+PyObject *are_alike(PyObject *nothing, PyObject *items);
+PyObject *keep(PyObject *nothing, PyObject *const *given, Py_ssize_t count);
 
 /* ---- base.c */
 /* Returns whether an object can be an order of items; sets an error if not. */
