@@ -8,7 +8,7 @@
 The calls have the names and the behaviour of `sortedcontainers`. Items and keys are of any kind that has an order.
 """
 from ._dict import SortedDict
-from ._library import PROVED, version
+from ._library import PROOF, PROVED, version
 from ._list import SortedKeyList, SortedList, SortedListWithKey
 from ._log import LoggedDict
 from ._multi import SortedMultiDict
@@ -24,6 +24,7 @@ __all__ = [
     "Change",
     "Gap",
     "LoggedDict",
+    "PROOF",
     "PROVED",
     "Refused",
     "Replica",

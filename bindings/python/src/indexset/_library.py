@@ -37,11 +37,13 @@ class _Slot(ctypes.Structure):
     _fields_ = [("at", ctypes.c_void_p), ("live", ctypes.c_bool)]
 
 
+_FOLDER = pathlib.Path(__file__).resolve().parent
+
+
 def _load() -> Any:
-    folder = pathlib.Path(__file__).resolve().parent
     named = os.environ.get("INDEXSET_LIBRARY")
-    built = folder.parent.parent.parent / "c" / "out" / "libindexset.so"
-    beside = folder / "libindexset.so"
+    built = _FOLDER.parent.parent.parent / "c" / "out" / "libindexset.so"
+    beside = _FOLDER / "libindexset.so"
     path = named or str(beside if beside.exists() else built)
     # PyDLL keeps the interpreter's lock; CDLL would release it.
     try:
@@ -61,6 +63,17 @@ _declare(lib)
 
 # Whether the contracts of the library were proved before it was compiled.
 PROVED = ctypes.c_int.in_dll(lib, "indexset_proved").value != 0
+
+
+def _proof() -> str:
+    file = _FOLDER / "proof.txt"
+    if file.exists() and not os.environ.get("INDEXSET_LIBRARY"):
+        return file.read_text(encoding="utf-8").strip()
+    return "not recorded" if PROVED else "unproved"
+
+
+# What the wheel says of the proof of its library: the toolchain, its logic, the commit and the sum of the library.
+PROOF = _proof()
 
 _slots: dict[int, _Slot] = {}
 

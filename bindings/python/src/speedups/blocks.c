@@ -7,7 +7,7 @@
 #define FEW 96
 
 /* The number of objects that are fetched before they are released. */
-#define AHEAD 16
+#define AHEAD 48
 
 /* ---- positions: a Fenwick tree over the lengths of the blocks, rebuilt once their number has changed */
 
@@ -228,9 +228,13 @@ static void free_blocks(Blocks *self) {
     PyMem_Free(self->codes);
 }
 
+/* Fetches the first objects of a block. */
+static void fetch_first(const Block *block) {
+    for (size_t i = 0; i < AHEAD && i < block->count; i++) __builtin_prefetch(block->items[i], 1);
+}
+
 /* Releases objects, each fetched some objects before. */
 static void release(PyObject **items, size_t count) {
-    for (size_t i = 0; i < AHEAD && i < count; i++) __builtin_prefetch(items[i], 1);
     for (size_t i = 0; i < count; i++) {
         if (i + AHEAD < count) __builtin_prefetch(items[i + AHEAD], 1);
         Py_DECREF(items[i]);
@@ -243,6 +247,7 @@ void blocks_drop(Blocks *self) {
     self->changes++;
     for (size_t b = 0; b < before.count; b++) {
         Block *block = before.blocks + b;
+        if (b + 1 < before.count) fetch_first(block + 1);
         release(block->items, block->count);
         if (block->keys != block->items) release(block->keys, block->count);
         free_block(block);

@@ -34,7 +34,7 @@ static int add_types(PyObject *made) {
     const char *names[] = {"Numbers", "Coded", "Multi", "Blocks", "IndexedBase", "DictBase"};
     DictFrontType.tp_base = &PyDict_Type;
     DictFrontType.tp_as_mapping->mp_subscript = PyDict_Type.tp_as_mapping->mp_subscript;
-    if (PyType_Ready(&WalkType) < 0) return 0;
+    if (PyType_Ready(&WalkType) < 0 || PyType_Ready(&PlaceType) < 0) return 0;
     for (size_t i = 0; i < sizeof types / sizeof types[0]; i++) {
         if (PyType_Ready(types[i]) < 0) return 0;
         Py_INCREF(types[i]);

@@ -126,22 +126,39 @@ static int sort_numbers(enum kind by, PyObject *items, PyObject *keys) {
     return runs > 0;
 }
 
-/* The key function for `list.sort`: returns the next one of an iterator for each item. */
-static PyObject *next_key(PyObject *iterator, PyObject *item) {
-    (void)item;
-    return PyIter_Next(iterator);
+/* ---- by `<`: `list.sort` sorts the places of an array of objects that have no content, and calls a function for the
+ * sort key of each; the array then has the order. No Python code meets these objects. */
+
+PyTypeObject PlaceType = {
+    PyVarObject_HEAD_INIT(NULL, 0).tp_name = "indexset._speedups.Place",
+    .tp_doc = "A place in an array that is sorted.",
+    .tp_basicsize = sizeof(PyObject),
+    .tp_flags = Py_TPFLAGS_DEFAULT,
+};
+
+typedef struct {
+    PyObject *places; /* an array */
+    PyObject *keys;   /* a list */
+} Places;
+
+static PyObject *key_of_place(PyObject *capsule, PyObject *place) {
+    const Places *it = PyCapsule_GetPointer(capsule, NULL);
+    if (it == NULL) return NULL;
+    PyObject *key = PyList_GET_ITEM(it->keys, place - it->places);
+    Py_INCREF(key);
+    return key;
 }
 
-static PyMethodDef next_key_method = {"next_key", next_key, METH_O, NULL};
+static PyMethodDef key_method = {"key_of_place", key_of_place, METH_O, NULL};
 
-/* Sorts the positions of some keys by these. */
-static int sort_positions(PyObject *positions, PyObject *keys) {
-    PyObject *iterator = PyObject_GetIter(keys), *next = iterator ? PyCFunction_New(&next_key_method, iterator) : NULL;
-    PyObject *sort = next ? PyObject_GetAttrString(positions, "sort") : NULL,
-             *words = sort ? Py_BuildValue("{sO}", "key", next) : NULL;
+/* Sorts a list of places. */
+static int sort_list(PyObject *list, Places *it) {
+    PyObject *capsule = PyCapsule_New(it, NULL, NULL), *key = capsule ? PyCFunction_New(&key_method, capsule) : NULL;
+    PyObject *sort = key ? PyObject_GetAttrString(list, "sort") : NULL,
+             *words = sort ? Py_BuildValue("{sO}", "key", key) : NULL;
     PyObject *none = words ? PyTuple_New(0) : NULL, *done = none ? PyObject_Call(sort, none, words) : NULL;
-    Py_XDECREF(iterator);
-    Py_XDECREF(next);
+    Py_XDECREF(capsule);
+    Py_XDECREF(key);
     Py_XDECREF(sort);
     Py_XDECREF(words);
     Py_XDECREF(none);
@@ -149,29 +166,45 @@ static int sort_positions(PyObject *positions, PyObject *keys) {
     return done ? 1 : -1;
 }
 
+/* Writes the order of some keys. */
+static int order_of_keys(Places *it, Ranked *order, size_t count) {
+    PyObject *list = PyList_New((Py_ssize_t)count);
+    if (list == NULL) return -1;
+    for (size_t i = 0; i < count; i++) {
+        Py_INCREF(it->places + i);
+        PyList_SET_ITEM(list, (Py_ssize_t)i, it->places + i);
+    }
+    int state = sort_list(list, it);
+    for (size_t i = 0; state == 1 && i < count; i++)
+        order[i].at = (size_t)(PyList_GET_ITEM(list, (Py_ssize_t)i) - it->places);
+    Py_DECREF(list);
+    return state;
+}
+
+/* Frees places, unless something still refers to one. */
+static void free_places(PyObject *places, size_t count) {
+    for (size_t i = 0; i < count; i++)
+        if (Py_REFCNT(places + i) != 1) return;
+    PyMem_Free(places);
+}
+
 /* Sorts both lists in the order of the keys, by `<`. */
 static int sort_by_keys(PyObject *items, PyObject *keys) {
     size_t count = (size_t)PyList_GET_SIZE(items);
     Ranked *order = PyMem_Malloc((2 * count + 1) * sizeof *order);
-    if (order == NULL) {
+    Places it = {order ? PyMem_Malloc((count + 1) * sizeof *it.places) : NULL, keys};
+    if (it.places == NULL) {
+        PyMem_Free(order);
         PyErr_NoMemory();
         return -1;
     }
-    PyObject *positions = PyList_New((Py_ssize_t)count);
-    for (size_t i = 0; positions != NULL && i < count; i++) {
-        PyObject *position = PyLong_FromSize_t(i);
-        if (position == NULL)
-            Py_CLEAR(positions);
-        else
-            PyList_SET_ITEM(positions, i, position);
-    }
-    int state = positions ? sort_positions(positions, keys) : -1;
-    for (size_t i = 0; state == 1 && i < count; i++) order[i].at = PyLong_AsSize_t(PyList_GET_ITEM(positions, i));
+    for (size_t i = 0; i < count; i++) PyObject_Init(it.places + i, &PlaceType);
+    int state = order_of_keys(&it, order, count);
     if (state == 1) {
         arrange(items, order, count, (PyObject **)(order + count));
         arrange(keys, order, count, (PyObject **)(order + count));
     }
-    Py_XDECREF(positions);
+    free_places(it.places, count);
     PyMem_Free(order);
     return state;
 }

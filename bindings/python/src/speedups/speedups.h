@@ -121,7 +121,7 @@ typedef struct {
     PyObject *order;
 } DictBase;
 
-extern PyTypeObject NumbersType, CodedType, MultiType, BlocksType, FrontType, DictFrontType, WalkType;
+extern PyTypeObject NumbersType, CodedType, MultiType, BlocksType, FrontType, DictFrontType, PlaceType, WalkType;
 
 /* The module `_kinds`, and the names of the methods called. */
 extern PyObject *kinds;
