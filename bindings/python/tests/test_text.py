@@ -9,7 +9,7 @@ from bisect import bisect_left, bisect_right
 
 import counted
 import indexset
-from indexset import SortedDict, SortedSet
+from indexset import SortedDict, SortedKeyList, SortedList, SortedSet
 
 # One to four bytes each in UTF-8, in the order of their code points. In the order of UTF-16 code units, the last but
 # one would come last.
@@ -24,10 +24,24 @@ def drawn(kind, rng):
     return bytes(rng.choices([0, 97, 127, 128, 255], k=size))
 
 
+class Text(str):
+    """A text of another class."""
+
+
+class Bytes(bytes):
+    """A byte string of another class."""
+
+
+# A key of a subclass moves the order from the blocks of the compiled module into the library's map.
+MAPPED = {"str": Text("moved"), "bytes": Bytes(b"moved")}
+
+
 class Random(unittest.TestCase):
-    def run_kind(self, kind):
+    def run_kind(self, kind, *before):
         rng = random.Random(kind)
-        ours, peer = SortedDict(keys=kind), {}
+        ours, peer = SortedDict(dict.fromkeys(before), keys=kind), dict.fromkeys(before)
+        if indexset.BACKEND == "extension":
+            self.assertEqual(type(ours._order).__name__, "Encoded" if before else "Run")
         for step in range(5000):
             key = drawn(kind, rng)
             action = rng.randrange(10)
@@ -76,6 +90,35 @@ class Random(unittest.TestCase):
 
     def test_bytes(self):
         self.run_kind("bytes")
+
+    def test_in_the_map(self):
+        for kind, moved in MAPPED.items():
+            self.run_kind(kind, moved)
+
+    def test_sets_and_lists_in_the_map(self):
+        for kind, moved in MAPPED.items():
+            for make in (SortedSet, SortedList, lambda it, keys: SortedKeyList(it, key=lambda item: item, keys=keys)):
+                rng = random.Random(kind)
+                ours, wanted = make([moved], keys=kind), [moved]
+                for _ in range(3000):
+                    key = drawn(kind, rng)
+                    if rng.random() < 0.6:
+                        ours.add(key)
+                        wanted += [key] if isinstance(ours, SortedList) or key not in wanted else []
+                    else:
+                        ours.discard(key)
+                        wanted.remove(key) if key in wanted else None
+                wanted.sort()
+                self.assertEqual((list(ours), list(reversed(ours)), len(ours)), (wanted, wanted[::-1], len(wanted)))
+                self.assertEqual(type(ours._order).__name__, "Encoded")
+                for key in (drawn(kind, rng) for _ in range(200)):
+                    self.assertEqual((key in ours, ours.count(key)), (key in wanted, wanted.count(key)))
+                    self.assertEqual(
+                        (ours.bisect_left(key), ours.bisect_right(key)),
+                        (bisect_left(wanted, key), bisect_right(wanted, key)),
+                    )
+                self.assertEqual((list(ours.copy()), ours[5]), (wanted, wanted[5]))
+                self.assertEqual(ours.index(wanted[9]), wanted.index(wanted[9]))
 
     def test_many(self):
         names = [f"name {number}" for number in range(3000)]

@@ -20,7 +20,7 @@ from typing import (
 
 from ._kinds import known
 from ._backend import DictBase
-from ._orders import KeyFunction, Run, duplicate, fitted, gathered, order_of, settled
+from ._orders import KeyFunction, Run, duplicate, empty_order, fitted, gathered, settled
 from ._placed import Placed
 from ._views import SortedItemsView, SortedKeysView, SortedValuesView
 
@@ -110,7 +110,7 @@ class SortedDict(Placed[K, V], Generic[K, V]):
         """Becomes empty."""
         known(kind)
         self._named = kind
-        self._order = order_of(kind or "int64", key, False)
+        self._order = empty_order(kind or "int64", key, False)
 
     @classmethod
     @overload

@@ -7,7 +7,7 @@ from typing import Any, Callable, Generic, Iterable, Literal, Optional, TypeVar,
 
 from ._backend import Numbers
 from ._kinds import items_of, known
-from ._orders import Run, begun, order_of, repeating
+from ._orders import Run, begun, empty_order, repeating
 from ._sorted import OWN_INITS, Sorted
 
 T = TypeVar("T")
@@ -154,7 +154,7 @@ class SortedList(Sorted[T], MutableSequence[T], Generic[T]):
         SortedList([])
         """
         self._order.clear()
-        self._order = order_of(self.kind, self.key, True)
+        self._order = empty_order(self.kind, self.key, True)
 
     # ---- many at once
 

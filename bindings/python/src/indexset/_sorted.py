@@ -10,7 +10,7 @@ from typing import Any, Callable, Generic, Iterable, Iterator, Optional, Support
 
 from ._kinds import items_of, known
 from ._backend import IndexedBase, Numbers
-from ._orders import Compared, KeyFunction, Order, Repeated, Run, duplicate, fitted, gathered, order_of, settled
+from ._orders import Compared, KeyFunction, Order, Repeated, Run, duplicate, empty_order, fitted, gathered, settled
 from ._ctypes import ARRAYS
 
 T = TypeVar("T")
@@ -33,7 +33,7 @@ class Sorted(IndexedBase[T], Sequence[T], Generic[T]):
         """Becomes empty."""
         known(kind)
         self._named = kind
-        self._order = order_of(kind or "int64", key, self._repeats)
+        self._order = empty_order(kind or "int64", key, self._repeats)
         self._members = None if self._repeats else set()
 
     @property
@@ -112,7 +112,7 @@ class Sorted(IndexedBase[T], Sequence[T], Generic[T]):
         order, left = self._order, None
         if not isinstance(order, (Compared, Run)) and (past - first) * _PART >= len(self):
             rest = order.chunk(0, first) + order.chunk(past, len(self))
-            left = self._gathered(order_of(order.kind, self.key, self._repeats), rest)
+            left = self._gathered(empty_order(order.kind, self.key, self._repeats), rest)
         if left is None and not isinstance(order, (Compared, Run)):
             for at in range(past - 1, first - 1, -1):
                 self.pop(at)

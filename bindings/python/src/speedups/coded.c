@@ -44,7 +44,7 @@ static int coded_init(Coded *self, PyObject *given, PyObject *words) {
     return 0;
 }
 
-/* The garbage collector calls this before the map is made, too. Pending changes have no references to visit. */
+/* The garbage collector calls this before the map is made, too. */
 static int coded_traverse(Coded *self, visitproc visit, void *arg) {
     Py_VISIT(self->key);
     for (size_t at = 0, count = CHUNK; self->map != NULL && count == CHUNK; at += count) {
@@ -75,7 +75,6 @@ static void become(Coded *self, indexset_text_map *map) {
     indexset_text_map *before = self->map;
     self->map = map;
     self->changes++;
-    late_drop(self);
     let_go(before);
 }
 
@@ -99,9 +98,7 @@ static PyObject *clear(Coded *self, PyObject *nothing) {
     Py_RETURN_NONE;
 }
 
-Py_ssize_t coded_length(Coded *self) { return (Py_ssize_t)indexset_text_map_len(self->map) + self->late_more; }
-
-indexset_text_map *coded_map(Coded *self) { return late_made(self) ? self->map : NULL; }
+Py_ssize_t coded_length(Coded *self) { return (Py_ssize_t)indexset_text_map_len(self->map); }
 
 /* Counts a reference to each object of a map. */
 static void count_objects(indexset_text_map *map) {
@@ -121,7 +118,6 @@ static PyObject *copied(Coded *self, PyObject *given) {
         return NULL;
     }
     Coded *other = (Coded *)given;
-    if (coded_map(other) == NULL) return NULL;
     indexset_text_map *map = PyMem_Calloc(1, sizeof *map);
     if (map == NULL || indexset_text_map_clone(other->map, map) != INDEXSET_YES) {
         PyMem_Free(map);
@@ -147,7 +143,6 @@ static int bytes_of(PyObject *code, const char **data, size_t *size) {
 
 int coded_insert(Coded *self, const void *data, size_t size, PyObject *item) {
     uint64_t before, ours;
-    if (coded_map(self) == NULL) return -1;
     uint32_t status = indexset_text_map_insert(self->map, data, size, ADDRESS(item), &before);
     if (status == INDEXSET_YES) {
         Py_INCREF(item);
@@ -177,14 +172,14 @@ static PyObject *insert(Coded *self, PyObject *const *given, Py_ssize_t count) {
 static PyObject *rank(Coded *self, PyObject *code) {
     const char *data;
     size_t size;
-    if (!bytes_of(code, &data, &size) || coded_map(self) == NULL) return NULL;
+    if (!bytes_of(code, &data, &size)) return NULL;
     return PyLong_FromSize_t(indexset_text_map_rank(self->map, data, size));
 }
 
 static PyObject *has(Coded *self, PyObject *code) {
     const char *data;
     size_t size;
-    if (!bytes_of(code, &data, &size) || coded_map(self) == NULL) return NULL;
+    if (!bytes_of(code, &data, &size)) return NULL;
     return PyBool_FromLong(indexset_text_map_contains(self->map, data, size));
 }
 
@@ -193,7 +188,6 @@ static PyObject *code_at(Coded *self, size_t position) {
     char room[64];
     size_t size;
     uint64_t place;
-    if (coded_map(self) == NULL) return NULL;
     if (!indexset_text_map_at(self->map, position, room, sizeof room, &size, &place)) {
         PyErr_SetString(PyExc_IndexError, "index out of range");
         return NULL;
@@ -208,7 +202,6 @@ static PyObject *code_at(Coded *self, size_t position) {
 
 PyObject *coded_item(Coded *self, Py_ssize_t position) {
     uint64_t object;
-    if (coded_map(self) == NULL) return NULL;
     if (position < 0 || indexset_text_map_range_by_position(self->map, (size_t)position, &object, 1) != 1) {
         PyErr_SetString(PyExc_IndexError, "index out of range");
         return NULL;
@@ -224,7 +217,6 @@ static PyObject *code(Coded *self, PyObject *index) {
 
 int coded_remove(Coded *self, const void *data, size_t size, PyObject **item) {
     uint64_t object;
-    if (coded_map(self) == NULL) return -1;
     if (!indexset_text_map_remove(self->map, data, size, &object)) return 0;
     self->changes++;
     *item = OBJECT(object);

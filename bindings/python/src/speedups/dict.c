@@ -37,8 +37,7 @@ static int add_key(PyObject *order, PyObject *key) {
 /* Removes a key that is present. */
 static int discard_key(PyObject *order, PyObject *key) {
     if (Py_TYPE(order) == &NumbersType) return numbers_discard((Numbers *)order, key);
-    int state = IS_MULTI(order) || IS_BLOCKS(order) ? NOT_OWN : own_drop((Coded *)order, key);
-    return state == NOT_OWN ? object_index_discard(order, key) : state;
+    return object_index_discard(order, key);
 }
 
 /* Adds a key by `_order_keys` of the class, which finds the kind. */

@@ -80,7 +80,6 @@ static int encode_item(Coded *self, PyObject *item, Code *code) {
 /* Writes the positions of a code, which gets one more byte if sort keys may repeat. Returns 1, or -1 with an error
  * set. */
 static int places_of(Coded *self, Code *code, size_t *first, size_t *past) {
-    if (coded_map(self) == NULL) return -1;
     *first = indexset_text_map_rank(self->map, code->data, code->size);
     if (!self->repeats) {
         *past = *first + indexset_text_map_contains(self->map, code->data, code->size);
@@ -101,7 +100,6 @@ int own_places(Coded *self, PyObject *key, size_t *first, size_t *past) {
 }
 
 static Py_ssize_t bisect_code(Coded *self, Code *code, int right) {
-    if (coded_map(self) == NULL) return -1;
     if (right && self->repeats) code->data[code->size++] = 0xFE;
     size_t position = indexset_text_map_rank(self->map, code->data, code->size);
     if (right && !self->repeats) position += indexset_text_map_contains(self->map, code->data, code->size);
@@ -121,7 +119,6 @@ Py_ssize_t own_bisect(Coded *self, PyObject *value, int right) {
 /* Returns whether an object is at a code. If sort keys may repeat, the code becomes the complete one of the first
  * object. */
 static int is_there(Coded *self, Code *code) {
-    if (coded_map(self) == NULL) return -1;
     if (!self->repeats) return indexset_text_map_contains(self->map, code->data, code->size);
     unsigned char found[SHORT + 9], *whole = found;
     size_t size, wanted = code->size + 8;
@@ -160,23 +157,6 @@ int own_discard(Coded *self, PyObject *item) {
     return state;
 }
 
-/* Returns whether a code is the bytes of an item itself, which live as long as the item. */
-static int is_items(const Code *code) { return code->data != code->brief && code->owned == NULL; }
-
-int own_drop(Coded *self, PyObject *item) {
-    Code code;
-    int state = self->key == NULL ? encode(self, item, &code) : NOT_OWN;
-    if (state != 1) return state;
-    state = is_items(&code) ? late_note(self, item, code.size, 1) : 0;
-    drop(&code);
-    return state == 0 ? own_discard(self, item) : state;
-}
-
-static int insert(Coded *self, Code *code, PyObject *item) {
-    int state = is_items(code) ? late_note(self, item, code->size, 0) : 0;
-    return state == 0 ? coded_insert(self, code->data, code->size, item) : state;
-}
-
 /* Adds an item, also to the set of the items, if given. Returns 1, or 0 if it is present. */
 static int add_code(Coded *self, PyObject *item, PyObject *members, Code *code) {
     int state = join(members, item);
@@ -185,7 +165,7 @@ static int add_code(Coded *self, PyObject *item, PyObject *members, Code *code) 
         put_number(code->data + code->size, self->added++);
         code->size += 8;
     }
-    return joined(members, item, insert(self, code, item) < 0 ? -1 : 1);
+    return joined(members, item, coded_insert(self, code->data, code->size, item) < 0 ? -1 : 1);
 }
 
 int own_add(Coded *self, PyObject *item, PyObject *members) {

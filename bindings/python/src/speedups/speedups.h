@@ -98,9 +98,6 @@ typedef struct {
     indexset_text_map *map; /* on the heap, or `nowhere` */
     int repeats;
     unsigned long long added;
-    uint64_t *late; /* the pending changes, and how much longer they make it */
-    size_t late_count, late_room;
-    Py_ssize_t late_more;
 } Coded;
 
 /* Consecutive items: their objects, and for numbers also their codes. */
@@ -161,8 +158,6 @@ PyObject *coded_item(Coded *self, Py_ssize_t position);
 /* Puts an object at a byte string. Returns 0, or -1 with an error set. */
 int coded_insert(Coded *self, const void *data, size_t size, PyObject *item);
 Py_ssize_t coded_length(Coded *self);
-/* Returns the map, after making the pending changes; NULL with an error set. */
-indexset_text_map *coded_map(Coded *self);
 /* Removes the object at a position, which has one. */
 PyObject *coded_pop(Coded *self, size_t position);
 /* Removes the object at a byte string. Returns 1, 0 if there is none, or -1 with an error set. */
@@ -174,8 +169,6 @@ int coded_remove(Coded *self, const void *data, size_t size, PyObject **item);
 int own_add(Coded *self, PyObject *item, PyObject *members);
 int own_add_keyed(Coded *self, PyObject *item, PyObject *key);
 int own_discard(Coded *self, PyObject *item);
-/* Removes an item that is present. */
-int own_drop(Coded *self, PyObject *item);
 int own_contains(Coded *self, PyObject *item);
 Py_ssize_t own_bisect(Coded *self, PyObject *value, int right);
 /* Writes the positions of a sort key. */
@@ -286,15 +279,6 @@ void discard_quietly(PyObject *members, PyObject *item);
 int join(PyObject *members, PyObject *item);
 /* Returns the state of what came after `join`; if it is an error, removes the item from the set. */
 int joined(PyObject *members, PyObject *item, int state);
-
-/* ---- late.c */
-/* Notes that an object of a number of bytes is added or removed. Returns 1, 0 if the change must be made at once, or -1
- * with an error set. */
-int late_note(Coded *self, PyObject *object, size_t size, int is_gone);
-/* Makes the pending changes. Returns 0 with an error set, and the rest then stays pending. */
-int late_made(Coded *self);
-/* Drops the pending changes. */
-void late_drop(Coded *self);
 
 /* ---- walk.c */
 size_t length_of(PyObject *owner);

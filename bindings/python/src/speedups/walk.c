@@ -16,11 +16,6 @@ size_t length_of(PyObject *owner) {
     return (size_t)(IS_MULTI(owner) ? multi_length((Multi *)owner) : coded_length((Coded *)owner));
 }
 
-/* Makes the pending changes; 0 with an error set. */
-static int is_ready(PyObject *owner) {
-    return Py_TYPE(owner) == &NumbersType || IS_MULTI(owner) || IS_BLOCKS(owner) || coded_map((Coded *)owner) != NULL;
-}
-
 /* The addresses of the objects are known by then, so that some of them are fetched concurrently, and each later one
  * this many items before it is returned. */
 static size_t read_blocks(PyObject *owner, size_t from, size_t size, Part *part) {
@@ -35,7 +30,6 @@ static inline void fetch_first(const Part *part) {
     for (size_t i = 0; i < AHEAD && i < part->count; i++) fetch(part, i);
 }
 
-/* No change is pending here. */
 void read_part(PyObject *owner, size_t from, size_t size, Part *part) {
     if (Py_TYPE(owner) == &NumbersType)
         part->count =
@@ -101,7 +95,6 @@ static PyObject *chunk_of_held(PyObject *owner, size_t first, size_t past) {
     first = first < past ? first : past;
     PyObject *made = PyList_New((Py_ssize_t)(past - first));
     Part part;
-    if (made != NULL && !is_ready(owner)) Py_CLEAR(made);
     indexset_cursor cursor = INDEXSET_CURSOR;
     if (made != NULL && first < past) cursor = cursor_at(owner, first);
     for (size_t at = first; made != NULL && at < past; at += part.count) {
@@ -164,11 +157,6 @@ PyObject *walk_new(PyObject *owner, size_t first, size_t past, int reverse) {
     Walk *self = PyObject_GC_New(Walk, &WalkType);
     if (self == NULL) {
         Py_DECREF(owner);
-        return NULL;
-    }
-    if (!is_ready(owner)) {
-        self->owner = owner;
-        Py_DECREF(self);
         return NULL;
     }
     int is_numbers = Py_TYPE(owner) == &NumbersType;
