@@ -309,6 +309,13 @@ class Kinds(unittest.TestCase):
                     for error in RAISED.get(call, "").split():
                         self.assertIn(error, text, (name, call))
 
+    def test_help_of_the_rest(self):
+        """Each other public class and function has an example."""
+        for name in indexset.__all__:
+            found = getattr(indexset, name)
+            if callable(found):
+                self.assertIn(">>>", found.__doc__ or "", name)
+
     def test_signatures(self):
         """No signature of a public class contains Any."""
         for name in indexset.__all__:

@@ -135,5 +135,26 @@ class Calls(unittest.TestCase):
         self.assertEqual((len(last), list(last), "a" in last), (0, [], False))
 
 
+class Mapping(unittest.TestCase):
+    def test_of_a_mapping(self):
+        """The calls of a mutable mapping report their changes."""
+        told = []
+        ours, replica = LoggedDict(told.append, {2: "b", 1: "a", 3: "c"}, size=2), Replica()
+        self.assertEqual((ours.popitem(), ours.pop(3), ours.pop(3, None)), ((1, "a"), "c", None))
+        self.assertEqual((ours.setdefault(2, "x"), ours.setdefault(4, "d")), ("b", "d"))
+        self.assertRaises(KeyError, ours.pop, 9)
+        ours.update({5: "e"})
+        ours.update([(6, "f"), (5, "g")])
+        replica.apply_all(told)
+        self.assertEqual((dict(ours), replica.nodes()), ({2: "b", 4: "d", 5: "g", 6: "f"}, ours.nodes()))
+        ours.clear()
+        self.assertRaises(KeyError, ours.popitem)
+        replica.apply_all(told)
+        self.assertEqual((len(ours), replica.nodes(), replica.get(2, 7)), (0, [], 7))
+        names = LoggedDict(None, {"a": 1})
+        names.update(b=2)
+        self.assertEqual(dict(names), {"a": 1, "b": 2})
+
+
 if __name__ == "__main__":
     counted.main(indexset.BACKEND)

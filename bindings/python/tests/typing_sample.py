@@ -30,7 +30,7 @@ def first(names: SortedSet[str]) -> str:
 
 
 def texts(names: SortedSet[str], others: SortedList[str], ages: SortedDict[str, int]) -> list[str]:
-    """Each result has a precise type."""
+    """Each result has a precise type. (Not run: texts and numbers cannot be compared.)"""
     both: SortedSet[str] = names | ["x"]
     mixed: SortedSet[Union[str, int]] = names | [1]
     rest: SortedSet[str] = (names & {1, "a"}) - [None]
@@ -91,9 +91,14 @@ def pairs() -> int:
     for one, other in log.islice(1):
         text += other * one
     keys: list[int] = list(log.keys())
+    maybe: Optional[str] = log.get(7)
+    some: str = log.get(1, "z") + log.setdefault(1, "w")
+    log.update({5: "v"})
+    popped: str = log.pop(5)
+    pair: tuple[int, str] = log.popitem()
+    text += f"{maybe}{some}{popped}{pair[1]}"
     return values[0] + len(text) + len(nodes) + len(name) + age + last[0] + keys[log.bisect_left(2)]
 
 
 if __name__ == "__main__":
     print(sets(), lists(), dictionaries(), pairs())
-    print(texts(SortedSet(["b", "a"]), SortedList(["c"]), SortedDict({"a": 1})))

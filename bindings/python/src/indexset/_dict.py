@@ -362,12 +362,14 @@ class SortedDict(Placed[K, V], Generic[K, V]):
         return made
 
     def __copy__(self: D) -> D:
+        """Returns a copy, with the attributes of a subclass."""
         made = self.copy()
         if hasattr(self, "__dict__"):
             made.__dict__.update(self.__dict__)
         return made
 
     def __or__(self, other: Mapping[S, U]) -> SortedDict[Union[K, S], Union[V, U]]:
+        """Returns a dictionary of the keys of both; a value is that of the second, if it has one."""
         if not isinstance(other, Mapping):
             return NotImplemented
         made: SortedDict[Any, Any] = self.copy()
@@ -383,6 +385,7 @@ class SortedDict(Placed[K, V], Generic[K, V]):
         return made
 
     def __ior__(self: D, other: Entries[K, V]) -> D:  # type: ignore[override, misc]
+        """Sets the value of each key, as `update`."""
         self.update(other)
         return self
 

@@ -198,6 +198,7 @@ class SortedList(Sorted[T], MutableSequence[T], Generic[T]):
     __radd__ = __add__
 
     def __iadd__(self: S, other: Iterable[T]) -> S:
+        """Adds items, as `update`."""
         self.update(list(other))
         return self
 
@@ -209,6 +210,7 @@ class SortedList(Sorted[T], MutableSequence[T], Generic[T]):
     __rmul__ = __mul__
 
     def __imul__(self: S, count: int) -> S:
+        """Repeats each item `count` times."""
         made = list(self) * count
         self.clear()
         self.update(made)

@@ -2,7 +2,7 @@
 from __future__ import annotations
 
 from collections.abc import MutableMapping
-from typing import Any, Callable, Generic, Iterable, Mapping, Optional, TypeVar, Union
+from typing import Any, Callable, Generic, Iterable, Mapping, Optional, TypeVar, Union, overload
 
 from . import _library as library
 from ._codecs import Moves
@@ -12,6 +12,9 @@ from ._nodes import KINDS, PAIRED, Change, Noded
 
 K = TypeVar("K")
 V = TypeVar("V")
+U = TypeVar("U")
+_NOT_GIVEN: Any = object()
+Entries = Union[Mapping[K, V], Iterable[tuple[K, V]]]
 
 
 class LoggedDict(Noded[K, V], MutableMapping[K, V], Generic[K, V]):
@@ -54,7 +57,7 @@ class LoggedDict(Noded[K, V], MutableMapping[K, V], Generic[K, V]):
     def __init__(
         self,
         tell: Optional[Callable[[Change], object]] = None,
-        entries: Union[Mapping[K, V], Iterable[tuple[K, V]]] = (),
+        entries: Entries[K, V] = (),
         *,
         keys: Optional[str] = None,
         values: Optional[str] = None,
@@ -91,6 +94,95 @@ class LoggedDict(Noded[K, V], MutableMapping[K, V], Generic[K, V]):
         if before is not None:
             self._values.drop(before)
         self._told(changes)
+
+    @overload
+    def pop(self, key: K) -> V:
+        ...
+
+    @overload
+    def pop(self, key: K, default: Union[V, U]) -> Union[V, U]:
+        ...
+
+    def pop(self, key: K, default: object = _NOT_GIVEN) -> object:
+        """Removes a key, reports the changes and returns its value, or the default if the key is absent. Raises
+        KeyError if there is no default either, TypeError if the key has no hash.
+
+        >>> ages = LoggedDict(entries={1: "a"}); ages.pop(1), ages.pop(1, None)
+        ('a', None)
+        """
+        if key in self:
+            value = self[key]
+            del self[key]
+            return value
+        if default is _NOT_GIVEN:
+            raise KeyError(key)
+        return default
+
+    def popitem(self) -> tuple[K, V]:
+        """Removes the first key, reports the changes and returns the key and its value. Raises KeyError if the
+        dictionary is empty.
+
+        >>> LoggedDict(entries={2: "b", 1: "a"}).popitem()
+        (1, 'a')
+        """
+        if not len(self):
+            raise KeyError("popitem(): dictionary is empty")
+        pair = self.peekitem(0)
+        del self[pair[0]]
+        return pair
+
+    def clear(self) -> None:
+        """Removes all keys, from the first to the last, and reports the changes.
+
+        >>> told = []; ages = LoggedDict(told.append, {1: "a"}); ages.clear(); ages, told[-1].kind
+        (LoggedDict({}), 'drop')
+        """
+        for key in list(self):
+            del self[key]
+
+    @overload
+    def setdefault(self: LoggedDict[K, Optional[U]], key: K, default: None = None) -> Optional[U]:
+        ...
+
+    @overload
+    def setdefault(self, key: K, default: V) -> V:
+        ...
+
+    def setdefault(self, key: K, default: object = None) -> object:
+        """Returns the value of a key; if the key is absent, adds it with the default and reports the changes. Raises
+        TypeError, OverflowError or ValueError if the key or the default does not fit.
+
+        >>> ages = LoggedDict(entries={1: "a"}); ages.setdefault(1, "b"), ages.setdefault(2, "c")
+        ('a', 'c')
+        """
+        if key in self:
+            return self[key]
+        value: Any = default
+        self[key] = value
+        return default
+
+    @overload  # type: ignore[override]
+    def update(self, entries: Entries[K, V], /) -> None:
+        ...
+
+    @overload
+    def update(self: LoggedDict[str, V], __entries: Entries[str, V], **words: V) -> None:
+        ...
+
+    @overload
+    def update(self: LoggedDict[str, V], **words: V) -> None:
+        ...
+
+    def update(self, *given: object, **words: object) -> None:
+        """Sets the value of each key, and reports the changes. Raises TypeError, OverflowError or ValueError at a key
+        or a value that does not fit, after setting those before it.
+
+        >>> ages = LoggedDict(entries={1: "a"}); ages.update({2: "c", 1: "b"}); ages
+        LoggedDict({1: 'b', 2: 'c'})
+        """
+        entries: Any = given
+        more: Any = words
+        super().update(*entries, **more)
 
     def __delitem__(self, key: object) -> None:
         """Removes a key, and reports the changes. Raises KeyError if the key is absent."""

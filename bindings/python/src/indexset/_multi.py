@@ -305,6 +305,7 @@ class SortedMultiDict(Generic[K, V]):
         return made
 
     def __copy__(self: C) -> C:
+        """Returns a copy, with the attributes of a subclass."""
         return self.copy()
 
     def __eq__(self, other: object) -> bool:

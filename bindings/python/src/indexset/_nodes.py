@@ -2,7 +2,7 @@
 from __future__ import annotations
 
 from collections.abc import Mapping
-from typing import Any, Generic, Iterable, Iterator, NamedTuple, Optional, TypeVar
+from typing import Any, Generic, Iterable, Iterator, NamedTuple, Optional, TypeVar, Union, overload
 
 from . import _library as library
 from ._codecs import keys_of, values_of
@@ -13,6 +13,7 @@ from ._views import NodedItemsView, NodedKeysView, NodedValuesView
 
 K = TypeVar("K")
 V = TypeVar("V")
+U = TypeVar("U")
 C = TypeVar("C", bound="Noded[Any, Any]")
 
 KINDS = (None, "insert", "remove", "create", "drop", "split", "merge")
@@ -89,14 +90,35 @@ class Noded(Mapping[K, V], Generic[K, V]):
     # ---- reads
 
     def __getitem__(self, key: object) -> V:
+        """Returns the value of a key. Raises KeyError if the key is absent, TypeError if it has no hash."""
         code, out = self._keys.find(key), Number()
         if code is None or not self._get(self._handle, code, place(out)):
             raise KeyError(key)
         value: V = self._values.decode(out.value)
         return value
 
+    @overload
+    def get(self, key: object, default: None = None) -> Optional[V]:
+        ...
+
+    @overload
+    def get(self, key: object, default: Union[V, U]) -> Union[V, U]:
+        ...
+
+    def get(self, key: object, default: object = None) -> object:
+        """Returns the value of a key, or the default if the key is absent. Raises TypeError if the key has no hash.
+
+        >>> from indexset import LoggedDict
+        >>> ages = LoggedDict(entries={1: "a"}); ages.get(1), ages.get(2), ages.get(2, "b")
+        ('a', None, 'b')
+        """
+        try:
+            return self[key]
+        except KeyError:
+            return default
+
     def __contains__(self, key: object) -> bool:
-        """Returns whether a key is present."""
+        """Returns whether a key is present. Raises TypeError if it has no hash."""
         code = self._keys.find(key)
         return code is not None and self._has(code)
 
@@ -105,6 +127,7 @@ class Noded(Mapping[K, V], Generic[K, V]):
         return found
 
     def __len__(self) -> int:
+        """Returns the number of keys."""
         size: int = self._length(self._handle)
         return size
 
@@ -136,6 +159,7 @@ class Noded(Mapping[K, V], Generic[K, V]):
         return [(self._keys.decode(key), self._values.decode(value)) for key, value in zip(keys, values)]
 
     def __iter__(self) -> Iterator[K]:
+        """Iterates over the keys in order, as they are at the call."""
         return (key for key, _ in self.irange())
 
     # ---- positions
@@ -277,6 +301,7 @@ class Noded(Mapping[K, V], Generic[K, V]):
         return made
 
     def __copy__(self: C) -> C:
+        """Returns a copy, with the attributes of a subclass."""
         return self.copy()
 
     def __reduce__(self) -> tuple[object, ...]:

@@ -29,8 +29,16 @@ NO_SUCH_NODE, VALUE_DIFFERS, OUT_OF_ORDER, NOT_NEIGHBOURS = 12, 14, 16, 18
 
 
 class Refused(ValueError):
-    """A change that a replica did not apply. `taken` is the number of changes before it in the call that were
-    processed, and `status` the status of the library."""
+    """A change that a replica did not apply. `change` is the change, `taken` the number of changes before it in the
+    call that were processed, and `status` the status of the library.
+
+    >>> replica = Replica(keys="int64", values="int64")
+    >>> try:
+    ...     replica.apply(Change(0, "insert", (1, 2), (3, 4), 0))
+    ... except Refused as error:
+    ...     print(error)
+    change 0 is refused: no node has the last key that it names
+    """
 
     def __init__(self, status: int, taken: int, change: Change) -> None:
         super().__init__(f"change {change.number} is refused: {_REASONS[status]}")
@@ -41,7 +49,14 @@ class Refused(ValueError):
 
 
 class Gap(Refused):
-    """A change with a number above that of the next change: changes before it are missing."""
+    """A change with a number above that of the next change: changes before it are missing.
+
+    >>> try:
+    ...     Replica().apply(Change(7, "create", (1, 2), (0, 0), 0))
+    ... except Gap as error:
+    ...     print(error)
+    change 7 is refused: changes before it are missing
+    """
 
 
 class Replica(Noded[K, V], Generic[K, V]):

@@ -323,6 +323,7 @@ class Sorted(IndexedBase[T], Sequence[T], Generic[T]):
         return made
 
     def __copy__(self: S) -> S:
+        """Returns a copy, with the attributes of a subclass."""
         made = self.copy()
         if hasattr(self, "__dict__"):
             made.__dict__.update(self.__dict__)

@@ -37,6 +37,7 @@ class SortedKeysView(KeysView[K], Sequence[K]):
         ...
 
     def __getitem__(self, index: Union[SupportsIndex, slice]) -> Union[K, list[K]]:
+        """Returns the key at a position, or those at a slice. Raises IndexError if a position has none."""
         if isinstance(index, slice):
             first, past, step = index.indices(len(self))
             keys: list[K] = self._mapping._order.chunk(first, past) if step == 1 else list(self)[index]
@@ -45,10 +46,13 @@ class SortedKeysView(KeysView[K], Sequence[K]):
         return key
 
     def __delitem__(self, index: Union[SupportsIndex, slice]) -> None:
+        """Removes the key at a position, or those at a slice, from the dictionary. Raises IndexError if a position has
+        none."""
         for key in self[index] if isinstance(index, slice) else [self[index]]:
             del self._mapping[key]
 
     def __reversed__(self) -> Iterator[K]:
+        """Iterates over the keys from the last to the first."""
         walk: Iterator[K] = reversed(self._mapping)
         return walk
 
@@ -86,9 +90,11 @@ class SortedValuesView(ValuesView[V], Sequence[V]):
     _mapping: Any
 
     def __iter__(self) -> Iterator[V]:
+        """Iterates over the values in the order of their keys. Raises RuntimeError after a change of the keys."""
         return map(self._mapping.__getitem__, self._mapping)
 
     def __reversed__(self) -> Iterator[V]:
+        """Iterates over the values from that of the last key to that of the first."""
         return map(self._mapping.__getitem__, reversed(self._mapping))
 
     @overload
@@ -100,6 +106,7 @@ class SortedValuesView(ValuesView[V], Sequence[V]):
         ...
 
     def __getitem__(self, index: Union[SupportsIndex, slice]) -> Union[V, list[V]]:
+        """Returns the value at a position, or those at a slice. Raises IndexError if a position has none."""
         if isinstance(index, slice):
             return list(map(self._mapping.__getitem__, self._mapping.keys()[index]))
         value: V = self._mapping.peekitem(index)[1]
@@ -123,10 +130,12 @@ class SortedItemsView(ItemsView[K, V], Sequence[Tuple[K, V]]):
         return SortedSet(it)
 
     def __iter__(self) -> Iterator[tuple[K, V]]:
+        """Iterates over the keys in order, with their values. Raises RuntimeError after a change of the keys."""
         # Neither iterator continues after a change, so each pair was in the dictionary.
         return zip(self._mapping, map(self._mapping.__getitem__, self._mapping))
 
     def __reversed__(self) -> Iterator[tuple[K, V]]:
+        """Iterates over the keys from the last to the first, with their values."""
         return zip(reversed(self._mapping), map(self._mapping.__getitem__, reversed(self._mapping)))
 
     @overload
@@ -138,6 +147,8 @@ class SortedItemsView(ItemsView[K, V], Sequence[Tuple[K, V]]):
         ...
 
     def __getitem__(self, index: Union[SupportsIndex, slice]) -> Union[tuple[K, V], list[tuple[K, V]]]:
+        """Returns the key and the value at a position, or the pairs at a slice. Raises IndexError if a position has
+        none."""
         if isinstance(index, slice):
             keys = self._mapping.keys()[index]
             return list(zip(keys, map(self._mapping.__getitem__, keys)))
