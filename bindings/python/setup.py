@@ -1,16 +1,20 @@
 """Builds the package by setuptools. pyproject.toml has the metadata.
 
-The library is the one that `make -C bindings/c` built or, with UNPROVED=1 in the environment,
-`make -C bindings/c UNPROVED=1`; a source distribution contains it, for the platform on which it was made. If the
-compiled module cannot be built, for example because a C compiler or Python's headers are missing, the package uses
-ctypes. Only `build_ext`, the command for the module, fails then. All intermediate files are in a temporary folder, so
-a wheel contains no file of an earlier build.
+The library is the one that `make -C bindings/c` built or, with UNPROVED=1 in the environment, the one of
+`make -C bindings/c UNPROVED=1`, which is then built if it is missing. With an unproved library the version of the
+package ends in `+unproved`. A source distribution contains the library, for the platform on which it was made. What
+INDEXSET_PROOF says of the proof becomes `indexset.PROOF` of the package; scripts/build_wheel.py sets it.
+
+If the compiled module cannot be built, for example because a C compiler or Python's headers are missing, the package
+uses ctypes. Only `build_ext`, the command for the module, fails then. All intermediate files are in a temporary folder,
+so a wheel contains no file of an earlier build.
 """
 import ctypes
 import os
 import pathlib
 import shlex
 import shutil
+import subprocess
 import sys
 import sysconfig
 import tempfile
@@ -36,6 +40,7 @@ NATIVE = {
     "libindexset.a": BUILT / "libindexset.a",
     "indexset.h": HERE.parent / "c/include/indexset.h",
 }
+PROOF = "proof.txt"  # in the package, and beside the library in a source distribution
 OLDEST = 64  # the first major version of setuptools with editable installs by a wheel
 
 
@@ -43,6 +48,26 @@ def native(name):
     """Returns a file of the library: beside this one in a source distribution, otherwise where make puts it."""
     beside = HERE / "native" / name
     return beside if beside.exists() else NATIVE[name]
+
+
+def make_unproved():
+    """Builds the library without proofs if it is asked for and missing."""
+    if os.environ.get("UNPROVED") and not native("libindexset.so").exists() and (HERE.parent / "c/Makefile").exists():
+        print(f"indexset: unproved: `{MADE_BY}` takes about a minute", file=sys.stderr, flush=True)
+        subprocess.run(["make", "-s", "-C", str(HERE.parent / "c")], stdout=sys.stderr)
+
+
+def is_proved():
+    """Returns whether the library says that it is proved."""
+    return ctypes.c_int.in_dll(ctypes.CDLL(str(native("libindexset.so"))), "indexset_proved").value == 1
+
+
+def put_proof(folder):
+    """Writes what is known of the proof of the library into a folder."""
+    beside = HERE / "native" / PROOF
+    text = beside.read_text(encoding="utf-8") if beside.exists() else os.environ.get("INDEXSET_PROOF", "")
+    if text:
+        pathlib.Path(folder, PROOF).write_text(text, encoding="utf-8")
 
 
 def fault():
@@ -88,6 +113,7 @@ class Package(build_py):
         super().run()
         if not self.editable_mode:
             self.copy_file(str(native("libindexset.so")), os.path.join(self.build_lib, "indexset"))
+            put_proof(os.path.join(self.build_lib, "indexset"))
 
 
 class Module(build_ext):
@@ -106,6 +132,7 @@ class Source(sdist):
         self.mkpath(os.path.join(base_dir, "native"))
         for name in NATIVE:
             self.copy_file(str(native(name)), os.path.join(base_dir, "native"))
+        put_proof(os.path.join(base_dir, "native"))
 
 
 COMMANDS = {"build_py": Package, "build_ext": Module, "sdist": Source}
@@ -122,10 +149,12 @@ if bdist_wheel is not None:
     COMMANDS["bdist_wheel"] = Wheel
 
 if __name__ == "__main__":
+    make_unproved()
     wrong = fault()
     if wrong is not None:
         sys.exit(f"indexset: {wrong}")
     choose_compiler()
+    label = "" if is_proved() else "+unproved"
     with tempfile.TemporaryDirectory() as room:
         setuptools.setup(
             package_dir={"": "src"},
@@ -133,5 +162,5 @@ if __name__ == "__main__":
             package_data={"indexset": ["py.typed"]},
             cmdclass=COMMANDS,
             ext_modules=[speedups()],
-            options={"build": {"build_base": room}, "egg_info": {"egg_base": room}},
+            options={"build": {"build_base": room}, "egg_info": {"egg_base": room, "tag_build": label}},
         )

@@ -309,7 +309,7 @@ class Subclasses(unittest.TestCase):
 
 
 class Values(unittest.TestCase):
-    """A value of a kind that has a name fits it, whatever the kind of the keys."""
+    """A value of a kind that has a name fits it, for keys of each kind."""
 
     def test_kinds(self):
         for values, good, bad in (

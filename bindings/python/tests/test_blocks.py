@@ -176,7 +176,7 @@ class Many(unittest.TestCase):
 
     @unittest.skipUnless(indexset.BACKEND == "extension", "by ctypes it is called again where many come")
     def test_key_of_a_new_list(self):
-        """A new list calls the key function once for each item, whatever the sort keys are."""
+        """A new list calls the key function once for each item, with sort keys of each kind."""
         for order in (lambda it: (it,), lambda it: it, str, lambda it: it + 0.5 if it % 3 else it):
             called = []
             ours = SortedKeyList(range(100), key=lambda it: called.append(it) or order(it))

@@ -3,8 +3,10 @@
 The Python that runs it needs the packages setuptools and wheel. With UNPROVED=1 in the environment the library is the
 one of `make -C bindings/c UNPROVED=1`.
 """
+import hashlib
 import os
 import pathlib
+import re
 import shutil
 import subprocess
 import sys
@@ -17,6 +19,7 @@ import counted
 
 HERE = pathlib.Path(__file__).resolve().parent.parent
 IS_PROVED = not os.environ.get("UNPROVED")
+VERSION = "0.2.0" if IS_PROVED else "0.2.0+unproved"
 MADE_BY = "make -C bindings/c" if IS_PROVED else "make -C bindings/c UNPROVED=1"
 SAYS = (
     "import indexset; print(indexset.BACKEND, indexset.PROVED, indexset.SortedSet([2, 1]),"
@@ -32,7 +35,7 @@ def has_compiler():
 
 def ran(*words, folder="/", **more):
     """Returns the status of a command and its output."""
-    where = {name: value for name, value in os.environ.items() if not name.startswith("INDEXSET_")}
+    where = {name: value for name, value in os.environ.items() if not name.startswith(("INDEXSET_", "PYTHON"))}
     done = subprocess.run(
         list(map(str, words)),
         stdout=subprocess.PIPE,
@@ -79,6 +82,7 @@ class Package(unittest.TestCase):
         self.assertEqual(said, f"{backend} {IS_PROVED} SortedSet([1, 2]) 1\n")
         about = ran(*self.pip, "show", "indexset")[1]
         self.assertIn("License: Apache-2.0", about)
+        self.assertIn(f"Version: {VERSION}\n", about)
         self.assertEqual(ran(*self.pip, "uninstall", "-y", "indexset")[0], 0)
 
     def wheel(self, **more):
@@ -95,7 +99,7 @@ class Package(unittest.TestCase):
     def test_source_distribution(self):
         status, said = ran(self.python, "setup.py", "-q", "sdist", "-d", self.folder, folder=HERE)
         self.assertEqual(status, 0, said)
-        self.install(self.folder / "indexset-0.2.0.tar.gz", backend=self.backend)
+        self.install(self.folder / f"indexset-{VERSION}.tar.gz", backend=self.backend)
 
     def test_editable(self):
         library = {} if IS_PROVED else {"INDEXSET_LIBRARY": str(HERE.parent / "c/out/unproved/libindexset.so")}
@@ -109,14 +113,37 @@ class Package(unittest.TestCase):
         python = f"cp{sys.version_info.major}{sys.version_info.minor}"
         tags = {"ctypes": f"py3-none-{platform}", "extension": f"{python}-{python}-{platform}"}
         made = self.wheel()
-        self.assertEqual(made.name, f"indexset-0.2.0-{tags[self.backend]}.whl")
+        self.assertEqual(made.name, f"indexset-{VERSION}-{tags[self.backend]}.whl")
         names = set(zipfile.ZipFile(made).namelist())
         for name in ("indexset/py.typed", "indexset/libindexset.so"):
             self.assertIn(name, names)
-        self.assertRegex("\n".join(names), "(?m)^indexset-0.2.0.dist-info/(licenses/)?LICENSE$")
+        self.assertRegex("\n".join(names), f"(?m)^indexset-{re.escape(VERSION)}.dist-info/(licenses/)?LICENSE$")
         made = self.wheel(PATH="/nowhere", CC="no-compiler")
-        self.assertEqual(made.name, f"indexset-0.2.0-{tags['ctypes']}.whl")
+        self.assertEqual(made.name, f"indexset-{VERSION}-{tags['ctypes']}.whl")
         self.assertNotIn("_speedups", "".join(zipfile.ZipFile(made).namelist()))
+
+    def test_one_command(self):
+        """A wheel of one command, installed in an environment that has nothing else, says what its proof is."""
+        words = [] if IS_PROVED else ["--unproved"]
+        script = HERE.parent.parent / "scripts/build_wheel.py"
+        status, said = ran(self.python, script, *words, "-o", self.folder / "made")
+        self.assertEqual(status, 0, said)
+        made, _, proof = said.splitlines()[-1].partition(": ")
+        self.assertEqual(pathlib.Path(made).parent, self.folder / "made")
+        self.assertTrue(pathlib.Path(made).name.startswith(f"indexset-{VERSION}-"), made)
+        kit, logic = ran("rt", "version")[1].strip().split(" logic ")
+        commit = ran("git", "rev-parse", "HEAD", folder=HERE)[1].strip()
+        total = hashlib.sha256(zipfile.ZipFile(made).read("indexset/libindexset.so")).hexdigest()
+        unproved = "" if IS_PROVED else "unproved: "
+        wanted = f"{unproved}{kit}, logic {logic}, commit {commit}( with changes)?, sha256 {total}"
+        self.assertRegex(proof, f"^{wanted}$")
+        self.assertEqual(ran(sys.executable, "-m", "venv", self.folder / "clean")[0], 0)
+        python = self.folder / "clean/bin/python"
+        status, said = ran(python, "-m", "pip", "--disable-pip-version-check", "install", "--no-index", made)
+        self.assertEqual(status, 0, said)
+        self.assertIn(f"Successfully installed indexset-{VERSION}", said)
+        said = ran(python, "-I", "-c", f"{SAYS}; print(indexset.PROOF)")[1]
+        self.assertEqual(said, f"{self.backend} {IS_PROVED} SortedSet([1, 2]) 1\n{proof}\n")
 
     def test_without_the_library(self):
         shutil.copytree(HERE, self.folder / "bare/bindings/python", ignore=shutil.ignore_patterns("out"))

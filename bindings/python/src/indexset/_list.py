@@ -23,8 +23,8 @@ class SortedList(Sorted[T], MutableSequence[T], Generic[T]):
 
     Cost: with n items, a call on one item or one position is O(log n); a search for a value also takes time linear in
     the number of items with its sort key, unless the items are numbers without `key`. Iteration, a slice or a batch is
-    linear in its length. After many numbers were added at once, the first change of one is linear in their number. A
-    removal from repeated numbers may raise MemoryError; nothing changes then.
+    linear in its length. After many numbers were added at once, a change of one is O(log n) amortized. A removal
+    from repeated numbers may raise MemoryError; nothing changes then.
 
     Several threads may read a list at the same time; the caller synchronizes changes. An iterator raises RuntimeError
     after a change.

@@ -27,7 +27,7 @@ class SortedSet(Sorted[T], MutableSet[T], Generic[T]):
 
     Cost: with n items, a call on one item or one position is O(log n), and with the kind "object" makes that many
     comparisons; `in` asks a hash table. Iteration, a slice or a batch is linear in its length. After many numbers were
-    added at once, the first change of one is linear in their number.
+    added at once, a change of one is O(log n) amortized.
 
     Several threads may read a set at the same time; the caller synchronizes changes. An iterator raises RuntimeError
     after a change.
