@@ -145,6 +145,17 @@ class Package(unittest.TestCase):
         said = ran(python, "-I", "-c", f"{SAYS}; print(indexset.PROOF)")[1]
         self.assertEqual(said, f"{self.backend} {IS_PROVED} SortedSet([1, 2]) 1\n{proof}\n")
 
+    @unittest.skipIf(IS_PROVED, "the library without proofs is not built")
+    def test_one_switch(self):
+        """With UNPROVED=1 pip builds the library without proofs if it is missing. Here make copies one."""
+        bindings = self.folder / "switch/bindings"
+        shutil.copytree(HERE, bindings / "python", ignore=shutil.ignore_patterns("out"))
+        shutil.copytree(HERE.parent / "c/include", bindings / "c/include")
+        built = HERE.parent / "c/out/unproved"
+        rule = f"all:\n\tmkdir -p out/unproved && cp {built}/libindexset.* out/unproved\n"
+        (bindings / "c/Makefile").write_text(rule, encoding="utf-8")
+        self.install(bindings / "python", backend=self.backend)
+
     def test_without_the_library(self):
         shutil.copytree(HERE, self.folder / "bare/bindings/python", ignore=shutil.ignore_patterns("out"))
         bare = self.folder / "bare/bindings/python"

@@ -1,7 +1,7 @@
 """Base classes of the ctypes backend: the classes that the compiled module `_speedups` has too."""
 from __future__ import annotations
 
-from typing import Any, Dict, Generic, Iterator, SupportsIndex, TypeVar, overload
+from typing import Any, Dict, Generic, Iterator, SupportsIndex, TypeVar, Union, overload
 
 K = TypeVar("K")
 V = TypeVar("V")
@@ -43,9 +43,12 @@ class IndexedBase(Generic[T]):
     def __getitem__(self, position: slice) -> list[T]:
         ...
 
-    def __getitem__(self, position: Any) -> Any:
+    def __getitem__(self, position: Union[SupportsIndex, slice]) -> Union[T, list[T]]:
         """Returns the item at a position, or the list of those at a slice. Raises IndexError if there is none."""
-        return self._slice(position) if isinstance(position, slice) else self._order[position]
+        if isinstance(position, slice):
+            return self._slice(position)
+        item: T = self._order[position]
+        return item
 
     def _slice(self, position: slice) -> list[T]:
         raise NotImplementedError
