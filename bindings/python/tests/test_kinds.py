@@ -317,10 +317,12 @@ class Kinds(unittest.TestCase):
                 self.assertIn(">>>", found.__doc__ or "", name)
 
     def test_signatures(self):
-        """No signature of a public class, or of a class that it is of, contains Any."""
+        """No signature of a public function, of a class or of one that it is of contains Any."""
         for name in indexset.__all__:
             found = getattr(indexset, name)
-            bases = found.__mro__ if isinstance(found, type) and name != "Change" else ()
+            if inspect.isfunction(found):
+                self.assertNotIn("Any", str(inspect.signature(found)), name)
+            bases = found.__mro__ if isinstance(found, type) else ()
             own = {call for base in bases if base.__module__.startswith("indexset") for call in vars(base)}
             for call in sorted(own):
                 try:

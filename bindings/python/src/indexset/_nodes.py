@@ -37,8 +37,8 @@ class Change(NamedTuple):
 
     number: int
     kind: str
-    node: tuple[Any, Any]
-    pair: tuple[Any, Any]
+    node: tuple[object, object]
+    pair: tuple[object, object]
     index: int  # type: ignore[assignment]
     label: int = 0
 

@@ -83,7 +83,7 @@ def _float(number: float) -> bytes:
     return bytes((_DOUBLE,)) + bits.to_bytes(8, "big")
 
 
-def unpack(data: bytes) -> Any:
+def unpack(data: bytes) -> object:
     """Returns the key of some bytes. Raises ValueError if they are not the bytes of a key.
 
     >>> unpack(pack((1, "a", (None, -2.5))))

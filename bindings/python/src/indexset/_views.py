@@ -3,7 +3,7 @@ from __future__ import annotations
 
 from collections.abc import ItemsView, KeysView, Sequence, ValuesView
 from operator import itemgetter
-from typing import Any, Iterable, Iterator, Optional, SupportsIndex, Tuple, TypeVar, Union, overload
+from typing import TYPE_CHECKING, Any, Iterable, Iterator, Optional, SupportsIndex, Tuple, TypeVar, Union, overload
 
 from ._set import SortedSet
 
@@ -22,7 +22,8 @@ class SortedKeysView(KeysView[K], Sequence[K]):
 
     __slots__ = ()
 
-    _mapping: Any
+    if TYPE_CHECKING:
+        _mapping: Any
 
     @classmethod
     def _from_iterable(cls, it: Iterable[Any]) -> Any:
@@ -87,7 +88,8 @@ class SortedValuesView(ValuesView[V], Sequence[V]):
 
     __slots__ = ()
 
-    _mapping: Any
+    if TYPE_CHECKING:
+        _mapping: Any
 
     def __iter__(self) -> Iterator[V]:
         """Iterates over the values in the order of their keys. Raises RuntimeError after a change of the keys."""
@@ -123,7 +125,8 @@ class SortedItemsView(ItemsView[K, V], Sequence[Tuple[K, V]]):
 
     __slots__ = ()
 
-    _mapping: Any
+    if TYPE_CHECKING:
+        _mapping: Any
 
     @classmethod
     def _from_iterable(cls, it: Iterable[Any]) -> Any:
@@ -161,7 +164,8 @@ class _Positions(Sequence[T]):
 
     __slots__ = ()
 
-    _mapping: Any
+    if TYPE_CHECKING:
+        _mapping: Any
 
     @staticmethod
     def _part(pair: tuple[Any, Any]) -> Any:
