@@ -21,7 +21,7 @@ from functools import partial
 from types import ModuleType
 from typing import Any, NamedTuple
 
-ENOUGH = 1.0  # seconds that a row of both may take
+ENOUGH = 3.0  # seconds that a row of both may take
 SOME = 20000  # of the calls on one item
 
 
