@@ -166,19 +166,24 @@ static int sort_list(PyObject *list, Places *it) {
     return done ? 1 : -1;
 }
 
-/* Writes the order of some keys. */
-static int order_of_keys(Places *it, Ranked *order, size_t count) {
+/* Returns the places of some keys in their order, as a list; NULL with an error set. */
+static PyObject *sorted_places(Places *it, size_t count) {
     PyObject *list = PyList_New((Py_ssize_t)count);
-    if (list == NULL) return -1;
+    if (list == NULL) return NULL;
     for (size_t i = 0; i < count; i++) {
         Py_INCREF(it->places + i);
         PyList_SET_ITEM(list, (Py_ssize_t)i, it->places + i);
     }
-    int state = sort_list(list, it);
-    for (size_t i = 0; state == 1 && i < count; i++)
-        order[i].at = (size_t)(PyList_GET_ITEM(list, (Py_ssize_t)i) - it->places);
-    Py_DECREF(list);
-    return state;
+    if (sort_list(list, it) < 0) Py_CLEAR(list);
+    return list;
+}
+
+/* Puts the objects of a list into the order of some places. */
+static void arrange_by(PyObject *list, PyObject *order, const PyObject *places, PyObject **room) {
+    PyObject **items = PySequence_Fast_ITEMS(list);
+    Py_ssize_t count = PyList_GET_SIZE(list);
+    for (Py_ssize_t i = 0; i < count; i++) room[i] = items[PyList_GET_ITEM(order, i) - places];
+    memcpy(items, room, (size_t)count * sizeof *room);
 }
 
 /* Frees places, unless something still refers to one. */
@@ -191,22 +196,23 @@ static void free_places(PyObject *places, size_t count) {
 /* Sorts both lists in the order of the keys, by `<`. */
 static int sort_by_keys(PyObject *items, PyObject *keys) {
     size_t count = (size_t)PyList_GET_SIZE(items);
-    Ranked *order = PyMem_Malloc((2 * count + 1) * sizeof *order);
-    Places it = {order ? PyMem_Malloc((count + 1) * sizeof *it.places) : NULL, keys};
+    PyObject **room = PyMem_Malloc((count + 1) * sizeof *room);
+    Places it = {room ? PyMem_Malloc((count + 1) * sizeof *it.places) : NULL, keys};
     if (it.places == NULL) {
-        PyMem_Free(order);
+        PyMem_Free(room);
         PyErr_NoMemory();
         return -1;
     }
     for (size_t i = 0; i < count; i++) PyObject_Init(it.places + i, &PlaceType);
-    int state = order_of_keys(&it, order, count);
-    if (state == 1) {
-        arrange(items, order, count, (PyObject **)(order + count));
-        arrange(keys, order, count, (PyObject **)(order + count));
+    PyObject *order = sorted_places(&it, count);
+    if (order != NULL) {
+        arrange_by(items, order, it.places, room);
+        arrange_by(keys, order, it.places, room);
+        Py_DECREF(order);
     }
     free_places(it.places, count);
-    PyMem_Free(order);
-    return state;
+    PyMem_Free(room);
+    return order != NULL ? 1 : -1;
 }
 
 /* Returns whether all keys of a list are of the own type of a kind of texts or byte strings. */
