@@ -85,7 +85,7 @@ class byte_store : public held<Calls> {
     using value_type = std::pair<std::string, V>;
     using key_type = std::string;
     using key_argument = std::string_view;
-    using element = value_type;
+    using element_type = value_type;
     using order = byte_store;
     static constexpr bool notes = false;
 

@@ -223,14 +223,14 @@ class logged_byte_map : public detail::nodes<logged_byte_map<V>, detail::byte_st
     // Returns the changes of the last call that made any, in order. If an allocation fails, the call can be repeated.
     std::vector<byte_event> last_told() const {
         std::vector<byte_event> told;
-        byte_event event;
+        byte_event change;
         char none;
-        while (this->store_ && indexset_text_log_change(handle(), told.size(), &event.code, &none, 0, &none, 0)) {
-            event.node.resize(event.code.node_len);
-            event.key.resize(event.code.key_len);
-            indexset_text_log_change(handle(), told.size(), &event.code, event.node.data(), event.node.size(),
-                                     event.key.data(), event.key.size());
-            told.push_back(event);
+        while (this->store_ && indexset_text_log_change(handle(), told.size(), &change.code, &none, 0, &none, 0)) {
+            change.node.resize(change.code.node_len);
+            change.key.resize(change.code.key_len);
+            indexset_text_log_change(handle(), told.size(), &change.code, change.node.data(), change.node.size(),
+                                     change.key.data(), change.key.size());
+            told.push_back(change);
         }
         return told;
     }

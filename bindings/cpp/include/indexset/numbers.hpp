@@ -168,7 +168,7 @@ class number_store : public held<Calls> {
     using value_type = typename Code::value_type;
     using key_type = typename Code::key_type;
     using key_argument = key_type;
-    using element = pair;               // the result of `at`
+    using element_type = pair;          // the result of `at`
     using order = Code;                 // of elements
     static constexpr bool notes = true; // an iterator may have an element and find its position later
 

@@ -220,7 +220,7 @@ class reading : public comparisons<Self, typename Store::order> {
         Store *store;
         std::size_t position, size;
 
-        std::optional<typename Store::element> next() {
+        std::optional<typename Store::element_type> next() {
             if (position == size) return std::nullopt;
             return store->at(position++);
         }
