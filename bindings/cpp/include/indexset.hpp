@@ -11,14 +11,16 @@
 //     prices[2.5] = 7;
 //     for (auto [price, amount] : prices) std::printf("%g %u\n", price, amount);
 //
-// Collections: `set<K>`, `map<K, V>`, `byte_map<V>`, whose keys are byte strings, `multimap<K, V>`, whose keys may have
-// several distinct values, `logged_map<K, V>` and `logged_byte_map<V>`, which report their changes, and
-// `replica<K, V>`, which follows a logged_map by its changes. All are ordered and give access by position.
+// Collections: `set<K>`, `map<K, V>`, `byte_set` and `byte_map<V>`, whose keys are byte strings, `object_map<K, V>` and
+// `byte_object_map<V>`, whose values have any type, `multimap<K, V>`, whose keys may have several distinct values,
+// `logged_map<K, V>` and `logged_byte_map<V>`, which report their changes, and `replica<K, V>`, which follows a
+// logged_map by its changes. All are ordered and give access by position.
 //
 // Keys: all integer types, `bool`, character types, enums, `float` and `double`, in the order of `<`. For
 // floating-point keys, -0.0 equals 0.0, and NaN is one key, above all others. Any other type becomes a key by a
-// specialization of `key_code`. A value has a trivially copyable type of at most 8 bytes: a number, a pointer, an
-// index. A collection returns copies: its elements cannot be written through iterators.
+// specialization of `key_code`. With `std::greater<>` as the last argument of `set`, `map` and `object_map` the keys
+// descend. A value has a trivially copyable type of at most 8 bytes: a number, a pointer, an index. A collection returns
+// copies: its elements cannot be written through iterators. Only a map to objects returns references to its values.
 //
 // Iterators are positions. They meet std::random_access_iterator of C++20, and all requirements of such an iterator of
 // C++17 but one: `*it` is a value and not a reference. A change of a collection invalidates its iterators, except those
@@ -27,18 +29,19 @@
 // the collection that has the elements. Elements are fetched in runs, so that iteration does not search for each of
 // them; if a run cannot be allocated, it does.
 //
-// Exceptions: std::bad_alloc if an allocation fails, and what the caller's own iterators and functions throw; no
-// others. After an exception nothing has changed. `apply_all` of a replica throws only if it processed no change;
+// Exceptions: std::bad_alloc if an allocation fails, std::out_of_range of `at`, and what the caller's own iterators,
+// functions and objects throw; no others. After an exception nothing has changed. `apply_all` of a replica throws only if it processed no change;
 // otherwise it returns the number of changes that it processed. Moves, swaps and `clear` allocate nothing, and neither
 // does `erase` of set, map and byte_map, nor the constructor of an empty collection.
 //
-// Threads: a collection is used by one thread, the one that made it, for reads too. Two collections are independent,
-// except a byte_map and its copies, which share the bytes of keys.
+// Threads: a collection is used by one thread at a time, for reads too, because iterations keep what they fetch in it.
+// Two collections are independent.
 #ifndef INDEXSET_HPP
 #define INDEXSET_HPP
 
 #include "indexset/logged.hpp"
 #include "indexset/multimap.hpp"
+#include "indexset/objects.hpp"
 #include "indexset/sets.hpp"
 
 #include <cstdint>

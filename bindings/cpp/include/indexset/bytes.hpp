@@ -8,6 +8,7 @@
 #include <cassert>
 #include <cstddef>
 #include <cstdint>
+#include <functional>
 #include <string>
 #include <string_view>
 #include <utility>
@@ -77,16 +78,51 @@ struct byte_run {
     }
 };
 
+// The elements of a set of byte strings.
+struct byte_set_code {
+    using key_compare = std::less<>;
+    using value_type = std::string;
+    static value_type decode(std::string key, std::uint64_t) noexcept { return key; }
+    static std::string_view key_of(const value_type &element) noexcept { return element; }
+    static bool equal(const value_type &a, const value_type &b) noexcept { return a == b; }
+    static bool less(const value_type &a, const value_type &b) noexcept { return a < b; }
+#if __cplusplus >= 202002L
+    static constexpr bool is_ordered = true;
+    static std::strong_ordering compare(const value_type &a, const value_type &b) noexcept { return a <=> b; }
+#endif
+};
+
+// The pairs of a map from byte strings.
+template <class V>
+struct byte_map_code {
+    using key_compare = std::less<>;
+    using value_type = std::pair<std::string, V>;
+    static value_type decode(std::string key, std::uint64_t value) noexcept {
+        return {std::move(key), value_code<V>::decode(value)};
+    }
+    static std::string_view key_of(const value_type &element) noexcept { return element.first; }
+    static bool equal(const value_type &a, const value_type &b) { return a == b; }
+    static bool less(const value_type &a, const value_type &b) { return a < b; }
+#if __cplusplus >= 202002L
+    static constexpr bool is_ordered = ordered<V>;
+    static auto compare(const value_type &a, const value_type &b) {
+        const auto values = three_way(a.second, b.second);
+        const auto keys = a.first <=> b.first;
+        return keys != 0 ? decltype(values)(keys) : values;
+    }
+#endif
+};
+
 // Byte strings and their values, owned by a pointer of their collection.
-template <class Calls, class V>
+template <class Calls, class Code>
 class byte_store : public held<Calls> {
   public:
     using calls = Calls;
-    using value_type = std::pair<std::string, V>;
+    using value_type = typename Code::value_type;
     using key_type = std::string;
     using key_argument = std::string_view;
     using element_type = value_type;
-    using order = byte_store;
+    using order = Code; // of elements
     static constexpr bool notes = false;
 
     std::uint64_t changes() const noexcept { return changes_; }
@@ -115,7 +151,7 @@ class byte_store : public held<Calls> {
     value_type at(std::size_t position) {
         if (const auto *run = runs_.at(this->handle(), position)) {
             const std::size_t index = position - run->first;
-            return {std::string(run->key(index)), value_code<V>::decode(run->values[index])};
+            return Code::decode(std::string(run->key(index)), run->values[index]);
         }
         std::size_t length = 0;
         std::uint64_t value = 0;
@@ -125,8 +161,15 @@ class byte_store : public held<Calls> {
         static_cast<void>(found);
         std::string key(length, '\0');
         if (length != 0) Calls::at(this->handle(), position, &key[0], length, &length, &value);
-        return {std::move(key), value_code<V>::decode(value)};
+        return Code::decode(std::move(key), value);
     }
+
+    // Writes the values from a position on, as many as fit. Returns their number.
+    std::size_t read_values(std::size_t from, std::uint64_t *values, std::size_t places) const noexcept {
+        return Calls::values(this->handle(), from, values, places);
+    }
+
+    static std::string_view key_of(const value_type &element) noexcept { return Code::key_of(element); }
 
     bool remove(std::string_view key) noexcept {
         std::uint64_t value;
@@ -142,17 +185,6 @@ class byte_store : public held<Calls> {
         while (count != 0 && indexset_text_map_remove_at(this->handle(), position, &key, 0, &length, &value)) count--;
         changed();
     }
-
-    static bool equal(const value_type &a, const value_type &b) { return a == b; }
-    static bool less(const value_type &a, const value_type &b) { return a < b; }
-#if __cplusplus >= 202002L
-    static constexpr bool is_ordered = ordered<V>;
-    static auto compare(const value_type &a, const value_type &b) {
-        const auto values = three_way(a.second, b.second);
-        const auto keys = a.first <=> b.first;
-        return keys != 0 ? decltype(values)(keys) : values;
-    }
-#endif
 
   private:
     std::uint64_t changes_ = 1;

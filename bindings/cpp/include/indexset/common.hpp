@@ -7,6 +7,7 @@
 
 #include <cstddef>
 #include <cstdint>
+#include <functional>
 #include <iterator>
 #include <memory>
 #include <new>
@@ -124,36 +125,50 @@ class comparisons {
     static auto walk_of(const Self &collection) { return collection.walk(); }
 };
 
-template <class K>
-struct set_code {
+// The keys of elements that are stored as pairs. Elements are compared by their keys in ascending order, also those of
+// a collection in descending order, as in std.
+template <class K, class Compare>
+struct pair_keys {
     using key_type = K;
-    using value_type = K;
-    static std::uint64_t key(K of) noexcept { return key_code<K>::encode(of); }
-    static K decode(const pair &element) noexcept { return key_code<K>::decode(element.key); }
-    static bool equal(const pair &a, const pair &b) noexcept { return a.key == b.key; }
-    static bool less(const pair &a, const pair &b) noexcept { return a.key < b.key; }
+    using key_compare = key_order<K, Compare>;
+    static std::uint64_t key(K of) noexcept { return key_compare::encode(of); }
+    static K key_of(const pair &element) noexcept { return key_compare::decode(element.key); }
+    static bool is_below(const pair &a, const pair &b) noexcept {
+        return key_compare::turned(a.key) < key_compare::turned(b.key);
+    }
 #if __cplusplus >= 202002L
-    static constexpr bool is_ordered = true;
-    static std::strong_ordering compare(const pair &a, const pair &b) noexcept { return a.key <=> b.key; }
+    static std::strong_ordering compare_keys(const pair &a, const pair &b) noexcept {
+        return key_compare::turned(a.key) <=> key_compare::turned(b.key);
+    }
 #endif
 };
 
-template <class K, class V>
-struct map_code {
-    using key_type = K;
+template <class K, class Compare = std::less<K>>
+struct set_code : pair_keys<K, Compare> {
+    using value_type = K;
+    static K decode(const pair &element) noexcept { return set_code::key_of(element); }
+    static bool equal(const pair &a, const pair &b) noexcept { return a.key == b.key; }
+    static bool less(const pair &a, const pair &b) noexcept { return set_code::is_below(a, b); }
+#if __cplusplus >= 202002L
+    static constexpr bool is_ordered = true;
+    static std::strong_ordering compare(const pair &a, const pair &b) noexcept { return set_code::compare_keys(a, b); }
+#endif
+};
+
+template <class K, class V, class Compare = std::less<K>>
+struct map_code : pair_keys<K, Compare> {
     using value_type = std::pair<K, V>;
-    static std::uint64_t key(K of) noexcept { return key_code<K>::encode(of); }
-    static value_type decode(const pair &element) noexcept {
-        return {key_code<K>::decode(element.key), value(element)};
-    }
+    static value_type decode(const pair &element) noexcept { return {map_code::key_of(element), value(element)}; }
     static V value(const pair &element) noexcept { return value_code<V>::decode(element.value); }
     static bool equal(const pair &a, const pair &b) { return a.key == b.key && value(a) == value(b); }
-    static bool less(const pair &a, const pair &b) { return a.key != b.key ? a.key < b.key : value(a) < value(b); }
+    static bool less(const pair &a, const pair &b) {
+        return a.key != b.key ? map_code::is_below(a, b) : value(a) < value(b);
+    }
 #if __cplusplus >= 202002L
     static constexpr bool is_ordered = ordered<V>;
     static auto compare(const pair &a, const pair &b) {
         const auto values = three_way(value(a), value(b));
-        return a.key != b.key ? decltype(values)(a.key <=> b.key) : values;
+        return a.key != b.key ? decltype(values)(map_code::compare_keys(a, b)) : values;
     }
 #endif
 };

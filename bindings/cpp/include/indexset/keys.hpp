@@ -4,6 +4,7 @@
 
 #include <cstdint>
 #include <cstring>
+#include <functional>
 #include <limits>
 #include <type_traits>
 
@@ -67,10 +68,22 @@ struct key_code<K, std::enable_if_t<std::is_floating_point_v<K>>> {
     static constexpr std::uint64_t sign = std::uint64_t{1} << 63;
 };
 
-// The order of keys.
-template <class K>
-struct key_less {
-    bool operator()(const K &a, const K &b) const noexcept { return key_code<K>::encode(a) < key_code<K>::encode(b); }
+// The order of keys: ascending, or with `std::greater` descending.
+template <class K, class Compare = std::less<K>>
+struct key_order {
+    static constexpr bool descends =
+        std::is_same_v<Compare, std::greater<K>> || std::is_same_v<Compare, std::greater<>>;
+    static_assert(descends || std::is_same_v<Compare, std::less<K>> || std::is_same_v<Compare, std::less<>>,
+                  "keys are in the order of std::less or of std::greater");
+
+    bool operator()(const K &a, const K &b) const noexcept { return encode(a) < encode(b); }
+
+    // The encoding of a key in this order.
+    static std::uint64_t encode(K key) noexcept { return turned(key_code<K>::encode(key)); }
+    static K decode(std::uint64_t code) noexcept { return key_code<K>::decode(turned(code)); }
+
+    // The code of a key in ascending order, of its code in this order, and the other way round.
+    static constexpr std::uint64_t turned(std::uint64_t code) noexcept { return descends ? ~code : code; }
 };
 
 // The encoding of a value: its bytes.

@@ -185,7 +185,9 @@ struct told_bytes {
 // An ordered map from byte strings that reports its changes, with consecutive numbers. It is move-only; a moved-from
 // map is as it was when constructed.
 template <class V = std::uint64_t>
-class logged_byte_map : public detail::nodes<logged_byte_map<V>, detail::byte_store<detail::logged_byte_calls, V>, V> {
+class logged_byte_map
+    : public detail::nodes<logged_byte_map<V>, detail::byte_store<detail::logged_byte_calls, detail::byte_map_code<V>>,
+                           V> {
   public:
     using base = typename logged_byte_map::nodes;
 

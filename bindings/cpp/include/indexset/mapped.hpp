@@ -8,6 +8,8 @@
 #include <cstdint>
 #include <initializer_list>
 #include <optional>
+#include <stdexcept>
+#include <type_traits>
 #include <utility>
 #include <vector>
 
@@ -51,6 +53,18 @@ class value_reference {
     value_reference &operator++() { return *this += 1; }
     value_reference &operator--() { return *this -= 1; }
 
+    // Compares a value of a class, whose `operator==` may be a member.
+    template <class Other, class V = value_type, class = std::enable_if_t<std::is_class_v<V>>>
+    friend auto operator==(const value_reference &a, const Other &b)
+        -> decltype(static_cast<bool>(std::declval<const V &>() == b)) {
+        return static_cast<bool>(static_cast<const V &>(static_cast<V>(a)) == b);
+    }
+    template <class Other, class V = value_type, class = std::enable_if_t<std::is_class_v<V>>>
+    friend auto operator!=(const value_reference &a, const Other &b)
+        -> decltype(static_cast<bool>(std::declval<const V &>() == b)) {
+        return !(a == b);
+    }
+
   private:
     Map &map_;
     typename Map::key_argument key_;
@@ -75,6 +89,12 @@ class mapped : public positions<Self, Store> {
         std::uint64_t code;
         if (!this->store_ || !this->store_->get(key, code)) return std::nullopt;
         return value_code<V>::decode(code);
+    }
+
+    // Returns the value of a key. Throws std::out_of_range if the key is absent.
+    V at(key_argument key) const {
+        if (const std::optional<V> value = get(key)) return *value;
+        throw std::out_of_range("indexset: no such key");
     }
 
     // Returns the value of a key, to read or write: `map[key] = value`, `map[key] += 1`. Reading it inserts V{} if the
@@ -121,6 +141,17 @@ class mapped : public positions<Self, Store> {
         add_all(pairs);
     }
     void insert(std::initializer_list<pair_argument> pairs) { insert(pairs.begin(), pairs.end()); }
+
+    // Calls a function with the values of `count` pairs from a position on, in order. Allocates nothing.
+    template <class Call>
+    void each_value(size_type from, size_type count, Call call) const {
+        std::uint64_t codes[64];
+        while (count != 0) {
+            const size_type read = this->store_->read_values(from, codes, count < 64 ? count : 64);
+            for (size_type i = 0; i < read; i++) call(value_code<V>::decode(codes[i]));
+            from += read, count -= read;
+        }
+    }
 
   private:
     // Adds a pair, or writes the value of a present key to `before`. Setting the value of a present key allocates

@@ -208,7 +208,21 @@ class number_store : public held<Calls> {
         return out;
     }
 
+    // Writes the values from a position on, as many as fit into 64 places. Returns their number.
+    std::size_t read_values(std::size_t from, std::uint64_t *values, std::size_t places) const noexcept {
+        std::uint64_t keys[64];
+        return Calls::read(this->handle(), from, keys, values, places);
+    }
+
     static value_type decode(const pair &element) noexcept { return Code::decode(element); }
+
+    static key_type key_of(const value_type &element) noexcept {
+        if constexpr (Calls::has_values) {
+            return element.first;
+        } else {
+            return element;
+        }
+    }
 
     bool remove(key_type key) noexcept { return remove_of(Code::key(key)); }
     bool remove_of(std::uint64_t key) noexcept {

@@ -117,7 +117,7 @@ class reading : public comparisons<Self, typename Store::order> {
   public:
     using key_type = typename Store::key_type;
     using value_type = typename Store::value_type;
-    using key_compare = std::conditional_t<Store::notes, key_less<key_type>, std::less<>>;
+    using key_compare = typename Store::order::key_compare;
     using size_type = std::size_t;
     using difference_type = std::ptrdiff_t;
     using reference = value_type;
@@ -279,6 +279,7 @@ class positions : public copied<Self, Store> {
     using typename base::iterator;
     using typename base::key_argument;
     using typename base::size_type;
+    using typename base::value_type;
 
     // Removes a key. Returns the number of removed elements: 0 or 1.
     size_type erase(key_argument key) noexcept { return this->store_ && this->store_->remove(key) ? 1 : 0; }
@@ -300,6 +301,33 @@ class positions : public copied<Self, Store> {
         }
         return this->at_position(from);
     }
+
+    // Removes an element and returns it; of a key that is absent nothing.
+    value_type extract(iterator it) {
+        value_type element = *it;
+        erase(it);
+        return element;
+    }
+    std::optional<value_type> extract(key_argument key) {
+        const iterator it = this->find(key);
+        if (it == this->end()) return std::nullopt;
+        std::optional<value_type> element(*it);
+        erase(key);
+        return element;
+    }
+
+    // Moves the elements of another collection whose keys are absent here. If an allocation fails, both are unchanged.
+    void merge(Self &other) {
+        Self &self = static_cast<Self &>(*this);
+        if (this == &other) return;
+        std::vector<value_type> moved;
+        for (auto it = other.begin(); it != other.end(); ++it) {
+            if (value_type element = *it; !this->contains(Store::key_of(element))) moved.push_back(std::move(element));
+        }
+        self.insert(moved.begin(), moved.end());
+        for (const value_type &element : moved) other.erase(Store::key_of(element));
+    }
+    void merge(Self &&other) { merge(other); }
 };
 
 } // namespace detail

@@ -8,19 +8,22 @@
 
 #include <cstddef>
 #include <cstdint>
+#include <functional>
 #include <initializer_list>
 #include <iterator>
 #include <new>
 #include <string>
+#include <string_view>
 #include <type_traits>
 #include <utility>
 #include <vector>
 
 namespace indexset {
 
-// An ordered set of numbers, with access by position.
-template <class K>
-class set : public detail::positions<set<K>, detail::number_store<detail::set_calls, detail::set_code<K>>> {
+// An ordered set of numbers, with access by position; in descending order if `Compare` is `std::greater<>`.
+template <class K, class Compare = std::less<K>>
+class set
+    : public detail::positions<set<K, Compare>, detail::number_store<detail::set_calls, detail::set_code<K, Compare>>> {
   public:
     using base = typename set::positions;
     using typename base::const_iterator;
@@ -39,7 +42,7 @@ class set : public detail::positions<set<K>, detail::number_store<detail::set_ca
 
     // Adds a key. Returns the element, and whether it was added. One search.
     std::pair<iterator, bool> insert(K key) {
-        const std::uint64_t code = key_code<K>::encode(key);
+        const std::uint64_t code = value_compare::encode(key);
         auto &store = this->made();
         const std::uint32_t answer = indexset_set_insert(store.handle(), code);
         detail::pass(answer);
@@ -61,7 +64,7 @@ class set : public detail::positions<set<K>, detail::number_store<detail::set_ca
     template <class It, class = detail::only_iterators<It>>
     void insert(It first, It last) {
         std::vector<std::uint64_t> codes;
-        for (; first != last; ++first) codes.push_back(key_code<K>::encode(*first));
+        for (; first != last; ++first) codes.push_back(value_compare::encode(*first));
         if (!codes.empty()) add_all(codes);
     }
     void insert(std::initializer_list<K> keys) { insert(keys.begin(), keys.end()); }
@@ -91,9 +94,10 @@ class set : public detail::positions<set<K>, detail::number_store<detail::set_ca
 template <class It, class = detail::only_iterators<It>>
 set(It, It) -> set<typename std::iterator_traits<It>::value_type>;
 
-// An ordered map from numbers to values, with access by position.
-template <class K, class V>
-class map : public detail::mapped<map<K, V>, detail::number_store<detail::map_calls, detail::map_code<K, V>>, V> {
+// An ordered map from numbers to values, with access by position; in descending order if `Compare` is `std::greater<>`.
+template <class K, class V, class Compare = std::less<K>>
+class map : public detail::mapped<map<K, V, Compare>,
+                                  detail::number_store<detail::map_calls, detail::map_code<K, V, Compare>>, V> {
   public:
     using base = typename map::mapped;
     using typename base::pair_argument;
@@ -116,7 +120,8 @@ map(It, It) -> map<std::remove_const_t<typename std::iterator_traits<It>::value_
 // An ordered map from byte strings to values, with access by position. Keys are in the order of std::string, which for
 // text in UTF-8 is that of its code points.
 template <class V>
-class byte_map : public detail::mapped<byte_map<V>, detail::byte_store<detail::byte_calls, V>, V> {
+class byte_map
+    : public detail::mapped<byte_map<V>, detail::byte_store<detail::byte_calls, detail::byte_map_code<V>>, V> {
   public:
     using base = typename byte_map::mapped;
     using typename base::pair_argument;
@@ -128,6 +133,70 @@ class byte_map : public detail::mapped<byte_map<V>, detail::byte_store<detail::b
         this->insert(first, last);
     }
     byte_map &operator=(std::initializer_list<pair_argument> pairs) { return *this = byte_map(pairs); }
+};
+
+// An ordered set of byte strings, with access by position, in the same order.
+class byte_set : public detail::positions<byte_set, detail::byte_store<detail::byte_calls, detail::byte_set_code>> {
+  public:
+    using base = byte_set::positions;
+    using value_compare = base::key_compare;
+
+    byte_set() noexcept = default;
+    byte_set(std::initializer_list<std::string_view> keys) { insert(keys); }
+    template <class It, class = detail::only_iterators<It>>
+    byte_set(It first, It last) {
+        insert(first, last);
+    }
+    byte_set &operator=(std::initializer_list<std::string_view> keys) { return *this = byte_set(keys); }
+
+    value_compare value_comp() const noexcept { return {}; }
+
+    // Adds a key. Returns the element, and whether it was added. Two searches.
+    std::pair<iterator, bool> insert(std::string_view key) {
+        const bool added = add(key);
+        return {this->lower_bound(key), added};
+    }
+    iterator insert(const_iterator, std::string_view key) { return insert(key).first; }
+
+    template <class... Args>
+    std::pair<iterator, bool> emplace(Args &&...args) {
+        return insert(std::string(std::forward<Args>(args)...));
+    }
+    template <class... Args>
+    iterator emplace_hint(const_iterator, Args &&...args) {
+        return emplace(std::forward<Args>(args)...).first;
+    }
+
+    // Adds keys.
+    template <class It, class = detail::only_iterators<It>>
+    void insert(It first, It last) {
+        std::vector<std::string> keys;
+        for (; first != last; ++first) keys.emplace_back(*first);
+        add_all(keys);
+    }
+    void insert(std::initializer_list<std::string_view> keys) { insert(keys.begin(), keys.end()); }
+
+  private:
+    bool add(std::string_view key) {
+        std::uint64_t before;
+        auto &store = this->made();
+        const std::uint32_t answer = store.put(key, 0, before);
+        detail::pass(answer);
+        if (answer == INDEXSET_YES) store.changed();
+        return answer == INDEXSET_YES;
+    }
+
+    void add_all(std::vector<std::string> &keys) {
+        std::size_t added = 0;
+        try {
+            for (std::string &key : keys) {
+                if (add(key)) std::swap(keys[added++], key);
+            }
+        } catch (...) {
+            while (added != 0) this->erase(keys[--added]);
+            throw;
+        }
+    }
 };
 
 } // namespace indexset
