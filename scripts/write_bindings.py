@@ -1,11 +1,12 @@
 #!/usr/bin/env python3
-"""Writes the prototypes of the C header and the table of Python's calls from the exports of `crates/indexset_c`.
+"""Writes what C and Python have of the exports of `crates/indexset_c`.
 
     scripts/write_bindings.py [--check]      `--check` writes nothing, and fails if something is out of date
 
-In the header each prototype is written in its place; the rest of the header is written by hand, and a new call needs
-its comment there first. A slice of an export is a pointer and a length in C. A handle is const if a clause states that
-its collection is unchanged.
+These are the prototypes of the C header, the calls of C that are not the exports themselves (`bindings/c/src/calls.c`),
+and the table of Python's calls. In the header each prototype is written in its place; the rest of the header is written
+by hand, and a new call needs its comment there first. A slice of an export is a pointer and a length in C. A handle is
+const if a clause states that its collection is unchanged.
 """
 
 from __future__ import annotations
@@ -19,6 +20,13 @@ import sys
 HERE = pathlib.Path(__file__).resolve().parent.parent / "bindings"
 EXPORTS = HERE.parent / "crates/indexset_c/src"
 HEADER = HERE / "c/include/indexset.h"
+CALLS = HERE / "c/src/calls.c"
+ABOUT_CALLS = """\
+/* The calls that are not the library's exports themselves, which have "inner_" before their names when it is linked. A
+ * call with a const handle works on a copy of the handle, so that it writes nothing that its caller has. One that frees
+ * a handle tests for null. Written by scripts/write_bindings.py. */
+#include "indexset.h"\
+"""
 TABLE = HERE / "python/src/indexset/_signatures.py"
 HANDLES = {
     "Set": "set", "Map": "map", "Text": "text_map", "TextLog": "text_log", "Multi": "multi", "Log": "log",
@@ -55,15 +63,18 @@ class Word:
         what = "places" if self.is_slice("mut ") else "count"
         return f"{self.name.removesuffix('s')}_{what}" if many > 1 else what
 
-    def in_c(self, words: list[Word]) -> str:
-        """Returns its parameters in C."""
+    def handle(self) -> str:
+        """Returns the type in C of a handle."""
+        return f"indexset_{HANDLES[self.base().removesuffix('Handle').removesuffix('Owner')]}"
+
+    def in_c(self, words: list[Word], of_export: bool = False) -> str:
+        """Returns its parameters in C; those of an export itself, which writes to each handle, if asked."""
         base = self.base()
-        const = "const " if self.stays or not self.kind.startswith("&mut ") else ""
+        const = "const " if self.stays and not of_export or not self.kind.startswith("&mut ") else ""
         if base.endswith(("Handle", "Owner")):
-            handle = HANDLES[base.removesuffix("Handle").removesuffix("Owner")]
             stars = "*" if base.endswith("Handle") else "**"
-            name = handle.removeprefix("text_") if self.name == "handle" else self.name
-            return f"{const}indexset_{handle} {stars}{name}"
+            name = self.handle().removeprefix("indexset_").removeprefix("text_")
+            return f"{const}{self.handle()} {stars}{name if self.name == 'handle' else self.name}"
         if not self.kind.startswith("&"):
             return f"{PLAIN[base]} {self.name}"
         length = f", size_t {self.length(words)}" if "[" in self.kind else ""
@@ -76,6 +87,16 @@ class Word:
         return ["c_char_p" if self.kind == "&[u8]" else "c_void_p", *["c_size_t"] * ("[" in self.kind)]
 
 
+def laid_out(head: str, words: str) -> str:
+    """Returns a parenthesis that `head` opens, on lines of at most the width."""
+    lines = [head]
+    for word in re.split("(?<=,) ", words):
+        if len(lines[-1]) + len(word) + 1 > WIDTH:
+            lines.append(" " * (len(head) - 1))
+        lines[-1] += word if lines[-1] == head else f" {word}"
+    return "\n".join(lines)
+
+
 @dataclasses.dataclass(frozen=True)
 class Call:
     """An export."""
@@ -84,16 +105,28 @@ class Call:
     words: list[Word]
     result: str
 
-    def in_c(self) -> str:
+    def in_c(self, prefix: str = "", end: str = ";") -> str:
         """Returns the prototype, in the layout of clang-format."""
-        head = f"{PLAIN[self.result]} indexset_{self.name}("
-        words = ", ".join(it.in_c(self.words) for it in self.words) or "void"
-        lines = [head]
-        for word in re.split("(?<=,) ", f"{words});"):
-            if len(lines[-1]) + len(word) + 1 > WIDTH:
-                lines.append(" " * (len(head) - 1))
-            lines[-1] += word if lines[-1] == head else f" {word}"
-        return "\n".join(lines)
+        head = f"{PLAIN[self.result]} {prefix}indexset_{self.name}("
+        words = ", ".join(it.in_c(self.words, prefix != "") for it in self.words) or "void"
+        return laid_out(head, f"{words}){end}")
+
+    def around(self) -> str | None:
+        """Returns the call of C around this export, or None if they are one."""
+        passed, first = [], []
+        for word in self.words:
+            parameters = re.findall(r"(\w+)(?:,|$)", word.in_c(self.words))
+            if word.stays:
+                first.append(f"    {word.handle()} copy_of_{parameters[0]} = *{parameters[0]};")
+                parameters[0] = f"&copy_of_{parameters[0]}"
+            passed += parameters
+        if self.name.endswith("_destroy"):
+            first.append(f"    if (*{passed[0]} == NULL) return;")
+        if not first:
+            return None
+        result = "" if self.result == "" else "return "
+        call = laid_out(f"    {result}inner_indexset_{self.name}(", f"{', '.join(passed)});")
+        return "\n".join([self.in_c("inner_"), self.in_c(end=" {"), *first, call, "}"])
 
     def in_python(self) -> str:
         words = [of for it in self.words for of in it.in_python()]
@@ -122,6 +155,12 @@ def header(exports: list[Call]) -> str:
     return PROTOTYPE.sub(lambda found: by_name[found[1]].in_c(), text)
 
 
+def around(exports: list[Call]) -> str:
+    """Returns the text of the calls of C that are not the exports themselves."""
+    text = [it for it in (call.around() for call in exports) if it is not None]
+    return "\n\n".join([ABOUT_CALLS, *text]) + "\n"
+
+
 def table(exports: list[Call]) -> str:
     """Returns the text of Python's table."""
     names = sorted({of for it in exports for line in [it.in_python()] for of in re.findall(r"c_\w+(?=[,\]])", line)})
@@ -142,11 +181,11 @@ def table(exports: list[Call]) -> str:
 
 
 def main() -> int:
-    ask = argparse.ArgumentParser(description="Writes the C prototypes and Python's table of calls from the exports.")
+    ask = argparse.ArgumentParser(description="Writes what C and Python have of the exports.")
     ask.add_argument("--check", action="store_true", help="write nothing, and fail where something is out of date")
     given = ask.parse_args()
     exports = calls()
-    texts = {HEADER: header(exports), TABLE: table(exports)}
+    texts = {HEADER: header(exports), CALLS: around(exports), TABLE: table(exports)}
     stale = [it for it, text in texts.items() if not it.exists() or it.read_text(encoding="utf-8") != text]
     if given.check and stale:
         sys.exit(f"stale: {', '.join(it.name for it in stale)}; run scripts/write_bindings.py")

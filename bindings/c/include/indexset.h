@@ -12,15 +12,22 @@
  * indexset_set_swap, or with the memory that contains it, as realloc does, and its old place is not used afterwards.
  * The caller never writes to its two fields. A handle that is not freed before it goes out of use leaks its memory.
  *
- * Const: a call that takes a const handle leaves the handle and its collection unchanged. It writes to the handle
- * during the call, so a handle must not be an object of a const type.
+ * Const: a call that takes a const handle writes neither to the handle nor to its collection, and allocates nothing,
+ * except that a clone and a replica of a map allocate what they make. So the handle may be an object of a const type,
+ * and both may be in memory that cannot be written.
  *
- * Threads: a handle is used by one thread, the one that made its collection, and in one call at a time. Handles of
- * several threads are independent. No call may be made from a signal handler, or from the forked child of a process
- * with threads.
+ * Threads: a handle and its collection belong to no thread: a call may be made, and the collection freed, by any
+ * thread. Calls on one handle that take a const handle may overlap. Any other call on it overlaps with none, and
+ * happens before or after each of them, by a lock, for example. Calls on different handles are independent: the library
+ * has no data of its own that it writes to, besides what malloc has.
  *
- * Null: no pointer may be null, not even that of an array of no elements. Two pointers of one call must not alias,
- * unless both are only read.
+ * Processes: a forked child has copies of the collections. If the parent had one thread, the child may make each call.
+ * If it had several, the child may make those that allocate and free nothing: the calls that take a const handle, but
+ * for clones and replicas. It then reads each collection that no call was changing at the time of the fork. Others need
+ * a malloc that may be called there, as that of glibc may. No call may be made from a signal handler.
+ *
+ * Null: no pointer may be null, not even that of an array of no elements; the calls whose names end in destroy take
+ * the address of a null pointer too. Two pointers of one call must not alias, unless both are only read.
  *
  * Memory: no call aborts. Memory comes from malloc and realloc. If one of them fails, the call returns INDEXSET_MEMORY
  * and has changed nothing, except that a call on many keys keeps those before the one that failed. malloc, realloc and
@@ -109,7 +116,8 @@ void indexset_set_free(indexset_set *set);
  * INDEXSET_MEMORY; unless it returns INDEXSET_YES, nothing is written. Each call takes this handle too. */
 uint32_t indexset_set_create(indexset_set **set);
 
-/* Frees a handle that indexset_set_create made and the collection that it owns, and writes a null pointer. */
+/* Frees a handle that indexset_set_create made and the collection that it owns, and writes a null pointer. Does nothing
+ * if the pointer is null. */
 void indexset_set_destroy(indexset_set **set);
 
 /* Moves a set from one handle to another: frees the set of `to`, if any, and gives `to` the set of `from`, if any.
@@ -222,7 +230,8 @@ void indexset_map_free(indexset_map *map);
  * INDEXSET_MEMORY; unless it returns INDEXSET_YES, nothing is written. Each call takes this handle too. */
 uint32_t indexset_map_create(indexset_map **map);
 
-/* Frees a handle that indexset_map_create made and the collection that it owns, and writes a null pointer. */
+/* Frees a handle that indexset_map_create made and the collection that it owns, and writes a null pointer. Does nothing
+ * if the pointer is null. */
 void indexset_map_destroy(indexset_map **map);
 
 /* Moves a map from one handle to another: frees the map of `to`, if any, and gives `to` the map of `from`, if any.
@@ -337,7 +346,8 @@ void indexset_multi_free(indexset_multi *multi);
  * INDEXSET_MEMORY; unless it returns INDEXSET_YES, nothing is written. Each call takes this handle too. */
 uint32_t indexset_multi_create(indexset_multi **multi);
 
-/* Frees a handle that indexset_multi_create made and the collection that it owns, and writes a null pointer. */
+/* Frees a handle that indexset_multi_create made and the collection that it owns, and writes a null pointer. Does
+ * nothing if the pointer is null. */
 void indexset_multi_destroy(indexset_multi **multi);
 
 /* Moves a multimap from one handle to another: frees the multimap of `to`, if any, and gives `to` the multimap of
@@ -464,7 +474,8 @@ void indexset_log_free(indexset_log *log);
  * call takes this handle too. */
 uint32_t indexset_log_create(indexset_log **log, size_t size, uint64_t next);
 
-/* Frees a handle that indexset_log_create made and the collection that it owns, and writes a null pointer. */
+/* Frees a handle that indexset_log_create made and the collection that it owns, and writes a null pointer. Does nothing
+ * if the pointer is null. */
 void indexset_log_destroy(indexset_log **log);
 
 /* Moves a map from one handle to another: frees the map of `to`, if any, and gives `to` the map of `from`, if any.
@@ -479,8 +490,8 @@ size_t indexset_log_len(const indexset_log *log);
 size_t indexset_log_node_count(const indexset_log *log);
 uint64_t indexset_log_next(const indexset_log *log);
 
-/* Sets the value of a key, and writes the changes to `events` and their number to `told`. Returns INDEXSET_YES if the
- * key was absent; INDEXSET_NO if it was present, and then writes the old value to `before`; or INDEXSET_MEMORY,
+/* Sets the value of a key, and writes the changes to `events` and their number to `told`. Returns INDEXSET_YES
+ * if the key was absent; INDEXSET_NO if it was present, and then writes the old value to `before`; or INDEXSET_MEMORY,
  * INDEXSET_NUMBERS, INDEXSET_NONE, or INDEXSET_UNFIT if `events` has fewer than INDEXSET_CHANGES places: then nothing
  * changes, and only `told` is written, as 0. */
 uint32_t indexset_log_insert(indexset_log *log, uint64_t key, uint64_t value, uint64_t *before, indexset_event *events,
@@ -554,7 +565,8 @@ void indexset_replica_free(indexset_replica *replica);
  * handle too. */
 uint32_t indexset_replica_create(indexset_replica **replica, uint64_t next);
 
-/* Frees a handle that indexset_replica_create made and the collection that it owns, and writes a null pointer. */
+/* Frees a handle that indexset_replica_create made and the collection that it owns, and writes a null pointer. Does
+ * nothing if the pointer is null. */
 void indexset_replica_destroy(indexset_replica **replica);
 
 /* Moves a replica from one handle to another: frees the replica of `to`, if any, and gives `to` the replica of
@@ -657,7 +669,8 @@ void indexset_text_map_free(indexset_text_map *map);
  * INDEXSET_MEMORY; unless it returns INDEXSET_YES, nothing is written. Each call takes this handle too. */
 uint32_t indexset_text_map_create(indexset_text_map **map);
 
-/* Frees a handle that indexset_text_map_create made and the collection that it owns, and writes a null pointer. */
+/* Frees a handle that indexset_text_map_create made and the collection that it owns, and writes a null pointer. Does
+ * nothing if the pointer is null. */
 void indexset_text_map_destroy(indexset_text_map **map);
 
 /* Moves a map from one handle to another: frees the map of `to`, if any, and gives `to` the map of `from`, if any.
@@ -784,7 +797,8 @@ void indexset_text_log_free(indexset_text_log *log);
  * call takes this handle too. */
 uint32_t indexset_text_log_create(indexset_text_log **log, size_t size, uint64_t next);
 
-/* Frees a handle that indexset_text_log_create made and the collection that it owns, and writes a null pointer. */
+/* Frees a handle that indexset_text_log_create made and the collection that it owns, and writes a null pointer. Does
+ * nothing if the pointer is null. */
 void indexset_text_log_destroy(indexset_text_log **log);
 
 /* Moves a map from one handle to another: frees the map of `to`, if any, and gives `to` the map of `from`, if any.
@@ -800,9 +814,9 @@ size_t indexset_text_log_node_count(const indexset_text_log *log);
 uint64_t indexset_text_log_next(const indexset_text_log *log);
 
 /* Sets the value of a key, keeps the changes in place of those of the call before, and writes their number, at most
- * INDEXSET_CHANGES, to `told`. Returns INDEXSET_YES if the key was absent; INDEXSET_NO if it was present, and then
- * writes the old value to `before`; or INDEXSET_MEMORY, INDEXSET_NUMBERS or INDEXSET_NONE: then nothing changes, and
- * only `told` is written, as 0. */
+ * INDEXSET_CHANGES, to `told`. Returns INDEXSET_YES if the key was absent; INDEXSET_NO if it was present, and
+ * then writes the old value to `before`; or INDEXSET_MEMORY, INDEXSET_NUMBERS or INDEXSET_NONE: then nothing changes,
+ * and only `told` is written, as 0. */
 uint32_t indexset_text_log_insert(indexset_text_log *log, const void *key, size_t key_len, uint64_t value,
                                   uint64_t *before, size_t *told);
 

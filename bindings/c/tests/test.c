@@ -129,11 +129,13 @@ static void test_heap(void) {
     indexset_set_swap(&other, set);
     CHECK(indexset_set_contains(set, 7) && !other.live);
     indexset_set_destroy(&set);
+    indexset_set_destroy(&set); /* of a null pointer: does nothing */
     CHECK(set == NULL);
     CHECK(indexset_map_create(&map) == INDEXSET_YES && indexset_map_insert(map, 1, 2, &out) == INDEXSET_YES);
     indexset_map_free(map);
     CHECK(indexset_map_len(map) == 0);
     indexset_map_destroy(&map);
+    indexset_map_destroy(&map); /* of a null pointer: does nothing */
     CHECK(map == NULL);
 }
 

@@ -88,6 +88,7 @@ static void test_life(void) {
     indexset_multi *heap = NULL;
     CHECK(indexset_multi_create(&heap) == INDEXSET_YES && indexset_multi_insert(heap, 1, 2) == INDEXSET_YES);
     indexset_multi_destroy(&heap);
+    indexset_multi_destroy(&heap); /* of a null pointer: does nothing */
     CHECK(heap == NULL);
 }
 

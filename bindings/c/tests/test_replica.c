@@ -27,6 +27,7 @@ static void test_none(void) {
     CHECK(indexset_replica_create(&heap, 50) == INDEXSET_YES && indexset_replica_next(heap) == 50);
     CHECK(indexset_replica_from_log(heap, &log) == INDEXSET_NONE);
     indexset_replica_destroy(&heap);
+    indexset_replica_destroy(&heap); /* of a null pointer: does nothing */
     CHECK(heap == NULL);
     indexset_replica_free(&replica);
     CHECK(!replica.live);

@@ -145,6 +145,7 @@ static void test_life(void) {
     CHECK(indexset_text_map_create(&heap) == INDEXSET_YES
           && indexset_text_map_insert(heap, apple, 5, 1, &value) == INDEXSET_YES);
     indexset_text_map_destroy(&heap);
+    indexset_text_map_destroy(&heap); /* of a null pointer: does nothing */
     CHECK(heap == NULL);
 }
 

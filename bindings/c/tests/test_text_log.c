@@ -201,6 +201,7 @@ static void test_life(void) {
     CHECK(indexset_text_log_create(&heap, 1, 0) == INDEXSET_UNFIT && heap == NULL);
     CHECK(indexset_text_log_create(&heap, 2, 50) == INDEXSET_YES && indexset_text_log_next(heap) == 50);
     indexset_text_log_destroy(&heap);
+    indexset_text_log_destroy(&heap); /* of a null pointer: does nothing */
     CHECK(heap == NULL);
     indexset_text_log_free(&log);
 }
