@@ -1,0 +1,4 @@
+pub mod CallerLemmas
+pub mod DecimalLemmas
+pub mod DigitCounts
+pub mod EventTexts

@@ -1,0 +1,5 @@
+pub mod Event
+pub mod Numbers
+pub mod Pairs
+pub mod Parts
+pub mod Texts

@@ -1,0 +1,18 @@
+//! Laws of texts. Each function does nothing; its contract is the law.
+ghost use Rattle.std.specs.Prelude.{◌≡◌, ℕ, true, List, Some};
+ghost use Rattle.indexset_events.specs.declared.change.ChangeEvent.{ChangeEvent};
+ghost use Rattle.indexset_wire.specs.Event.{EventInRange, event_of, event_text};
+ghost use Rattle.indexset_wire.specs.Parts.{lacks};
+
+use crate::item::Item;
+
+/// The text of an event is one line, and is read as the identical event. No other text is read as
+/// that event.
+pub fn events_are_read<T: Item>()
+    ensures one_line { (e : ChangeEvent T) → EventInRange T.texts e
+        → lacks 10 (event_text T.texts e) ≡ true }
+    ensures reads_back { (e : ChangeEvent T) → EventInRange T.texts e
+        → event_of T.texts (event_text T.texts e) ≡ Some e }
+    ensures only { (line : List ℕ) (e : ChangeEvent T) → event_of T.texts line ≡ Some e
+        → (line ≡ event_text T.texts e) × EventInRange T.texts e }
+{}
