@@ -61,7 +61,11 @@ LAYERS: list[tuple[list[str], list[Row]]] = [
                 "indexset_multi": (1, "logged multimap"),
                 "indexset_replica": (2, "follows events"),
             },
-            {"indexset_set": (0, "an ordered list"), "indexset_log": (1, "logged set, map")},
+            {
+                "indexset_set": (0, "an ordered list"),
+                "indexset_log": (1, "logged set, map"),
+                "indexset_wire": (3, "texts of events"),
+            },
         ],
     ),
     (

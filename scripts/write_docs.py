@@ -34,6 +34,7 @@ PAGES = {
     "multimap": ("Multimap", "indexset_multi", ""),
     "replica": ("Replica", "indexset_replica", ""),
     "events": ("Events", "indexset_events", ""),
+    "wire": ("Texts of events", "indexset_wire", ""),
     "base": ("What all stand on: `indexset::base`", "indexset_core", ""),
     "journal": ("Journal", "indexset_journal", ""),
 }

@@ -30,7 +30,7 @@ fn play(
         }
         board.insert((Reverse(score), name))?;
         for event in &events {
-            println!(rt; "event {event}")?;
+            println!(rt; "{event}")?;
             replica.apply(event)?; // here, or in another process that reads the line
         }
     }

@@ -78,7 +78,7 @@ fn follow(rt: &HostRuntime, copy: &mut Replica<Named>, events: &[ChangeEvent<Nam
 {
     replay_in_parts::<Named>();
     for event in events {
-        println!(rt; "event {event}")?;
+        println!(rt; "{event}")?;
         copy.apply(event)?;
     }
     Ok(())

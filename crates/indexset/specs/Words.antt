@@ -34,8 +34,8 @@
 --   `removal_events` |
 -- | replay | the steps of events in order; undefined from the first event that does not apply |
 -- | replica | a copy that holds a node list and the number of the event that it expects |
--- | text of a value | of a type that is `Spelled`: the bytes that `{}` writes, from which the
---   identical value is read, and no other. The text of a `Word` may be a part of a pair's text |
+-- | text of a value | of a type that is an `Item`: the bytes from which the identical value is
+--   read, and no other. The text of a `Token` may be a part of a pair's text |
 -- | clone premise | the assumption that a clone is identical to its source |
 -- | `clones`, `cloned` | clauses: events, or the nodes of a replica, with clones in the place of
 --   items; `cloned` of `Logged`: an item is a clone of another |
@@ -76,12 +76,13 @@ pub use Rattle.indexset_core.specs.Nodes.{concat, vec_items, IsNodeList}
 pub use Rattle.indexset_events.specs.Clones.{IsEventClone}
 pub use Rattle.indexset_events.specs.declared.change.ChangeEvent.{ChangeEvent}
 pub use Rattle.indexset_events.specs.Attach.{nodes_refusal}
-pub use Rattle.indexset_events.specs.EventText.{EventInRange, event_reading, event_text}
 pub use Rattle.indexset_events.specs.Keys.{key_removal_events}
-unfoldable pub use Rattle.indexset_events.specs.Spelling.{is_item, is_word}
 pub use Rattle.indexset_events.specs.Table.{put_events, checked_put_events, removal_events}
 pub use Rattle.indexset_events.specs.Replay.{IsNumberedFrom, numbered_from}
 pub use Rattle.indexset_events.specs.Replay.{replay, step, unassigned}
+pub use Rattle.indexset_wire.specs.Event.{EventInRange, event_of, event_text}
+unfoldable pub use Rattle.indexset_wire.specs.Parts.{is_item, is_token}
+pub use Rattle.indexset_wire.specs.Texts.{AreItems, AreTokens, Texts}
 pub use Rattle.indexset_log.specs.Tree.{Tree, refusal_for}
 pub use Rattle.indexset_multi.specs.Changed.{IsAdded, IsInserted}
 pub use Rattle.indexset_multi.specs.Keys.{entries, equal_pair, has_pair_of, pairs_of, without_first}

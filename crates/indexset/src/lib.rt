@@ -50,7 +50,12 @@ pub mod concurrent {
 
 /// The events of a tree's changes, laws on lists of them, and their texts.
 pub mod cdc {
-    pub use indexset_events::{change, laws, spelling};
+    pub use indexset_events::{change, laws};
+
+    /// The texts of items and of events, which go as lines.
+    pub mod text {
+        pub use indexset_wire::{event, item, laws};
+    }
 }
 
 /// A replica, which follows a tree by its events.

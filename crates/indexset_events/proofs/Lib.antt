@@ -3,7 +3,6 @@ pub mod CallerLemmas
 pub mod ChangeLemmas
 pub mod CloneLemmas
 pub mod DecimalLemmas
-pub mod EventTextLemmas
 pub mod NodeOrderLemmas
 pub mod MergeLemmas
 pub mod NodeEventLemmas

@@ -10,16 +10,13 @@ ghost use Rattle.indexset_core.specs.declared.pair.Pair.{Pair};
 ghost use Rattle.indexset_core.specs.Nodes.{concat, node_at, node_lengths, IsLawful, IsNodeList};
 ghost use Rattle.indexset_events.specs.Edits.{with_put, with_removed};
 ghost use Rattle.indexset_events.specs.Ends.{removal_events_at};
-ghost use Rattle.indexset_events.specs.EventText.{EventInRange, event_reading, event_text};
 ghost use Rattle.indexset_events.specs.Merging.{IsDense, merge_after};
 ghost use Rattle.indexset_events.specs.Keys.{key_removal_events};
 ghost use Rattle.indexset_events.specs.Nodes.{are_nodes};
 ghost use Rattle.indexset_events.specs.Replay.{step, step_plain, replay, numbered_from};
 ghost use Rattle.indexset_events.specs.Replay.{unassigned, IsNumberedFrom};
-ghost use Rattle.indexset_events.specs.Spelling.{lacks};
 ghost use Rattle.indexset_events.specs.Table.{checked_put_events, put_events};
 ghost use Rattle.indexset_events.specs.Table.{removal_events, place_removal_count};
-ghost use Rattle.indexset_events.specs.Text.{event_shown};
 ghost use Rattle.indexset_events.specs.WithoutMerges.{is_merge, replay_without_merges};
 ghost use Rattle.indexset_events.specs.declared.change.ChangeEvent.{ChangeEvent};
 ghost use Rattle.indexset_events.specs.declared.change.ChangeEventUnassigned.{
@@ -33,8 +30,6 @@ ghost use Rattle.indexset_events.specs.declared.change.ChangeEventUnassigned.The
   SplitNode,
   MergeNodes,
 };
-
-use crate::spelling::Spelled;
 
 /// The replay of a concatenation is the replay of its parts in order.
 pub fn replay_in_parts<T: Ord>()
@@ -176,18 +171,4 @@ pub fn three_events<T: Ord>()
 pub fn three_events_by_key<K: Ord, V>()
     ensures { (size : ℕ) (ns : List (List (Pair K V))) (k : K) →
         length (key_removal_events K.cmp size ns k) ≤ 3 }
-{}
-
-/// The text of an event is what `{}` writes, and is read as the identical event.
-///
-/// It is one line, if items have texts. No other text is read as that event.
-pub fn texts_are_read<T: Spelled>()
-    ensures written { (e : ChangeEvent T) → event_shown T.output e
-        ≡ Some (event_text T.spelling e) }
-    ensures one_line { (e : ChangeEvent T) → EventInRange T.in_range e
-        → lacks 10 (event_text T.spelling e) ≡ true }
-    ensures read { (e : ChangeEvent T) → EventInRange T.in_range e
-        → event_reading T.reading (event_text T.spelling e) ≡ Some e }
-    ensures only { (line : List ℕ) (e : ChangeEvent T) → event_reading T.reading line ≡ Some e
-        → (line ≡ event_text T.spelling e) × EventInRange T.in_range e }
 {}

@@ -5,13 +5,11 @@
 //! of an event on a list of nodes, `specs/Merging.antt` when small neighbours are merged, and
 //! `specs/Attach.antt` which nodes can be inserted whole; [`nodes`] has that test. [`laws`] has
 //! consequences of these definitions: replay in parts, a bound on the number of nodes, examples.
-//! [`spelling`] has the texts of items and of events: the text that `{}` writes of an event is read
-//! as the identical event. [`parts`] reads numbers and splits texts, for crates with texts of their
-//! own.
+//! `specs/Text.antt` defines the text that `{}` writes of an event; `indexset_wire` reads it.
+//! [`parts`] reads numbers and splits texts, for crates with texts of their own.
 #![tactic(auto)]
 
 pub mod change;
 pub mod laws;
 pub mod nodes;
 pub mod parts;
-pub mod spelling;

@@ -1,10 +1,9 @@
 //! Numbers and parts of a text.
-ghost use Rattle.std.specs.Prelude.{◌≡◌, ◌≢◌, ℕ, ◌^◌, ◌<◌, ◌≤◌, ◌==◌, ℤ, None};
-ghost use Rattle.std.specs.Prelude.{Some, is_some, position, MatchOption};
+ghost use Rattle.std.specs.Prelude.{◌≡◌, ◌≢◌, ℕ, ◌^◌, ◌<◌, ◌≤◌, ◌==◌, position, MatchOption};
 ghost use Rattle.std.specs.Fmt.{decimal};
 ghost use Rattle.std.specs.Option.{option_map};
 ghost use Rattle.std.specs.Str.Parse.{AllDigits, digits_value};
-ghost use Rattle.indexset_events.specs.Spelling.{behind, cut_at, cut_item, number_of, signed_below};
+ghost use Rattle.indexset_events.specs.Spelling.{cut_at, number_of};
 
 /// Returns the number with this plain decimal text, if any.
 pub fn number(text: &[u8]) -> Option<u64>
@@ -46,38 +45,6 @@ pub fn read_number(text: &[u8]) -> Option<u64>
     number(text)
 }
 
-/// Returns the text if it is the plain decimal of a signed number from -half to below half.
-pub(crate) fn signed_text(text: &[u8], half: u64) -> Option<&str>
-    requires { half ≤ 2 ^ 63 }
-    ensures { MatchOption result (signed_below half text.now ≡ None) (λ s. (s.now ≡ text.now)
-        × ((z : ℤ) × (signed_below half text.now ≡ Some z))) }
-{
-    if !is_signed(text, half) {
-        return None;
-    }
-    match std::str::from_utf8(text) {
-        Ok(plain) => Some(plain),
-        Err(_) => None,
-    }
-}
-
-// Returns whether the text is the plain decimal of such a number.
-#[tactic(auto, unfolding(crate::specs::Spelling::signed_below))]
-fn is_signed(text: &[u8], half: u64) -> bool
-    ensures { result ≡ is_some (signed_below half text.now) }
-{
-    if text.is_empty() || text[0] != b'-' {
-        return match read_number(text) {
-            Some(number) => number < half,
-            None => false,
-        };
-    }
-    match read_number(&text[1..]) {
-        Some(number) => 0 < number && number <= half,
-        None => false,
-    }
-}
-
 /// Splits the text at the first such byte, and returns the parts before and after it.
 pub fn cut(text: &[u8], byte: u8) -> Option<(&[u8], &[u8])>
     ensures { option_map (λ cut. (cut.0.now, cut.1.now)) result ≡ cut_at byte text.now }
@@ -91,26 +58,4 @@ fn first_place(text: &[u8], byte: u8) -> Option<usize>
     ensures { result ≡ position (λ b. b == byte) text.now }
 {
     text.iter().position(|b| *b == byte)
-}
-
-/// Returns the text without the prefix, if it begins with it.
-pub(crate) fn after<'a>(text: &'a [u8], front: &[u8]) -> Option<&'a [u8]>
-    ensures { option_map (λ rest. rest.now) result ≡ behind front.now text.now }
-{
-    text.strip_prefix(front)
-}
-
-/// Returns the text of the first item, and the rest after the space behind it.
-pub(crate) fn cut_off(text: &[u8]) -> Option<(&[u8], &[u8])>
-    ensures { option_map (λ cut. (cut.0.now, cut.1.now)) result ≡ cut_item text.now }
-{
-    let mut place = 0;
-    while place < text.len() {
-        let rest = &text[place + 1..];
-        if text[place] == b' ' && (rest.is_empty() || rest[0] != b'#') {
-            return Some((&text[..place], rest));
-        }
-        place += 1;
-    }
-    None
 }

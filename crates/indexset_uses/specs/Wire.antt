@@ -5,7 +5,7 @@ use Rattle.std.proofs.Common.{ℕ, Option, None, Some, refl, subst}
 use lib.Chars.{codes}
 use Rattle.std.specs.Str.{bytes_eq}
 use Rattle.std.proofs.lemmas.Slice.Eq.{bytes_eq-Decides}
-use Rattle.indexset.specs.Words.{is_item, is_word}
+use Rattle.indexset.specs.Words.{AreItems, AreTokens, Texts, is_item, is_token}
 use Rattle.indexset_uses.specs.declared.wire.Side.{Side}
 use Rattle.indexset_uses.specs.declared.wire.Side.TheVariants.{Buy, Sell}
 
@@ -19,12 +19,12 @@ side_of text =
     cond (bytes_eq text (codes "buy")) (Some Buy)
     (cond (bytes_eq text (codes "sell")) (Some Sell) None)
 
-pub side_told : (s : Side) → ⊤ → side_of (side_text s) ≡ Some s
-side_told Buy h = refl
-side_told Sell h = refl
+side_reads_back : (s : Side) → ⊤ → side_of (side_text s) ≡ Some s
+side_reads_back Buy h = refl
+side_reads_back Sell h = refl
 
-pub side_sound : (text : List ℕ) (s : Side) → side_of text ≡ Some s → (text ≡ side_text s) × ⊤
-side_sound text s e = at (bytes_eq text (codes "buy")) (bytes_eq text (codes "sell")) refl refl e
+side_only : (text : List ℕ) (s : Side) → side_of text ≡ Some s → (text ≡ side_text s) × ⊤
+side_only text s e = at (bytes_eq text (codes "buy")) (bytes_eq text (codes "sell")) refl refl e
   where
     at : (a b : Bool) → bytes_eq text (codes "buy") ≡ a → bytes_eq text (codes "sell") ≡ b
         → cond a (Some Buy) (cond b (Some Sell) None) ≡ Some s → (text ≡ side_text s) × ⊤
@@ -34,12 +34,22 @@ side_sound text s e = at (bytes_eq text (codes "buy")) (bytes_eq text (codes "se
         subst (λ q. (text ≡ side_text q) × ⊤) same ((bytes_eq-Decides text (codes "sell")).0 is, tt)
     at false false _ _ e = let none : (let n : Option Side = None in n) ≡ Some s = e in cc
 
-pub side_word : (s : Side) → ⊤ → is_word (side_text s) ≡ true
-unfolding is_word
-side_word Buy h = refl
-side_word Sell h = refl
+side_token : (s : Side) → ⊤ → is_token (side_text s) ≡ true
+unfolding is_token
+side_token Buy h = refl
+side_token Sell h = refl
 
-pub side_item : (s : Side) → ⊤ → is_item (side_text s) ≡ true
+side_item : (s : Side) → ⊤ → is_item (side_text s) ≡ true
 unfolding is_item
 side_item Buy h = refl
 side_item Sell h = refl
+
+-- the texts of sides: all sides are in range
+abbrev pub side_texts : Texts Side
+side_texts = record { text = side_text; parse = side_of; InRange = λ s. ⊤ }
+
+pub side_items : AreItems side_texts
+side_items = record { reads_back = side_reads_back; only = side_only; one_item = side_item }
+
+pub side_tokens : AreTokens side_texts
+side_tokens = record { items = side_items; one_token = side_token }

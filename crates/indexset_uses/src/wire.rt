@@ -1,15 +1,17 @@
 //! Events that are sent as lines of text, with items of a type of our own.
-ghost use Rattle.std.specs.Prelude.{◌≡◌, ⊤, Some, IfOk, refl};
-ghost use Rattle.indexset_uses.specs.Wire.{side_item, side_of, side_sound};
-ghost use Rattle.indexset_uses.specs.Wire.{side_text, side_told, side_word};
+ghost use Rattle.std.specs.Prelude.{◌≡◌, Some, IfOk, false};
+ghost use Rattle.indexset_uses.specs.Wire.{side_items, side_text, side_texts, side_tokens};
 
+use anyhow::Result;
 use indexset::base::pair::Pair;
 use indexset::cdc::change::ChangeEvent;
-use indexset::cdc::laws::texts_are_read;
-use indexset::cdc::spelling::{Spelled, Word, read_event};
+use indexset::cdc::text::event::{read_event, recall_range, write_event};
+use indexset::cdc::text::item::{Item, Token};
+use indexset::cdc::text::laws::events_are_read;
 use indexset::concurrent::map::BTreeMap;
-use std::alloc::Global;
+use std::alloc::{AllocError, Global};
 use std::fmt;
+use std::io::{self, Write};
 
 /// A side of a market.
 #[derive(Clone, Copy, Debug, PartialEq, Eq, PartialOrd, Ord)]
@@ -32,50 +34,47 @@ impl fmt::Display for Side {
     }
 }
 
-impl Spelled for Side {
-    ghost spelling = { side_text };
+impl Item for Side {
+    ghost texts = { side_texts };
 
-    ghost reading = { side_of };
+    ghost allocates = { false };
 
-    ghost in_range = { λ side. ⊤ };
+    ghost items = { side_items };
 
-    ghost shown = { λ side. refl };
-
-    ghost told = { side_told };
-
-    ghost sound = { side_sound };
-
-    ghost apart = { side_item };
-
-    fn read(text: &[u8]) -> Option<Side> {
+    fn read(_alloc: Global, text: &[u8]) -> std::result::Result<Option<Side>, AllocError> {
         if text == b"buy".as_slice() {
-            Some(Side::Buy)
+            Ok(Some(Side::Buy))
         } else if text == b"sell".as_slice() {
-            Some(Side::Sell)
+            Ok(Some(Side::Sell))
         } else {
-            None
+            Ok(None)
+        }
+    }
+
+    fn write<W: Write>(&self, writer: &mut W) -> io::Result<()> {
+        match self {
+            Side::Buy => writer.write_all(b"buy"),
+            Side::Sell => writer.write_all(b"sell"),
         }
     }
 
     fn recall_range(&self) {}
 }
 
-impl Word for Side {
-    ghost whole = { side_word };
+impl Token for Side {
+    ghost tokens = { side_tokens };
 }
 
 /// The best price of each side.
 pub type Prices = BTreeMap<Side, i64, Vec<Pair<Side, i64>>>;
 
 /// Returns the event that is read from the line of this one, which is the same event.
-pub fn resent<T: Spelled + Drop>(
-    alloc: Global,
-    event: &ChangeEvent<T>,
-) -> Result<Option<ChangeEvent<T>>, fmt::Error>
+pub fn resent<T: Item>(alloc: Global, event: &ChangeEvent<T>) -> Result<Option<ChangeEvent<T>>>
     ensures { IfOk result (λ read. read ≡ Some event.now) }
 {
-    event.recall_range();
-    texts_are_read::<T>();
-    let line = format!(in alloc; "{event}")?;
-    Ok(read_event(line.as_bytes()))
+    recall_range(event);
+    events_are_read::<T>();
+    let mut line = Vec::new(alloc);
+    write_event(&mut line, event)?;
+    Ok(read_event(alloc, line.as_slice())?)
 }

@@ -12,6 +12,7 @@ use Rattle.indexset_wire.specs.Pairs.Laws.{lacks_append}
 use Rattle.indexset_wire.specs.Parts.{cut_at, lacks}
 use Rattle.indexset_wire.specs.Parts.Laws.{Lacks, cut_sound, cut_told, item_parts, lacks_tested, map_some, none_some, some_inj, then_some}
 use Rattle.indexset_wire.specs.Texts.{AreItems, Texts}
+use Rattle.indexset_events.specs.Text.{event_shown}
 use Rattle.indexset_events.specs.declared.change.ChangeEvent.{ChangeEvent}
 use Rattle.indexset_events.specs.declared.change.ChangeEvent.TheVariants.{InsertAt, RemoveAt, CreateNode, RemoveNode, SplitNode, MergeNodes}
 use Rattle.indexset_events.specs.declared.change.Id.{Id}
@@ -50,6 +51,15 @@ module _ {T : Type 0} (texts : Texts T) where
 
   merge_line : (id : Id) (max next : T) → event_text texts (MergeNodes id max next) ≡ line_of id (codes "merge") (named max (texts.text next))
   merge_line id max next = behind_name id (codes "merge") max (texts.text next)
+
+module _ {T : Type 0} (output : T → Option (List ℕ)) (texts : Texts T) (shown : (x : T) → output x ≡ Some (texts.text x)) where
+  pub event_is_shown : (e : ChangeEvent T) → event_shown output e ≡ Some (event_text texts e)
+  event_is_shown (CreateNode id m) = rw (shown m) refl
+  event_is_shown (RemoveNode id m) = rw (shown m) refl
+  event_is_shown (InsertAt id m v i) = rw (shown m, shown v) (ap Some (sym (insert_line texts id m v i)))
+  event_is_shown (RemoveAt id m v i) = rw (shown m, shown v) (ap Some (sym (remove_line texts id m v i)))
+  event_is_shown (SplitNode id m k) = rw (shown m) (ap Some (sym (split_line texts id m k)))
+  event_is_shown (MergeNodes id m w) = rw (shown m, shown w) (ap Some (sym (merge_line texts id m w)))
 
 -- an item has no space
 item_lacks : {T : Type 0} (texts : Texts T) → AreItems texts → (x : T) → texts.InRange x → Lacks 32 (texts.text x)

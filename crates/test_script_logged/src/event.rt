@@ -7,43 +7,11 @@ use indexset_events::change::{ChangeEvent, Id};
 use std::str::SplitWhitespace;
 use test_script::script::{Stop, read, tell};
 
-/// Writes an event.
-pub fn tell_event<T: Item>(answer: &mut String, event: &ChangeEvent<T>) -> Result<(), Stop> {
-    tell(answer, event.id().inner())?;
-    let told = match event {
-        ChangeEvent::InsertAt {
-            max_value,
-            value,
-            index,
-            ..
-        } => write!(answer, " insert {max_value} {value} {index}"),
-        ChangeEvent::RemoveAt {
-            max_value,
-            value,
-            index,
-            ..
-        } => write!(answer, " remove {max_value} {value} {index}"),
-        ChangeEvent::CreateNode { max_value, .. } => write!(answer, " create {max_value}"),
-        ChangeEvent::RemoveNode { max_value, .. } => write!(answer, " drop {max_value}"),
-        ChangeEvent::SplitNode {
-            max_value,
-            split_index,
-            ..
-        } => write!(answer, " split {max_value} {split_index}"),
-        ChangeEvent::MergeNodes {
-            max_value,
-            next_max_value,
-            ..
-        } => write!(answer, " merge {max_value} {next_max_value}"),
-    };
-    Ok(told?)
-}
-
 /// Writes events, each after a comma.
 pub fn tell_events<T: Item>(answer: &mut String, events: &[ChangeEvent<T>]) -> Result<(), Stop> {
     for event in events {
         answer.push_str(",")?;
-        tell_event(answer, event)?;
+        tell(answer, event)?;
     }
     Ok(())
 }

@@ -3,8 +3,10 @@
 use indexset_core::multipair::MultiPair;
 use indexset_core::pair::Pair;
 use indexset_events::change::{ChangeEvent, ChangeEventUnassigned, Id};
-use indexset_events::spelling::Spelled;
+use indexset_wire::event::{read_event, write_event};
+use indexset_wire::item::Item;
 use std::alloc::Global;
+use std::fmt::Display;
 use std::test::Fail;
 
 /// Returns whether a number is displayed with a width of three.
@@ -73,47 +75,68 @@ fn events_of_pairs_are_compared_by_keys(rt: HostRuntime) {
 }
 
 /// Returns whether the text is read as an event that has this text.
-fn is_read<T: Spelled + Drop>(alloc: Global, text: &str) -> bool {
-    match text.parse::<ChangeEvent<T>>() {
-        Ok(event) => match format!(in alloc; "{event}") {
-            Ok(written) => written.as_str() == text,
+fn is_read<T: Item>(alloc: Global, text: &str) -> bool {
+    let mut line = Vec::new(alloc);
+    match read_event::<T>(alloc, text.as_bytes()) {
+        Ok(Some(event)) => {
+            write_event(&mut line, &event).is_ok() && line.as_slice() == text.as_bytes()
+        }
+        _ => false,
+    }
+}
+
+/// Returns whether `{}` writes the text of the event that is read from it.
+fn is_shown<T: Item + Display>(alloc: Global, text: &str) -> bool {
+    match read_event::<T>(alloc, text.as_bytes()) {
+        Ok(Some(event)) => match format!(in alloc; "{event}") {
+            Ok(shown) => shown.as_str() == text,
             Err(_) => false,
         },
-        Err(_) => false,
+        _ => false,
     }
 }
 
 #[test]
 fn texts_of_events_are_read(rt: HostRuntime) {
     let alloc = rt.alloc();
-    assert!(rt; is_read::<u64>(alloc, "7 insert 5 at 2 in the node of 18446744073709551615"));
-    assert!(rt; is_read::<i8>(alloc, "0 remove -128 at 0 in the node of 127"));
-    assert!(rt; is_read::<u32>(alloc, "18446744073709551615 create the node of 4294967295"));
-    assert!(rt; is_read::<i64>(alloc, "1 drop the node of -9223372036854775808"));
-    assert!(rt; is_read::<Pair<u16, i32>>(alloc, "2 split the node of 65535:-1 at 128"));
+    assert!(rt; is_read::<u64>(alloc, "7 insert 18446744073709551615 5 2"));
+    assert!(rt; is_read::<i8>(alloc, "0 remove 127 -128 0"));
+    assert!(rt; is_read::<u32>(alloc, "18446744073709551615 create 4294967295"));
+    assert!(rt; is_read::<i64>(alloc, "1 drop -9223372036854775808"));
+    assert!(rt; is_read::<Pair<u16, i32>>(alloc, "2 split 65535:-1 128"));
 }
 
 #[test]
 fn texts_of_events_of_numbered_pairs_are_read(rt: HostRuntime) {
     let alloc = rt.alloc();
-    let merge = "3 merge the node of 1:2 #0 with the node of 3:4 #5";
-    let insert = "4 insert 1:2 #7 at 1 in the node of 1:9 #3";
+    let merge = "3 merge 1:0:2 3:5:4";
+    let insert = "4 insert 1:3:9 1:7:2 1";
     assert!(rt; is_read::<MultiPair<u64, u64>>(alloc, merge));
     assert!(rt; is_read::<MultiPair<i16, usize>>(alloc, insert));
     assert!(rt; !is_read::<Pair<u64, u64>>(alloc, merge));
 }
 
 #[test]
+fn events_are_displayed_as_they_are_read(rt: HostRuntime) {
+    let alloc = rt.alloc();
+    assert!(rt; is_shown::<u64>(alloc, "7 insert 9 5 2"));
+    assert!(rt; is_shown::<i8>(alloc, "7 remove -1 -5 2"));
+    assert!(rt; is_shown::<Pair<u16, u8>>(alloc, "7 split 9:1 2"));
+    assert!(rt; is_shown::<Pair<u16, u8>>(alloc, "7 merge 9:1 10:2"));
+}
+
+#[test]
 fn texts_of_no_event_are_refused(rt: HostRuntime) {
     let alloc = rt.alloc();
-    assert!(rt; !is_read::<u8>(alloc, "1 create the node of 256"));
-    assert!(rt; !is_read::<u8>(alloc, "1 create the node of +5"));
-    assert!(rt; !is_read::<u8>(alloc, "1 create the node of 05"));
-    assert!(rt; !is_read::<i8>(alloc, "1 create the node of -0"));
-    assert!(rt; !is_read::<i8>(alloc, "1 create the node of -129"));
-    assert!(rt; !is_read::<u64>(alloc, "18446744073709551616 create the node of 5"));
-    assert!(rt; !is_read::<u64>(alloc, "1 create the node of 5 "));
-    assert!(rt; !is_read::<u64>(alloc, "1 make the node of 5"));
-    assert!(rt; !is_read::<u64>(alloc, "1 insert 5 at 2 in the node of "));
+    assert!(rt; !is_read::<u8>(alloc, "1 create 256"));
+    assert!(rt; !is_read::<u8>(alloc, "1 create +5"));
+    assert!(rt; !is_read::<u8>(alloc, "1 create 05"));
+    assert!(rt; !is_read::<i8>(alloc, "1 create -0"));
+    assert!(rt; !is_read::<i8>(alloc, "1 create -129"));
+    assert!(rt; !is_read::<u64>(alloc, "18446744073709551616 create 5"));
+    assert!(rt; !is_read::<u64>(alloc, "1 create 5 "));
+    assert!(rt; !is_read::<u64>(alloc, "1 make 5"));
+    assert!(rt; !is_read::<u64>(alloc, "1 insert 5 2 "));
+    assert!(rt; !is_read::<Pair<u8, u8>>(alloc, "1 create 5:0:5"));
     assert!(rt; !is_read::<u64>(alloc, ""));
 }

@@ -15,9 +15,9 @@ impl fmt::Display for Id {
     }
 }
 
-/// Formats the event as one line without its end, as in `7 insert 5 at 2 in the node of 9`.
+/// Formats the event as one line without its end, as in `7 insert 9 5 2`.
 ///
-/// The line has the number, the change, and the node by its last item.
+/// The line has the number, the change, the last item of the node, and then the item and its index.
 impl<T: fmt::Display> fmt::Display for ChangeEvent<T> {
     ghost use Rattle.indexset_events.specs.Text.{event_shown};
 
@@ -27,35 +27,29 @@ impl<T: fmt::Display> fmt::Display for ChangeEvent<T> {
         let id = self.id();
         match self {
             ChangeEvent::InsertAt {
-                max_value: last,
+                max_value: max,
                 value,
                 index,
                 ..
-            } => write!(f, "{id} insert {value} at {index} in the node of {last}"),
+            } => write!(f, "{id} insert {max} {value} {index}"),
             ChangeEvent::RemoveAt {
-                max_value: last,
+                max_value: max,
                 value,
                 index,
                 ..
-            } => write!(f, "{id} remove {value} at {index} in the node of {last}"),
-            ChangeEvent::CreateNode {
-                max_value: last,
-                ..
-            } => write!(f, "{id} create the node of {last}"),
-            ChangeEvent::RemoveNode {
-                max_value: last,
-                ..
-            } => write!(f, "{id} drop the node of {last}"),
+            } => write!(f, "{id} remove {max} {value} {index}"),
+            ChangeEvent::CreateNode { max_value: max, .. } => write!(f, "{id} create {max}"),
+            ChangeEvent::RemoveNode { max_value: max, .. } => write!(f, "{id} drop {max}"),
             ChangeEvent::SplitNode {
-                max_value: last,
+                max_value: max,
                 split_index,
                 ..
-            } => write!(f, "{id} split the node of {last} at {split_index}"),
+            } => write!(f, "{id} split {max} {split_index}"),
             ChangeEvent::MergeNodes {
-                max_value: last,
+                max_value: max,
                 next_max_value: next,
                 ..
-            } => write!(f, "{id} merge the node of {last} with the node of {next}"),
+            } => write!(f, "{id} merge {max} {next}"),
         }
     }
 }
