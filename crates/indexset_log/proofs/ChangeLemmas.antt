@@ -20,7 +20,7 @@ use Rattle.indexset_events.specs.Keys.{IsPairClone}
 use Rattle.indexset_events.specs.Located.{IsFoundIn}
 use Rattle.indexset_events.specs.Replay.{numbered_from, replay}
 use Rattle.indexset_events.specs.Table.{put_events, removal_events, place_removal_count, place_removal_events}
-use Rattle.indexset_log.specs.PlaceRemoval.{after_optional_removal, events_from, item_from}
+use Rattle.indexset_log.specs.PlaceRemoval.{after_optional_removal, optional_removal_events, placed_item}
 use Rattle.indexset_log.specs.Tree.{IsTree, Tree}
 use Rattle.indexset_events.specs.declared.change.ChangeEvent.{ChangeEvent}
 use Rattle.indexset_events.specs.declared.change.ChangeEventUnassigned.{ChangeEventUnassigned}
@@ -63,7 +63,7 @@ module _ {T : Type 0} {cmp : T → T → Ordering} {old new : Tree T} {made : Ch
       let same : H → fs ≡ numbered_from old.next made.events = λ h. same_from_all_zip (IsEventClone C) (numbered_from old.next made.events) fs clones (event_same C (identical h)) in
       record {
         clones = clones;
-        events = same;
+        identical = same;
         numbered = clones_numbered C old.next made.events fs clones;
         replay = λ h. rw (same h) d.table;
         at_most_three_events = omega (arith, length_all_zip (IsEventClone C) (numbered_from old.next made.events) fs clones, length-numbered old.next made.events, d.at_most_three_events);
@@ -78,7 +78,7 @@ pub pairs_told : {K V : Type 0} (cmp : K → K → Ordering) (C : K → K → Ty
     → ItemEvents (by_key cmp) (IsPairClone C D) old new made fs → PairEvents cmp C D old new made fs
 pairs_told cmp C D s = record {
   clones = s.clones;
-  events = λ h. s.events (pair_same h.0 h.1);
+  identical = λ h. s.identical (pair_same h.0 h.1);
   numbered = s.numbered;
   replay = λ h. s.replay (pair_same h.0 h.1);
   at_most_three_events = s.at_most_three_events;
@@ -193,8 +193,8 @@ absent_after cmp old v none = rw (absent_here cmp old.nodes v none) refl
 -- the removal from an optional place
 pub record Goes {T : Type 0} (old : Tree T) (place : Option (ℕ × ℕ)) (answer : Option T) (es : List (ChangeEventUnassigned T)) (new : Tree T) : Type 0 where
   pub inside : IfSome place (λ p. (p.0 < length old.nodes) × (p.1 < length (node_at old.nodes p.0)))
-  pub item : item_from old.nodes place ≡ answer
-  pub events : events_from old place ≡ es
+  pub item : placed_item old.nodes place ≡ answer
+  pub events : optional_removal_events old place ≡ es
   pub after : after_optional_removal old place ≡ new
 
 pub value_goes : {T Q : Type 0} {cmp : T → T → Ordering} {order : T → Q → Ordering} {among : Q → Q → Ordering}
@@ -215,7 +215,7 @@ value_goes {old = old} o acts law v (Some p) found =
     record { inside = (found.node_in, found.here.inside); item = found.item; events = rw x.1 (sym (sought_events o law found acts x.1)); after = sym (sought_after old acts law found) }
 
 -- the number of its events
-pub events_counted : {T : Type 0} (old : Tree T) (k i : ℕ) → i < length (node_at old.nodes k) → length (events_from old (Some (k, i))) ≡ place_removal_count old.size old.nodes k i
+pub events_counted : {T : Type 0} (old : Tree T) (k i : ℕ) → i < length (node_at old.nodes k) → length (optional_removal_events old (Some (k, i))) ≡ place_removal_count old.size old.nodes k i
 events_counted old k i here =
     let x = some_read (node_at old.nodes k) i here in
     rw x.1 (taking_length old.size old.nodes k i x.0)

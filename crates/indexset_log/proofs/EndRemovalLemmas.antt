@@ -21,7 +21,7 @@ use Rattle.indexset_core.proofs.CallerLemmas.{equal_read, found_put, found_witho
 use Rattle.indexset_log.specs.Changed.{Changed, Fits, first_removal, last_removal}
 use Rattle.indexset_log.specs.Edits.{after_removal}
 use Rattle.indexset_events.specs.Ends.{IsItemAt, removal_events_at}
-use Rattle.indexset_log.specs.Ends.{after_removal_at}
+use Rattle.indexset_log.specs.Edits.{after_removal_at}
 use Rattle.indexset_events.specs.Table.{removal_events}
 use Rattle.indexset_log.specs.Tree.{IsTree, Tree}
 use Rattle.indexset_log.proofs.ChangeLemmas.{Goes, found_after, removal_changed, unchanged}

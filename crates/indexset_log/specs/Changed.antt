@@ -11,9 +11,8 @@ use Rattle.indexset_events.specs.Clones.{AreTableEvents}
 use Rattle.indexset_core.specs.Clones.{AreIdentical}
 use Rattle.indexset_events.specs.Edits.{with_removed}
 use Rattle.indexset_log.specs.Edits.{after_checked_put, after_put}
-use Rattle.indexset_log.specs.Edits.{after_removal, after_place_removal}
+use Rattle.indexset_log.specs.Edits.{after_removal, after_removal_at, after_place_removal}
 use Rattle.indexset_events.specs.Ends.{removal_events_at}
-use Rattle.indexset_log.specs.Ends.{after_removal_at}
 use Rattle.indexset_events.specs.Merging.{IsDense}
 use Rattle.indexset_events.specs.Keys.{IsPairClone, key_removal_events}
 use Rattle.indexset_log.specs.Keys.{after_key_removal}
@@ -114,21 +113,21 @@ pub record Changed {T : Type 0} (cmp : T → T → Ordering) (old new : Tree T)
 -- the events of the change are returned, with clones in the place of their items; under H the
 -- clones are identical to them
 pub record AreEventsOf {T : Type 0} (H : Type 0) (cmp : T → T → Ordering) (C : T → T → Type 0)
-    (old new : Tree T) (made : Change T) (told : List (ChangeEvent T)) : Type 0 where
-  pub clones : AreTableEvents C old.next made.events told
-  pub events : H → told ≡ numbered_from old.next made.events
-  pub numbered : IsNumberedFrom old.next told
-  pub replay : H → replay cmp old.nodes told ≡ Some new.nodes
-  pub at_most_three_events : length told ≤ 3
+    (old new : Tree T) (made : Change T) (events : List (ChangeEvent T)) : Type 0 where
+  pub clones : AreTableEvents C old.next made.events events
+  pub identical : H → events ≡ numbered_from old.next made.events
+  pub numbered : IsNumberedFrom old.next events
+  pub replay : H → replay cmp old.nodes events ≡ Some new.nodes
+  pub at_most_three_events : length events ≤ 3
 
 -- the events that a set returns
 abbrev pub ItemEvents : {T : Type 0} → (T → T → Ordering) → (T → T → Type 0) → Tree T → Tree T
     → Change T → List (ChangeEvent T) → Type 0
-ItemEvents cmp C old new made told = AreEventsOf (AreIdentical C) cmp C old new made told
+ItemEvents cmp C old new made events = AreEventsOf (AreIdentical C) cmp C old new made events
 
 -- the events that a map returns
 abbrev pub PairEvents : {K V : Type 0} → (K → K → Ordering) → (K → K → Type 0)
     → (V → V → Type 0) → Tree (Pair K V) → Tree (Pair K V) → Change (Pair K V)
     → List (ChangeEvent (Pair K V)) → Type 0
-PairEvents cmp C D old new made told =
-    AreEventsOf (AreIdentical C × AreIdentical D) (by_key cmp) (IsPairClone C D) old new made told
+PairEvents cmp C D old new made events =
+    AreEventsOf (AreIdentical C × AreIdentical D) (by_key cmp) (IsPairClone C D) old new made events

@@ -1,9 +1,10 @@
 -- The tree after each call.
-use Rattle.std.specs.Prelude.{ℕ, ◌+◌, length, if◌then◌else◌}
+use Rattle.std.specs.Prelude.{ℕ, ◌+◌, length, slice_get, if◌then◌else◌}
 use Rattle.std.specs.declared.cmp.Ordering.{Ordering}
 use Rattle.std.specs.List.{list_any}
+use Rattle.std.specs.Option.{option_map_or}
 use Rattle.std.specs.Ordering.{is_eq}
-use Rattle.indexset_core.specs.Nodes.{node_at, node_for}
+use Rattle.indexset_core.specs.Nodes.{concat, node_at, node_for}
 use Rattle.indexset_core.specs.Parted.{less_count}
 use Rattle.indexset_events.specs.Edits.{with_checked_put, with_put, with_removed}
 use Rattle.indexset_events.specs.Table.{put_events, checked_put_events, place_removal_count}
@@ -45,3 +46,7 @@ module _ {T : Type 0} where
   -- the tree after the removal of the item that equals v, if any
   abbrev pub after_removal : {Q : Type 0} → (T → Q → Ordering) → Tree T → Q → Tree T
   after_removal cmp t v = after_removal_by (λ x. cmp x v) t
+
+  -- the tree after the removal of the item at position i, if any
+  unfoldable pub after_removal_at : (T → T → Ordering) → Tree T → ℕ → Tree T
+  after_removal_at cmp t i = option_map_or (after_removal cmp t) (slice_get (concat t.nodes) i) t

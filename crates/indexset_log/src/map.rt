@@ -252,6 +252,8 @@ impl<K: Ord + Clone + Drop, V: Clone + Drop, Node: NodeLike<Pair<K, V>>> BTreeMa
 
     /// Returns the allocator of the map.
     ///
+    /// A `Global` has one value, so it is identical to every other.
+    ///
     /// ```
     /// // A key made by the allocator of the map.
     /// let mut tree: map::BTreeMap<String, u64, Vec<Pair<String, u64>>> =
@@ -260,7 +262,9 @@ impl<K: Ord + Clone + Drop, V: Clone + Drop, Node: NodeLike<Pair<K, V>>> BTreeMa
     /// tree.insert(key, 5)?;
     /// assert_eq!(rt; tree.len(), 1);
     /// ```
-    pub fn allocator(&self) -> &Global {
+    pub fn allocator(&self) -> &Global
+        ensures { (alloc : Global) → result.now ≡ alloc }
+    {
         self.set.allocator()
     }
 
@@ -388,8 +392,7 @@ impl<K: Ord + Clone + Drop, V: Clone + Drop, Node: NodeLike<Pair<K, V>>> BTreeMa
         ensures probe { result ≡ (key.now, 0) }
         ensures parted { IsParted (λ p. Q.order p.key key.now) (concat self.now.nodes) }
     {
-        // The contract of `node_count` states that the pairs ascend.
-        let _nodes = self.set.node_count();
+        self.set.recall_invariant();
         ByKey::new(key)
     }
 
@@ -400,8 +403,7 @@ impl<K: Ord + Clone + Drop, V: Clone + Drop, Node: NodeLike<Pair<K, V>>> BTreeMa
         ensures two { 2 ≤ self.now.size }
         ensures number { self.now.next ≤ u64.MAX }
     {
-        // The counter fits a u64, so a call without events does not overflow it.
-        let _next = self.set.events_issued();
-        self.set.locate(&mut self.by_key(&key))
+        self.set.recall_invariant();
+        self.set.locate_by(&mut self.by_key(&key))
     }
 }

@@ -1,7 +1,7 @@
 //! Edits of the node list and its index.
-ghost use Rattle.std.specs.Prelude.{◌≡◌, ◌+◌, ◌/◌, ◌<◌, ◌≤◌, ◌++◌, Bool, true, false, IsTrue, []};
+ghost use Rattle.std.specs.Prelude.{◌≡◌, ◌+◌, ◌/◌, ◌^◌, ◌<◌, ◌≤◌, ◌++◌, true, false, []};
 ghost use Rattle.std.specs.Prelude.{vec_len, vec_capacity, length, map, set, cond, if◌then◌else◌};
-ghost use Rattle.std.specs.Prelude.{min, sum_by, Option, Some, nat_le, ◌⊎◌, insert, remove};
+ghost use Rattle.std.specs.Prelude.{min, sum, sum_by, Option, Some, nat_le, ◌⊎◌, insert, remove};
 ghost use Rattle.std.specs.Prelude.{slice_get, IfOk, OnOk, IfErr, OnErr, IsOk, is_err};
 ghost use Rattle.std.specs.List.{HoldsAt};
 ghost use Rattle.indexset_core.specs.Nodes.{concat, node_at, node_lengths};
@@ -184,6 +184,15 @@ pub(crate) fn first_node<T: Ord + Drop, Node: NodeLike<T>>(
     Node::with_capacity(*nodes.allocator(), 1)
 }
 
+/// States that an index has room for its sums, and that all lengths together fit a usize. It does
+/// nothing.
+pub(crate) fn recall_bounds(index: &Blocks)
+    ensures within { length index.now.sums ≤ index.now.room }
+    ensures fits { sum index.now.sums < 2 ^ 64 }
+{
+    index.len();
+}
+
 /// Returns whether two nodes of these lengths hold at most `most` items together.
 pub(crate) fn fit_in_one_node(left: usize, right: usize, most: usize) -> bool
     ensures { result ≡ nat_le (left + right) most }
@@ -297,8 +306,7 @@ pub(crate) fn remove_and_merge<T: Ord + Drop, Node: NodeLike<T>>(
     let first = &mut nodes[left];
     first.reserve(more)?;
     let mut next = nodes.remove(left + 1);
-    // The sum of all lengths fits a usize.
-    let _count = index.len();
+    recall_bounds(index);
     index.remove::<T, Node, OfNode>(left + 1, more, nodes.as_slice());
     index.add(left, more);
     index.sub(left, 1);

@@ -8,10 +8,12 @@ ghost use Rattle.indexset_core.specs.Order.{has_equal, equal_element};
 ghost use Rattle.indexset_core.specs.Parted.{IsParted};
 ghost use Rattle.indexset_core.specs.Places.{located};
 ghost use Rattle.indexset_events.specs.Located.{IsFoundIn};
+ghost use Rattle.indexset_log.specs.Tree.{IsTree};
 
 mod attach;
 mod ends;
 mod from_nodes;
+mod insertion;
 pub mod iter;
 pub mod laws;
 mod make;
@@ -19,6 +21,7 @@ pub mod nodes;
 mod positions;
 mod put;
 pub mod range;
+mod removal;
 mod removal_log;
 mod remove;
 mod remove_range;
@@ -225,13 +228,17 @@ impl<T: Ord + Clone + Drop, Node: NodeLike<T>> BTreeSet<T, Node> {
 
     /// Returns the allocator of the tree.
     ///
+    /// A `Global` has one value, so it is identical to every other.
+    ///
     /// ```
     /// // A second tree from the allocator of the first.
     /// let tree: set::BTreeSet<u64, Vec<u64>> = set::BTreeSet::new(alloc);
     /// let other: set::BTreeSet<u64, Vec<u64>> = set::BTreeSet::from_iter(*tree.allocator(), [5])?;
     /// assert_eq!(rt; other.len(), 1);
     /// ```
-    pub fn allocator(&self) -> &Global {
+    pub fn allocator(&self) -> &Global
+        ensures { (alloc : Global) → result.now ≡ alloc }
+    {
         self.nodes.allocator()
     }
 
@@ -260,30 +267,30 @@ impl<T: Ord + Clone + Drop, Node: NodeLike<T>> BTreeSet<T, Node> {
             (digits (length self.now.nodes) + digits self.now.size + 1) }
         ensures unasked { self.now.nodes ≡ [] → P.asked probe.new ≡ P.asked probe.old }
     {
-        self.locate(probe)
+        locate_by::<T, Node, OfNode, P>(self.nodes.as_slice(), probe)
     }
 
-    // Does the same, with a contract that also states that the nodes are lawful.
-    pub(crate) fn locate<P: Probe<T>>(
-        &self,
-        probe: &mut P,
-    ) -> Result<(usize, usize), (usize, usize)>
-        requires { IsParted (P.answer probe.old) (concat self.now.nodes) }
-
-        // Result.
-        ensures place { result ≡ located (P.answer probe.old) self.now.nodes }
-
-        // Contents.
-        ensures fixed { P.answer probe.new ≡ P.answer probe.old }
-        ensures comparisons { P.asked probe.new ≤ P.asked probe.old +
-            (digits (length self.now.nodes) + digits self.now.size + 1) }
-        ensures unasked { self.now.nodes ≡ [] → P.asked probe.new ≡ P.asked probe.old }
-
-        // Nodes.
-        ensures lawful { IsLawful T.cmp self.now.size self.now.nodes }
-        ensures two { 2 ≤ self.now.size }
+    /// States the invariant of the tree, and that it fits its counters.
+    ///
+    /// It does nothing: a caller whose proof needs one of these facts calls it.
+    ///
+    /// ```
+    /// // A proof knows after the call that the items ascend.
+    /// let tree: set::BTreeSet<u64, Vec<u64>> = set::BTreeSet::from_iter(alloc, [5, 10])?;
+    /// tree.recall_invariant();
+    /// assert!(rt; tree.first() < tree.last());
+    /// ```
+    pub fn recall_invariant(&self)
+        ensures tree { IsTree T.cmp Node.most self.now.nodes self.now.size
+            (length (concat self.now.nodes)) }
+        ensures items { length (concat self.now.nodes) ≤ usize.MAX }
+        ensures nodes { length self.now.nodes ≤ usize.MAX }
+        ensures number { self.now.next ≤ u64.MAX }
     {
-        locate_by::<T, Node, OfNode, P>(self.nodes.as_slice(), probe)
+        self.len();
+        self.node_count();
+        self.maximum_node_size();
+        self.events_issued();
     }
 
     // Returns a probe for an item, which finds the items in order.
@@ -291,8 +298,7 @@ impl<T: Ord + Clone + Drop, Node: NodeLike<T>> BTreeSet<T, Node> {
         ensures probe { result ≡ (value.now, 0) }
         ensures parted { IsParted (λ x. Q.order x value.now) (concat self.now.nodes) }
     {
-        // The nodes are lawful.
-        let _nodes = &self.nodes;
+        self.recall_invariant();
         ByItem::new(value)
     }
 
@@ -303,7 +309,8 @@ impl<T: Ord + Clone + Drop, Node: NodeLike<T>> BTreeSet<T, Node> {
         ensures lawful { IsLawful T.cmp self.now.size self.now.nodes }
         ensures two { 2 ≤ self.now.size }
     {
-        self.locate(&mut self.by_item(&value)).ok()
+        self.recall_invariant();
+        self.locate_by(&mut self.by_item(&value)).ok()
     }
 
     /// Returns true if the tree contains an item equal to the value.

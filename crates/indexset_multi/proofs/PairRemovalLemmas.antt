@@ -17,7 +17,7 @@ use Rattle.indexset_events.proofs.CallerLemmas.{Leads, nothing_leads, place_even
 use Rattle.indexset_log.proofs.CallerLemmas.{Altered, altered_nowhere, on_ok_both, removal_altered, told_where}
 use Rattle.indexset_multi.specs.Changed.{MultiFits, MultiChange, MultiChanged, MultiPairEvents, named_removal, set_change, set_tree}
 use Rattle.indexset_multi.specs.Keys.{AreNumberedBelow, without_named}
-use Rattle.indexset_multi.specs.Places.{IsItemPlaceInNodes, placed_item}
+use Rattle.indexset_log.specs.PlaceRemoval.{IsItemPlaceInNodes, placed_item}
 use Rattle.indexset_multi.specs.Tree.{IsMultiPairClone, MultiTree, after_pair_removal, pair_removal_events}
 use Rattle.indexset_multi.proofs.PairNumberLemmas.{below_without}
 use Rattle.indexset_multi.proofs.KeyListLemmas.{any_each}

@@ -11,7 +11,7 @@ use Rattle.indexset_core.specs.MultiPairs.{by_number}
 use Rattle.indexset_core.specs.Nodes.{concat, node_at, IsLawful}
 use Rattle.indexset_core.specs.Parted.{IsParted}
 use Rattle.indexset_events.proofs.CallerLemmas.{lawful_ascends, lawful_filled}
-use Rattle.indexset_multi.specs.Places.{IsItemPlaceInNodes, placed_item}
+use Rattle.indexset_log.specs.PlaceRemoval.{IsItemPlaceInNodes, placed_item}
 use Rattle.indexset_core.specs.LookupKey.{OrdersAsItem, acts_as_itself, acts_on_numbered}
 use Rattle.indexset_core.proofs.CallerLemmas.{parted_by_sought, is_some-find, end_found, end_node, end_offset, gap_found, get_in_node}
 use Rattle.indexset_core.specs.Places.{items_before, located}

@@ -121,9 +121,9 @@ set_change made = record { tree = set_tree made.tree; items = made.items; events
 abbrev pub MultiPairEvents : {K V : Type 0} → (K → K → Ordering) → (K → K → Type 0)
     → (V → V → Type 0) → MultiTree K V → MultiTree K V → MultiChange K V
     → List (ChangeEvent (MultiPair K V)) → Type 0
-MultiPairEvents cmp C D old new made told =
+MultiPairEvents cmp C D old new made events =
     AreEventsOf (AreIdentical C × AreIdentical D) (by_number cmp) (IsMultiPairClone C D)
-    (set_tree old) (set_tree new) (set_change made) told
+    (set_tree old) (set_tree new) (set_change made) events
 
 module _ {K V : Type 0} (cmp : K → K → Ordering) where
   -- each key that `order` does not find Equal to k has the same pairs in the new multimap as in the
@@ -175,8 +175,8 @@ module _ {K V : Type 0} (cmp : K → K → Ordering) where
   -- the events that these removals return
   pub record RemovalEvents {Q : Type 0} (order : K → Q → Ordering) (C : K → K → Type 0)
       (D : V → V → Type 0) (old new : MultiTree K V) (k : Q)
-      (told : List (ChangeEvent (MultiPair K V))) : Type 0 where
+      (events : List (ChangeEvent (MultiPair K V))) : Type 0 where
     pub clones : AreTableEvents (IsMultiPairClone C D) old.next (key_events cmp order old new k)
-        told
-    pub numbered : IsNumberedFrom old.next told
-    pub replay : AreIdentical C × AreIdentical D → EvolvesBy cmp old new told
+        events
+    pub numbered : IsNumberedFrom old.next events
+    pub replay : AreIdentical C × AreIdentical D → EvolvesBy cmp old new events

@@ -272,15 +272,15 @@ impl<K: Ord + Clone + Drop, V: Eq + Clone + Drop, Node: NodeLike<MultiPair<K, V>
         self.locate(&key).is_ok()
     }
 
-    // States the invariant of the nodes, and that the counter fits a u64.
-    fn rule(&self)
+    // States the invariant of the multimap, and that it fits its counters. It does nothing.
+    fn recall_invariant(&self)
         ensures tree { IsTree (by_number K.cmp) Node.most self.now.nodes self.now.size
             (length (concat self.now.nodes)) }
+        ensures numbers { AreNumberedBelow self.now.pair_next (concat self.now.nodes) }
+        ensures items { length (concat self.now.nodes) ≤ usize.MAX }
         ensures number { self.now.next ≤ u64.MAX }
     {
-        let _nodes = self.set.node_count();
-        let _size = self.set.maximum_node_size();
-        let _next = self.set.events_issued();
+        self.set.recall_invariant();
     }
 
     // Returns the place where a search for a key ends.
@@ -288,8 +288,8 @@ impl<K: Ord + Clone + Drop, V: Eq + Clone + Drop, Node: NodeLike<MultiPair<K, V>
         ensures place { result ≡ located (λ p. Q.order p.key key.now) self.now.nodes }
         ensures lawful { IsLawful (by_number K.cmp) self.now.size self.now.nodes }
     {
-        // The contract of `node_count` states that the pairs ascend, as a search by key requires.
-        let _nodes = self.set.node_count();
+        // The pairs ascend, as a search by key requires.
+        self.set.recall_invariant();
         self.set.locate_by(&mut ByKey::new(key))
     }
 }

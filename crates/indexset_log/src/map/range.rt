@@ -51,9 +51,8 @@ impl<K: Ord + Clone + Drop, V: Clone + Drop, Node: NodeLike<Pair<K, V>>> BTreeMa
         ensures { result ≡ pairs_within Q.order (concat self.now.nodes)
             (bound_map (λ k. k.now) range.entry.0) (bound_map (λ k. k.now) range.entry.1) }
     {
-        // The contract of `node_count` states that the pairs ascend, so the range lies between two
-        // places.
-        let _nodes = self.set.node_count();
+        // The pairs ascend, so the range lies between two places.
+        self.set.recall_invariant();
         let from = self.set.place_from(range.0.map(ByKey::new));
         let to = self.set.place_to(range.1.map(ByKey::new));
         let range::Range { rest } = self.set.range_between(from, to);

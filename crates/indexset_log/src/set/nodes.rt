@@ -121,8 +121,7 @@ impl<T: Ord + Clone + Drop, Node: NodeLike<T>> BTreeSet<T, Node> {
         ensures enough { length (concat self.now.nodes) ≤ result }
         ensures sum { AddsUp Node.list Node.room self.now.nodes result }
     {
-        // The number of items fits a usize.
-        let _len = self.len;
+        self.recall_invariant();
         capacity_of(self.nodes.as_slice())
     }
 }

@@ -108,7 +108,8 @@ impl<T: Ord + Clone + Drop, Node: NodeLike<T>> BTreeSet<T, Node> {
         ensures comparisons { P.asked probe.new ≤ P.asked probe.old +
             (digits (length self.now.nodes) + digits self.now.size + 1) }
     {
-        match self.locate(probe) {
+        self.recall_invariant();
+        match self.locate_by(probe) {
             Ok(place) => Ok(self.position(place)),
             Err(place) => Err(self.position(place)),
         }
@@ -220,8 +221,7 @@ impl<T: Ord + Clone + Drop, Node: NodeLike<T>> BTreeSet<T, Node> {
         requires { IsPlace self.now.nodes place }
         ensures { result ≡ items_before self.now.nodes place }
     {
-        // The number of items fits a usize, so each sum of lengths does.
-        let _len = self.len;
+        self.recall_invariant();
         let (node, offset) = place;
         self.index
             .prefix::<T, Node, OfNode>(node, self.nodes.as_slice())

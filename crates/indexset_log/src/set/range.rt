@@ -128,8 +128,7 @@ impl<T: Ord + Clone + Drop, Node: NodeLike<T>> BTreeSet<T, Node> {
         ensures { result ≡ in_range Q.order (concat self.now.nodes)
             (bound_map (λ v. v.now) range.entry.0) (bound_map (λ v. v.now) range.entry.1) }
     {
-        // The nodes are lawful, so their items ascend.
-        let _nodes = &self.nodes;
+        self.recall_invariant();
         let from = self.place_from(range.0.map(ByItem::new));
         let to = self.place_to(range.1.map(ByItem::new));
         self.range_between(from, to)

@@ -82,8 +82,7 @@ impl<T: Ord + Clone + Drop, Node: NodeLike<T>> BTreeSet<T, Node> {
             (item_removed self.now.nodes node offset) d left)) (assigned s event)) }
         ensures refusal { IfErr result (λ e. e ≡ Refusal.Memory) }
     {
-        // A usize counts the nodes.
-        let _count = self.nodes.len();
+        self.recall_invariant();
         Ok(ChangeEventUnassigned::MergeNodes {
             max_value: self.last_without(left, node, offset).clone()?,
             next_max_value: self.last_without(left + 1, node, offset).clone()?,

@@ -3,9 +3,10 @@ ghost use Rattle.std.specs.Prelude.{◌≡◌, ◌^◌, ◌<◌, ℕ, length, ma
 ghost use Rattle.std.specs.Range.Bound.{bound_map};
 ghost use Rattle.indexset_core.specs.KeyRange.{is_within};
 ghost use Rattle.indexset_core.specs.Nodes.{concat};
-ghost use Rattle.indexset_log.specs.Made.{outside, without_range};
+ghost use Rattle.indexset_log.specs.RangeRemoval.{outside, without_range};
 
 use super::BTreeSet;
+use crate::nodes::recall_bounds;
 use indexset_core::item_iter::OfVec;
 use indexset_core::key_range::KeyRange;
 use indexset_core::lookup_key::LookupKey;
@@ -33,8 +34,7 @@ impl<T: Ord + Clone + Drop> BTreeSet<T, Vec<T>> {
         let bounds = (range.start_bound(), range.end_bound());
         self.len = remove_within(self.nodes.as_mut_slice(), bounds);
         self.nodes.retain(|node| !node.is_empty());
-        // The index has room for as many lengths as before, and their sum fits a usize.
-        let _count = self.index.len();
+        recall_bounds(&self.index);
         self.index
             .rebuild::<T, Vec<T>, OfVec>(self.nodes.as_slice());
     }

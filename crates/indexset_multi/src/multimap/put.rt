@@ -70,8 +70,8 @@ impl<K: Ord + Clone + Drop, V: Eq + Clone + Drop, Node: NodeLike<MultiPair<K, V>
         ensures unchanged { OnErr result (self.new ≡ self.old) }
         ensures number_left { OnOk result (lacks_number K.cmp V.eq self.old key value ≡ false) }
     {
-        // The contract of `node_count` states that the pairs ascend, with numbers below the next.
-        let _nodes = self.node_count();
+        // The pairs ascend, with numbers below the next.
+        self.recall_invariant();
         let (pair, pair_next) = self.pair_for(key, value)?;
         let (old, events) = self.set.put_cdc(pair)?;
         self.pair_next = pair_next;
@@ -116,8 +116,8 @@ impl<K: Ord + Clone + Drop, V: Eq + Clone + Drop, Node: NodeLike<MultiPair<K, V>
         ensures unchanged { OnErr result (self.new ≡ self.old) }
         ensures number_left { OnOk result (lacks_number K.cmp V.eq self.old key value ≡ false) }
     {
-        // The contract of `node_count` states that the pairs ascend, with numbers below the next.
-        let _nodes = self.node_count();
+        // The pairs ascend, with numbers below the next.
+        self.recall_invariant();
         let (pair, pair_next) = self.pair_for(key, value)?;
         let old = self.set.put(pair)?;
         self.pair_next = pair_next;
@@ -164,9 +164,10 @@ impl<K: Ord + Clone + Drop, V: Eq + Clone + Drop, Node: NodeLike<MultiPair<K, V>
         ensures refusal { IfErr result (λ e. e.cause ≡ addition_refusal K.cmp self.old key value) }
         ensures given_back { IfErr result (λ e. e.value ≡ (key, value)) }
         ensures unchanged { OnErr result (self.new ≡ self.old) }
+        ensures number_left { OnOk result ((self.old.pair_next == u64.MAX) ≡ false) }
     {
-        // The contract of `node_count` states that the pairs ascend, with numbers below the next.
-        let _nodes = self.node_count();
+        // The pairs ascend, with numbers below the next.
+        self.recall_invariant();
         let (pair, pair_next) = self.new_pair(key, value)?;
         let (_, events) = self.set.put_cdc(pair)?;
         self.pair_next = pair_next;
@@ -203,9 +204,10 @@ impl<K: Ord + Clone + Drop, V: Eq + Clone + Drop, Node: NodeLike<MultiPair<K, V>
         ensures refusal { IfErr result (λ e. e.cause ≡ addition_refusal K.cmp self.old key value) }
         ensures given_back { IfErr result (λ e. e.value ≡ (key, value)) }
         ensures unchanged { OnErr result (self.new ≡ self.old) }
+        ensures number_left { OnOk result ((self.old.pair_next == u64.MAX) ≡ false) }
     {
-        // The contract of `node_count` states that the pairs ascend, with numbers below the next.
-        let _nodes = self.node_count();
+        // The pairs ascend, with numbers below the next.
+        self.recall_invariant();
         let (pair, pair_next) = self.new_pair(key, value)?;
         self.set.put(pair)?;
         self.pair_next = pair_next;

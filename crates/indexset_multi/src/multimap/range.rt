@@ -281,8 +281,8 @@ impl<K: Ord + Clone + Drop, V: Eq + Clone + Drop, Node: NodeLike<MultiPair<K, V>
             (items_before self.now.nodes result.1) (concat self.now.nodes)
             ≡ pairs_of Q.order (concat self.now.nodes) key.now }
     {
-        // The contract of `node_count` states that the pairs ascend, as a search by key requires.
-        let _nodes = self.set.node_count();
+        // The pairs ascend, as a search by key requires.
+        self.set.recall_invariant();
         self.set.places_by(&mut ByKey::new(key))
     }
 
@@ -297,9 +297,8 @@ impl<K: Ord + Clone + Drop, V: Eq + Clone + Drop, Node: NodeLike<MultiPair<K, V>
             (bound_map (λ k. k.now) range.entry.0) (bound_map (λ k. k.now) range.entry.1) }
         ensures runs { ShowsInOrder (deref {X = MultiPair K V}) }
     {
-        // The contract of `node_count` states that the pairs ascend, so the range lies between two
-        // places.
-        let _nodes = self.set.node_count();
+        // The pairs ascend, so the range lies between two places.
+        self.set.recall_invariant();
         let from = self.set.place_from(range.0.map(ByKey::new));
         let to = self.set.place_to(range.1.map(ByKey::new));
         self.set.range_between(from, to)

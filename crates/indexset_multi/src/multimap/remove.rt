@@ -1,19 +1,18 @@
 //! Calls that remove pairs.
-ghost use Rattle.std.specs.Prelude.{◌≡◌, ◌+◌, ◌<◌, ◌≤◌, [], drop, length, false, find, slice_get};
+ghost use Rattle.std.specs.Prelude.{◌≡◌, ◌<◌, ◌≤◌, [], drop, length, false, find, slice_get};
 ghost use Rattle.std.specs.Prelude.{None, Some, MatchOption, IfOk, OnOk, IfErr, OnErr, IsOk};
 ghost use Rattle.std.specs.Option.{option_map};
 ghost use Rattle.indexset_core.specs.MultiPairs.{by_number};
 ghost use Rattle.indexset_core.specs.Nodes.{concat};
 ghost use Rattle.indexset_events.specs.Clones.{AreTableEvents};
-ghost use Rattle.indexset_log.specs.Tree.{IsTree, refusal_for};
+ghost use Rattle.indexset_log.specs.PlaceRemoval.{IsItemPlaceInNodes, placed_item};
+ghost use Rattle.indexset_log.specs.Tree.{IsTree};
 ghost use Rattle.indexset_multi.specs.Changed.{MultiFits, KeepsOtherPairs, MultiChanged};
 ghost use Rattle.indexset_multi.specs.Changed.{MultiPairEvents, equal_removal};
-ghost use Rattle.indexset_multi.specs.Changed.{multi_refusal_of, some_removal};
+ghost use Rattle.indexset_multi.specs.Changed.{multi_refusal_of, named_removal, some_removal};
 ghost use Rattle.indexset_multi.specs.Keys.{equal_pair, first_pair, key_and_value};
 ghost use Rattle.indexset_multi.specs.Keys.{pairs_of, without_first};
-ghost use Rattle.indexset_multi.specs.Places.{IsItemPlaceInNodes, placed_item};
-ghost use Rattle.indexset_multi.specs.Tree.{IsMultiPairClone, after_pair_removal};
-ghost use Rattle.indexset_multi.specs.Tree.{pair_removal_events};
+ghost use Rattle.indexset_multi.specs.Tree.{IsMultiPairClone};
 
 use super::BTreeMultiMap;
 use indexset_core::lookup_key::LookupKey;
@@ -264,6 +263,7 @@ impl<K: Ord + Clone + Drop, V: Eq + Clone + Drop, Node: NodeLike<MultiPair<K, V>
         ensures pair { placed_item self.now.nodes result
             ≡ equal_pair Q.order V.eq (concat self.now.nodes) key.now value.now }
     {
+        self.recall_invariant();
         let (from, to) = self.places_of(key);
         let index = index_of(self.set.range_between(from, to), value)?;
         Some(self.set.place_ahead(from, index))
@@ -281,29 +281,26 @@ impl<K: Ord + Clone + Drop, V: Eq + Clone + Drop, Node: NodeLike<MultiPair<K, V>
             (placed_item self.old.nodes place)) }
         ensures events { IfOk result
             (λ r. AreTableEvents (IsMultiPairClone K.is_clone V.is_clone) self.old.next
-            (pair_removal_events K.cmp self.old.size self.old.nodes
-            (placed_item self.old.nodes place)) r.1.items) }
+            (named_removal K.cmp self.old (placed_item self.old.nodes place)).events r.1.items) }
 
         // Failure.
-        ensures fits { OnOk result (self.old.next + length
-            (pair_removal_events K.cmp self.old.size self.old.nodes
-            (placed_item self.old.nodes place)) ≤ u64.MAX) }
-        ensures refusal { IfErr result (λ e. e ≡ refusal_for self.old.next
-            (length (pair_removal_events K.cmp self.old.size self.old.nodes
-            (placed_item self.old.nodes place)))) }
+        ensures fits { OnOk result (MultiFits self.old
+            (named_removal K.cmp self.old (placed_item self.old.nodes place))) }
+        ensures refusal { IfErr result (λ e. e ≡ multi_refusal_of self.old
+            (named_removal K.cmp self.old (placed_item self.old.nodes place))) }
         ensures unchanged { OnErr result (self.new ≡ self.old) }
 
         // Memory.
-        ensures no_event { pair_removal_events K.cmp self.old.size self.old.nodes
-            (placed_item self.old.nodes place) ≡ [] → IsOk result }
+        ensures no_event { (named_removal K.cmp self.old
+            (placed_item self.old.nodes place)).events ≡ [] → IsOk result }
 
         // Nodes.
-        ensures tree { OnOk result (self.new ≡ after_pair_removal K.cmp self.old
-            (placed_item self.old.nodes place)) }
-        ensures rule { IsTree (by_number K.cmp) Node.most self.old.nodes self.old.size
+        ensures tree { OnOk result (self.new
+            ≡ (named_removal K.cmp self.old (placed_item self.old.nodes place)).tree) }
+        ensures invariant { IsTree (by_number K.cmp) Node.most self.old.nodes self.old.size
             (length (concat self.old.nodes)) }
     {
-        self.rule();
+        self.recall_invariant();
         match place {
             Some((node, offset)) => {
                 let (pair, events) = self.set.remove_at_cdc(node, offset)?;
@@ -322,32 +319,30 @@ impl<K: Ord + Clone + Drop, V: Eq + Clone + Drop, Node: NodeLike<MultiPair<K, V>
             (placed_item self.old.nodes place)) }
 
         // Failure.
-        ensures fits { OnOk result (self.old.next + length
-            (pair_removal_events K.cmp self.old.size self.old.nodes
-            (placed_item self.old.nodes place)) ≤ u64.MAX) }
-        ensures refusal { IfErr result (λ e. e ≡ refusal_for self.old.next
-            (length (pair_removal_events K.cmp self.old.size self.old.nodes
-            (placed_item self.old.nodes place)))) }
+        ensures fits { OnOk result (MultiFits self.old
+            (named_removal K.cmp self.old (placed_item self.old.nodes place))) }
+        ensures refusal { IfErr result (λ e. e ≡ multi_refusal_of self.old
+            (named_removal K.cmp self.old (placed_item self.old.nodes place))) }
         ensures unchanged { OnErr result (self.new ≡ self.old) }
 
         // Memory.
-        ensures no_event { pair_removal_events K.cmp self.old.size self.old.nodes
-            (placed_item self.old.nodes place) ≡ [] → IsOk result }
-        ensures no_memory { length (pair_removal_events K.cmp self.old.size self.old.nodes
-            (placed_item self.old.nodes place)) ≤ 1 → self.old.next + length
-            (pair_removal_events K.cmp self.old.size self.old.nodes
-            (placed_item self.old.nodes place)) ≤ u64.MAX → IsOk result }
-        ensures never { Node.allocates ≡ false → self.old.next + length
-            (pair_removal_events K.cmp self.old.size self.old.nodes
-            (placed_item self.old.nodes place)) ≤ u64.MAX → IsOk result }
+        ensures no_event { (named_removal K.cmp self.old
+            (placed_item self.old.nodes place)).events ≡ [] → IsOk result }
+        ensures no_memory { length
+            (named_removal K.cmp self.old (placed_item self.old.nodes place)).events ≤ 1
+            → MultiFits self.old (named_removal K.cmp self.old (placed_item self.old.nodes place))
+            → IsOk result }
+        ensures never { Node.allocates ≡ false
+            → MultiFits self.old (named_removal K.cmp self.old (placed_item self.old.nodes place))
+            → IsOk result }
 
         // Nodes.
-        ensures tree { OnOk result (self.new ≡ after_pair_removal K.cmp self.old
-            (placed_item self.old.nodes place)) }
-        ensures rule { IsTree (by_number K.cmp) Node.most self.old.nodes self.old.size
+        ensures tree { OnOk result (self.new
+            ≡ (named_removal K.cmp self.old (placed_item self.old.nodes place)).tree) }
+        ensures invariant { IsTree (by_number K.cmp) Node.most self.old.nodes self.old.size
             (length (concat self.old.nodes)) }
     {
-        self.rule();
+        self.recall_invariant();
         match place {
             Some((node, offset)) => {
                 let pair = self.set.remove_at(node, offset)?;
@@ -363,12 +358,11 @@ fn index_of<K: Ord + Clone + Drop, V: Eq + Clone + Drop, Node: NodeLike<MultiPai
     pairs: Range<'_, MultiPair<K, V>, Node>,
     value: &V,
 ) -> Option<usize>
+    requires { length pairs ≤ usize.MAX }
     ensures { MatchOption result (find (λ p. V.eq p.value value.now) pairs.entry ≡ None)
         (λ i. (i < length pairs.entry) × (slice_get pairs.entry i
         ≡ find (λ p. V.eq p.value value.now) pairs.entry)) }
 {
-    // The number of pairs fits a usize.
-    let _len = pairs.len();
     let mut rest = pairs;
     let mut index = 0;
     while let Some(pair) = rest.next() {

@@ -58,9 +58,7 @@ impl<K: Ord + Clone + Drop, V: Eq + Clone + Drop, Node: NodeLike<MultiPair<K, V>
         // Memory.
         ensures no_event { pairs_of Q.order (concat self.old.nodes) key ≡ [] → IsOk result }
     {
-        // The invariant of the nodes at first, and that the number of pairs fits a usize.
-        self.rule();
-        let _len = self.len();
+        self.recall_invariant();
         let mut count = 0;
         while let Some(_) = self.remove_first(&key)? {
             count += 1;
@@ -119,9 +117,7 @@ impl<K: Ord + Clone + Drop, V: Eq + Clone + Drop, Node: NodeLike<MultiPair<K, V>
         // Memory.
         ensures no_event { pairs_of Q.order (concat self.old.nodes) key ≡ [] → IsOk result }
     {
-        // The invariant of the nodes at first, and that the number of pairs fits a usize.
-        self.rule();
-        let _len = self.len();
+        self.recall_invariant();
         let mut count = 0;
         let mut events = Vec::new(*self.set.allocator());
         loop {
@@ -188,8 +184,7 @@ impl<K: Ord + Clone + Drop, V: Eq + Clone + Drop, Node: NodeLike<MultiPair<K, V>
         ensures tree { OnOk result (self.new ≡ after_pair_removal K.cmp self.old
             (first_pair Q.order (concat self.old.nodes) key.now)) }
     {
-        // The invariant of the nodes.
-        self.rule();
+        self.recall_invariant();
         let Some((node, offset)) = self.first_place(key) else {
             return Ok(false);
         };

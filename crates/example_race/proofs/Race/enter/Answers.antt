@@ -14,7 +14,7 @@ invariant_of-self-2 c =
     let added = c.in_ok-told.told.items in
     let whole : c.append-appended.new.self.items ≡ kept ++ added = grind (arith, common_steps) in
     let led = c.in_ok-told.ensures.events.replay (search rules) in
-    let as_many = ap length (c.in_ok-told.ensures.events.events (search rules)) ∙ c.numbered_by_place.ensures.count _ _ in
+    let as_many = ap length (c.in_ok-told.ensures.events.identical (search rules)) ∙ c.numbered_by_place.ensures.count _ _ in
     let after : IsNumberedFrom (0 + length kept) added = λ i inside d. grind (arith, c.in_ok-told.ensures.events.numbered i inside d, before.numbered.1) in
     let first = take-append-le (before.copy.next - 0) kept added before.copied.within in
     record {

@@ -23,7 +23,7 @@ returns-in_ok-old-in-Put g c =
     let done = c.in_ok-old-in-Put.ensures in
     let last = c.write_change in
     let replied : c.reply_to_put.result ≡ change_reply g.T.Ord.cmp old (Put c.in-Put.key c.in-Put.value) = c.reply_to_put.ensures ∙ ap (λ o. option_map_or OldValue o New) done.answer in
-    let events : c.deref.result.now ≡ told_events g.T.Ord.cmp old (Put c.in-Put.key c.in-Put.value) = c.deref.ensures.value ∙ done.events.events (g.met.T.Key.identical, g.met.T.Key.identical) in
+    let events : c.deref.result.now ≡ told_events g.T.Ord.cmp old (Put c.in-Put.key c.in-Put.value) = c.deref.ensures.value ∙ done.events.identical (g.met.T.Key.identical, g.met.T.Key.identical) in
     rw c.in-Put.is (record {
       pairs =
           on_ok_any last.result
@@ -60,7 +60,7 @@ returns-in_ok-out-in-Cut-clause-told g c =
     let replied : c.reply_to_cut.result ≡ change_reply g.T.Ord.cmp old (Cut c.in-Cut.key) =
     c.reply_to_cut.ensures ∙ ap (λ o. option_map_or (λ entry. GoneValue entry.1) o Nothing) done.answer
     ∙ gone_reply (pair_of g.T.Ord.cmp (concat old.nodes) c.in-Cut.key) in
-    let events : c.deref-in-Cut.result.now ≡ told_events g.T.Ord.cmp old (Cut c.in-Cut.key) = c.deref-in-Cut.ensures.value ∙ done.events.events (g.met.T.Key.identical, g.met.T.Key.identical) in
+    let events : c.deref-in-Cut.result.now ≡ told_events g.T.Ord.cmp old (Cut c.in-Cut.key) = c.deref-in-Cut.ensures.value ∙ done.events.identical (g.met.T.Key.identical, g.met.T.Key.identical) in
     rw c.in-Cut.is
     (on_ok_weaker last.result
     (subst (Appends _ _)

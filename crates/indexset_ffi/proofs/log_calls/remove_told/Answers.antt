@@ -17,14 +17,14 @@ use Rattle.indexset_ffi.proofs.log_calls.remove_told.Goals as goal
 pub returns-clause-event_count : goal.returns-clause-event_count
 returns-clause-event_count c =
     let log = c.args.log.now in let es = key_removal_events nat_cmp log.size log.nodes c.args.key in
-    let all : c.in_ok-found.changes.items ≡ numbered_from log.next es = c.in_ok-found.ensures.events.events ((λ x y h. h), (λ x y h. h)) in
+    let all : c.in_ok-found.changes.items ≡ numbered_from log.next es = c.in_ok-found.ensures.events.identical ((λ x y h. h), (λ x y h. h)) in
     c.len.ensures ∙ c.in_ok-found.changes.ok.0 ∙ ap (λ l. length l) all ∙ length-numbered log.next es
 
 -- src/log_edits.rt:50:1
 pub returns-clause-events : goal.returns-clause-events
 returns-clause-events c =
     let log = c.args.log.now in let es = key_removal_events nat_cmp log.size log.nodes c.args.key in
-    let all : c.as_slice.result.now ≡ numbered_from log.next es = c.as_slice.ensures.value ∙ c.in_ok-found.ensures.events.events ((λ x y h. h), (λ x y h. h)) in
+    let all : c.as_slice.result.now ≡ numbered_from log.next es = c.as_slice.ensures.value ∙ c.in_ok-found.ensures.events.identical ((λ x y h. h), (λ x y h. h)) in
     c.write_events.ensures ∙ ap (λ l. written (length l) (map record_of l) c.args.events.now) all
     ∙ ap (λ n. written n (map record_of (numbered_from log.next es)) c.args.events.now)
     (length-numbered log.next es)

@@ -147,7 +147,7 @@ add-requires-clause-fits g c =
     let gone = rw (seen g before) at c.remove.ensures.sums in
     let less = node_lengths (remove ns (j + 1)) in
     let all = emptied ns (j + 1) c.len-more.result refl c.requires.index inside (next_long g before) in
-    omega (arith, ap sum gone, sum-blocks less, ap sum all, sum-blocks (insert less (j + 1) c.len-more.result), sum_by-insert (λ x. x) less (j + 1) c.len-more.result, c.len-count.ensures.fits)
+    omega (arith, ap sum gone, sum-blocks less, ap sum all, sum-blocks (insert less (j + 1) c.len-more.result), sum_by-insert (λ x. x) less (j + 1) c.len-more.result, c.recall_bounds.ensures.fits)
 
 pub sub-requires-clause-inside : goal.sub-requires-clause-inside
 sub-requires-clause-inside g c =

@@ -21,7 +21,7 @@ cut : (g : Over) (c : After-place_to-to g)
 cut g c =
     let order = g.Q.LookupKey.order in
     let l = concat c.self.inside.set.nodes in
-    let up = lawful_ascends (by_key g.K.Ord.cmp) c.self.inside.set.size c.self.inside.set.nodes c.node_count-nodes.ensures.lawful in
+    let up = lawful_ascends (by_key g.K.Ord.cmp) c.self.inside.set.size c.self.inside.set.nodes c.recall_invariant.ensures.tree.lawful in
     let from = c.place_from-from.ensures.before ∙ probed_before order (λ k. k.now) (λ x. x.key) l c.args.range.0 c.map.result c.map.ensures in
     let to = c.place_to-to.ensures.before ∙ probed_up_to order (λ k. k.now) (λ x. x.key) l c.args.range.1 c.map-2.result c.map-2.ensures in
     (sought_keys_order g.met.Q.LookupKey.acts_as_key l up _ _ c.requires _ _ from to, sought_keys_are g.met.Q.LookupKey.acts_as_key l up _ _ c.requires _ _ from to)
@@ -31,7 +31,7 @@ place_from-from-requires g c =
     each_bounded _ (λ p.
     parted_by_sought_key g.met.Q.LookupKey.acts_as_key (concat c.self.inside.set.nodes)
     (lawful_ascends (by_key g.K.Ord.cmp) c.self.inside.set.size c.self.inside.set.nodes
-    c.node_count-nodes.ensures.lawful)
+    c.recall_invariant.ensures.tree.lawful)
     p.0)
     c.map.result
 
@@ -40,7 +40,7 @@ place_to-to-requires g c =
     each_bounded _ (λ p.
     parted_by_sought_key g.met.Q.LookupKey.acts_as_key (concat c.self.inside.set.nodes)
     (lawful_ascends (by_key g.K.Ord.cmp) c.self.inside.set.size c.self.inside.set.nodes
-    c.node_count-nodes.ensures.lawful)
+    c.recall_invariant.ensures.tree.lawful)
     p.0)
     c.map-2.result
 

@@ -1,6 +1,5 @@
 use Rattle.std.proofs.Common.{arith, refl}
 use Rattle.indexset_events.proofs.CallerLemmas.{after_from, next_inside, two_held}
-use Rattle.indexset_log.proofs.TreeViewLemmas.{held}
 use Rattle.indexset_log.proofs.set.BTreeSet.merge_event.Goals as goal
 
 pub last_without-requires-clause-place : goal.last_without-requires-clause-place
@@ -18,10 +17,9 @@ last_without-requires-clause-two g c =
 pub overflow_add-left : goal.overflow_add-left
 overflow_add-left g c =
     let ns = c.args.self.now.nodes in
-    let t = held g.Node.NodeLike.list c.self.inside.nodes.items c.self.view_is c.self.invariant in
     let after = after_from c.args.self.now.size ns c.args.node c.args.offset c.args.left c.requires.join in
     let inside = next_inside c.args.self.now.size ns c.args.node c.args.offset c.args.left c.requires.offset after in
-    omega (arith, inside, t.many, c.self.inside.nodes.ok, c.len-count.ensures, c.len-count.type_inv)
+    omega (arith, inside, c.recall_invariant.ensures.nodes)
 
 pub returns-clause-clones : goal.returns-clause-clones
 returns-clause-clones g c s d =

@@ -20,7 +20,7 @@ overflow_add-result g c =
     let t = held g.Node.NodeLike.list c.self.inside.nodes.items c.self.view_is c.self.invariant in
     let ns = c.args.self.now.nodes in
     let sum = rw (c.as_slice.ensures.value, t.same) at c.prefix.ensures in
-    record { fits = omega (arith, sum, prefix-concat ns c.args.place.0, place-fits ns c.args.place c.requires, length-concat ns, t.rule.counted) }
+    record { fits = omega (arith, sum, prefix-concat ns c.args.place.0, place-fits ns c.args.place c.requires, length-concat ns, c.recall_invariant.ensures.items) }
 
 pub returns : goal.returns
 returns g c =

@@ -5,7 +5,6 @@ use Rattle.indexset_core.specs.KeyRange.{in_range}
 use Rattle.indexset_core.specs.Nodes.{concat}
 use Rattle.indexset_core.proofs.CallerLemmas.{each_bounded, parted_by_sought, probed_before, probed_up_to, sought_range_order, sought_range_is}
 use Rattle.indexset_core.specs.Places.{items_before}
-use Rattle.indexset_log.proofs.TreeViewLemmas.{held}
 use Rattle.indexset_events.proofs.CallerLemmas.{lawful_ascends}
 use Rattle.indexset_log.proofs.set.BTreeSet.within.Given.{Over}
 use Rattle.indexset_log.proofs.set.BTreeSet.within.Goals.{After-place_to-to}
@@ -20,8 +19,7 @@ cut : (g : Over) (c : After-place_to-to g) → let i = items_before c.args.self.
 cut g c =
     let order = g.Q.LookupKey.order in
     let l = concat c.args.self.now.nodes in
-    let t = held g.Node.NodeLike.list c.self.inside.nodes.items c.self.view_is c.self.invariant in
-    let up = lawful_ascends g.T.Ord.cmp c.args.self.now.size c.args.self.now.nodes t.rule.lawful in
+    let up = lawful_ascends g.T.Ord.cmp c.args.self.now.size c.args.self.now.nodes c.recall_invariant.ensures.tree.lawful in
     let from = c.place_from-from.ensures.before ∙ probed_before order (λ v. v.now) (λ x. x) l c.args.range.0 c.map.result c.map.ensures in
     let to = c.place_to-to.ensures.before ∙ probed_up_to order (λ v. v.now) (λ x. x) l c.args.range.1 c.map-2.result c.map-2.ensures in
     let parted = parted_by_sought g.met.Q.LookupKey.acts_as_key l up in (
@@ -31,18 +29,16 @@ cut g c =
 
 pub place_from-from-requires : goal.place_from-from-requires
 place_from-from-requires g c =
-    let t = held g.Node.NodeLike.list c.self.inside.nodes.items c.self.view_is c.self.invariant in
     each_bounded _ (λ p.
     parted_by_sought g.met.Q.LookupKey.acts_as_key (concat c.args.self.now.nodes)
-    (lawful_ascends g.T.Ord.cmp c.args.self.now.size c.args.self.now.nodes t.rule.lawful) p.0)
+    (lawful_ascends g.T.Ord.cmp c.args.self.now.size c.args.self.now.nodes c.recall_invariant.ensures.tree.lawful) p.0)
     c.map.result
 
 pub place_to-to-requires : goal.place_to-to-requires
 place_to-to-requires g c =
-    let t = held g.Node.NodeLike.list c.self.inside.nodes.items c.self.view_is c.self.invariant in
     each_bounded _ (λ p.
     parted_by_sought g.met.Q.LookupKey.acts_as_key (concat c.args.self.now.nodes)
-    (lawful_ascends g.T.Ord.cmp c.args.self.now.size c.args.self.now.nodes t.rule.lawful) p.0)
+    (lawful_ascends g.T.Ord.cmp c.args.self.now.size c.args.self.now.nodes c.recall_invariant.ensures.tree.lawful) p.0)
     c.map-2.result
 
 pub range_between-requires-clause-order : goal.range_between-requires-clause-order

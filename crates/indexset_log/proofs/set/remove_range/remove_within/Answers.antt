@@ -4,7 +4,7 @@ use Rattle.std.proofs.lemmas.List.{get_or_default}
 use Rattle.std.specs.Range.Bound.{bound_map}
 use Rattle.indexset_core.specs.KeyRange.{is_within}
 use Rattle.indexset_core.specs.Nodes.{concat}
-use Rattle.indexset_log.specs.Made.{outside}
+use Rattle.indexset_log.specs.RangeRemoval.{outside}
 use Rattle.indexset_log.proofs.RangeLemmas.{Turned, turned, all_turned, turned_take}
 use Rattle.indexset_log.proofs.set.remove_range.remove_within.Given.{Over}
 use Rattle.indexset_log.proofs.set.remove_range.remove_within.Goals.{After-retain}

@@ -2,7 +2,7 @@
 use Rattle.std.proofs.Common.{◌≡◌, ◌++◌, length, map, take, drop}
 use Rattle.std.specs.Range.Bound.{bound_map}
 use Rattle.indexset_core.specs.Nodes.{concat}
-use Rattle.indexset_log.specs.Made.{outside}
+use Rattle.indexset_log.specs.RangeRemoval.{outside}
 use Rattle.indexset_log.proofs.set.remove_range.remove_within.Given as goal
 
 abbrev pub invariant-loop-node : goal.invariant-loop-node

@@ -1,6 +1,6 @@
-use Rattle.std.proofs.Common.{◌≡◌, find, slice_get, ap, sym, ◌∙◌}
+use Rattle.std.proofs.Common.{◌≡◌, find, slice_get, ap, sym, ◌∙◌, arith}
 use Rattle.indexset_core.specs.Nodes.{concat}
-use Rattle.indexset_core.proofs.CallerLemmas.{get_in_node}
+use Rattle.indexset_core.proofs.CallerLemmas.{between_le, get_in_node}
 use Rattle.indexset_core.specs.Places.{items_before}
 use Rattle.indexset_multi.proofs.ReadingLemmas.{between_inside, slice_between}
 use Rattle.indexset_multi.proofs.multimap.BTreeMultiMap.equal_place.Goals as goal
@@ -9,6 +9,14 @@ pub range_between-requires : goal.range_between-requires
 range_between-requires g c =
     let same : c.self.inside.set.nodes ≡ c.args.self.now.nodes = ap (λ m. m.nodes) c.self.view_is in
     rw same (record { from = c.places_of.ensures.from; to = c.places_of.ensures.to; order = c.places_of.ensures.order })
+
+pub index_of-requires : goal.index_of-requires
+index_of-requires g c =
+    let ns = c.args.self.now.nodes in
+    let same : c.self.inside.set.nodes ≡ ns = ap (λ m. m.nodes) c.self.view_is in
+    let part = rw same at c.range_between.ensures.rest in
+    rw part
+    (omega (arith, between_le (concat ns) (items_before ns c.places_of.result.0) (items_before ns c.places_of.result.1), c.recall_invariant.ensures.items))
 
 pub place_ahead-requires : goal.place_ahead-requires
 place_ahead-requires g c =

@@ -22,7 +22,7 @@ pub invariant_of-self-2 : goal.invariant_of-self-2
 invariant_of-self-2 g c =
     put_numbers g.K.Ord.cmp g.V.PartialEq.eq c.args.self.now c.args.key c.args.value (ap set_tree c.self.view_is)
     (ap (λ q. q.0) c.in_ok-pair.ensures.answer) c.in_ok-old.ensures.changed.contents
-    (ap (λ q. q.1) c.in_ok-pair.ensures.answer) c.node_count-nodes.ensures.numbers
+    (ap (λ q. q.1) c.in_ok-pair.ensures.answer) c.recall_invariant.ensures.numbers
 
 pub returns : goal.returns
 returns g c =
@@ -31,14 +31,16 @@ returns g c =
     let m = c.args.self.now in
     let k = c.args.key in
     let w = c.args.value in
-    let now = c.node_count-nodes.ensures in
+    let now = c.recall_invariant.ensures in
     let done = c.in_ok-old.ensures in
     let seen : c.self.inside.set ≡ set_tree m = ap set_tree c.self.view_is in
     let pair = ap (λ q. q.0) c.in_ok-pair.ensures.answer in
     let changed = put_changed cmp eq m k w seen pair (ap (λ q. q.1) c.in_ok-pair.ensures.answer) done.changed in
-    let d = inserted cmp g.met.K.Ord.total eq m k w g.met.V.Eq.laws.refl now.lawful now.numbers refl refl changed.contents in
+    let d = inserted cmp g.met.K.Ord.total eq m k w g.met.V.Eq.laws.refl now.tree.lawful now.numbers refl refl changed.contents in
     record {
-      answer = c.value_in.ensures ∙ ap (λ o. option_map (λ p. p.value) o) (done.answer ∙ put_replaced cmp eq m k w seen pair ∙ replaced_pair cmp eq m k w g.met.K.Ord.total now.lawful now.numbers);
+      answer =
+          c.value_in.ensures
+          ∙ ap (λ o. option_map (λ p. p.value) o) (done.answer ∙ put_replaced cmp eq m k w seen pair ∙ replaced_pair cmp eq m k w g.met.K.Ord.total now.tree.lawful now.numbers);
       refusal = tt;
       given_back = tt;
       unchanged = tt;

@@ -21,7 +21,7 @@ cut g c =
     let order = g.Q.LookupKey.order in
     let s = c.self.inside.set in
     let l = concat s.nodes in
-    let parted = sought_keys g.K.Ord.cmp s.size s.nodes c.node_count-nodes.ensures.lawful g.met.Q.LookupKey.acts_as_key in
+    let parted = sought_keys g.K.Ord.cmp s.size s.nodes c.recall_invariant.ensures.tree.lawful g.met.Q.LookupKey.acts_as_key in
     let from = c.place_from-from.ensures.before ∙ probed_before order (λ k. k.now) (λ x. x.key) l c.args.range.0 c.map.result c.map.ensures in
     let to = c.place_to-to.ensures.before ∙ probed_up_to order (λ k. k.now) (λ x. x.key) l c.args.range.1 c.map-2.result c.map-2.ensures in (
       sought_range_order order (λ p. p.key) l parted g.met.Q.LookupKey.acts_as_key _ _ c.requires _ _ from to,
@@ -31,14 +31,14 @@ cut g c =
 pub place_from-from-requires : goal.place_from-from-requires
 place_from-from-requires g c =
     each_bounded _ (λ p.
-    sought_keys g.K.Ord.cmp c.self.inside.set.size c.self.inside.set.nodes c.node_count-nodes.ensures.lawful
+    sought_keys g.K.Ord.cmp c.self.inside.set.size c.self.inside.set.nodes c.recall_invariant.ensures.tree.lawful
     g.met.Q.LookupKey.acts_as_key p.0)
     c.map.result
 
 pub place_to-to-requires : goal.place_to-to-requires
 place_to-to-requires g c =
     each_bounded _ (λ p.
-    sought_keys g.K.Ord.cmp c.self.inside.set.size c.self.inside.set.nodes c.node_count-nodes.ensures.lawful
+    sought_keys g.K.Ord.cmp c.self.inside.set.size c.self.inside.set.nodes c.recall_invariant.ensures.tree.lawful
     g.met.Q.LookupKey.acts_as_key p.0)
     c.map-2.result
 

@@ -21,7 +21,7 @@ returns g c =
     let is = at_item m.nodes c.args.i c.place_at-place.result (rw same at c.place_at-place.ensures) in
     let r = c.take.result in
     let done = c.take.ensures in
-    let d = removed m c.take.new.self o done.rule (slice_get l c.args.i) r (rw is at done.tree) (rw is at done.fits) in
+    let d = removed m c.take.new.self o done.invariant (slice_get l c.args.i) r (rw is at done.tree) (rw is at done.fits) in
     let no_event = rw is at done.no_event in
     record {
       answer = rw is at done.answer;

@@ -32,7 +32,7 @@ invariant_of-self-2 g c =
     let w = c.args.value in
     let pair = ap (λ q. q.0) c.in_ok-pair.ensures.answer ∙ new_is cmp m k w in
     let pair_next = ap (λ q. q.1) c.in_ok-pair.ensures.answer ∙ next_is cmp m k w in
-    put_numbers cmp (λ _ _. false) m k w (ap set_tree c.self.view_is) pair c.in_ok-events.ensures.changed.contents pair_next c.node_count-nodes.ensures.numbers
+    put_numbers cmp (λ _ _. false) m k w (ap set_tree c.self.view_is) pair c.in_ok-events.ensures.changed.contents pair_next c.recall_invariant.ensures.numbers
 
 pub returns : goal.returns
 returns g c =
@@ -40,7 +40,7 @@ returns g c =
     let m = c.args.self.now in
     let k = c.args.key in
     let w = c.args.value in
-    let now = c.node_count-nodes.ensures in
+    let now = c.recall_invariant.ensures in
     let done = c.in_ok-events.ensures in
     let seen : c.self.inside.set ≡ set_tree m = ap set_tree c.self.view_is in
     let pair = ap (λ q. q.0) c.in_ok-pair.ensures.answer ∙ new_is cmp m k w in
@@ -50,7 +50,8 @@ returns g c =
       refusal = tt;
       given_back = tt;
       unchanged = tt;
-      added = added cmp m k w g.met.K.Ord.total now.lawful now.numbers _ changed.contents;
+      number_left = sym c.in_ok-pair.ensures.refusal;
+      added = added cmp m k w g.met.K.Ord.total now.tree.lawful now.numbers _ changed.contents;
       changed = changed;
       events = put_told cmp (λ _ _. false) m k w seen pair pair_next done.changed c.in_ok-events.events.items done.events.clones;
     }

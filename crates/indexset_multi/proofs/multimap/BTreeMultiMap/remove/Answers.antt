@@ -19,8 +19,8 @@ returns g c =
     let is = c.equal_place-place.ensures.pair in
     let r = c.take.result in
     let done = c.take.ensures in
-    let d = removed m c.take.new.self o done.rule (equal_pair order g.V.PartialEq.eq l k c.args.value.now) r (rw is at done.tree) (rw is at done.fits) in
-    let up = lawful_ascends (by_number cmp) m.size m.nodes done.rule.lawful in
+    let d = removed m c.take.new.self o done.invariant (equal_pair order g.V.PartialEq.eq l k c.args.value.now) r (rw is at done.tree) (rw is at done.fits) in
+    let up = lawful_ascends (by_number cmp) m.size m.nodes done.invariant.lawful in
     record {
       answer = rw is at done.answer;
       refusal = rw is at done.refusal;

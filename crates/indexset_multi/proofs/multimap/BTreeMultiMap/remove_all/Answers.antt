@@ -18,8 +18,8 @@ overflow_add-count g c =
     sym
     (ap is_some (rw c.in-Some.is at c.in_ok-remove_first.ensures.answer)
     ∙ some_mapped key_and_value (first_pair order (concat at.self.nodes) k)) in
-    let one = more_left g.met.K.Ord.total g.met.Q.LookupKey.acts_as_key old c.rule.ensures.tree k at.count at.invariant.tree found in
-    record { fits = omega (arith, one, c.len-len.ensures, removed_fit order (concat old.nodes) k, c.len-len.type_inv) }
+    let one = more_left g.met.K.Ord.total g.met.Q.LookupKey.acts_as_key old c.recall_invariant.ensures.tree k at.count at.invariant.tree found in
+    record { fits = omega (arith, one, removed_fit order (concat old.nodes) k, c.recall_invariant.ensures.items) }
 
 pub loop-key-smaller-in-Some : goal.loop-key-smaller-in-Some
 loop-key-smaller-in-Some g c =
@@ -31,7 +31,7 @@ loop-key-smaller-in-Some g c =
     sym
     (ap is_some (rw c.in-Some.is at c.in_ok-remove_first.ensures.answer)
     ∙ some_mapped key_and_value (first_pair order (concat at.self.nodes) k)) in
-    let one = more_left g.met.K.Ord.total g.met.Q.LookupKey.acts_as_key old c.rule.ensures.tree k at.count at.invariant.tree found in
+    let one = more_left g.met.K.Ord.total g.met.Q.LookupKey.acts_as_key old c.recall_invariant.ensures.tree k at.count at.invariant.tree found in
     let all = length (pairs_of order (concat old.nodes) k) in
     let less : all - (at.count + 1) < all - at.count = omega (arith, one) in
     less
@@ -47,8 +47,8 @@ loop-key-preserved-in-Some g c =
     (ap is_some (rw c.in-Some.is at c.in_ok-remove_first.ensures.answer)
     ∙ some_mapped key_and_value (first_pair order (concat at.self.nodes) k)) in
     record {
-      tree = one_more g.met.K.Ord.total g.met.Q.LookupKey.acts_as_key old c.rule.ensures.tree k at.count at.invariant.tree c.in_ok-remove_first.ensures.tree;
-      within = more_left g.met.K.Ord.total g.met.Q.LookupKey.acts_as_key old c.rule.ensures.tree k at.count at.invariant.tree found;
+      tree = one_more g.met.K.Ord.total g.met.Q.LookupKey.acts_as_key old c.recall_invariant.ensures.tree k at.count at.invariant.tree c.in_ok-remove_first.ensures.tree;
+      within = more_left g.met.K.Ord.total g.met.Q.LookupKey.acts_as_key old c.recall_invariant.ensures.tree k at.count at.invariant.tree found;
     }
 
 pub returns : goal.returns
@@ -61,16 +61,16 @@ returns g c =
     sym
     (ap is_some (rw c.in_default.is at c.in_ok-remove_first.ensures.answer)
     ∙ some_mapped key_and_value (first_pair order (concat at.self.nodes) k)) in
-    let same = stays g.met.K.Ord.total g.met.Q.LookupKey.acts_as_key old c.rule.ensures.tree k at.count at.invariant.tree at.invariant.within none c.in_ok-remove_first.ensures.tree in
+    let same = stays g.met.K.Ord.total g.met.Q.LookupKey.acts_as_key old c.recall_invariant.ensures.tree k at.count at.invariant.tree at.invariant.within none c.in_ok-remove_first.ensures.tree in
     let is = same ∙ at.invariant.tree in
     let gone = subst (λ m. is_some (first_pair order (concat m.nodes) k) ≡ false) (sym same) none in
     record {
-      count = all_removed g.met.K.Ord.total g.met.Q.LookupKey.acts_as_key old c.rule.ensures.tree k at.count is at.invariant.within gone;
-      contents = all_kept g.met.K.Ord.total g.met.Q.LookupKey.acts_as_key old c.rule.ensures.tree k at.count is at.invariant.within gone;
-      gone = none_left g.met.K.Ord.total g.met.Q.LookupKey.acts_as_key old c.rule.ensures.tree k at.count is at.invariant.within gone;
+      count = all_removed g.met.K.Ord.total g.met.Q.LookupKey.acts_as_key old c.recall_invariant.ensures.tree k at.count is at.invariant.within gone;
+      contents = all_kept g.met.K.Ord.total g.met.Q.LookupKey.acts_as_key old c.recall_invariant.ensures.tree k at.count is at.invariant.within gone;
+      gone = none_left g.met.K.Ord.total g.met.Q.LookupKey.acts_as_key old c.recall_invariant.ensures.tree k at.count is at.invariant.within gone;
       refusal = tt;
       no_event = λ _. refl;
-      removed = are_removed g.met.K.Ord.total g.met.Q.LookupKey.acts_as_key old c.rule.ensures.tree k at.count is at.invariant.within;
+      removed = are_removed g.met.K.Ord.total g.met.Q.LookupKey.acts_as_key old c.recall_invariant.ensures.tree k at.count is at.invariant.within;
     }
 
 pub returns-in_err-remove_first : goal.returns-in_err-remove_first
@@ -87,7 +87,7 @@ returns-in_err-remove_first g c =
           absurd
           (false≢true
           (c.in_err-remove_first.ensures.no_event
-          (nothing_told g.met.K.Ord.total g.met.Q.LookupKey.acts_as_key c.args.self.now c.rule.ensures.tree c.args.key
+          (nothing_told g.met.K.Ord.total g.met.Q.LookupKey.acts_as_key c.args.self.now c.recall_invariant.ensures.tree c.args.key
           at.count at.invariant.tree none)));
-      removed = are_removed g.met.K.Ord.total g.met.Q.LookupKey.acts_as_key c.args.self.now c.rule.ensures.tree c.args.key at.count is at.invariant.within;
+      removed = are_removed g.met.K.Ord.total g.met.Q.LookupKey.acts_as_key c.args.self.now c.recall_invariant.ensures.tree c.args.key at.count is at.invariant.within;
     }

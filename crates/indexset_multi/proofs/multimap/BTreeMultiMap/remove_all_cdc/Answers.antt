@@ -13,8 +13,8 @@ overflow_add-count g c =
     let old = c.args.self.now in
     let at = c.loop-count in
     let found : is_some (first_pair order (concat at.self.nodes) k) ≡ true = sym c.in-Ok-true.ensures.found ∙ c.in-Ok-true.field-0-test in
-    let one = more_left g.met.K.Ord.total g.met.Q.LookupKey.acts_as_key old c.rule.ensures.tree k at.count at.invariant.tree found in
-    record { fits = omega (arith, one, c.len-len.ensures, removed_fit order (concat old.nodes) k, c.len-len.type_inv) }
+    let one = more_left g.met.K.Ord.total g.met.Q.LookupKey.acts_as_key old c.recall_invariant.ensures.tree k at.count at.invariant.tree found in
+    record { fits = omega (arith, one, removed_fit order (concat old.nodes) k, c.recall_invariant.ensures.items) }
 
 pub loop-count-smaller : goal.loop-count-smaller
 loop-count-smaller g c =
@@ -23,7 +23,7 @@ loop-count-smaller g c =
     let old = c.args.self.now in
     let at = c.loop-count in
     let found : is_some (first_pair order (concat at.self.nodes) k) ≡ true = sym c.in-Ok-true.ensures.found ∙ c.in-Ok-true.field-0-test in
-    let one = more_left g.met.K.Ord.total g.met.Q.LookupKey.acts_as_key old c.rule.ensures.tree k at.count at.invariant.tree found in
+    let one = more_left g.met.K.Ord.total g.met.Q.LookupKey.acts_as_key old c.recall_invariant.ensures.tree k at.count at.invariant.tree found in
     let all = length (pairs_of order (concat old.nodes) k) in
     let less : all - (at.count + 1) < all - at.count = omega (arith, one) in
     less
@@ -36,10 +36,10 @@ loop-count-preserved g c =
     let at = c.loop-count in
     let found : is_some (first_pair order (concat at.self.nodes) k) ≡ true = sym c.in-Ok-true.ensures.found ∙ c.in-Ok-true.field-0-test in
     record {
-      tree = one_more g.met.K.Ord.total g.met.Q.LookupKey.acts_as_key old c.rule.ensures.tree k at.count at.invariant.tree c.in-Ok-true.ensures.tree;
-      within = more_left g.met.K.Ord.total g.met.Q.LookupKey.acts_as_key old c.rule.ensures.tree k at.count at.invariant.tree found;
+      tree = one_more g.met.K.Ord.total g.met.Q.LookupKey.acts_as_key old c.recall_invariant.ensures.tree k at.count at.invariant.tree c.in-Ok-true.ensures.tree;
+      within = more_left g.met.K.Ord.total g.met.Q.LookupKey.acts_as_key old c.recall_invariant.ensures.tree k at.count at.invariant.tree found;
       events =
-          told_more g.met.K.Ord.total g.met.Q.LookupKey.acts_as_key old c.rule.ensures.tree k at.count at.invariant.tree
+          told_more g.met.K.Ord.total g.met.Q.LookupKey.acts_as_key old c.recall_invariant.ensures.tree k at.count at.invariant.tree
           (IsMultiPairClone g.K.Clone.is_clone g.V.Clone.is_clone) _ _ at.invariant.events
           (c.in-Ok-true.ensures.events c.in-Ok-true.field-0-test);
     }
@@ -51,7 +51,7 @@ returns-in-Ok-false g c =
     let old = c.args.self.now in
     let at = c.loop-count in
     let none : is_some (first_pair order (concat at.self.nodes) k) ≡ false = sym c.in-Ok-false.ensures.found ∙ c.in-Ok-false.field-0-test in
-    let same = stays g.met.K.Ord.total g.met.Q.LookupKey.acts_as_key old c.rule.ensures.tree k at.count at.invariant.tree at.invariant.within none c.in-Ok-false.ensures.tree in
+    let same = stays g.met.K.Ord.total g.met.Q.LookupKey.acts_as_key old c.recall_invariant.ensures.tree k at.count at.invariant.tree at.invariant.within none c.in-Ok-false.ensures.tree in
     let is = same ∙ at.invariant.tree in
     let gone = subst (λ m. is_some (first_pair order (concat m.nodes) k) ≡ false) (sym same) none in
     let C = g.K.Clone.is_clone in
@@ -60,13 +60,13 @@ returns-in-Ok-false g c =
     subst (λ l. AreTableEvents (IsMultiPairClone C D) old.next (removals_events g.K.Ord.cmp order old k at.count) l)
     (sym (c.in-Ok-false.ensures.untold c.in-Ok-false.field-0-test)) at.invariant.events in
     record {
-      count = all_removed g.met.K.Ord.total g.met.Q.LookupKey.acts_as_key old c.rule.ensures.tree k at.count is at.invariant.within gone;
-      contents = all_kept g.met.K.Ord.total g.met.Q.LookupKey.acts_as_key old c.rule.ensures.tree k at.count is at.invariant.within gone;
-      gone = none_left g.met.K.Ord.total g.met.Q.LookupKey.acts_as_key old c.rule.ensures.tree k at.count is at.invariant.within gone;
+      count = all_removed g.met.K.Ord.total g.met.Q.LookupKey.acts_as_key old c.recall_invariant.ensures.tree k at.count is at.invariant.within gone;
+      contents = all_kept g.met.K.Ord.total g.met.Q.LookupKey.acts_as_key old c.recall_invariant.ensures.tree k at.count is at.invariant.within gone;
+      gone = none_left g.met.K.Ord.total g.met.Q.LookupKey.acts_as_key old c.recall_invariant.ensures.tree k at.count is at.invariant.within gone;
       refusal = tt;
       no_event = λ _. refl;
-      removed = are_removed g.met.K.Ord.total g.met.Q.LookupKey.acts_as_key old c.rule.ensures.tree k at.count is at.invariant.within;
-      events = removals_told g.met.K.Ord.total g.met.Q.LookupKey.acts_as_key old c.rule.ensures.tree k at.count is at.invariant.within C D _ told;
+      removed = are_removed g.met.K.Ord.total g.met.Q.LookupKey.acts_as_key old c.recall_invariant.ensures.tree k at.count is at.invariant.within;
+      events = removals_told g.met.K.Ord.total g.met.Q.LookupKey.acts_as_key old c.recall_invariant.ensures.tree k at.count is at.invariant.within C D _ told;
       told_before = tt;
     }
 
@@ -89,10 +89,10 @@ returns-in-Err g c =
           absurd
           (omega (
             arith,
-            more_left g.met.K.Ord.total g.met.Q.LookupKey.acts_as_key old c.rule.ensures.tree k at.count at.invariant.tree c.in-Err.ensures.contains,
+            more_left g.met.K.Ord.total g.met.Q.LookupKey.acts_as_key old c.recall_invariant.ensures.tree k at.count at.invariant.tree c.in-Err.ensures.contains,
             ap (λ l. length l) none,
           ));
-      removed = are_removed g.met.K.Ord.total g.met.Q.LookupKey.acts_as_key old c.rule.ensures.tree k at.count is at.invariant.within;
+      removed = are_removed g.met.K.Ord.total g.met.Q.LookupKey.acts_as_key old c.recall_invariant.ensures.tree k at.count is at.invariant.within;
       events = tt;
-      told_before = removals_told g.met.K.Ord.total g.met.Q.LookupKey.acts_as_key old c.rule.ensures.tree k at.count is at.invariant.within C D _ told;
+      told_before = removals_told g.met.K.Ord.total g.met.Q.LookupKey.acts_as_key old c.recall_invariant.ensures.tree k at.count is at.invariant.within C D _ told;
     }

@@ -20,8 +20,8 @@ returns g c =
     let is = c.equal_place-place.ensures.pair in
     let r = c.take_cdc.result in
     let done = c.take_cdc.ensures in
-    let d = removed m c.take_cdc.new.self o done.rule (equal_pair order g.V.PartialEq.eq l k c.args.value.now) r (rw is at done.tree) (rw is at done.fits) in
-    let up = lawful_ascends (by_number cmp) m.size m.nodes done.rule.lawful in
+    let d = removed m c.take_cdc.new.self o done.invariant (equal_pair order g.V.PartialEq.eq l k c.args.value.now) r (rw is at done.tree) (rw is at done.fits) in
+    let up = lawful_ascends (by_number cmp) m.size m.nodes done.invariant.lawful in
     record {
       answer = rw is at done.answer;
       refusal = rw is at done.refusal;

@@ -3,7 +3,7 @@ use Rattle.std.proofs.lemmas.Slice.Zip.{AllZip-long}
 use Rattle.indexset_events.specs.Replay.{numbered_from}
 use Rattle.indexset_log.specs.Tree.{refusal_for}
 use Rattle.indexset_events.proofs.CallerLemmas.{length-numbered}
-use Rattle.indexset_multi.specs.Places.{placed_item}
+use Rattle.indexset_log.specs.PlaceRemoval.{placed_item}
 use Rattle.indexset_multi.specs.Tree.{first_events, pair_removal_events}
 use Rattle.indexset_multi.proofs.PairRemovalLemmas.{item_there, pair_removal_few, taken_count}
 use Rattle.indexset_multi.proofs.multimap.BTreeMultiMap.remove_next.Goals as goal
@@ -15,7 +15,7 @@ returns-in_default-reserve-clause-refusal g c =
     let next = ap (λ t. t.next) c.self.view_is in
     let count : length (first_events cmp g.Q.LookupKey.order m c.args.key.now) ≡ _ =
     ap (λ p. length (pair_removal_events cmp m.size m.nodes p)) (sym c.first_place.ensures.pair)
-    ∙ taken_count cmp g.met.K.Ord.total c.self.view_is c.rule.ensures.tree c.in-Some.is
+    ∙ taken_count cmp g.met.K.Ord.total c.self.view_is c.recall_invariant.ensures.tree c.in-Some.is
     c.first_place.ensures.place in
     c.removal_refusal.ensures ∙ (λ i. refusal_for (next i) (sym count i))
 

@@ -6,7 +6,7 @@ use Rattle.indexset_core.specs.KeyRange.{is_within}
 use Rattle.indexset_core.specs.Nodes.{concat, node_lengths}
 use Rattle.indexset_index.proofs.CallerLemmas.{count-blocks, count-lengths, sum-blocks}
 use Rattle.indexset_core.proofs.CallerLemmas.{length-concat}
-use Rattle.indexset_log.specs.Made.{outside, without_range}
+use Rattle.indexset_log.specs.RangeRemoval.{outside, without_range}
 use Rattle.indexset_log.specs.Tree.{IsTree}
 use Rattle.indexset_events.specs.Nodes.{is_filled}
 use Rattle.indexset_log.proofs.RangeLemmas.{has_items, filled-map, joined_filled, concat-filter, ranged_lawful}
@@ -67,7 +67,7 @@ rebuild-requires-clause-fits g c =
       ap (λ l. length l) kept,
       length-filter keep (concat held),
       count_by-le-length keep (concat held),
-      c.len-count.ensures.fits,
+      c.recall_bounds.ensures.fits,
       ap sum c.self.invariant.index_is,
       sum-blocks (node_lengths held),
       length-concat held,
@@ -106,5 +106,5 @@ rebuild-requires-clause-room g c =
       count-blocks (node_lengths held),
       count-lengths held,
       ap (λ l. length l) c.self.invariant.index_is,
-      c.len-count.ensures.within,
+      c.recall_bounds.ensures.within,
     ))

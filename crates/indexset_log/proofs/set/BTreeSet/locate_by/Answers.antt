@@ -1,9 +1,8 @@
 use Rattle.indexset_core.specs.Digits.{digits}
 use Rattle.indexset_events.proofs.CallerLemmas.{lawful_filled}
-use Rattle.indexset_log.proofs.set.BTreeSet.locate.Goals as goal
+use Rattle.indexset_log.proofs.set.BTreeSet.locate_by.Goals as goal
 use Rattle.std.proofs.Common.{length, arith, ap, sym, ◌∙◌}
 use Rattle.indexset_log.proofs.TreeViewLemmas.{held}
-use Rattle.indexset_events.proofs.NodeViewLemmas.{lawful_filled}
 
 pub locate_by-requires-clause-filled : goal.locate_by-requires-clause-filled
 locate_by-requires-clause-filled g c = rw c.as_slice.ensures.value (λ _. lawful_filled g.T.Ord.cmp c.self.inside.size _ c.self.invariant.tree.lawful)
