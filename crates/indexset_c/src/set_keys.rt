@@ -19,6 +19,7 @@ use std::alloc::Global;
 /// `MEMORY`, or `NONE` if the handle is empty. A failed call changes nothing. A present key needs
 /// no memory.
 #[unsafe(no_mangle)]
+#[tactic(auto, unfolding(indexset_set::specs::SetNodes::nodes_kept))]
 pub extern "C" fn indexset_set_insert(alloc: Global, set: &mut SetHandle, key: u64) -> u32
     // Result.
     ensures added { result ≡ YES → has_equal nat_cmp (elements set.old.slot.value) key ≡ false }

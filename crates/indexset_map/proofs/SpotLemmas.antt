@@ -17,7 +17,7 @@ use Rattle.indexset_spine.specs.NodeList.{NodeList, AreNodeLengths, IsItemSpot, 
 use Rattle.indexset_spine.specs.Lengths.{IsItemPlace, IsPlace, lengths_with, place_of}
 use Rattle.indexset_spine.proofs.CallerLemmas.{item_place, item_spot, lengths_placed, node_filled, position_inside, place_position, place_spot, spot_place}
 use Rattle.indexset_set.specs.SetPairs as cut
-use Rattle.indexset_set.specs.SetProbes.{IsSearchResult}
+use Rattle.indexset_spine.specs.Search.{IsSearchResult}
 use Rattle.indexset_map.specs.Contents.{Contents, contents, with_entry, with_written, without_at}
 use Rattle.indexset_map.specs.KeySpot.{IsSpotOf}
 use Rattle.indexset_map.proofs.ContentsLemmas.{contents_written, put_new}

@@ -42,10 +42,10 @@ impl<K: Ord + Drop, V: Drop> BTreeMap<K, V> {
         ensures old { IfOk result (λ o. o ≡ value_of K.cmp self.old.pairs key) }
 
         // Contents.
-        ensures ok { OnOk result (self.new ≡ with_entry K.cmp self.old key value) }
         ensures contains { OnOk result (value_of K.cmp self.new.pairs key ≡ Some value) }
         ensures others { OnOk result ((other : K) → is_eq (K.cmp other key) ≡ false
             → value_of K.cmp self.new.pairs other ≡ value_of K.cmp self.old.pairs other) }
+        ensures ok { OnOk result (self.new ≡ with_entry K.cmp self.old key value) }
 
         // Failure.
         ensures given_back { IfErr result
@@ -80,11 +80,11 @@ impl<K: Ord + Drop, V: Drop> BTreeMap<K, V> {
         ensures value { result ≡ option_map entry_of (pair_of Q.order self.old.pairs key) }
 
         // Contents.
-        ensures rest { self.new ≡ without_entry Q.order self.old key }
         ensures gone { has_key Q.order self.new.pairs key ≡ false }
         ensures no_value { value_of Q.order self.new.pairs key ≡ None }
         ensures others { (other : K) → is_eq (Q.order other key) ≡ false
             → value_of K.cmp self.new.pairs other ≡ value_of K.cmp self.old.pairs other }
+        ensures rest { self.new ≡ without_entry Q.order self.old key }
     {
         let spot = self.spot(key);
         if spot.found {
@@ -111,11 +111,11 @@ impl<K: Ord + Drop, V: Drop> BTreeMap<K, V> {
         ensures value { result ≡ value_of Q.order self.old.pairs key }
 
         // Contents.
-        ensures rest { self.new ≡ without_entry Q.order self.old key }
         ensures gone { has_key Q.order self.new.pairs key ≡ false }
         ensures no_value { value_of Q.order self.new.pairs key ≡ None }
         ensures others { (other : K) → is_eq (Q.order other key) ≡ false
             → value_of K.cmp self.new.pairs other ≡ value_of K.cmp self.old.pairs other }
+        ensures rest { self.new ≡ without_entry Q.order self.old key }
     {
         let (_, value) = self.remove_entry(key)?;
         Some(value)

@@ -20,7 +20,8 @@ use Rattle.indexset_spine.specs.NodeList.{NodeList, AreNodeLengths, node_list, e
 use Rattle.indexset_spine.specs.Edits.{FoldsPrefix}
 use Rattle.indexset_spine.proofs.CallerLemmas.{cut_all_last, cut_last, empty_cut, end_node, end_offset, joined_all_last, joined_last, takes_all}
 use Rattle.indexset_set.specs.SetAlgebra.{put_all}
-use Rattle.indexset_set.specs.SetNodes.{PutsPrefix, nodes_kept, nodes_kept_all, nodes_put, nodes_put_all, spot_of}
+use Rattle.indexset_set.specs.SetNodes.{PutsPrefix, nodes_kept, nodes_kept_all, nodes_put, nodes_put_all}
+use Rattle.indexset_set.specs.SetSpots.{spot_of}
 use Rattle.indexset_set.proofs.SetCloneLemmas.{gap_behind, keep_behind}
 use Rattle.indexset_set.proofs.SetNodeLemmas.{kept_new, put_new, spot_told}
 

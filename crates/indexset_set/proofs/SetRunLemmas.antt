@@ -24,7 +24,8 @@ use Rattle.indexset_spine.specs.declared.spot.Spot.{Spot}
 use Rattle.indexset_spine.specs.NodeList.{AreNodeLengths, node_list, with_replaced}
 use Rattle.indexset_spine.specs.Edits.{FoldsPrefix, with_item_in}
 use Rattle.indexset_spine.proofs.CallerLemmas.{count-lengths, fold_grown, item_in_node, joined_set, last_is, last_parts, length-at, node_up, put_before, put_short}
-use Rattle.indexset_set.specs.SetNodes.{nodes_put, spot_of}
+use Rattle.indexset_set.specs.SetNodes.{nodes_put}
+use Rattle.indexset_set.specs.SetSpots.{spot_of}
 use Rattle.indexset_set.proofs.SetNodeLemmas.{put_new, put_there, spot_told}
 
 or_none : (b : Bool) → (b || false) ≡ b

@@ -8,3 +8,4 @@ pub mod SetNodes
 pub mod SetPairs
 pub mod SetProbes
 pub mod SetRanges
+pub mod SetSpots

@@ -1,13 +1,14 @@
 -- The nodes of a set after insertions and removals.
-use Rattle.std.specs.Prelude.{◌≡◌, ℕ, List, take, drop, if◌then◌else◌}
+use Rattle.std.specs.Prelude.{◌≡◌, ℕ, ◌==◌, ◌&&◌, List, [], ◌∷◌, ◌++◌, length, take, drop}
+use Rattle.std.specs.Prelude.{remove, slice_set, if◌then◌else◌, nat_lt}
 use Rattle.std.specs.List.{fold, list_any}
 use Rattle.std.specs.Ordering.{is_eq}
 use Rattle.std.specs.declared.cmp.Ordering.{Ordering}
 use Rattle.indexset_spine.specs.declared.spot.Spot.{Spot}
-use Rattle.indexset_core.specs.Nodes.{concat, node_at, node_for}
-use Rattle.indexset_spine.specs.NodeList.{NodeList, node_list, IsItemSpot, items, position_of}
-use Rattle.indexset_spine.specs.NodeList.{with_inserted, with_replaced, without_item}
-use Rattle.indexset_core.specs.Order.{has_equal}
+use Rattle.indexset_core.specs.Nodes.{ends_less}
+use Rattle.indexset_spine.specs.NodeList.{NodeList, node_list, IsItemSpot, items}
+use Rattle.indexset_spine.specs.NodeList.{parts_with, position_of, without_item}
+use Rattle.indexset_core.specs.Order.{below, has_equal}
 use Rattle.indexset_core.specs.Parted.{less_count}
 
 -- ms are the nodes ns without the element at the position
@@ -16,45 +17,46 @@ IsWithoutAt ns i ms =
     (s : Spot) × IsItemSpot ns s × (position_of ns s ≡ i) × (ms ≡ without_item ns s)
 
 module _ {T : Type 0} where
-  -- the spot of the first element that compares Equal, or its insertion point: in the first node
-  -- whose last element does not compare Less, else in the last node, after the elements that
-  -- compare Less
-  abbrev pub search_spot : (T → Ordering) → List (List T) → Spot
-  search_spot answer ns =
-      let node = node_for answer ns in record {
-        node = node;
-        offset = less_count answer (node_at ns node);
-        found = list_any (λ x. is_eq (answer x)) (concat ns);
-      }
+  -- the nodes with f n in place of one node n: the first whose last element does not compare Less,
+  -- or else the last node
+  unfoldable pub with_node_edited : (T → Ordering) → (List T → List (List T)) → List (List T)
+      → List (List T)
+  with_node_edited answer f [] = f []
+  with_node_edited answer f (n ∷ []) = f n
+  with_node_edited answer f (n ∷ m ∷ ns) =
+      if ends_less answer n then n ∷ with_node_edited answer f (m ∷ ns) else f n ++ m ∷ ns
 
-  -- the nodes without the first element that compares Equal
+  -- the nodes without the first element that compares Equal: an emptied node is removed too, unless
+  -- it is the only one
   unfoldable pub nodes_unequal : (T → Ordering) → NodeList T → List (List T)
   nodes_unequal answer s =
       if list_any (λ x. is_eq (answer x)) (items s)
-      then without_item s.nodes (search_spot answer s.nodes) else s.nodes
+      then with_node_edited answer
+      (λ n. if (length n == 1) && nat_lt 1 (length s.nodes) then []
+      else remove n (less_count answer n) ∷ []) s.nodes
+      else s.nodes
 
 -- elements are compared with v, which may be of another type
 module _ {T Q : Type 0} (cmp : T → Q → Ordering) where
-  -- the spot of the element equal to v, or the insertion point of v
-  abbrev pub spot_of : List (List T) → Q → Spot
-  spot_of ns v = search_spot (λ x. cmp x v) ns
-
   -- the nodes without the element equal to v
   abbrev pub nodes_without : NodeList T → Q → List (List T)
   nodes_without s v = nodes_unequal (λ x. cmp x v) s
 
 module _ {T : Type 0} (cmp : T → T → Ordering) where
-  -- the nodes with v inserted, unless an equal element is present
+  -- the nodes with v inserted after the elements below it, unless an equal element is present
   unfoldable pub nodes_kept : NodeList T → T → List (List T)
   nodes_kept s v =
       if has_equal cmp (items s) v then s.nodes
-      else with_inserted s.size s.nodes (spot_of cmp s.nodes v) v
+      else with_node_edited (λ x. cmp x v) (λ n. parts_with s.size n (length (below cmp n v)) v)
+      s.nodes
 
   -- the nodes with v inserted, replacing any equal element
   unfoldable pub nodes_put : NodeList T → T → List (List T)
   nodes_put s v =
-      if has_equal cmp (items s) v then with_replaced s.nodes (spot_of cmp s.nodes v) v
-      else with_inserted s.size s.nodes (spot_of cmp s.nodes v) v
+      if has_equal cmp (items s) v
+      then with_node_edited (λ x. cmp x v) (λ n. slice_set n (length (below cmp n v)) v ∷ [])
+      s.nodes
+      else nodes_kept s v
 
   -- the nodes with each of xs inserted in order, unless an equal element is present
   unfoldable pub nodes_kept_all : NodeList T → List T → List (List T)

@@ -37,9 +37,8 @@ impl<T: Ord + Drop> BTreeSet<T> {
         ensures added { IfOk result (λ b. b ≡ not (has_equal T.cmp (items self.old) value)) }
 
         // Contents.
-        ensures ok { OnOk result (items self.new ≡ keep T.cmp (items self.old) value) }
         ensures contains { OnOk result (has_equal T.cmp (items self.new) value ≡ true) }
-        ensures if_present { has_equal T.cmp (items self.old) value ≡ true → self.new ≡ self.old }
+        ensures ok { OnOk result (items self.new ≡ keep T.cmp (items self.old) value) }
 
         // Failure.
         ensures given_back { IfErr result (λ e. (e.value ≡ value) × (e.cause ≡ Refusal.Memory)) }
@@ -84,8 +83,8 @@ impl<T: Ord + Drop> BTreeSet<T> {
         ensures old { IfOk result (λ o. o ≡ equal_element T.cmp (items self.old) value) }
 
         // Contents.
-        ensures ok { OnOk result (items self.new ≡ put T.cmp (items self.old) value) }
         ensures contains { OnOk result (has_equal T.cmp (items self.new) value ≡ true) }
+        ensures ok { OnOk result (items self.new ≡ put T.cmp (items self.old) value) }
 
         // Failure.
         ensures given_back { IfErr result (λ e. (e.value ≡ value) × (e.cause ≡ Refusal.Memory)) }
@@ -125,8 +124,8 @@ impl<T: Ord + Drop> BTreeSet<T> {
         ensures value { result ≡ equal_element Q.order (items self.old) value }
 
         // Contents.
-        ensures rest { items self.new ≡ without Q.order (items self.old) value }
         ensures gone { has_equal Q.order (items self.new) value ≡ false }
+        ensures rest { items self.new ≡ without Q.order (items self.old) value }
 
         // Nodes.
         ensures nodes { self.new.nodes ≡ nodes_without Q.order self.old value }
@@ -153,8 +152,8 @@ impl<T: Ord + Drop> BTreeSet<T> {
         ensures removed { result ≡ has_equal Q.order (items self.old) value }
 
         // Contents.
-        ensures rest { items self.new ≡ without Q.order (items self.old) value }
         ensures gone { has_equal Q.order (items self.new) value ≡ false }
+        ensures rest { items self.new ≡ without Q.order (items self.old) value }
 
         // Nodes.
         ensures nodes { self.new.nodes ≡ nodes_without Q.order self.old value }

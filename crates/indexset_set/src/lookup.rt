@@ -1,19 +1,18 @@
 //! Look-ups by value: the equal element, its position, and the next element.
-ghost use Rattle.std.specs.Prelude.{◌≡◌, ◌+◌, ◌<◌, ◌≤◌, true, IsTrue, IfOk, IfErr, IfSome};
+ghost use Rattle.std.specs.Prelude.{◌≡◌, ◌+◌, ◌<◌, ◌≤◌, true, IfOk, IfErr, IfSome};
 ghost use Rattle.std.specs.Prelude.{None, Some, find, length, position, slice_get};
-ghost use Rattle.std.specs.Bool.{OnTrue, OnFalse};
 ghost use Rattle.std.specs.declared.cmp.Ordering.TheVariants.{Less};
 ghost use Rattle.std.specs.List.{AllWithin};
 ghost use Rattle.std.specs.Option.{option_copied, option_map};
 ghost use Rattle.std.specs.Ordering.{is_eq};
-ghost use Rattle.indexset_spine.specs.NodeList.{items, IsSpot, IsItemSpot, position_of};
+ghost use Rattle.indexset_spine.specs.NodeList.{items};
 ghost use Rattle.indexset_core.specs.Digits.{digits};
-ghost use Rattle.indexset_core.specs.Order.{IsAscending, IsFoundAt, IsGapFor, has_equal};
-ghost use Rattle.indexset_core.specs.Order.{index_of, rank, equal_element, lower_element};
+ghost use Rattle.indexset_core.specs.Order.{IsAscending, has_equal, index_of, rank};
+ghost use Rattle.indexset_core.specs.Order.{equal_element, lower_element};
 ghost use Rattle.indexset_core.specs.Parted.{less_count};
-ghost use Rattle.indexset_set.specs.SetNodes.{spot_of};
 ghost use Rattle.indexset_set.specs.SetProbes.{FindsInOrder};
 ghost use Rattle.indexset_set.specs.SetRanges.{upper_element};
+ghost use Rattle.indexset_set.specs.SetSpots.{IsSpotFor};
 
 use super::BTreeSet;
 use indexset_core::lookup_key::LookupKey;
@@ -26,16 +25,7 @@ use std::ops::Bound;
 #[inline(always)]
 pub(super) fn locate<T: Ord, Q: LookupKey<T> + Drop>(spine: &Spine<T>, value: Q) -> Spot
     requires { IsAscending T.cmp (items spine.now) }
-
-    // Result.
-    ensures spot { IsSpot spine.now.nodes result }
-    ensures item { IsTrue result.found → IsItemSpot spine.now.nodes result }
-    ensures position { position_of spine.now.nodes result ≡ rank Q.order (items spine.now) value }
-    ensures place { result ≡ spot_of Q.order spine.now.nodes value }
-    ensures found { OnTrue result.found (IsFoundAt Q.order (items spine.now) value
-        (position_of spine.now.nodes result)) }
-    ensures gap { OnFalse result.found (IsGapFor Q.order (items spine.now) value
-        (position_of spine.now.nodes result)) }
+    ensures { IsSpotFor Q.order spine.now.nodes value result }
 {
     spine.locate_by(&mut ByItem::new(&value))
 }
@@ -43,16 +33,7 @@ pub(super) fn locate<T: Ord, Q: LookupKey<T> + Drop>(spine: &Spine<T>, value: Q)
 // Returns the same with the last element compared first, for values that come in order.
 pub(super) fn locate_from_end<T: Ord>(spine: &Spine<T>, value: &T) -> Spot
     requires { IsAscending T.cmp (items spine.now) }
-
-    // Result.
-    ensures spot { IsSpot spine.now.nodes result }
-    ensures item { IsTrue result.found → IsItemSpot spine.now.nodes result }
-    ensures position { position_of spine.now.nodes result ≡ rank T.cmp (items spine.now) value.now }
-    ensures place { result ≡ spot_of T.cmp spine.now.nodes value.now }
-    ensures found { OnTrue result.found (IsFoundAt T.cmp (items spine.now) value.now
-        (position_of spine.now.nodes result)) }
-    ensures gap { OnFalse result.found (IsGapFor T.cmp (items spine.now) value.now
-        (position_of spine.now.nodes result)) }
+    ensures { IsSpotFor T.cmp spine.now.nodes value.now result }
 {
     spine.locate_from_end_by(&mut ByItem::new(value))
 }
@@ -60,16 +41,7 @@ pub(super) fn locate_from_end<T: Ord>(spine: &Spine<T>, value: &T) -> Spot
 // Returns the same with a node tried first, for values whose places are near each other.
 pub(super) fn locate_near<T: Ord>(spine: &Spine<T>, near: usize, value: &T) -> Spot
     requires { IsAscending T.cmp (items spine.now) }
-
-    // Result.
-    ensures spot { IsSpot spine.now.nodes result }
-    ensures item { IsTrue result.found → IsItemSpot spine.now.nodes result }
-    ensures position { position_of spine.now.nodes result ≡ rank T.cmp (items spine.now) value.now }
-    ensures place { result ≡ spot_of T.cmp spine.now.nodes value.now }
-    ensures found { OnTrue result.found (IsFoundAt T.cmp (items spine.now) value.now
-        (position_of spine.now.nodes result)) }
-    ensures gap { OnFalse result.found (IsGapFor T.cmp (items spine.now) value.now
-        (position_of spine.now.nodes result)) }
+    ensures { IsSpotFor T.cmp spine.now.nodes value.now result }
 {
     spine.locate_near_by(near, &mut ByItem::new(value))
 }

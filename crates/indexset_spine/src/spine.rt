@@ -7,11 +7,12 @@ ghost use Rattle.std.specs.List.{between};
 ghost use Rattle.std.specs.Map.Iter.{ShowsInOrder, ShowsInReverse};
 ghost use Rattle.std.specs.Map.Iter.{GivesInOrder, GivesInReverse, deref};
 ghost use Rattle.indexset_core.specs.Digits.{digits};
-ghost use Rattle.indexset_core.specs.Parted.{IsParted, less_count};
-ghost use Rattle.indexset_core.specs.Nodes.{node_at, node_for, equal_at, node_lengths, vec_items};
+ghost use Rattle.indexset_core.specs.Parted.{IsParted};
+ghost use Rattle.indexset_core.specs.Nodes.{node_at, node_for, node_lengths, vec_items};
 ghost use Rattle.indexset_spine.specs.NodeList.{items, AreNodeLengths, IsSpot};
 ghost use Rattle.indexset_spine.specs.NodeList.{IsItemSpot, position_of};
 ghost use Rattle.indexset_spine.specs.Lengths.{node_of};
+ghost use Rattle.indexset_spine.specs.Search.{IsSearchResult};
 
 mod append;
 mod bounds;
@@ -129,19 +130,7 @@ impl<T> Spine<T> {
     #[inline(always)]
     pub fn locate_by<P: Probe<T>>(&self, probe: &mut P) -> Spot
         requires { IsParted (P.answer probe.old) (items self.now) }
-
-        // Result.
-        ensures node { result.node ≡ node_for (P.answer probe.old) self.now.nodes }
-        ensures offset { result.offset ≡ less_count (P.answer probe.old)
-            (node_at self.now.nodes result.node) }
-        ensures found { result.found ≡ equal_at (P.answer probe.old) (items self.now)
-            (position_of self.now.nodes result) }
-        ensures spot { IsSpot self.now.nodes result }
-        ensures item { IsTrue result.found → IsItemSpot self.now.nodes result }
-        ensures position { position_of self.now.nodes result
-            ≡ less_count (P.answer probe.old) (items self.now) }
-
-        // Contents.
+        ensures spot { IsSearchResult (P.answer probe.old) self.now.nodes result }
         ensures fixed { P.answer probe.new ≡ P.answer probe.old }
         ensures comparisons { P.asked probe.new ≤ P.asked probe.old
             + (digits (length self.now.nodes) + digits self.now.size + 1) }
@@ -158,19 +147,7 @@ impl<T> Spine<T> {
     /// One comparison if the last item compares Less, else one more than `locate_by`.
     pub fn locate_from_end_by<P: Probe<T>>(&self, probe: &mut P) -> Spot
         requires { IsParted (P.answer probe.old) (items self.now) }
-
-        // Result.
-        ensures node { result.node ≡ node_for (P.answer probe.old) self.now.nodes }
-        ensures offset { result.offset ≡ less_count (P.answer probe.old)
-            (node_at self.now.nodes result.node) }
-        ensures found { result.found ≡ equal_at (P.answer probe.old) (items self.now)
-            (position_of self.now.nodes result) }
-        ensures spot { IsSpot self.now.nodes result }
-        ensures item { IsTrue result.found → IsItemSpot self.now.nodes result }
-        ensures position { position_of self.now.nodes result
-            ≡ less_count (P.answer probe.old) (items self.now) }
-
-        // Contents.
+        ensures spot { IsSearchResult (P.answer probe.old) self.now.nodes result }
         ensures fixed { P.answer probe.new ≡ P.answer probe.old }
         ensures comparisons { P.asked probe.new ≤ P.asked probe.old
             + (digits (length self.now.nodes) + digits self.now.size + 2) }
@@ -196,19 +173,7 @@ impl<T> Spine<T> {
     /// Two comparisons more than `locate_by` at most.
     pub fn locate_near_by<P: Probe<T>>(&self, near: usize, probe: &mut P) -> Spot
         requires { IsParted (P.answer probe.old) (items self.now) }
-
-        // Result.
-        ensures node { result.node ≡ node_for (P.answer probe.old) self.now.nodes }
-        ensures offset { result.offset ≡ less_count (P.answer probe.old)
-            (node_at self.now.nodes result.node) }
-        ensures found { result.found ≡ equal_at (P.answer probe.old) (items self.now)
-            (position_of self.now.nodes result) }
-        ensures spot { IsSpot self.now.nodes result }
-        ensures item { IsTrue result.found → IsItemSpot self.now.nodes result }
-        ensures position { position_of self.now.nodes result
-            ≡ less_count (P.answer probe.old) (items self.now) }
-
-        // Contents.
+        ensures spot { IsSearchResult (P.answer probe.old) self.now.nodes result }
         ensures fixed { P.answer probe.new ≡ P.answer probe.old }
         ensures comparisons { P.asked probe.new ≤ P.asked probe.old
             + (digits (length self.now.nodes) + digits self.now.size + 3) }
@@ -223,19 +188,7 @@ impl<T> Spine<T> {
     #[inline(always)]
     fn locate_for<P: Probe<T>>(&self, probe: &mut P, purpose: Purpose) -> Spot
         requires { IsParted (P.answer probe.old) (items self.now) }
-
-        // Result.
-        ensures node { result.node ≡ node_for (P.answer probe.old) self.now.nodes }
-        ensures offset { result.offset ≡ less_count (P.answer probe.old)
-            (node_at self.now.nodes result.node) }
-        ensures found { result.found ≡ equal_at (P.answer probe.old) (items self.now)
-            (position_of self.now.nodes result) }
-        ensures spot { IsSpot self.now.nodes result }
-        ensures item { IsTrue result.found → IsItemSpot self.now.nodes result }
-        ensures position { position_of self.now.nodes result
-            ≡ less_count (P.answer probe.old) (items self.now) }
-
-        // Contents.
+        ensures spot { IsSearchResult (P.answer probe.old) self.now.nodes result }
         ensures fixed { P.answer probe.new ≡ P.answer probe.old }
         ensures comparisons { P.asked probe.new ≤ P.asked probe.old
             + (digits (length self.now.nodes) + digits self.now.size + 1) }
@@ -248,19 +201,7 @@ impl<T> Spine<T> {
     fn locate_in<P: Probe<T>>(&self, node: usize, probe: &mut P, purpose: Purpose) -> Spot
         requires parted { IsParted (P.answer probe.old) (items self.now) }
         requires node { node ≡ node_for (P.answer probe.old) self.now.nodes }
-
-        // Result.
-        ensures node { result.node ≡ node }
-        ensures offset { result.offset ≡ less_count (P.answer probe.old)
-            (node_at self.now.nodes result.node) }
-        ensures found { result.found ≡ equal_at (P.answer probe.old) (items self.now)
-            (position_of self.now.nodes result) }
-        ensures spot { IsSpot self.now.nodes result }
-        ensures item { IsTrue result.found → IsItemSpot self.now.nodes result }
-        ensures position { position_of self.now.nodes result
-            ≡ less_count (P.answer probe.old) (items self.now) }
-
-        // Contents.
+        ensures spot { IsSearchResult (P.answer probe.old) self.now.nodes result }
         ensures fixed { P.answer probe.new ≡ P.answer probe.old }
         ensures comparisons { P.asked probe.new ≤ P.asked probe.old + (digits self.now.size + 1) }
     {

@@ -10,7 +10,8 @@ ghost use Rattle.indexset_core.specs.Order.{IsAscending, IsGapFor};
 ghost use Rattle.indexset_spine.specs.NodeList.{items, AreNodeLengths, IsItemSpot, IsSpot};
 ghost use Rattle.indexset_spine.specs.NodeList.{position_of, with_inserted, without_item};
 ghost use Rattle.indexset_spine.specs.Lengths.{node_of};
-ghost use Rattle.indexset_set.specs.SetProbes.{FindsInOrder, IsSearchResult};
+ghost use Rattle.indexset_spine.specs.Search.{IsSearchResult};
+ghost use Rattle.indexset_set.specs.SetProbes.{FindsInOrder};
 
 use crate::BTreeSet;
 use indexset_core::probe::Probe;
@@ -28,7 +29,7 @@ pub fn spot_by<T: Ord, P: Probe<T>>(set: &BTreeSet<T>, probe: &mut P) -> Spot
     requires { FindsInOrder (P.answer probe.old) (items set.now) }
 
     // Result.
-    ensures sought { IsSearchResult (P.answer probe.old) set.now.nodes result }
+    ensures spot { IsSearchResult (P.answer probe.old) set.now.nodes result }
 
     // Contents.
     ensures ascending { IsAscending T.cmp (items set.now) }
@@ -54,7 +55,7 @@ pub fn spot_from_end_by<T: Ord, P: Probe<T>>(set: &BTreeSet<T>, probe: &mut P) -
     requires { FindsInOrder (P.answer probe.old) (items set.now) }
 
     // Result.
-    ensures sought { IsSearchResult (P.answer probe.old) set.now.nodes result }
+    ensures spot { IsSearchResult (P.answer probe.old) set.now.nodes result }
 
     // Contents.
     ensures ascending { IsAscending T.cmp (items set.now) }

@@ -15,4 +15,4 @@ returns-clause-spot g c =
     let told = c.spot_by.ensures in
     sought_key g.Q.LookupKey.order g.met.Q.LookupKey.acts_as_key c.self.inside.set c.args.self.now c.new.result.0
     c.args.key c.spot_by.result c.self.view_is (ap (λ (t : g.row.Q.Denot × ℕ). t.0) c.new.ensures) told.ascending
-    told.cut told.sought
+    told.cut told.spot

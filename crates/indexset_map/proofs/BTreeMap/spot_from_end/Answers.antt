@@ -16,4 +16,4 @@ returns-clause-spot g c =
     let told = c.spot_from_end_by.ensures in
     sought_key g.K.Ord.cmp (acts_as_itself g.met.K.Ord.total) c.self.inside.set c.args.self.now c.new.result.0
     c.args.key.now c.spot_from_end_by.result c.self.view_is (ap (λ (t : g.row.K.Denot × ℕ). t.0) c.new.ensures)
-    told.ascending told.cut told.sought
+    told.ascending told.cut told.spot

@@ -9,7 +9,7 @@ locate_by-spot-requires g c = parted (g.P.Probe.answer c.args.probe.now) (items 
 
 pub returns-then-spot-clause-found : goal.returns-then-spot-clause-found
 returns-then-spot-clause-found g c =
-    let spot = c.locate_by-spot.ensures in
+    let spot = c.locate_by-spot.ensures.spot in
     rw (← c.self.view_is, c.position-position.ensures)
     (position_found _ _ _
     (parted (g.P.Probe.answer c.args.probe.now) (items c.self.inside.spine) (rw c.self.view_is c.requires))
@@ -17,7 +17,7 @@ returns-then-spot-clause-found g c =
 
 pub returns-else-spot-clause-absent : goal.returns-else-spot-clause-absent
 returns-else-spot-clause-absent g c =
-    let spot = c.locate_by-spot.ensures in
+    let spot = c.locate_by-spot.ensures.spot in
     rw (← c.self.view_is)
     (position_absent _ _ _
     (parted (g.P.Probe.answer c.args.probe.now) (items c.self.inside.spine) (rw c.self.view_is c.requires))

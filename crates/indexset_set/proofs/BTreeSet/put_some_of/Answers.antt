@@ -95,6 +95,9 @@ returns-then-run-gt0-clause-fewer g c =
     let some = rw (← c.other.view_is) at c.requires.some in
     rw (← c.other.view_is, c.in_ok-merge_from.ensures.rest) (omega (arith, some, c.if-run-gt0.true, length-drop c.count_inside-run.result (items c.other.inside.spine)))
 
+pub replace-requires : goal.replace-requires
+replace-requires g c = c.locate_near-spot.ensures.item c.if-spot.true
+
 pub invariant_of-self-then-spot : goal.invariant_of-self-then-spot
 invariant_of-self-then-spot g c =
     let there = rw c.if-spot.true at c.locate_near-spot.ensures.found in

@@ -3,6 +3,9 @@ use Rattle.indexset_core.proofs.CallerLemmas.{found_ascending, found_equal, foun
 use Rattle.indexset_set.proofs.SetNodeLemmas.{found_of, gap_of, put_there, put_new}
 use Rattle.indexset_set.proofs.BTreeSet.replace.Goals as goal
 
+pub replace-requires : goal.replace-requires
+replace-requires g c = c.locate-spot.ensures.item c.if-spot.true
+
 pub invariant_of-self : goal.invariant_of-self
 invariant_of-self g c =
     let there = found_of g.T.Ord.cmp (λ (r : Bor g.row.T.Denot). r.now) _ _ _ (rw c.if-spot.true at c.locate-spot.ensures.found) in

@@ -3,6 +3,9 @@ use Rattle.indexset_core.proofs.CallerLemmas.{found_equal, found_has_equal, gap_
 use Rattle.indexset_set.proofs.SetNodeLemmas.{without_there, without_none}
 use Rattle.indexset_set.proofs.BTreeSet.take.Goals as goal
 
+pub remove-requires : goal.remove-requires
+remove-requires g c = c.locate-spot.ensures.item c.if-spot.true
+
 pub invariant_of-self : goal.invariant_of-self
 invariant_of-self g c =
     let there = rw c.if-spot.true at c.locate-spot.ensures.found in

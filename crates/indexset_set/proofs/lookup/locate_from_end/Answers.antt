@@ -1,14 +1,10 @@
 use Rattle.std.proofs.Common.{ap}
 use Rattle.indexset_spine.specs.NodeList.{items}
 use Rattle.indexset_core.proofs.CallerLemmas.{parted_by_item}
-use Rattle.indexset_set.proofs.SetNodeLemmas.{tells_of}
+use Rattle.indexset_set.proofs.SetNodeLemmas.{spot_for}
 use Rattle.indexset_set.proofs.lookup.locate_from_end.Goals as goal
 
 pub returns : goal.returns
 returns g c =
-    let told = c.locate_from_end_by.ensures in
-    let tells =
-    tells_of g.T.Ord.cmp c.args.spine.now _ _
-    (parted_by_item g.T.Ord.cmp g.met.T.Ord.total (items c.args.spine.now) c.requires c.args.value.now)
-    (ap (λ p. p.0) c.new.ensures) _ told.node told.offset told.position told.found in
-    record { spot = told.spot; item = told.item; position = tells.position; place = tells.place; found = tells.found; gap = tells.gap }
+    let parted = parted_by_item g.T.Ord.cmp g.met.T.Ord.total (items c.args.spine.now) c.requires c.args.value.now in
+    spot_for g.T.Ord.cmp c.args.spine.now _ _ parted (ap (λ p. p.0) c.new.ensures) _ c.locate_from_end_by.ensures.spot

@@ -5,7 +5,5 @@ use Rattle.indexset_set.proofs.inner.spots.spot_from_end_by.Goals as goal
 pub locate_from_end_by-requires : goal.locate_from_end_by-requires
 locate_from_end_by-requires g c = parted (g.P.Probe.answer c.args.probe.now) (items c.set.inside.spine) (rw c.set.view_is c.requires)
 
-pub returns-clause-sought : goal.returns-clause-sought
-returns-clause-sought g c =
-    let told = c.locate_from_end_by.ensures in
-    rw (← c.set.view_is) (record { node = told.node; offset = told.offset; found = told.found; position = told.position; spot = told.spot; item = told.item })
+pub returns-clause-spot : goal.returns-clause-spot
+returns-clause-spot g c = rw (← c.set.view_is) c.locate_from_end_by.ensures.spot

@@ -1,5 +1,7 @@
-use Rattle.std.proofs.Common.{length, arith, ap, ◌∙◌}
-use Rattle.indexset_core.proofs.CallerLemmas.{digits-mono}
+use Rattle.std.proofs.Common.{length, arith, ap, sym, ◌∙◌}
+use Rattle.std.specs.Ordering.{is_lt}
+use Rattle.std.proofs.lemmas.List.Sums.{count_by-le-length}
+use Rattle.indexset_core.proofs.CallerLemmas.{digits-mono, equal_inside}
 use Rattle.indexset_spine.proofs.SpineReads.{read_named, node_within, node_parted, located, told}
 use Rattle.indexset_spine.proofs.spine.Spine.locate_in.Goals as goal
 
@@ -8,17 +10,22 @@ place_in-offset-requires g c =
     let here = read_named _ _ c.args.self.now c.self.view_is c.self.invariant.is_spine.is_cut _ _ c.index.result.now c.requires.node c.index.ensures in
     rw c.as_slice-items.ensures.value (node_parted _ _ _ _ here c.requires.parted)
 
-pub returns-clause-position : goal.returns-clause-position
-returns-clause-position g c =
-    let here = read_named _ _ c.args.self.now c.self.view_is c.self.invariant.is_spine.is_cut _ _ c.index.result.now c.requires.node c.index.ensures in
-    located _ _ _ _ here c.requires.parted _ (rw c.as_slice-items.ensures.value at c.place_in-offset.ensures.count)
-
-pub returns-clause-found : goal.returns-clause-found
-returns-clause-found g c =
+pub returns-clause-spot : goal.returns-clause-spot
+returns-clause-spot g c =
     let here = read_named _ _ c.args.self.now c.self.view_is c.self.invariant.is_spine.is_cut _ _ c.index.result.now c.requires.node c.index.ensures in
     let offset = rw c.as_slice-items.ensures.value at c.place_in-offset.ensures.count in
     let equal = rw c.as_slice-items.ensures.value at c.place_in-offset.ensures.found in
-    equal ∙ told _ _ _ _ here c.requires.parted _ offset
+    let answer = g.P.Probe.answer c.args.probe.now in
+    let n = c.index.result.now.items in
+    let fits = count_by-le-length (λ x. is_lt (answer x)) n in
+    record {
+      node = c.requires.node;
+      offset = rw here.node offset;
+      found = equal ∙ told _ _ _ _ here c.requires.parted _ offset;
+      position = located _ _ _ _ here c.requires.parted _ offset;
+      spot = record { node_in = here.inside; offset_in = rw here.node (omega (arith, offset, fits)) };
+      item = λ yes. record { node_in = here.inside; offset_in = rw here.node (equal_inside answer n _ (sym equal ∙ yes)) };
+    }
 
 pub returns-clause-comparisons : goal.returns-clause-comparisons
 returns-clause-comparisons g c =

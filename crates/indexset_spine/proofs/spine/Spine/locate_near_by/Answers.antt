@@ -21,29 +21,11 @@ locate_in-requires-clause-parted g c = rw c.is_sought.ensures.fixed c.requires
 pub locate_in-requires-clause-node : goal.locate_in-requires-clause-node
 locate_in-requires-clause-node g c = rw c.is_sought.ensures.fixed (near_is g (goal.at.locate_in-requires-clause-node g c).Then-is_sought)
 
-pub returns-then-is_sought-clause-node : goal.returns-then-is_sought-clause-node
-returns-then-is_sought-clause-node g c = c.locate_in.ensures.node ∙ near_is g (goal.at.returns-then-is_sought-clause-node g c).Then-is_sought
-
 pub locate_by-requires : goal.locate_by-requires
 locate_by-requires g c = rw c.is_sought.ensures.fixed c.requires
 
-pub returns-then-is_sought-clause-offset : goal.returns-then-is_sought-clause-offset
-returns-then-is_sought-clause-offset g c = rw c.is_sought.ensures.fixed at c.locate_in.ensures.offset
+pub returns-then-is_sought-clause-spot : goal.returns-then-is_sought-clause-spot
+returns-then-is_sought-clause-spot g c = rw c.is_sought.ensures.fixed at c.locate_in.ensures.spot
 
-pub returns-then-is_sought-clause-found : goal.returns-then-is_sought-clause-found
-returns-then-is_sought-clause-found g c = rw c.is_sought.ensures.fixed at c.locate_in.ensures.found
-
-pub returns-then-is_sought-clause-position : goal.returns-then-is_sought-clause-position
-returns-then-is_sought-clause-position g c = rw c.is_sought.ensures.fixed at c.locate_in.ensures.position
-
-pub returns-clause-node : goal.returns-clause-node
-returns-clause-node g c = rw c.is_sought.ensures.fixed at c.locate_by.ensures.node
-
-pub returns-clause-offset : goal.returns-clause-offset
-returns-clause-offset g c = rw c.is_sought.ensures.fixed at c.locate_by.ensures.offset
-
-pub returns-clause-found : goal.returns-clause-found
-returns-clause-found g c = rw c.is_sought.ensures.fixed at c.locate_by.ensures.found
-
-pub returns-clause-position : goal.returns-clause-position
-returns-clause-position g c = rw c.is_sought.ensures.fixed at c.locate_by.ensures.position
+pub returns-clause-spot : goal.returns-clause-spot
+returns-clause-spot g c = rw c.is_sought.ensures.fixed at c.locate_by.ensures.spot
