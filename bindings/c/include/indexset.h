@@ -100,6 +100,10 @@ uint32_t indexset_version(void);
 /* 1 if the contracts of the library were proved before it was compiled, 0 if it was built without proofs. */
 extern const int indexset_proved;
 
+/* What the library was built from: "proved by KIT logic LOGIC, commit COMMIT", with the toolchain that proved it, or
+ * "unproved, commit COMMIT". */
+extern const char indexset_build[];
+
 /* Makes an empty set. Returns INDEXSET_YES, INDEXSET_MEMORY, or INDEXSET_HELD if the handle owns a set; unless it
  * returns INDEXSET_YES, nothing changes. */
 uint32_t indexset_set_new(indexset_set *set);

@@ -86,6 +86,25 @@ int main(void) {
     return printf("%" PRIu64 "\n", least) < 0;
 }
 C
+cat > "$room/zone.c" << 'C'
+#include <stdio.h>
+#include <stdlib.h>
+
+static int blocks, most;
+
+void *zone_malloc(size_t size) {
+    most += ++blocks > most;
+    return malloc(size);
+}
+void *zone_realloc(void *at, size_t size) { return realloc(at, size); }
+void zone_free(void *at) {
+    blocks -= at != NULL;
+    free(at);
+}
+__attribute__((destructor)) static void say(void) {
+    printf("%d blocks of %s are left\n", blocks, most > 1 ? "several" : "few");
+}
+C
 cat > "$room/CMakeLists.txt" << 'C'
 cmake_minimum_required(VERSION 3.13)
 project(least C)
@@ -117,13 +136,56 @@ add_executable(alone ../middle.cpp)
 target_link_libraries(alone PRIVATE indexset::static)
 C
 
+# The archive of the library, in a folder of its own, with an environment that has nothing but a path.
+from_archive() {
+    local words archive folder
+    make -s dist > "$room/made" || return 1
+    archive=$(tail -n 1 "$room/made")
+    mkdir "$room/archive" && tar -C "$room/archive" -xzf "$archive" || return 1
+    folder=$(echo "$room"/archive/indexset-*)
+    cmp "$folder/share/doc/indexset/LICENSE" ../../LICENSE || return 1
+    case "$folder" in *-unproved-*) test -n "${UNPROVED-}" ;; *) test -z "${UNPROVED-}" ;; esac || return 1
+    grep -qE "^${UNPROVED:+un}proved.*, commit [0-9a-z-]+$" "$folder/share/doc/indexset/BUILD" || return 1
+    test -n "${UNPROVED-}" || grep -qF "proved by $(rt version), commit " "$folder/share/doc/indexset/BUILD" || return 1
+    read -ra words < <(env -i PATH=/usr/bin:/bin PKG_CONFIG_PATH="$folder/lib/pkgconfig" \
+        pkg-config --cflags --libs indexset) || return 1
+    env -i PATH=/usr/bin:/bin cc -Wall -Wextra -Werror "$room/least.c" "${words[@]}" -o "$room/archived" &&
+        test "$(env -i LD_LIBRARY_PATH="$folder/lib" "$room/archived")" = 7 &&
+        env -i PATH=/usr/bin:/bin cmake -S "$room" -B "$room/of_archive" -DCMAKE_PREFIX_PATH="$folder" &&
+        cmake --build "$room/of_archive" && test "$("$room/of_archive/alone")" = 7
+}
+
+# A program with an allocator of its own: the library asks no other.
+by_another_allocator() {
+    objcopy --redefine-sym malloc=zone_malloc --redefine-sym realloc=zone_realloc --redefine-sym free=zone_free \
+        "$room/to/lib/libindexset.a" "$room/libzone.a" &&
+        test -z "$(nm -u "$room/libzone.a" | grep -E ' (malloc|calloc|realloc|free|posix_memalign|aligned_alloc)$')" &&
+        cc -Wall -Wextra -Werror -I "$room/to/include" "$room/zone.c" "$room/least.c" "$room/libzone.a" -o "$room/zone" &&
+        test "$("$room/zone")" = "7
+0 blocks of several are left"
+}
+
+# Each file that was installed is removed, and no other.
+uninstalls() {
+    echo kept > "$room/to/lib/kept" && make -s uninstall PREFIX="$room/to" &&
+        test "$(cd "$room/to" && find . -type f -o -type l)" = ./lib/kept
+}
+
+installs_licence() {
+    cmp "$room/to/share/doc/indexset/LICENSE" ../../LICENSE
+}
+
 try make -s install PREFIX="$room/to"
+try installs_licence
 try exports
 try by_pkg_config
 try by_pkg_config_in_cpp g++
 try by_pkg_config_in_cpp clang++
 try by_cmake
 try by_cmake_in_cpp
+try from_archive
+try by_another_allocator
 try refuses_another_version
+try uninstalls
 echo "$passed passed, $failed failed"
 test "$failed" = 0

@@ -62,6 +62,9 @@ inline std::uint32_t version() noexcept { return indexset_version(); }
 // Returns whether the contracts of the library were proved before it was compiled.
 inline bool is_proved() noexcept { return indexset_proved != 0; }
 
+// Returns what the library was built from: the toolchain that proved it, if one did, and the commit.
+inline const char *build() noexcept { return indexset_build; }
+
 // Removes the elements for which `condition` holds, and returns their number. Calls it for all elements before it
 // removes any.
 template <class Collection, class Condition>
