@@ -90,7 +90,7 @@ def slices(held: Any, items: Iterable[int]) -> None:
         held[item : item + SLICE]
 
 
-# These two read the order at the end, so that no change is pending.
+# These two read the order at the end.
 
 
 def set_at(held: Any, items: Iterable[object]) -> None:
