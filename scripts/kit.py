@@ -171,7 +171,8 @@ def ci() -> int:
     only for a program, and `rt lib` would prove it again, in 7.9 minutes of processor time in place of 0.5.
 
     `rt ci` shares the idle processors among all proofs that wait, and counts the tests of a crate without tests as one:
-    of four processors the first crate of a chain got one. Those tests are left for the end, when nothing waits.
+    of four processors it gives the crates of a chain of three 2, 1 and 1 (tests/gate_lanes.py). Those tests are left
+    for the end, when nothing waits, and each crate of the chain gets 4.
     """
     rt = command()
     prove, in_lanes = rt.Crate.prove, rt.in_lanes
@@ -205,7 +206,11 @@ def library(folder: pathlib.Path) -> int:
 
 
 def stamp(top: pathlib.Path) -> None:
-    """Writes the sums that mark the libraries of a repository as up to date for `rt`: `rt ci` does not write them."""
+    """Writes the sums that mark the libraries of a repository as up to date for `rt`.
+
+    `rt ci` does not write them, and without them `rt` builds each library again: `indexset_index` in 125 s of processor
+    time, `indexset` in 130.
+    """
     for crate in crates(top):
         if os.path.isdir(crate.rlib):
             pathlib.Path(crate.folder, "out/rlib/stamp").write_text(crate.stamp(), encoding="utf-8")

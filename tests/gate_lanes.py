@@ -1,7 +1,8 @@
 #!/usr/bin/env python3
 """Tests the number of processors that scripts/kit.py makes `rt ci` give to a check, on tasks that prove nothing.
 
-The last line is 'N passed, M failed'.
+It also tests that `rt ci` gives fewer by itself: once it does not, scripts/kit.py need not change it. The last line is
+'N passed, M failed'.
 """
 
 from __future__ import annotations
@@ -20,7 +21,12 @@ import testing  # noqa: E402
 MEMORY = 1 << 30  # of a check, in bytes
 
 
-def jobs_of(crates: dict[str, list[str]], tested: list[str]) -> tuple[kit.Given, dict[kit.Key, int]]:
+CHAIN: dict[str, list[str]] = {"core": [], "index": ["core"], "set": ["core", "index"]}
+
+
+def jobs_of(
+    crates: dict[str, list[str]], tested: list[str], is_changed: bool = True
+) -> tuple[kit.Given, dict[kit.Key, int]]:
     """Returns the results of the tasks of crates, each with its libraries, and the jobs of each, on four processors."""
     rt: Any = kit.command()
     given, jobs = kit.Given(), dict[kit.Key, int]()
@@ -40,14 +46,19 @@ def jobs_of(crates: dict[str, list[str]], tested: list[str]) -> tuple[kit.Given,
 
     with mock.patch.multiple(rt, main=main, processors=lambda: 4, free=lambda: 64 * MEMORY):
         with mock.patch.object(kit, "command", lambda: rt), mock.patch.dict("os.environ", {"RT_JOBS": ""}):
-            assert kit.ci() == 0
+            assert (kit.ci() if is_changed else rt.main(["ci"])) == 0
     return given, jobs
 
 
 def test_crate_of_a_chain_gets_all() -> None:
-    given, jobs = jobs_of({"core": [], "index": ["core"], "set": ["core", "index"]}, [])
-    assert {jobs[it, "proof"] for it in ("core", "index", "set")} == {4}, f"{jobs}"
+    given, jobs = jobs_of(CHAIN, [])
+    assert [jobs[it, "proof"] for it in CHAIN] == [4, 4, 4], f"{jobs}"
     assert len(given) == 6 and all(given.values()), f"{given}"
+
+
+def test_rt_alone_gives_fewer() -> None:
+    jobs = jobs_of(CHAIN, [], is_changed=False)[1]
+    assert [jobs[it, "proof"] for it in CHAIN] == [2, 1, 1], f"`rt ci` gives {jobs}"
 
 
 def test_crates_side_by_side_share() -> None:
