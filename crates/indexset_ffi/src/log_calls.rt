@@ -159,7 +159,7 @@ pub fn cursor_from(log: &LoggedMap, from: u64) -> Cursor
         ≡ key_rank nat_cmp (concat log.now.nodes) from }
 {
     // For the proof: the keys ascend, and no node is empty.
-    let _count = log.node_count();
+    log.node_count();
     cursor::find(nodes(log), ByKey::new(&from))
 }
 

@@ -97,7 +97,7 @@ pub fn cursor_from(map: &BTreeMap<u64, u64>, from: u64) -> Cursor
     ensures { cursor_position map.now.lengths result ≡ key_rank nat_cmp map.now.pairs from }
 {
     // For the proof: the keys ascend, and no node of several is empty.
-    let _count = map.node_count();
+    map.node_count();
     cursor::find(map.nodes(), ByKey::new(&from))
 }
 

@@ -112,7 +112,7 @@ pub fn cursor_from(multi: &MultiMap, from: u64) -> Cursor
         ≡ count_by (λ p. is_lt (nat_cmp p.key from)) (concat multi.now.nodes) }
 {
     // For the proof: the pairs ascend, and no node is empty.
-    let _count = multi.node_count();
+    multi.node_count();
     cursor::find(nodes(multi), ByKey::new(&from))
 }
 

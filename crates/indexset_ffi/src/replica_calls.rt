@@ -84,7 +84,7 @@ pub fn replica_of(alloc: Global, log: &LoggedMap) -> Option<MapReplica>
     ensures { IfSome result (λ r. r ≡ replica_of log.now) }
 {
     // For the proof: the nodes are lawful.
-    let _count = log.node_count();
+    log.node_count();
     let Ok(nodes) = copies(alloc, log.iter_nodes()) else {
         return None;
     };

@@ -97,7 +97,8 @@ pub fn cursor_from(set: &BTreeSet<u64>, key: u64) -> Cursor
         key }
 {
     // For the proof: the elements ascend, and no node of several is empty.
-    let (_len, _count) = (set.len(), set.node_count());
+    set.len();
+    set.node_count();
     cursor::find(set.nodes(), ByItem::new(&key))
 }
 

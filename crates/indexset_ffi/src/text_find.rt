@@ -37,7 +37,7 @@ pub fn cursor_from(map: &TextMap, from: &[u8]) -> Cursor
         ≡ key_rank (slice_cmp nat_cmp) map.now.pairs from.now }
 {
     // For the proof: the keys ascend, and no node of several is empty.
-    let _count = map.node_count();
+    map.node_count();
     cursor::find(map.nodes(), ByKey::new(&from))
 }
 

@@ -132,7 +132,7 @@ impl TextLog {
             ≡ key_rank (slice_cmp nat_cmp) (concat self.now.tree.nodes) from.now }
     {
         // For the proof: the keys ascend, and no node is empty.
-        let _count = self.tree.node_count();
+        self.tree.node_count();
         cursor::find(self.nodes(), ByKey::new(&from))
     }
 

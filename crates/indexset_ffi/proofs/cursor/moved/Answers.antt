@@ -4,7 +4,6 @@ use Rattle.indexset_core.specs.Nodes.{vec_items}
 use Rattle.indexset_ffi.proofs.CursorLemmas.{ends, on, over, within}
 use Rattle.indexset_ffi.proofs.cursor.moved.Goals as goal
 
--- src/cursor.rt:75:13
 pub returns-then-left-len : goal.returns-then-left-len
 returns-then-left-len g c =
     let vs = c.args.nodes.now in let at = c.loop-at.at in let v = c.index-nodes-at.result in let o = c.min-offset.result in
@@ -13,7 +12,6 @@ returns-then-left-len g c =
     let le = within (vec_items vs) (record { node = at.node; offset = o + c.loop-at.left }) in
     omega (arith, i, stands, le)
 
--- src/cursor.rt:70:5
 pub loop-at-preserved : goal.loop-at-preserved
 loop-at-preserved g c =
     let vs = c.args.nodes.now in let at = c.loop-at.at in let v = c.index-nodes-at.result in let o = c.min-offset.result in
@@ -21,7 +19,6 @@ loop-at-preserved g c =
     let behind = over vs at v c.len-len.result o c.loop-at-test.true c.index-nodes-at.is (c.len-len.ensures ∙ v.ok.0) c.min-offset.ensures in
     omega (arith, i, behind, more)
 
--- src/cursor.rt:63:1
 pub returns : goal.returns
 returns g c =
     let vs = c.args.nodes.now in let i = c.loop-at.invariant in

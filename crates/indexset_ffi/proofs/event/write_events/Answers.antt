@@ -4,7 +4,6 @@ use Rattle.indexset_ffi.specs.Events.{record_of}
 use Rattle.indexset_ffi.proofs.WrittenLemmas.{written_more, answer_read}
 use Rattle.indexset_ffi.proofs.event.write_events.Goals as goal
 
--- src/event.rt:157:5
 pub loop-i-preserved : goal.loop-i-preserved
 loop-i-preserved c =
     let events = c.args.events.now in let i = c.loop-i.i in let test = c.loop-i-test.true in let fits = c.requires in

@@ -8,14 +8,12 @@ use Rattle.indexset_ffi.specs.Elements.{written}
 use Rattle.indexset_ffi.specs.Events.{record_of}
 use Rattle.indexset_ffi.proofs.log_calls.insert_told.Goals as goal
 
--- src/log_edits.rt:24:1
 pub returns-in-Ok-clause-event_count : goal.returns-in-Ok-clause-event_count
 returns-in-Ok-clause-event_count c =
     let log = c.args.log.now in let es = put_events (by_key nat_cmp) log.size log.nodes (pair c.args.key c.args.value) in
     let all : c.in-Ok.changes.items ≡ numbered_from log.next es = c.in-Ok.ensures.events.identical ((λ x y h. h), (λ x y h. h)) in
     c.len.ensures ∙ c.in-Ok.changes.ok.0 ∙ ap (λ l. length l) all ∙ length-numbered log.next es
 
--- src/log_edits.rt:24:1
 pub returns-in-Ok-clause-events : goal.returns-in-Ok-clause-events
 returns-in-Ok-clause-events c =
     let log = c.args.log.now in let es = put_events (by_key nat_cmp) log.size log.nodes (pair c.args.key c.args.value) in

@@ -13,14 +13,12 @@ use Rattle.indexset_ffi.proofs.LogLemmas.{kept_tree, mapped_none, none_told}
 use Rattle.indexset_ffi.proofs.log_calls.remove_told.Goals.{in-Some, in-None}
 use Rattle.indexset_ffi.proofs.log_calls.remove_told.Goals as goal
 
--- src/log_edits.rt:50:1
 pub returns-clause-event_count : goal.returns-clause-event_count
 returns-clause-event_count c =
     let log = c.args.log.now in let es = key_removal_events nat_cmp log.size log.nodes c.args.key in
     let all : c.in_ok-found.changes.items ≡ numbered_from log.next es = c.in_ok-found.ensures.events.identical ((λ x y h. h), (λ x y h. h)) in
     c.len.ensures ∙ c.in_ok-found.changes.ok.0 ∙ ap (λ l. length l) all ∙ length-numbered log.next es
 
--- src/log_edits.rt:50:1
 pub returns-clause-events : goal.returns-clause-events
 returns-clause-events c =
     let log = c.args.log.now in let es = key_removal_events nat_cmp log.size log.nodes c.args.key in
@@ -29,7 +27,6 @@ returns-clause-events c =
     ∙ ap (λ n. written n (map record_of (numbered_from log.next es)) c.args.events.now)
     (length-numbered log.next es)
 
--- src/log_edits.rt:50:1
 pub returns-clause-absent : goal.returns-clause-absent
 returns-clause-absent c none =
     let log = c.args.log.now in let new = c.remove_cdc.new.self in let k = c.args.key in let es = key_removal_events nat_cmp log.size log.nodes k in

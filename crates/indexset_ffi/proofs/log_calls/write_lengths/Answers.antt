@@ -6,7 +6,6 @@ use Rattle.indexset_core.specs.Nodes.{node_lengths, vec_items}
 use Rattle.indexset_ffi.proofs.WrittenLemmas.{IsNext, written_more, next_is, none_left}
 use Rattle.indexset_ffi.proofs.log_calls.write_lengths.Goals as goal
 
--- src/log_reads.rt:74:5
 pub loop-count-preserved : goal.loop-count-preserved
 loop-count-preserved c =
     let i = c.loop-count.invariant in let n = c.loop-count.count in let walk = c.args.walk in let node = c.in-Some.node.now in let len = c.len.result in
@@ -25,7 +24,6 @@ loop-count-preserved c =
       done = ap (λ l. slice_set l n len) i.done ∙ written_more (node_lengths (vec_items walk)) c.args.out.now n len there (omega (arith, test, long));
     }
 
--- src/log_reads.rt:69:1
 pub returns-in_default-clause-count : goal.returns-in_default-clause-count
 returns-in_default-clause-count c =
     let i = c.loop-count.invariant in let few = none_left c.args.walk c.loop-count.count (sym i.walked ∙ c.in_default.ensures.steps.0) in

@@ -7,7 +7,6 @@ use Rattle.indexset_core.specs.Pairs.{pair, pair_keys, pair_values}
 use Rattle.indexset_ffi.proofs.WrittenLemmas.{IsNext, written_more, next_is, none_left}
 use Rattle.indexset_ffi.proofs.log_calls.write_logged.Goals as goal
 
--- src/log_reads.rt:21:5
 pub loop-count-preserved : goal.loop-count-preserved
 loop-count-preserved c =
     let i = c.loop-count.invariant in let n = c.loop-count.count in let k = c.in-Some.key.now in let v = c.in-Some.value.now in
@@ -26,7 +25,6 @@ loop-count-preserved c =
       valued = ap (λ l. slice_set l n v) i.valued ∙ written_more (pair_values walk) c.args.values.now n v value_there (omega (arith, test, least));
     }
 
--- src/log_reads.rt:14:1
 pub returns-in_default-clause-count : goal.returns-in_default-clause-count
 returns-in_default-clause-count c =
     let i = c.loop-count.invariant in let few = none_left c.args.walk c.loop-count.count (sym i.walked ∙ c.in_default.ensures.steps.0) in

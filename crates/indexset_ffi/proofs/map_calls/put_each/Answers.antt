@@ -8,7 +8,6 @@ stored : {T E P : Type 0} (r : Result T E) → OnOk r P → is_err r ≡ false �
 stored (Ok o) told h = told
 stored (Err e) told h = absurd (cc)
 
--- src/map_batch.rt:18:5
 pub loop-count-preserved : goal.loop-count-preserved
 loop-count-preserved c =
     let i = c.loop-count.invariant in let n = c.loop-count.count in let ks = c.args.keys.now in let ws = c.args.values.now in

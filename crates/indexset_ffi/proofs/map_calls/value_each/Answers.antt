@@ -5,7 +5,6 @@ use Rattle.indexset_ffi.specs.Elements.{value_or}
 use Rattle.indexset_ffi.proofs.WrittenLemmas.{written_more, answer_read}
 use Rattle.indexset_ffi.proofs.map_calls.value_each.Goals as goal
 
--- src/map_batch.rt:33:5
 pub loop-i-preserved : goal.loop-i-preserved
 loop-i-preserved c =
     let f = value_or c.args.held.now.pairs c.args.absent in let keys = c.args.keys.now in let i = c.loop-i.i in

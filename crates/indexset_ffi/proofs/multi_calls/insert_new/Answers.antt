@@ -10,13 +10,11 @@ use Rattle.indexset_multi.specs.Tree.{inserted_pair}
 use Rattle.indexset_ffi.proofs.MultiLemmas.{new_number, new_pair, value_last}
 use Rattle.indexset_ffi.proofs.multi_calls.insert_new.Goals as goal
 
--- src/multi_edits.rt:20:1
 pub returns-in-Ok-clause-ok : goal.returns-in-Ok-clause-ok
 returns-in-Ok-clause-ok c =
     let m = c.args.multi.now in let k = c.args.key in let w = c.args.value in
     c.in-Ok.ensures.changed.contents ∙ ap (put (by_number nat_cmp) (concat m.nodes)) (new_pair m k w c.requires)
 
--- src/multi_edits.rt:20:1
 pub returns-in-Ok-clause-last : goal.returns-in-Ok-clause-last
 returns-in-Ok-clause-last c =
     let m = c.args.multi.now in let k = c.args.key in let w = c.args.value in

@@ -6,7 +6,6 @@ use Rattle.indexset_core.specs.Pairs.{pair_values}
 use Rattle.indexset_ffi.proofs.WrittenLemmas.{written_more, next_is, none_left}
 use Rattle.indexset_ffi.proofs.multi_calls.write_values.Goals as goal
 
--- src/multi_keys.rt:33:5
 pub loop-count-preserved : goal.loop-count-preserved
 loop-count-preserved c =
     let i = c.loop-count.invariant in let n = c.loop-count.count in let v = c.in-Some.value.now in let walk = c.args.walk in
@@ -21,7 +20,6 @@ loop-count-preserved c =
       done = ap (λ l. slice_set l n v) i.done ∙ written_more (pair_values walk) c.args.out.now n v there (omega (arith, test, long));
     }
 
--- src/multi_keys.rt:28:1
 pub returns-in_default-clause-count : goal.returns-in_default-clause-count
 returns-in_default-clause-count c =
     let i = c.loop-count.invariant in let few = none_left c.args.walk c.loop-count.count (sym i.walked ∙ c.in_default.ensures.steps.0) in

@@ -3,4 +3,4 @@ use Rattle.indexset_ffi.proofs.set_calls.cursor_from.Goals as goal
 
 pub find-requires-clause-parted : goal.find-requires-clause-parted
 unfolding FindsInOrder
-find-requires-clause-parted c = rw c.nodes.ensures (c.len-len.ensures.in_order c.new.result.0)
+find-requires-clause-parted c = rw c.nodes.ensures (c.len.ensures.in_order c.new.result.0)

@@ -6,7 +6,6 @@ use Rattle.indexset_ffi.specs.Elements.{element_at}
 use Rattle.indexset_ffi.proofs.WrittenLemmas.{written_more, answer_at, within_more, none_past}
 use Rattle.indexset_ffi.proofs.set_calls.element_each.Goals as goal
 
--- src/set_calls.rt:65:5
 pub loop-count-preserved : goal.loop-count-preserved
 loop-count-preserved c =
     let es = items c.args.set.now in let at = c.args.positions.now in let n = c.loop-count.count in let x = c.in-Some.element.now in
@@ -20,6 +19,5 @@ loop-count-preserved c =
           (answer_at (element_at es) at n 0 (omega (arith, least, test)) ∙ ap Some (get_or_from_slice_get es (slice_index_or at n 0) x 0 found)) (omega (arith, least, test));
     }
 
--- src/set_calls.rt:57:1
 pub returns-in_default-clause-stop : goal.returns-in_default-clause-stop
 returns-in_default-clause-stop c few = none_past (items c.args.set.now) (slice_index_or c.args.positions.now c.loop-count.count 0) (sym c.in_default.ensures)

@@ -6,7 +6,6 @@ use Rattle.indexset_spine.specs.NodeList.{items}
 use Rattle.indexset_ffi.proofs.WrittenLemmas.{written_more, answer_at}
 use Rattle.indexset_ffi.proofs.set_calls.rank_each.Goals as goal
 
--- src/set_calls.rt:34:5
 pub loop-i-preserved : goal.loop-i-preserved
 loop-i-preserved c =
     let f = rank nat_cmp (items c.args.set.now) in let keys = c.args.keys.now in let i = c.loop-i.i in

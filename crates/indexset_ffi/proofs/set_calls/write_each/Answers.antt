@@ -3,7 +3,6 @@ use Rattle.std.proofs.lemmas.List.{length-set}
 use Rattle.indexset_ffi.proofs.WrittenLemmas.{IsNext, written_more, next_is, none_left}
 use Rattle.indexset_ffi.proofs.set_calls.write_each.Goals as goal
 
--- src/set_calls.rt:18:5
 pub loop-count-preserved : goal.loop-count-preserved
 loop-count-preserved c =
     let i = c.loop-count.invariant in let x = c.in-Some.element.now in let test = c.loop-count-test.true in
@@ -17,7 +16,6 @@ loop-count-preserved c =
       done = ap (λ l. slice_set l c.loop-count.count x) i.done ∙ written_more c.args.walk c.args.out.now c.loop-count.count x n.there (omega (arith, test, long));
     }
 
--- src/set_calls.rt:13:1
 pub returns-in_default-clause-count : goal.returns-in_default-clause-count
 returns-in_default-clause-count c =
     let i = c.loop-count.invariant in let few = none_left c.args.walk c.loop-count.count (sym i.walked ∙ c.in_default.ensures.steps.0) in

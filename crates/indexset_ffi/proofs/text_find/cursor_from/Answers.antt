@@ -3,4 +3,4 @@ use Rattle.indexset_ffi.proofs.text_find.cursor_from.Goals as goal
 
 pub find-requires-clause-parted : goal.find-requires-clause-parted
 unfolding FindsInOrder
-find-requires-clause-parted c = rw c.nodes.ensures.pairs (c.node_count-count.ensures.in_order c.new.result.0.now)
+find-requires-clause-parted c = rw c.nodes.ensures.pairs (c.node_count.ensures.in_order c.new.result.0.now)

@@ -10,7 +10,6 @@ use Rattle.indexset_ffi.proofs.TextWrittenLemmas.{joined_more, length-over, over
 use Rattle.indexset_ffi.proofs.WrittenLemmas.{IsNext, written_more, next_is, none_left}
 use Rattle.indexset_ffi.proofs.text_log_calls.write_keys.Goals as goal
 
--- src/text_ranges.rt:53:5
 pub loop-count-preserved : goal.loop-count-preserved
 loop-count-preserved c =
     let i = c.loop-count.invariant in let n = c.loop-count.count in let k = c.in-Some.key.now in let b = c.args.bytes.now in
@@ -42,7 +41,6 @@ loop-count-preserved c =
       bytes = over;
     }
 
--- src/text_ranges.rt:45:1
 pub returns-in_default-clause-count : goal.returns-in_default-clause-count
 returns-in_default-clause-count c =
     let i = c.loop-count.invariant in let few = none_left c.args.walk c.loop-count.count (sym i.walked ∙ c.in_default.ensures.steps.0) in

@@ -3,7 +3,6 @@ use Rattle.std.proofs.lemmas.List.{length-set}
 use Rattle.indexset_ffi.proofs.WrittenLemmas.{written_more, same_at}
 use Rattle.indexset_ffi.proofs.write.write_same.Goals as goal
 
--- src/write.rt:44:5
 pub loop-i-preserved : goal.loop-i-preserved
 loop-i-preserved g c =
     let i = c.loop-i.i in let x = c.args.answer in let least = c.min-count.ensures in let test = c.loop-i-test.true in

@@ -10,5 +10,5 @@ use Rattle.indexset_ffi.proofs.text_log.TextLog.cursor_from.Goals as goal
 
 pub find-requires-clause-parted : goal.find-requires-clause-parted
 find-requires-clause-parted c =
-    let ascending = subst (λ (s : ToldTree). IsAscending (by_key (slice_cmp nat_cmp)) (concat s.tree.nodes)) c.self.view_is c.node_count-count.ensures.lawful.nodes.ascending in
+    let ascending = subst (λ (s : ToldTree). IsAscending (by_key (slice_cmp nat_cmp)) (concat s.tree.nodes)) c.self.view_is c.node_count.ensures.lawful.nodes.ascending in
     rw c.nodes.ensures (parted_by_key (slice_cmp nat_cmp) nat_list_cmp_total (concat c.args.self.now.tree.nodes) ascending c.new.result.0.now)
