@@ -494,18 +494,18 @@ size_t indexset_log_len(const indexset_log *log);
 size_t indexset_log_node_count(const indexset_log *log);
 uint64_t indexset_log_next(const indexset_log *log);
 
-/* Sets the value of a key, and writes the changes to `events` and their number to `told`. Returns INDEXSET_YES
+/* Sets the value of a key, and writes the changes to `events` and their number to `event_count`. Returns INDEXSET_YES
  * if the key was absent; INDEXSET_NO if it was present, and then writes the old value to `before`; or INDEXSET_MEMORY,
  * INDEXSET_NUMBERS, INDEXSET_NONE, or INDEXSET_UNFIT if `events` has fewer than INDEXSET_CHANGES places: then nothing
- * changes, and only `told` is written, as 0. */
+ * changes, and only `event_count` is written, as 0. */
 uint32_t indexset_log_insert(indexset_log *log, uint64_t key, uint64_t value, uint64_t *before, indexset_event *events,
-                             size_t places, size_t *told);
+                             size_t places, size_t *event_count);
 
 /* Removes a key and writes its value, the changes and their number. Returns INDEXSET_YES, INDEXSET_NO if the key is
  * absent, INDEXSET_MEMORY, INDEXSET_NUMBERS, or INDEXSET_UNFIT if `events` has fewer than INDEXSET_CHANGES places;
- * unless it returns INDEXSET_YES, nothing changes, and only `told` is written, as 0. */
+ * unless it returns INDEXSET_YES, nothing changes, and only `event_count` is written, as 0. */
 uint32_t indexset_log_remove(indexset_log *log, uint64_t key, uint64_t *out, indexset_event *events, size_t places,
-                             size_t *told);
+                             size_t *event_count);
 
 /* Writes the value of a key. Returns false, and writes nothing, if the key is absent. */
 bool indexset_log_get(const indexset_log *log, uint64_t key, uint64_t *out);
@@ -818,16 +818,17 @@ size_t indexset_text_log_node_count(const indexset_text_log *log);
 uint64_t indexset_text_log_next(const indexset_text_log *log);
 
 /* Sets the value of a key, keeps the changes in place of those of the call before, and writes their number, at most
- * INDEXSET_CHANGES, to `told`. Returns INDEXSET_YES if the key was absent; INDEXSET_NO if it was present, and
+ * INDEXSET_CHANGES, to `event_count`. Returns INDEXSET_YES if the key was absent; INDEXSET_NO if it was present, and
  * then writes the old value to `before`; or INDEXSET_MEMORY, INDEXSET_NUMBERS or INDEXSET_NONE: then nothing changes,
- * and only `told` is written, as 0. */
+ * and only `event_count` is written, as 0. */
 uint32_t indexset_text_log_insert(indexset_text_log *log, const void *key, size_t key_len, uint64_t value,
-                                  uint64_t *before, size_t *told);
+                                  uint64_t *before, size_t *event_count);
 
 /* Removes a key and writes its value, keeps the changes, and writes their number. Returns INDEXSET_YES, INDEXSET_NO
  * if the key is absent, INDEXSET_MEMORY or INDEXSET_NUMBERS; unless it returns INDEXSET_YES, nothing changes, and
- * only `told` is written, as 0. */
-uint32_t indexset_text_log_remove(indexset_text_log *log, const void *key, size_t key_len, uint64_t *out, size_t *told);
+ * only `event_count` is written, as 0. */
+uint32_t indexset_text_log_remove(indexset_text_log *log, const void *key, size_t key_len, uint64_t *out,
+                                  size_t *event_count);
 
 /* Writes one of the kept changes, counted from 0: its record, and the bytes of the key that names its node and of the
  * key of its pair into two arrays, which truncate them; the record has both lengths. Returns false, and writes

@@ -35,7 +35,7 @@ pub extern "C" fn indexset_log_insert(
     value: u64,
     before: &mut u64,
     events: &mut [Event],
-    told: &mut usize,
+    event_count: &mut usize,
 ) -> u32
     // Result.
     ensures before { (result ≡ YES
@@ -43,9 +43,9 @@ pub extern "C" fn indexset_log_insert(
         × (result ≡ NO
         → value_of nat_cmp (logged_pairs log.old.slot.value) key ≡ Some before.new) }
     ensures events { result ≤ YES → IfSome log.old.slot.value (λ m. IsWritten m
-        (put_events (by_key nat_cmp) m.size m.nodes (pair key value)) told.new events.old
+        (put_events (by_key nat_cmp) m.size m.nodes (pair key value)) event_count.new events.old
         events.new) }
-    ensures at_most_three_events { told.new ≤ 3 }
+    ensures at_most_three_events { event_count.new ≤ 3 }
     ensures unwritten { result ≢ NO → before.new ≡ before.old }
 
     // Contents.
@@ -53,11 +53,11 @@ pub extern "C" fn indexset_log_insert(
         (λ m. log.new.slot.value ≡ Some (record {
           nodes = with_put (by_key nat_cmp) m.size m.nodes (pair key value);
           size = m.size;
-          next = m.next + told.new;
+          next = m.next + event_count.new;
         })) }
 
     // Failure.
-    ensures unchanged { MEMORY ≤ result → (told.new ≡ 0) × (events.new ≡ events.old)
+    ensures unchanged { MEMORY ≤ result → (event_count.new ≡ 0) × (events.new ≡ events.old)
         × (log.new.slot.value ≡ log.old.slot.value) }
     ensures cause { IfSome log.old.slot.value (λ m. IsToldAs result (refusal_for m.next
         (length (put_events (by_key nat_cmp) m.size m.nodes (pair key value))))) }
@@ -70,7 +70,7 @@ pub extern "C" fn indexset_log_insert(
         replay (by_key nat_cmp) m.nodes (numbered_from m.next
         (put_events (by_key nat_cmp) m.size m.nodes (pair key value))) ≡ Some n.nodes)) }
 {
-    *told = 0;
+    *event_count = 0;
     let Some(mut held) = log.take(alloc) else {
         return NONE;
     };
@@ -80,7 +80,7 @@ pub extern "C" fn indexset_log_insert(
     }
     let status = match insert_told(&mut *held, key, value, events) {
         Ok((old, count)) => {
-            *told = count;
+            *event_count = count;
             if write(old, before) { NO } else { YES }
         }
         Err(cause) => of_refusal(cause),
@@ -105,7 +105,7 @@ pub extern "C" fn indexset_log_remove(
     key: u64,
     out: &mut u64,
     events: &mut [Event],
-    told: &mut usize,
+    event_count: &mut usize,
 ) -> u32
     // Result.
     ensures found { (result ≡ YES
@@ -114,8 +114,8 @@ pub extern "C" fn indexset_log_remove(
         × (value_of nat_cmp (logged_pairs log.old.slot.value) key ≡ None
         → 3 ≤ length events.old → result ≡ NO) }
     ensures events { result ≤ YES → IfSome log.old.slot.value (λ m. IsWritten m
-        (key_removal_events nat_cmp m.size m.nodes key) told.new events.old events.new) }
-    ensures at_most_three_events { told.new ≤ 3 }
+        (key_removal_events nat_cmp m.size m.nodes key) event_count.new events.old events.new) }
+    ensures at_most_three_events { event_count.new ≤ 3 }
 
     // Contents.
     ensures rest { result ≤ YES → logged_pairs log.new.slot.value
@@ -126,14 +126,14 @@ pub extern "C" fn indexset_log_remove(
 
     // Failure.
     ensures unchanged { result ≢ YES
-        → (out.new ≡ out.old) × (told.new ≡ 0) × (events.new ≡ events.old)
+        → (out.new ≡ out.old) × (event_count.new ≡ 0) × (events.new ≡ events.old)
         × (log.new.slot.value ≡ log.old.slot.value) }
     ensures cause { IfSome log.old.slot.value (λ m. IsToldAs result (refusal_for m.next
         (length (key_removal_events nat_cmp m.size m.nodes key)))) }
     ensures status { (result ≡ UNFIT ↔ ((log.old.slot.value ≢ None) × (length events.old < 3)))
         × (result ≤ UNFIT) × (result ≢ NONE) × (result ≢ HELD) }
 {
-    *told = 0;
+    *event_count = 0;
     let Some(mut held) = log.take(alloc) else {
         return NO;
     };
@@ -143,7 +143,7 @@ pub extern "C" fn indexset_log_remove(
     }
     let status = match remove_told(&mut *held, key, events) {
         Ok((found, count)) => {
-            *told = count;
+            *event_count = count;
             if write(found, out) { YES } else { NO }
         }
         Err(cause) => of_refusal(cause),

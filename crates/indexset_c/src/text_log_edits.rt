@@ -33,15 +33,15 @@ pub extern "C" fn indexset_text_log_insert(
     key: &[u8],
     value: u64,
     before: &mut u64,
-    told: &mut usize,
+    event_count: &mut usize,
 ) -> u32
     // Result.
     ensures before { (result ≡ YES
         → value_of (slice_cmp nat_cmp) (logged_texts log.old.slot.value) key.now ≡ None)
         × (result ≡ NO → value_of (slice_cmp nat_cmp) (logged_texts log.old.slot.value) key.now
         ≡ Some before.new) }
-    ensures events { result ≤ YES → told.new ≡ length (told_changes log.new.slot.value) }
-    ensures at_most_three_events { told.new ≤ 3 }
+    ensures events { result ≤ YES → event_count.new ≡ length (told_changes log.new.slot.value) }
+    ensures at_most_three_events { event_count.new ≤ 3 }
     ensures unwritten { result ≢ NO → before.new ≡ before.old }
 
     // Contents.
@@ -54,19 +54,19 @@ pub extern "C" fn indexset_text_log_insert(
 
     // Failure.
     ensures unchanged { MEMORY ≤ result
-        → (told.new ≡ 0) × (log.new.slot.value ≡ log.old.slot.value) }
+        → (event_count.new ≡ 0) × (log.new.slot.value ≡ log.old.slot.value) }
     ensures cause { result ≡ NUMBERS → IfSome log.old.slot.value (λ t. refusal_of t.tree
         (put_change (by_key (slice_cmp nat_cmp)) t.tree (pair key.now value)) ≡ Numbers) }
     ensures status { (result ≡ NONE ↔ (log.old.slot.value ≡ None))
         × (result ≤ NUMBERS) × (result ≢ HELD) }
 {
-    *told = 0;
+    *event_count = 0;
     let Some(mut held) = log.take(alloc) else {
         return NONE;
     };
     let status = match held.insert(alloc, key, value) {
         Ok(old) => {
-            *told = held.told();
+            *event_count = held.told();
             if write(old, before) { NO } else { YES }
         }
         Err(cause) => of_refusal(cause),
@@ -89,15 +89,15 @@ pub extern "C" fn indexset_text_log_remove(
     log: &mut TextLogHandle,
     key: &[u8],
     out: &mut u64,
-    told: &mut usize,
+    event_count: &mut usize,
 ) -> u32
     // Result.
     ensures found { (result ≡ YES
         → value_of (slice_cmp nat_cmp) (logged_texts log.old.slot.value) key.now ≡ Some out.new)
         × (result ≡ NO ↔ (value_of (slice_cmp nat_cmp) (logged_texts log.old.slot.value) key.now
         ≡ None)) }
-    ensures events { result ≡ YES → told.new ≡ length (told_changes log.new.slot.value) }
-    ensures at_most_three_events { told.new ≤ 3 }
+    ensures events { result ≡ YES → event_count.new ≡ length (told_changes log.new.slot.value) }
+    ensures at_most_three_events { event_count.new ≤ 3 }
 
     // Contents.
     ensures ok { result ≡ YES → IfSome log.old.slot.value (λ t. log.new.slot.value
@@ -107,19 +107,19 @@ pub extern "C" fn indexset_text_log_remove(
         (key_removal (slice_cmp nat_cmp) t.tree key.now))) }
 
     // Failure.
-    ensures unchanged { result ≢ YES → (out.new ≡ out.old) × (told.new ≡ 0)
+    ensures unchanged { result ≢ YES → (out.new ≡ out.old) × (event_count.new ≡ 0)
         × (log.new.slot.value ≡ log.old.slot.value) }
     ensures cause { result ≡ NUMBERS → IfSome log.old.slot.value (λ t. refusal_of t.tree
         (key_removal (slice_cmp nat_cmp) t.tree key.now) ≡ Numbers) }
     ensures status { (result ≤ NUMBERS) × (result ≢ NONE) × (result ≢ HELD) }
 {
-    *told = 0;
+    *event_count = 0;
     let Some(mut held) = log.take(alloc) else {
         return NO;
     };
     let status = match held.remove(key) {
         Ok(Some(value)) => {
-            *told = held.told();
+            *event_count = held.told();
             *out = value;
             YES
         }

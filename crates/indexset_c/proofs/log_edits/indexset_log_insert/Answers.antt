@@ -54,13 +54,13 @@ returns c =
     let was : Some m ≡ c.args.log.now.slot.value = ap Some c.deref_mut.ensures.value ∙ c.in-Some.ensures.taken in
     rw (← was) (elim c.match-insert_told.branch [
       | in-Ok+then-write w ↦
-          let e = w.in-Ok.ensures in let told : c.match-insert_told.told ≡ n = w.told-is ∙ e.event_count in
+          let e = w.in-Ok.ensures in let told : c.match-insert_told.event_count ≡ n = w.event_count-is ∙ e.event_count in
           record {
             before = (λ h. not_at s NO YES w.status-is refl h, λ h. sym e.before ∙ w.write.ensures.found w.if-write.true ∙ ap Some (sym w.before-is));
             ok = λ h. rw told (new ∙ ap Some e.ok);
             events = λ h. record { told = told; events = rw told e.events };
             led = λ h. rw new e.led;
-            at_most_three_events = rw w.told-is e.at_most_three_events;
+            at_most_three_events = rw w.event_count-is e.at_most_three_events;
             unwritten = λ h. absurd (h w.status-is);
             unchanged = λ h. not_least s NO MEMORY w.status-is refl h;
             cause = record { memory = λ h. not_at s NO MEMORY w.status-is refl h; numbers = λ h. not_at s NO NUMBERS w.status-is refl h };
@@ -72,13 +72,13 @@ returns c =
             );
           }
       | in-Ok+else-write w ↦
-          let e = w.in-Ok.ensures in let told : c.match-insert_told.told ≡ n = w.told-is ∙ e.event_count in
+          let e = w.in-Ok.ensures in let told : c.match-insert_told.event_count ≡ n = w.event_count-is ∙ e.event_count in
           record {
             before = (λ h. sym e.before ∙ w.write.ensures.absent w.if-write.false, λ h. not_at s YES NO w.status-is refl h);
             ok = λ h. rw told (new ∙ ap Some e.ok);
             events = λ h. record { told = told; events = rw told e.events };
             led = λ h. rw new e.led;
-            at_most_three_events = rw w.told-is e.at_most_three_events;
+            at_most_three_events = rw w.event_count-is e.at_most_three_events;
             unwritten = λ h. w.before-is ∙ w.write.ensures.unwritten w.if-write.false;
             unchanged = λ h. not_least s YES MEMORY w.status-is refl h;
             cause = record { memory = λ h. not_at s YES MEMORY w.status-is refl h; numbers = λ h. not_at s YES NUMBERS w.status-is refl h };
@@ -99,9 +99,9 @@ returns c =
             ok = λ h. refused_not_done s _ r h;
             events = λ h. refused_not_done s _ r h;
             led = λ h. refused_not_done s _ r h;
-            at_most_three_events = rw w.told-is (leb-true 0 3 refl);
+            at_most_three_events = rw w.event_count-is (leb-true 0 3 refl);
             unwritten = λ h. w.before-is;
-            unchanged = λ h. (w.told-is, e.unwritten, (new ∙ ap Some e.unchanged));
+            unchanged = λ h. (w.event_count-is, e.unwritten, (new ∙ ap Some e.unchanged));
             cause = record { memory = r.memory; numbers = r.numbers };
             status = (
               (λ h. refused_not_none s _ r h, λ h. absurd (none-some _ (sym h))),

@@ -2,7 +2,6 @@ use Rattle.std.proofs.Common.{◌≡◌, Some, None, length, refl, ap, sym, ◌�
 use Rattle.std.proofs.lemmas.Bool.{false≢true, leb-true}
 use Rattle.std.proofs.lemmas.Option.{none-some}
 use Rattle.std.specs.Ordering.{nat_cmp}
-use Rattle.indexset_core.specs.Pairs.{without_key}
 use Rattle.indexset_events.specs.Keys.{key_removal_events}
 use Rattle.indexset_log.specs.Tree.{refusal_for}
 use Rattle.indexset_ffi.specs.declared.status.TheConstants.{NO, YES, MEMORY, NONE, HELD, NUMBERS, UNFIT}
@@ -49,7 +48,7 @@ returns c =
     let was : Some m ≡ c.args.log.now.slot.value = ap Some c.deref_mut.ensures.value ∙ c.in-Some.ensures.taken in
     rw (← was) (elim c.match-remove_told.branch [
       | in-Ok+then-write w ↦
-          let e = w.in-Ok.ensures in let told : c.match-remove_told.told ≡ n = w.told-is ∙ e.event_count in
+          let e = w.in-Ok.ensures in let told : c.match-remove_told.event_count ≡ n = w.event_count-is ∙ e.event_count in
           record {
             found = (
               λ h. sym e.found ∙ w.write.ensures.found w.if-write.true ∙ ap Some (sym w.out-is),
@@ -60,7 +59,7 @@ returns c =
             changed = λ h. rw new e.changed;
             contains = (λ h. absurd (none-some _ (sym h ∙ new)), λ h. absurd (none-some _ (sym h)));
             events = λ h. record { told = told; events = rw told e.events };
-            at_most_three_events = rw w.told-is e.at_most_three_events;
+            at_most_three_events = rw w.event_count-is e.at_most_three_events;
             unchanged = λ h. absurd (h w.status-is);
             cause = record { memory = λ h. not_at s YES MEMORY w.status-is refl h; numbers = λ h. not_at s YES NUMBERS w.status-is refl h };
             status = (
@@ -71,7 +70,7 @@ returns c =
             );
           }
       | in-Ok+else-write w ↦
-          let e = w.in-Ok.ensures in let told : c.match-remove_told.told ≡ n = w.told-is ∙ e.event_count in
+          let e = w.in-Ok.ensures in let told : c.match-remove_told.event_count ≡ n = w.event_count-is ∙ e.event_count in
           let gone = e.absent (w.write.ensures.absent w.if-write.false) in let zero : n ≡ 0 = sym e.event_count ∙ gone.0 in
           record {
             found = (λ h. not_at s NO YES w.status-is refl h, λ h. sym e.found ∙ w.write.ensures.absent w.if-write.false, λ none enough. w.status-is);
@@ -79,8 +78,8 @@ returns c =
             changed = λ h. not_at s NO YES w.status-is refl h;
             contains = (λ h. absurd (none-some _ (sym h ∙ new)), λ h. absurd (none-some _ (sym h)));
             events = λ h. record { told = told; events = rw told e.events };
-            at_most_three_events = rw w.told-is e.at_most_three_events;
-            unchanged = λ h. ((w.out-is ∙ w.write.ensures.unwritten w.if-write.false), (w.told-is ∙ gone.0), (e.events ∙ rw zero refl), (new ∙ ap Some gone.1));
+            at_most_three_events = rw w.event_count-is e.at_most_three_events;
+            unchanged = λ h. ((w.out-is ∙ w.write.ensures.unwritten w.if-write.false), (w.event_count-is ∙ gone.0), (e.events ∙ rw zero refl), (new ∙ ap Some gone.1));
             cause = record { memory = λ h. not_at s NO MEMORY w.status-is refl h; numbers = λ h. not_at s NO NUMBERS w.status-is refl h };
             status = (
               (λ h. not_at s NO UNFIT w.status-is refl h, λ h. absurd (omega (arith, c.if-events-lt3.false, h.1))),
@@ -100,8 +99,8 @@ returns c =
             changed = λ h. refused_not_yes s _ r h;
             contains = (λ h. absurd (none-some _ (sym h ∙ new)), λ h. absurd (none-some _ (sym h)));
             events = λ h. refused_not_done s _ r h;
-            at_most_three_events = rw w.told-is (leb-true 0 3 refl);
-            unchanged = λ h. (w.out-is, w.told-is, e.unchanged.1, (new ∙ ap Some e.unchanged.0));
+            at_most_three_events = rw w.event_count-is (leb-true 0 3 refl);
+            unchanged = λ h. (w.out-is, w.event_count-is, e.unchanged.1, (new ∙ ap Some e.unchanged.0));
             cause = record { memory = r.memory; numbers = r.numbers };
             status = ((λ h. refused_not_unfit s _ r h, λ h. absurd (omega (arith, c.if-events-lt3.false, h.1))), refused_status s _ r, r.not_none, r.not_held);
           }

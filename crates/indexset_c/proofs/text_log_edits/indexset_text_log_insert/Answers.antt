@@ -13,12 +13,12 @@ returns-clause-at_most_three_events c =
     let m = c.deref_mut.result.now in let made = put_change (by_key (slice_cmp nat_cmp)) m.tree (pair c.args.key.now c.args.value) in
     elim c.match-insert.branch [
       | in-Ok+then-write w ↦
-          let e = w.in-Ok.ensures in let few = few_kept c.insert.new.self m.tree made e.ok e.changed.at_most_three_events in let is = w.told-is in
+          let e = w.in-Ok.ensures in let few = few_kept c.insert.new.self m.tree made e.ok e.changed.at_most_three_events in let is = w.event_count-is in
           let many : w.told.result ≡ length c.insert.new.self.told = w.told.ensures ∙ ap (λ (u : ToldTree). length u.told) w.deref.ensures in
           omega (arith, few, is, many)
       | in-Ok+else-write w ↦
-          let e = w.in-Ok.ensures in let few = few_kept c.insert.new.self m.tree made e.ok e.changed.at_most_three_events in let is = w.told-is in
+          let e = w.in-Ok.ensures in let few = few_kept c.insert.new.self m.tree made e.ok e.changed.at_most_three_events in let is = w.event_count-is in
           let many : w.told.result ≡ length c.insert.new.self.told = w.told.ensures ∙ ap (λ (u : ToldTree). length u.told) w.deref.ensures in
           omega (arith, few, is, many)
-      | in-Err w ↦ let is = w.told-is in omega (arith, is)
+      | in-Err w ↦ let is = w.event_count-is in omega (arith, is)
     ]

@@ -13,12 +13,12 @@ returns-clause-at_most_three_events c =
     let m = c.deref_mut.result.now in let made = key_removal (slice_cmp nat_cmp) m.tree c.args.key.now in
     elim c.match-remove.branch [
       | in-Ok-Some w ↦
-          let e = w.in-Ok-Some.ensures in let is = w.told-is in
+          let e = w.in-Ok-Some.ensures in let is = w.event_count-is in
           let few =
           few_kept c.remove.new.self m.tree made (e.ok (λ none. none-some _ (sym none ∙ w.in-Ok-Some.field-0-is)))
           (e.changed (λ none. none-some _ (sym none ∙ w.in-Ok-Some.field-0-is))).at_most_three_events in
           let many : w.told.result ≡ length c.remove.new.self.told = w.told.ensures ∙ ap (λ (u : ToldTree). length u.told) w.deref.ensures in
           omega (arith, few, is, many)
-      | in-Ok-None w ↦ let is = w.told-is in omega (arith, is)
-      | in-Err w ↦ let is = w.told-is in omega (arith, is)
+      | in-Ok-None w ↦ let is = w.event_count-is in omega (arith, is)
+      | in-Err w ↦ let is = w.event_count-is in omega (arith, is)
     ]
