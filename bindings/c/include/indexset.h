@@ -108,6 +108,11 @@ extern const char indexset_build[];
  * returns INDEXSET_YES, nothing changes. */
 uint32_t indexset_set_new(indexset_set *set);
 
+/* Makes a set of `count` keys, each above the one before it. Its nodes are full, which takes less memory and time than
+ * adding the keys one by one. Returns INDEXSET_YES, INDEXSET_MEMORY, INDEXSET_HELD if the handle owns a set, or
+ * INDEXSET_UNFIT if the keys do not ascend; unless it returns INDEXSET_YES, nothing changes. */
+uint32_t indexset_set_from_sorted(indexset_set *set, const uint64_t *keys, size_t count);
+
 /* Makes a clone of a set under the handle `to`. Returns INDEXSET_YES, INDEXSET_MEMORY, INDEXSET_NONE if `set` owns
  * none, or else INDEXSET_HELD if `to` owns a set. `set` never changes, and `to` changes only if the call returns
  * INDEXSET_YES. */

@@ -111,6 +111,29 @@ static void test_life(void) {
 }
 
 /* ---- a handle on the heap, also if its second or third allocation fails */
+static void test_sorted(void) {
+    enum { COUNT = 5000 };
+    static uint64_t keys[COUNT], out[COUNT];
+    indexset_set set = INDEXSET_HANDLE, other = INDEXSET_HANDLE;
+    for (uint64_t i = 0; i < COUNT; i++) keys[i] = 3 * i;
+    for (nth = 1; nth < 20; nth++) {
+        requests = 0;
+        const uint32_t answer = indexset_set_from_sorted(&set, keys, COUNT);
+        CHECK(answer == (requests < nth ? INDEXSET_YES : INDEXSET_MEMORY) && set.live == (answer == INDEXSET_YES));
+        indexset_set_free(&set);
+    }
+    nth = 0;
+    CHECK(indexset_set_from_sorted(&set, keys, COUNT) == INDEXSET_YES && indexset_set_len(&set) == COUNT);
+    CHECK(indexset_set_range_by_position(&set, 0, out, COUNT) == COUNT && memcmp(keys, out, sizeof keys) == 0);
+    CHECK(indexset_set_from_sorted(&set, keys, 1) == INDEXSET_HELD && indexset_set_len(&set) == COUNT);
+    keys[COUNT - 1] = keys[COUNT - 2];
+    CHECK(indexset_set_from_sorted(&other, keys, COUNT) == INDEXSET_UNFIT && !other.live);
+    CHECK(indexset_set_from_sorted(&other, keys, 0) == INDEXSET_YES && indexset_set_len(&other) == 0);
+    CHECK(indexset_set_insert(&other, 7) == INDEXSET_YES);
+    indexset_set_free(&set);
+    indexset_set_free(&other);
+}
+
 static void test_heap(void) {
     indexset_set *set = NULL, other = INDEXSET_HANDLE;
     indexset_map *map = NULL;
@@ -431,6 +454,7 @@ int main(void) {
     test_none();
     test_life();
     test_heap();
+    test_sorted();
     test_random(0, 6000);
     test_map_none();
     test_map_random(0, 6000);

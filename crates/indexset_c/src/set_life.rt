@@ -1,13 +1,17 @@
 //! Creation and release of a set, its clone and its length.
 ghost use Rattle.std.specs.Prelude.{◌≡◌, ◌≢◌, ◌↔◌, [], Some, None, true};
 ghost use Rattle.std.specs.Prelude.{length, is_some, IfSome, ◌∷◌, option_map};
+ghost use Rattle.std.specs.Ordering.{nat_cmp};
+ghost use Rattle.indexset_core.specs.Order.{IsAscending};
 ghost use Rattle.indexset_core.specs.declared.constants.TheConstants.{DEFAULT_INNER_SIZE};
 ghost use Rattle.indexset_spine.specs.NodeList.{node_list};
 ghost use Rattle.indexset_ffi.specs.Elements.{elements};
 
+use indexset_core::refusal::Refusal;
+use indexset_ffi::set_calls::sorted_set;
 use indexset_ffi::set_handle::SetHandle;
 use indexset_ffi::set_owner::SetOwner;
-use indexset_ffi::status::{HELD, MEMORY, NONE, YES};
+use indexset_ffi::status::{HELD, MEMORY, NONE, UNFIT, YES};
 use indexset_set::BTreeSet;
 use std::alloc::Global;
 use std::mem::swap;
@@ -35,6 +39,43 @@ pub extern "C" fn indexset_set_new(alloc: Global, set: &mut SetHandle) -> u32
     }
     let Ok(made) = BTreeSet::new(alloc) else {
         return MEMORY;
+    };
+    match Box::new(alloc, made) {
+        Ok(made) => {
+            set.put(made);
+            YES
+        }
+        Err(_) => MEMORY,
+    }
+}
+
+/// Makes a set of keys that ascend strictly, with full nodes.
+///
+/// # Errors
+///
+/// `HELD` if the handle is not empty, `UNFIT` if the keys do not ascend strictly, or `MEMORY`. A
+/// failed call changes nothing.
+#[unsafe(no_mangle)]
+pub extern "C" fn indexset_set_from_sorted(alloc: Global, set: &mut SetHandle, keys: &[u64]) -> u32
+    // Result.
+    ensures ascending { result ≡ YES → IsAscending nat_cmp keys.now }
+
+    // Contents.
+    ensures ok { result ≡ YES → elements set.new.slot.value ≡ keys.now }
+
+    // Failure.
+    ensures refused { result ≢ YES → set.new.slot.value ≡ set.old.slot.value }
+    ensures held { result ≡ HELD ↔ (is_some set.old.slot.value ≡ true) }
+    ensures unfit { result ≡ UNFIT → IsAscending nat_cmp keys.now → ⊥ }
+    ensures status { result ≢ YES → result ≢ HELD → result ≢ UNFIT → result ≡ MEMORY }
+{
+    if set.live {
+        return HELD;
+    }
+    let made = match sorted_set(alloc, keys) {
+        Ok(made) => made,
+        Err(Refusal::Memory) => return MEMORY,
+        Err(_) => return UNFIT,
     };
     match Box::new(alloc, made) {
         Ok(made) => {

@@ -1,9 +1,9 @@
 //! Bodies of the calls of a set.
-ghost use Rattle.std.specs.Prelude.{◌≡◌, ◌<◌, ◌≤◌, None, false, length, map, min};
+ghost use Rattle.std.specs.Prelude.{◌≡◌, ◌<◌, ◌≤◌, IfErr, IfOk, None, OnOk, false, length, map, min};
 ghost use Rattle.std.specs.Prelude.{remove, slice_get, slice_index_or, take};
 ghost use Rattle.std.specs.List.{AllWithin, fold};
 ghost use Rattle.std.specs.Ordering.{nat_cmp};
-ghost use Rattle.indexset_core.specs.Order.{has_equal, keep, rank};
+ghost use Rattle.indexset_core.specs.Order.{IsAscending, has_equal, keep, rank};
 ghost use Rattle.indexset_core.specs.Nodes.{node_lengths};
 ghost use Rattle.indexset_spine.specs.NodeList.{items};
 ghost use Rattle.indexset_ffi.specs.Cursors.{cursor_position};
@@ -11,9 +11,30 @@ ghost use Rattle.indexset_ffi.specs.Elements.{count_up_to, element_at, written};
 
 use crate::cursor::{self, Cursor};
 use indexset_core::probe::ByItem;
+use indexset_core::refusal::Refusal;
 use indexset_set::BTreeSet;
 use indexset_set::range::Range;
+use std::alloc::Global;
 use std::ops::Bound;
+
+/// Returns a set of keys that ascend strictly.
+///
+/// # Errors
+///
+/// `Unsorted` if they do not, or `Memory`.
+pub fn sorted_set(alloc: Global, keys: &[u64]) -> Result<BTreeSet<u64>, Refusal>
+    ensures elements { IfOk result (λ s. items s ≡ keys.now) }
+    ensures ascending { OnOk result (IsAscending nat_cmp keys.now) }
+    ensures memory { IfErr result (λ e. IsAscending nat_cmp keys.now → e ≡ Refusal.Memory) }
+{
+    let Ok(values) = Vec::from_slice(alloc, keys) else {
+        return Err(Refusal::Memory);
+    };
+    match BTreeSet::from_sorted(alloc, values) {
+        Ok(set) => Ok(set),
+        Err(refused) => Err(refused.cause),
+    }
+}
 
 /// Writes as many elements of an iterator as fit, and returns how many it wrote.
 pub fn write_each(mut walk: Range<'_, u64>, out: &mut [u64]) -> usize

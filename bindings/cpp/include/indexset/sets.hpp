@@ -6,6 +6,7 @@
 #include "mapped.hpp"
 #include "numbers.hpp"
 
+#include <algorithm>
 #include <cstddef>
 #include <cstdint>
 #include <functional>
@@ -75,7 +76,11 @@ class set
         const bool was_empty = store.size() == 0;
         std::uint32_t answer = INDEXSET_YES;
         std::size_t added = 0;
-        if (was_empty) {
+        if (was_empty && std::adjacent_find(codes.begin(), codes.end(), std::greater_equal<>()) == codes.end()) {
+            indexset_set made = INDEXSET_HANDLE;
+            answer = indexset_set_from_sorted(&made, codes.data(), codes.size());
+            if (answer == INDEXSET_YES) indexset_set_move(store.handle(), &made);
+        } else if (was_empty) {
             answer = indexset_set_insert_all(store.handle(), codes.data(), codes.size(), &added);
         } else {
             for (std::size_t i = 0; i < codes.size() && answer != INDEXSET_MEMORY; i++) {

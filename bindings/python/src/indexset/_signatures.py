@@ -123,6 +123,7 @@ CALLS: list[tuple[str, Any, list[Any]]] = [
     ("set_upper_bound", c_bool, [c_void_p, c_uint64, c_void_p]),
     ("set_count_up_to", c_size_t, [c_void_p, c_uint64]),
     ("set_new", c_uint32, [c_void_p]),
+    ("set_from_sorted", c_uint32, [c_void_p, c_void_p, c_size_t]),
     ("set_clone", c_uint32, [c_void_p, c_void_p]),
     ("set_free", None, [c_void_p]),
     ("set_create", c_uint32, [c_void_p]),
