@@ -19,8 +19,9 @@
 // Keys: all integer types, `bool`, character types, enums, `float` and `double`, in the order of `<`. For
 // floating-point keys, -0.0 equals 0.0, and NaN is one key, above all others. Any other type becomes a key by a
 // specialization of `key_code`. With `std::greater<>` as the last argument of `set`, `map` and `object_map` the keys
-// descend. A value has a trivially copyable type of at most 8 bytes: a number, a pointer, an index. A collection returns
-// copies: its elements cannot be written through iterators. Only a map to objects returns references to its values.
+// descend. A value has a trivially copyable type of at most 8 bytes: a number, a pointer, an index. A collection
+// returns copies: its elements cannot be written through iterators. Only a map to objects returns references to its
+// values.
 //
 // Iterators are positions. They meet std::random_access_iterator of C++20, and all requirements of such an iterator of
 // C++17 but one: `*it` is a value and not a reference. A change of a collection invalidates its iterators, except those
@@ -30,9 +31,9 @@
 // them; if a run cannot be allocated, it does.
 //
 // Exceptions: std::bad_alloc if an allocation fails, std::out_of_range of `at`, and what the caller's own iterators,
-// functions and objects throw; no others. After an exception nothing has changed. `apply_all` of a replica throws only if it processed no change;
-// otherwise it returns the number of changes that it processed. Moves, swaps and `clear` allocate nothing, and neither
-// does `erase` of set, map and byte_map, nor the constructor of an empty collection.
+// functions and objects throw; no others. After an exception nothing has changed. `apply_all` of a replica throws only
+// if it processed no change; otherwise it returns the number of changes that it processed. Moves, swaps and `clear`
+// allocate nothing, and neither does `erase` of set, map and byte_map, nor the constructor of an empty collection.
 //
 // Threads: a collection is used by one thread at a time, for reads too, because iterations keep what they fetch in it.
 // Two collections are independent.

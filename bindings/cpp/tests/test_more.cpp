@@ -41,6 +41,10 @@ static void test_values() {
     CHECK(numbers[1] == 2 && numbers[1] == 2L && 2 == numbers[1] && numbers[1] != 3U && numbers.at(1) == 2);
     indexset::byte_map<int> texts{{"a", 1}};
     CHECK(texts.at("a") == 1 && is_out_of_range([&] { texts.at("b"); }));
+    const std::string lengthy(100, 'k'); // an iterator to it allocates when it is read
+    indexset::byte_map<int> larger(texts);
+    CHECK(larger[lengthy] == 0 && larger.size() == 2);
+    sweep(texts, larger, [&](auto &copy) { CHECK(copy[lengthy] == 0); });
 }
 
 // ---- descending keys, beside std

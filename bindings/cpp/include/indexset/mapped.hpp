@@ -26,7 +26,11 @@ class value_reference {
     value_reference(Map &map, typename Map::key_argument key) noexcept : map_(map), key_(key) {}
     value_reference(const value_reference &) = default;
 
-    operator value_type() const { return map_.try_emplace(key_).first->second; }
+    operator value_type() const {
+        if (const std::optional<value_type> value = map_.get(key_)) return *value;
+        map_.try_emplace(key_);
+        return value_type();
+    }
 
     value_reference &operator=(value_type value) {
         map_.insert_or_assign(key_, value);
