@@ -67,12 +67,12 @@ done
 try sanitized
 try mypy --strict --no-incremental --cache-dir=/dev/null python/src/indexset python/tests/typing_sample.py
 # The tests that need numpy, by Debian's Python, for which Debian has it.
-mkdir python/out/numpy
-cp -r python/src/indexset python/tests/test_{answers,equals}.py python/tests/counted.py python/out/numpy
-extension out/numpy /usr/bin/python3 || exit 1
+mkdir python/out/arrays
+cp -r python/src/indexset python/tests/test_{answers,equals}.py python/tests/counted.py python/out/arrays
+extension out/arrays /usr/bin/python3 || exit 1
 for backend in ctypes extension; do
     for test in test_answers test_equals; do
-        try env INDEXSET_SKIPS=fail "INDEXSET_BACKEND=$backend" /usr/bin/python3 -W error "python/out/numpy/$test.py"
+        try env INDEXSET_SKIPS=fail "INDEXSET_BACKEND=$backend" /usr/bin/python3 -W error "python/out/arrays/$test.py"
     done
 done
 
