@@ -1,6 +1,6 @@
 //! Bodies of the calls of a set.
-ghost use Rattle.std.specs.Prelude.{◌≡◌, ◌<◌, ◌≤◌, IfErr, IfOk, None, OnOk, false, length, map, min};
-ghost use Rattle.std.specs.Prelude.{remove, slice_get, slice_index_or, take};
+ghost use Rattle.std.specs.Prelude.{◌≡◌, ◌<◌, ◌≤◌, IfErr, IfOk, None, OnOk, false, length, map};
+ghost use Rattle.std.specs.Prelude.{min, remove, slice_get, slice_index_or, take};
 ghost use Rattle.std.specs.List.{AllWithin, fold};
 ghost use Rattle.std.specs.Ordering.{nat_cmp};
 ghost use Rattle.indexset_core.specs.Order.{IsAscending, has_equal, keep, rank};
