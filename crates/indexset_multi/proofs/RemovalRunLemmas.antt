@@ -169,11 +169,11 @@ module _ {K V Q : Type 0} {cmp : K → K → Ordering} (o : IsTotalOrder cmp) {o
         let s = old.next in
         let a = removals_events cmp order old k n in
         let b = first_events cmp order (after_removals cmp order old k n) k in
-        let more : AllZip (IsEventClone C) (numbered_from (s + length a) b) on.told =
+        let more : AllZip (IsEventClone C) (numbered_from (s + length a) b) on.events =
         subst (λ (t : MultiTree K V).
-        AllZip (IsEventClone C) (numbered_from (s + length a) (first_events cmp order t k)) on.told)
+        AllZip (IsEventClone C) (numbered_from (s + length a) (first_events cmp order t k)) on.events)
         is (rw g.next at on.clones) in
-        rw (add-one, on.added, numbered_on s a b) (zip_on (IsEventClone C) (numbered_from s a) (numbered_from (s + length a) b) fs on.told before more)
+        rw (add-one, on.added, numbered_on s a b) (zip_on (IsEventClone C) (numbered_from s a) (numbered_from (s + length a) b) fs on.events before more)
 
     -- a removal that found a pair was not the last
     pub more_left : is_some (first_pair order (concat now.nodes) k) ≡ true → n + 1 ≤ length (pairs_of order (concat old.nodes) k)

@@ -8,6 +8,6 @@ use Rattle.indexset_events.specs.Clones.{AreTableEvents}
 -- from s
 pub record AppendsEvents {T : Type 0} (C : T → T → Type 0) (s : ℕ)
     (table : List (ChangeEventUnassigned T)) (before after : List (ChangeEvent T)) : Type 0 where
-  pub told : List (ChangeEvent T)
-  pub added : after ≡ before ++ told
-  pub clones : AreTableEvents C s table told
+  pub events : List (ChangeEvent T)
+  pub added : after ≡ before ++ events
+  pub clones : AreTableEvents C s table events

@@ -110,7 +110,7 @@ impl<K: Ord + Clone + Drop, V: Eq + Clone + Drop, Node: NodeLike<MultiPair<K, V>
         // Failure.
         ensures refusal { IfErr result (λ e. e.cause ≡ multi_refusal_of self.new
             (some_removal K.cmp Q.order self.new key)) }
-        ensures told_before { IfErr result
+        ensures events_before { IfErr result
             (λ e. RemovalEvents K.cmp Q.order K.is_clone V.is_clone self.old
             self.new key e.value.items) }
 
@@ -169,7 +169,7 @@ impl<K: Ord + Clone + Drop, V: Eq + Clone + Drop, Node: NodeLike<MultiPair<K, V>
         ensures events { IfOk result (λ found. found ≡ true
             → AppendsEvents (IsMultiPairClone K.is_clone V.is_clone) self.old.next
             (first_events K.cmp Q.order self.old key.now) events.old.items events.new.items) }
-        ensures untold { IfOk result (λ found.
+        ensures no_events { IfOk result (λ found.
             found ≡ false → events.new.items ≡ events.old.items) }
 
         // Failure.

@@ -58,7 +58,7 @@ returns-in-Ok-false g c =
     let D = g.V.Clone.is_clone in
     let told =
     subst (λ l. AreTableEvents (IsMultiPairClone C D) old.next (removals_events g.K.Ord.cmp order old k at.count) l)
-    (sym (c.in-Ok-false.ensures.untold c.in-Ok-false.field-0-test)) at.invariant.events in
+    (sym (c.in-Ok-false.ensures.no_events c.in-Ok-false.field-0-test)) at.invariant.events in
     record {
       count = all_removed g.met.K.Ord.total g.met.Q.LookupKey.acts_as_key old c.recall_invariant.ensures.tree k at.count is at.invariant.within gone;
       contents = all_kept g.met.K.Ord.total g.met.Q.LookupKey.acts_as_key old c.recall_invariant.ensures.tree k at.count is at.invariant.within gone;
@@ -67,7 +67,7 @@ returns-in-Ok-false g c =
       no_event = λ _. refl;
       removed = are_removed g.met.K.Ord.total g.met.Q.LookupKey.acts_as_key old c.recall_invariant.ensures.tree k at.count is at.invariant.within;
       events = removals_told g.met.K.Ord.total g.met.Q.LookupKey.acts_as_key old c.recall_invariant.ensures.tree k at.count is at.invariant.within C D _ told;
-      told_before = tt;
+      events_before = tt;
     }
 
 pub returns-in-Err : goal.returns-in-Err
@@ -94,5 +94,5 @@ returns-in-Err g c =
           ));
       removed = are_removed g.met.K.Ord.total g.met.Q.LookupKey.acts_as_key old c.recall_invariant.ensures.tree k at.count is at.invariant.within;
       events = tt;
-      told_before = removals_told g.met.K.Ord.total g.met.Q.LookupKey.acts_as_key old c.recall_invariant.ensures.tree k at.count is at.invariant.within C D _ told;
+      events_before = removals_told g.met.K.Ord.total g.met.Q.LookupKey.acts_as_key old c.recall_invariant.ensures.tree k at.count is at.invariant.within C D _ told;
     }
