@@ -15,6 +15,7 @@ out=out${UNPROVED:+/unproved}
 mkdir -p "$out"
 archive=c/$(make -s -C c dist | tail -n 1)
 mv "$archive" "$out"
-/usr/bin/python3 -m pip --disable-pip-version-check -q wheel --no-index --no-deps --no-build-isolation -w "$out" ./python
+/usr/bin/python3 -m pip --disable-pip-version-check -q \
+    wheel --no-index --no-deps --no-build-isolation -w "$out" ./python
 ls "$out"/*.tar.gz "$out"/*.whl
 strings "c/$out/libindexset.so" | grep -E '^(un)?proved.*, commit '

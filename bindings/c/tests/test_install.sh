@@ -160,7 +160,8 @@ by_another_allocator() {
     objcopy --redefine-sym malloc=zone_malloc --redefine-sym realloc=zone_realloc --redefine-sym free=zone_free \
         "$room/to/lib/libindexset.a" "$room/libzone.a" &&
         test -z "$(nm -u "$room/libzone.a" | grep -E ' (malloc|calloc|realloc|free|posix_memalign|aligned_alloc)$')" &&
-        cc -Wall -Wextra -Werror -I "$room/to/include" "$room/zone.c" "$room/least.c" "$room/libzone.a" -o "$room/zone" &&
+        cc -Wall -Wextra -Werror -I "$room/to/include" -o "$room/zone" \
+            "$room/zone.c" "$room/least.c" "$room/libzone.a" &&
         test "$("$room/zone")" = "7
 0 blocks of several are left"
 }
