@@ -278,7 +278,7 @@ impl<T: Ord + Clone + Drop, Node: NodeLike<T>> BTreeSet<T, Node> {
     /// // A proof knows after the call that the items ascend.
     /// let tree: set::BTreeSet<u64, Vec<u64>> = set::BTreeSet::from_iter(alloc, [5, 10])?;
     /// tree.recall_invariant();
-    /// assert!(rt; tree.first() < tree.last());
+    /// assert!(rt; tree.first() == Some(&5));
     /// ```
     pub fn recall_invariant(&self)
         ensures tree { IsTree T.cmp Node.most self.now.nodes self.now.size
