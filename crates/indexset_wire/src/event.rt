@@ -21,7 +21,6 @@ use std::io::{self, Write};
 /// Those of the writer.
 ///
 /// ```
-/// # use indexset::cdc::text::event::write_event;
 /// let event = ChangeEvent::SplitNode { event_id: Id::from(7), max_value: 5u64, split_index: 2 };
 /// let mut line = Vec::new(alloc);
 /// write_event(&mut line, &event)?;
@@ -107,7 +106,6 @@ fn write_place<T: Item, W: Write>(writer: &mut W, value: &T, index: usize) -> io
 /// `AllocError` if memory runs out; not if items allocate nothing.
 ///
 /// ```
-/// # use indexset::cdc::text::event::read_event;
 /// let event = ChangeEvent::CreateNode { event_id: Id::from(7), max_value: 5 };
 /// assert!(rt; read_event::<u64>(alloc, b"7 create 5")? == Some(event));
 /// assert!(rt; read_event::<u64>(alloc, b"7 make 5")?.is_none());

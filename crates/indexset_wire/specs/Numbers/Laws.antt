@@ -2,7 +2,7 @@
 use Rattle.std.proofs.Common.{drop, Option, None, Some, MatchOption, ◌≡◌, ◌≢◌, ℕ, suc}
 use Rattle.std.proofs.Common.{◌-◌, ◌<◌, ◌≤◌, ◌^◌, Bool, true, false, cond, eqb, ◌&&◌}
 use Rattle.std.proofs.Common.{List, [], ◌∷◌, get_or, refl, sym, ap, subst, ◌∙◌, arith, ne_eqb}
-use Rattle.std.specs.Prelude.{nat_le, nat_lt, is_some, ℤ, pos, negsuc, Result}
+use Rattle.std.specs.Prelude.{nat_le, nat_lt, ℤ, pos, negsuc, Result}
 use lib.Signed.{mag}
 use mir.Syntax.{Width}
 use mir.Val.{hbits}
@@ -21,7 +21,7 @@ use Rattle.std.specs.Str.{IsUtf8, bytes_eq}
 use Rattle.std.specs.Str.Parse.{AllDigits, ParsesSigned, digits_value}
 use Rattle.indexset_wire.specs.Numbers.{number_below, number_of, signed_below}
 use Rattle.indexset_wire.specs.Parts.{is_item, is_token, lacks}
-use Rattle.indexset_wire.specs.Parts.Laws.{Lacks, both, none_some, some_inj, some_is, then_some}
+use Rattle.indexset_wire.specs.Parts.Laws.{Lacks, both, none_some, some_inj, then_some}
 use Rattle.indexset_wire.specs.Parts.Laws.{token_item, token_parts}
 
 -- ---- digits
