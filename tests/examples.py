@@ -47,7 +47,7 @@ import lay  # noqa: E402
 
 # The crates of tests that examples are built with, and the crates whose doc comments they are from.
 HOSTS = {
-    "test_units": ["core", "spine", "set", "map", "events", "log", "multi", "replica"],
+    "test_units": ["core", "spine", "set", "map", "events", "wire", "log", "multi", "replica"],
     "test_crashes": ["journal"],
 }
 WITH_PAGES = "test_units"  # the one that the blocks of pages are built with
@@ -63,6 +63,7 @@ use indexset::base::multipair::MultiPair;
 use indexset::base::pair::Pair;
 use indexset::base::refusal::Refusal;
 use indexset::cdc::change::{ChangeEvent, Id};
+use indexset::cdc::text::event::{read_event, write_event};
 use indexset::concurrent::{map, multimap, set};
 use indexset::replica::Replica;
 use indexset::base::probe::{ByItem, ByKey};
