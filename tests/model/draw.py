@@ -68,6 +68,14 @@ class Draw:
         """Returns some of the words, in any order and with repeats."""
         return " ".join(self.rng.choice(words) for _ in range(self.rng.randint(least, 7)))
 
+    def places(self, name: str, window: Sequence[int]) -> str:
+        """Returns a call with these places, of which some are lost, repeated or out of order."""
+        places = [place for place in window if self.chance(0.9)] or [0]
+        places += [self.rng.choice(places) for _ in range(self.rng.randint(0, 3))]
+        if self.chance(0.3):
+            self.rng.shuffle(places)
+        return " ".join([name, *map(str, places)])
+
 
 class Author:
     """Generates the calls of a script, and asks the model for their results."""

@@ -1,4 +1,4 @@
-"""The language of the scripts: statements, abbreviations of many of them, and the groups of calls of a subject.
+"""The language of the scripts: statements, and subjects with a table of calls.
 
 A statement is a call, its words, and after `->` the words of its result. Statements of one line are separated by `;`. A
 line that begins `each 0..4:` is run for each number from 0 to 3, and `each 4..0:` for each from 3 down to 0, which
@@ -9,13 +9,16 @@ from __future__ import annotations
 
 import re
 from collections.abc import Callable, Iterator, Sequence
-from typing import NamedTuple
+from functools import partial
+from typing import NamedTuple, Union
 
-from items import BadWord
+from items import BadWord, Item, Spelling, read_natural
 
 RANGE = re.compile(r"(\d+)\.\.(\d+)")
+DONE = ""
 Words = list[str]
-Group = Callable[[str, Words], "str | None"]
+Answer = Union[None, bool, int, str, Item, Sequence["Answer"]]
+Calls = dict[str, Callable[[Words], Answer]]
 
 
 class NoCall(Exception):
@@ -45,26 +48,74 @@ class Statement(NamedTuple):
 
 
 class Subject:
-    """The object that a script calls: a call takes words, and returns the words of its result as a text."""
+    """The object that a script calls: a call takes words, and returns a result."""
 
-    def groups(self) -> Sequence[Group]:
-        """Returns the groups of its calls; a group returns none for a call that is not its own."""
+    def __init__(self, spelling: Spelling) -> None:
+        self.spelling = spelling
+
+    def calls(self) -> Calls:
+        """Returns the calls by name."""
         raise NotImplementedError
 
-    def perform(self, name: str, words: Words) -> str | None:
-        """Returns the result of the first group that has the call."""
-        answers = (group(name, words) for group in self.groups())
-        return next((it for it in answers if it is not None), None)
+    def shown(self, item: Item) -> str:
+        """Returns the text of an item as the calls of this subject return it."""
+        return self.spelling.write(item)
+
+    def text(self, answer: Answer) -> str:
+        """Returns the text of a result."""
+        if answer is None:
+            return "none"
+        if isinstance(answer, bool):
+            return "true" if answer else "false"
+        if isinstance(answer, Item):
+            return self.shown(answer)
+        return str(answer) if isinstance(answer, (int, str)) else " ".join(map(self.text, answer))
+
+    def perform(self, name: str, words: Words) -> str:
+        """Returns the text of the result of a call."""
+        call = self.calls().get(name)
+        if call is None:
+            raise NoCall(name)
+        try:
+            return self.text(call(words))
+        except Refused as refused:
+            return f"{refused.back} refused {refused.cause}"
 
     def answer(self, name: str, words: Words) -> str:
-        """Returns the result of a call."""
-        try:
-            text = self.perform(name, words)
-        except Refused as refused:
-            text = f"{refused.back} refused {refused.cause}"
-        if text is None:
-            raise NoCall(name)
-        return " ".join(text.split())
+        """Returns the result of a statement: its words before the name of the call are read first."""
+        match name:
+            case "bare":
+                return self.answer(words[0], words[1:])
+            case "within":
+                read_natural(words[0])
+                return self.answer(words[1], words[2:])
+            case "quietly" | "numbers" | "count":
+                return briefly(name, self.answer(words[0], words[1:]))
+            case _:
+                return " ".join(self.perform(name, words).split())
+
+    def named(self, names: Sequence[str], call: Callable[[str, Words], Answer]) -> Calls:
+        """Returns several calls that differ by their names."""
+        return {name: partial(call, name) for name in names}
+
+    def item(self, words: Words) -> Item:
+        """Returns the item that the words are."""
+        return self.spelling.read(" ".join(words))
+
+    def items(self, words: Words) -> list[Item]:
+        """Returns the item of each word."""
+        return [self.spelling.read(word) for word in words]
+
+
+def briefly(name: str, whole: str) -> str:
+    """Returns a result without its events, or with only their numbers, or with how many there are."""
+    refused = re.search(r"refused \w+$", whole)
+    if refused:
+        return refused[0]
+    answer, *events = whole.split(", ")
+    if name == "numbers":
+        return " ".join([answer, *(event.split()[0] for event in events)])
+    return f"{answer} {len(events)}" if name == "count" else answer
 
 
 def one(words: Words) -> str:
@@ -74,15 +125,15 @@ def one(words: Words) -> str:
     return words[0]
 
 
-def none(words: Words) -> None:
-    """Fails if there is a word."""
-    if words:
-        raise BadWord(" ".join(words))
+def number(words: Words) -> int:
+    """Returns the number that the only word is."""
+    return read_natural(one(words))
 
 
-def shown(value: bool) -> str:
-    """Returns the text of a truth value."""
-    return "true" if value else "false"
+def permitted(is_permitted: bool, about: str) -> None:
+    """Fails if a call is not permitted."""
+    if not is_permitted:
+        raise NoCall(about)
 
 
 def numbers_of(text: str) -> list[str]:
@@ -109,8 +160,8 @@ def statements_of(line: str) -> Iterator[str]:
     if found is None:
         yield from line.split(";")
         return
-    for number in numbers_of(found[1]):
-        yield from found[2].replace("@", number).split(";")
+    for each in numbers_of(found[1]):
+        yield from found[2].replace("@", each).split(";")
 
 
 def read(script: str) -> Iterator[Statement]:

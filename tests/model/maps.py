@@ -1,287 +1,337 @@
-"""The maps that a script calls: two of them, of which most calls take the first."""
+"""The plain map: its calls, those that borrow values mutably, and the authors of their random scripts.
+
+`next=7` at a walk writes 7 to the next value, and a last word to the value that a call borrows.
+"""
 
 from __future__ import annotations
 
 from collections.abc import Callable, Sequence
 
-from definitions import bounds_are_ordered, equal_to, in_positions, in_range, is_ascending, rank
-from definitions import read_bound
-from items import DEFAULT_SIZE, PAIRS, Item, read_natural
-from language import Group, NoCall, Refused, Subject, Words, one, shown
-from lending import Form, insert, write
-from plain import Plain, is_partly_appended
-from walks import NONE, follow, walk
+from definitions import equal_to, in_positions, in_range, read_bound
+from draw import Author, Draw, Make
+from items import PAIRS, BadWord, Item, read_natural
+from language import Answer, Calls, NoCall, Words, number, one, permitted
+from plain import PlainAuthor, Plains
+from reads import at, bounds, follow, walk
+
+LISTS = ("pairs", "ref_pairs", "into_pairs", "all_keys", "all_values")
+COMPARED = ("eq", "lt", "cmp", "partial_cmp", "hash")
+WHOLE = ("len", "is_empty", "first_key_value", "last_key_value")
+NODES = ("node_count", "maximum_node_size", "nodes")
+SOUGHT = ("get", "get_key_value", "contains_key", "rank", "index_of", "index")
+WALKS = ("iter", "into_iter", "keys", "values", "into_keys", "into_values")
+SHOWN = ("key", "value", "key_value", "peek_next", "peek_prev", "move_next", "move_prev")
+LENT = ("next", "next_back", "len")
+ENTERED = ("entry_get_mut", "entry_into_mut", "entry_remove", "entry_remove_entry")
 
 
-class Maps(Subject):
-    """Two maps."""
+class Maps(Plains):
+    """Two maps. A key may have a tag, as in `1:p:a`."""
 
-    def __init__(self, size: int, form: Form) -> None:
-        self.size, self.form = size, form
-        self.map, self.other = Plain(size), Plain(size)
+    def __init__(self, size: int, is_tagged: bool = False) -> None:
+        super().__init__(size, PAIRS)
+        self.is_tagged = is_tagged
 
-    def groups(self) -> Sequence[Group]:
-        return (self.make, self.move, self.edit, self.pop, self.lend, self.retain, self.tell,
-                self.find, self.compare, self.walk, self.tell_all, self.range)  # fmt: skip
+    def key_text(self, pair: Item) -> str:
+        """Returns the text of a pair's key."""
+        return self.shown(pair).rpartition(":")[0]
 
-    def texts(self) -> list[str]:
-        """Returns the texts of the pairs of the first map."""
-        return [PAIRS.write(it) for it in self.map.items]
+    def value(self, pair: Item | None) -> str | None:
+        """Returns the value of a pair."""
+        return None if pair is None else pair.value.rpartition(":")[2]
 
-    def held(self, word: str) -> Item | None:
+    def with_value(self, pair: Item, value: str) -> Item:
+        """Returns the pair with another value, and its own key."""
+        return pair._replace(value=f"{pair.value.rpartition(':')[0]}:{value}" if self.is_tagged else value)
+
+    def over(self, held: Item, item: Item) -> Item:
+        return self.with_value(held, self.value(item) or "")
+
+    def compared(self, item: Item) -> Answer:
+        value = self.value(item) or ""
+        return (item.key, (read_natural(value), "") if value.isdigit() else (0, value))
+
+    def numbered(self, number: int) -> Item:
+        return Item(number, 0, str(number))
+
+    def key(self, words: Words) -> Item:
+        return Item(read_natural(one(words).partition(":")[0]))
+
+    def pair(self, word: str) -> Item | None:
         """Returns the pair of a key, if any."""
-        return equal_to(self.map.items, self.form.read_key(word))
+        return equal_to(self.held.items, self.key([word]))
 
-    def at(self, word: str) -> Item | None:
-        """Returns the pair at a position, if any."""
-        place = read_natural(word)
-        return self.map.items[place] if place < len(self.map.items) else None
+    def index(self, key: Item) -> Answer:
+        """Returns the value of a key that is there."""
+        pair = equal_to(self.held.items, key)
+        permitted(pair is not None, "a key that is not there")
+        return self.value(pair)
 
-    def filled(self, size: int, pairs: Sequence[Item]) -> Plain:
-        """Makes a map of pairs that are inserted one by one."""
-        made = Plain(size)
-        for pair in pairs:
-            insert(made, self.form, pair)
-        return made
+    def write(self, pair: Item, value: str) -> None:
+        """Writes a value to that of a pair of the map, unless there is none to write."""
+        if value:
+            self.held.put(self.with_value(pair, value))
 
-    def pairs_of(self, words: Words) -> list[Item]:
-        """Returns the pairs of the words."""
-        return [PAIRS.read(word) for word in words]
+    def lent(self, pair: Item | None, value: str) -> Answer:
+        """Returns the value of a pair, if there is one, and writes another."""
+        if pair is not None:
+            self.write(pair, value)
+        return self.value(pair)
 
-    def filled_by(self, name: str, count: int, step: int) -> Plain:
-        """Makes a map of a number of ascending keys with a given step, by the call."""
-        pairs = [Item(number * step, 0, str(number * step)) for number in range(count)]
-        match name:
-            case "insert":
-                return self.filled(self.size, pairs)
-            case "from" | "from_iter":
-                return self.filled(DEFAULT_SIZE, pairs)
-            case "from_sorted":
-                return Plain(DEFAULT_SIZE, pairs, None)
-            case _:
-                raise NoCall(name)
+    def cursor(self, is_before: Callable[[int], bool], words: Words) -> Answer:
+        """Returns the result of a cursor that begins after the keys that are before."""
+        items = self.held.items
+        start = sum(is_before(it.key) for it in items)
+        return follow(items, start, words[1:], {"key": self.key_text, "value": self.value, "key_value": self.shown})
 
-    def make(self, name: str, words: Words) -> str | None:
-        """Makes a map."""
-        match name:
-            case "size":
-                self.size = read_natural(one(words))
-            case "map":
-                self.map = self.filled(self.size, self.pairs_of(words))
-            case "fill":
-                self.map = self.filled_by(words[0], read_natural(words[1]), read_natural(words[2]))
-            case "new" | "default":
-                self.map = Plain(DEFAULT_SIZE)
-            case "from" | "from_iter" | "collect":
-                self.map = self.filled(DEFAULT_SIZE, self.pairs_of(words))
-            case "from_unsorted":
-                first: dict[int, Item] = {}
-                for pair in self.pairs_of(words):
-                    first.setdefault(pair.key, pair)
-                self.map = Plain(DEFAULT_SIZE, [first[key] for key in sorted(first)], None)
-            case "from_sorted":
-                if not is_ascending(self.pairs_of(words)):
-                    raise Refused("Unsorted", " ".join(words))
-                self.map = Plain(DEFAULT_SIZE, self.pairs_of(words), None)
-            case _:
-                return None
-        return ""
+    def lists(self) -> Calls:
+        """The calls that return all pairs, keys or values."""
+        held = self.held.items
+        keys, values = list(map(self.key_text, held)), list(map(self.value, held))
+        return {
+            **dict.fromkeys(("keys", "into_keys"), lambda w: walk(keys, w)),
+            **dict.fromkeys(("values", "into_values"), lambda w: walk(values, w)),
+            **dict.fromkeys(("pairs", "ref_pairs", "into_pairs"), lambda w: held),
+            "all_keys": lambda w: keys,
+            "all_values": lambda w: values,
+        }
 
-    def move(self, name: str, words: Words) -> str | None:
-        """Moves pairs from a map to another."""
-        match name:
-            case "clone" | "clone_of_the_trait":
-                self.other = self.map.copy()
-            case "swap":
-                self.map, self.other = self.other, self.map
-            case "clear":
-                self.map.clear()
-            case "split_off":
-                self.other = self.map.split_off(self.form.read_key(one(words)))
-            case "append":
-                self.map.append(self.other)
-            case "leaves":
-                return "" if is_partly_appended(self.map, self.other, words, PAIRS) else "nothing appends so"
-            case "extend":
-                for word in words:
-                    insert(self.map, self.form, PAIRS.read(word))
-            case _:
-                return None
-        return ""
-
-    def edit(self, name: str, words: Words) -> str | None:
-        """Changes one pair."""
-        match name:
-            case "insert":
-                return self.form.value_text(insert(self.map, self.form, PAIRS.read(one(words))))
-            case "remove":
-                return self.form.value_text(self.map.remove(self.form.read_key(one(words))))
-            case "remove_entry":
-                return self.form.text(self.map.remove(self.form.read_key(one(words))))
-            case _:
-                return None
-
-    def pop(self, name: str, words: Words) -> str | None:
-        """Removes a pair by its position."""
-        items = self.map.items
-        match name:
-            case "pop_first" | "pop_last":
-                place = 0 if name == "pop_first" else -1
-                return self.form.text(self.map.remove(items[place]) if items else None)
-            case "pop_index":
-                pair = self.at(one(words))
-                if pair is None:
-                    raise NoCall("a position that is not there")
-                return self.form.text(self.map.remove(pair))
-            case _:
-                return None
-
-    def lend(self, name: str, words: Words) -> str | None:
-        """Borrows a value mutably."""
-        match name:
-            case "get_mut" | "get_mut_index":
-                word, value = words
-                pair = self.held(word) if name == "get_mut" else self.at(word)
-                if pair is not None:
-                    write(self.map, self.form, pair, value)
-                return self.form.value_text(pair)
-            case _:
-                return None
-
-    def retain(self, name: str, words: Words) -> str | None:
-        """Keeps the keys of the words, with their values; returns the pairs that the condition reads."""
-        if name != "retain":
-            return None
-        asked, kept = " ".join(self.texts()), self.filled(DEFAULT_SIZE, self.pairs_of(words))
-        both = ((it, equal_to(kept.items, it)) for it in self.map.items)
-        self.map.retain([self.form.with_value(it, self.form.value(new)) for it, new in both if new])
-        return asked
-
-    def tell(self, name: str, words: Words) -> str | None:
-        """Returns a property of the whole map."""
-        items = self.map.items
-        match name:
-            case "len":
-                return str(len(items))
-            case "is_empty":
-                return shown(not items)
-            case "node_count":
-                return str(len(self.map.fixed_nodes()))
-            case "maximum_node_size":
-                return str(self.map.size)
-            case "nodes":
-                return " | ".join(map(PAIRS.write_all, self.map.fixed_nodes()))
-            case "first_key_value" | "last_key_value":
-                return self.form.text(items[0 if name == "first_key_value" else -1] if items else None)
-            case _:
-                return None
-
-    def find(self, name: str, words: Words) -> str | None:
-        """Looks up keys, one a word, or a position."""
-        match name:
-            case "get" | "get_key_value" | "contains_key" | "rank" | "index_of" | "index":
-                return " ".join(self.find_one(name, word) for word in words)
-            case "get_index":
-                return self.form.text(self.at(one(words)))
-            case _:
-                return None
-
-    def find_one(self, name: str, word: str) -> str:
-        """Looks up a key."""
-        pair, place = self.held(word), str(rank(self.map.items, self.form.read_key(word)))
-        match name:
-            case "get":
-                return self.form.value_text(pair)
-            case "get_key_value":
-                return self.form.text(pair)
-            case "contains_key":
-                return shown(pair is not None)
-            case "rank":
-                return place
-            case "index_of":
-                return NONE if pair is None else place
-            case _:
-                if pair is None:
-                    raise NoCall("a key that is not there")
-                return self.form.value(pair)
-
-    def compared(self, map: Plain) -> list[tuple[int, tuple[int, str]]]:
-        """Returns what the order of maps compares."""
-        return [(it.key, ordered(self.form.value(it))) for it in map.items]
-
-    def compare(self, name: str, words: Words) -> str | None:
-        """Compares the first map with the second, pair by pair."""
-        if name not in ("eq", "lt", "cmp", "partial_cmp", "hash"):
-            return None
-        left, right = (self.compared(map) for map in (self.map, self.other))
-        order = "Less" if left < right else "Greater" if left > right else "Equal"
-        match name:
-            case "eq":
-                return shown(left == right)
-            case "lt":
-                return shown(left < right)
-            case "cmp":
-                return order
-            case "partial_cmp":
-                return f"Some({order})"
-            case _:
-                if left != right:
-                    raise NoCall("hashes of what differs")
-                return shown(True)
-
-    def walk(self, name: str, words: Words) -> str | None:
-        """Iterators and cursors."""
-        match name:
-            case "iter" | "into_iter":
-                return walk(self.texts(), words)
-            case "keys" | "into_keys":
-                return walk(list(map(self.form.key, self.map.items)), words)
-            case "values" | "into_values":
-                return walk(list(map(self.form.value, self.map.items)), words)
-            case "lower_bound" | "upper_bound":
-                bound = read_bound(words[0])
-                is_before = (lambda key: not bound.is_below(key)) if name == "lower_bound" else bound.is_above
-                place = sum(is_before(it.key) for it in self.map.items)
-                return follow(self.texts(), place, words[1:], PARTS)
-            case _:
-                return None
-
-    def tell_all(self, name: str, words: Words) -> str | None:
-        """Returns the pairs of the first map."""
-        match name:
-            case "pairs" | "ref_pairs" | "into_pairs":
-                return " ".join(self.texts())
-            case "all_keys":
-                return " ".join(map(self.form.key, self.map.items))
-            case "all_values":
-                return " ".join(map(self.form.value, self.map.items))
-            case _:
-                return None
-
-    def range(self, name: str, words: Words) -> str | None:
-        """Returns the pairs within a range."""
-        if name == "range_idx":
-            return PAIRS.write_all(in_positions(self.map.items, *map(read_bound, words)))
-        if name not in ("range", "range_rev"):
-            return None
-        within = self.within(words)
-        return PAIRS.write_all(within if name == "range" else within[::-1])
-
-    def within(self, words: Words) -> list[Item]:
-        """Returns the pairs within two bounds."""
-        start, end = map(read_bound, words)
-        if not bounds_are_ordered(start, end):
-            raise NoCall("bounds that are not in order")
-        return in_range(self.map.items, start, end)
+    def calls(self) -> Calls:
+        it, held = self.held, self.held.items
+        return {
+            **super().calls(),
+            **self.lists(),
+            "map": lambda w: self.hold(self.made(self.size, self.items(w))),
+            "insert": lambda w: self.value(self.insert(it, self.item(w))),
+            "remove": lambda w: self.value(it.remove(self.key(w))),
+            "remove_entry": lambda w: it.remove(self.key(w)),
+            "first_key_value": lambda w: at(held, 0),
+            "last_key_value": lambda w: at(held[::-1], 0),
+            "get": self.each(lambda key: self.value(equal_to(held, key))),
+            "get_key_value": self.each(lambda key: equal_to(held, key)),
+            "contains_key": self.each(lambda key: equal_to(held, key) is not None),
+            "index": self.each(self.index),
+            "get_mut": lambda w: self.lent(self.pair(w[0]), one(w[1:])),
+            "get_mut_index": lambda w: self.lent(at(held, read_natural(w[0])), one(w[1:])),
+            "lower_bound": lambda w: self.cursor(lambda key: not read_bound(w[0]).is_below(key), w),
+            "upper_bound": lambda w: self.cursor(read_bound(w[0]).is_above, w),
+        }
 
 
-PARTS: dict[str, Callable[[str], str]] = {
-    "key": lambda pair: pair.rpartition(":")[0],
-    "value": lambda pair: pair.rpartition(":")[2],
-    "key_value": str,
-}
+class LendingMaps(Maps):
+    """A map of numbers, whose entries and iterators lend values."""
+
+    def walk(self, pairs: Sequence[Item], words: Words, are_values: bool) -> Answer:
+        """Returns the result of an iterator over these pairs, and writes values."""
+        remaining, answers = list(pairs), list[Answer]()
+        for word in words:
+            name, _, value = word.partition("=")
+            if name == "len":
+                answers.append(len(remaining))
+            elif name == "has_next" and not are_values:
+                answers.append(bool(remaining))
+            elif name not in ("next", "next_back") and (are_values or name != "next_pair"):
+                raise BadWord(word)
+            elif not remaining:
+                permitted(name != "next_pair", "a pair that is not there")
+                answers.append(None)
+            else:
+                pair = remaining.pop(-1 if name.endswith("_back") else 0)
+                answers.append(self.value(pair) if are_values else pair)
+                self.write(pair, value)
+        return answers
+
+    def or_put(self, key: str, value: str, words: Words) -> Answer:
+        """Returns the value of a key, which is inserted if it is absent."""
+        if self.pair(key) is None:
+            self.insert(self.held, Item(read_natural(key), 0, value))
+        return self.lent(self.pair(key), one(words) if words else "")
+
+    def modify(self, more: str, key: str, value: str, words: Words) -> Answer:
+        """Adds to the value of a key, or inserts it."""
+        held = self.pair(key)
+        if held is not None:
+            self.write(held, str(int(held.value) + read_natural(more)))
+        return self.or_put(key, value, words)
+
+    def insert_by_entry(self, key: str, value: str, words: Words) -> Answer:
+        """Inserts by an entry, of either kind."""
+        if self.pair(key) is None:
+            return self.or_put(key, value, words)
+        return self.value(self.insert(self.held, Item(read_natural(key), 0, value)))
+
+    def vacant(self, key: str) -> str:
+        """Returns the key of a vacant entry."""
+        permitted(self.pair(key) is None, "the key of an occupied entry")
+        return key
+
+    def occupied(self, key: str) -> Item:
+        """Returns the pair of an occupied entry."""
+        pair = self.pair(key)
+        if pair is None:
+            raise NoCall("an entry that is vacant")
+        return pair
+
+    def entry(self, key: str) -> str:
+        """Returns the kind of an entry, its key, and its value."""
+        pair = self.pair(key)
+        return f"vacant {key}" if pair is None else f"occupied {key} {pair.value}"
+
+    def entries(self) -> Calls:
+        """The calls of entries."""
+        return {
+            **dict.fromkeys(("or_insert", "or_insert_with"), lambda w: self.or_put(w[0], w[1], w[2:])),
+            "or_insert_with_key": lambda w: self.or_put(w[0], w[0], w[2:]),
+            "or_default": lambda w: self.or_put(w[0], "0", w[1:]),
+            "and_modify": lambda w: self.modify(w[0], w[1], w[2], w[3:]),
+            "entry": lambda w: self.entry(one(w)),
+            "entry_key": one,
+            "entry_into_key": lambda w: self.vacant(one(w)),
+            "entry_insert": lambda w: self.insert_by_entry(w[0], w[1], w[2:]),
+            **dict.fromkeys(("entry_get_mut", "entry_into_mut"), lambda w: self.lent(self.occupied(w[0]), one(w[1:]))),
+            "entry_remove": lambda w: self.value(self.held.remove(self.occupied(one(w)))),
+            "entry_remove_entry": lambda w: self.held.remove(self.occupied(one(w))),
+        }
+
+    def filled_by_entries(self, count: int) -> str:
+        """Makes a map of numbers, each with itself as value."""
+        return self.hold(self.made(self.size, map(self.numbered, range(count))))
+
+    def calls(self) -> Calls:
+        held, every = self.held.items, super().calls()
+        return {
+            **{name: every[name] for name in ("map", "len", "node_count", "nodes")},
+            **self.entries(),
+            "fill": lambda w: self.filled_by_entries(number(w)),
+            "iter_mut": lambda w: self.walk(held, w, False),
+            "values_mut": lambda w: self.walk(held, w, True),
+            "range_mut": lambda w: self.walk(in_range(held, *bounds(w[:2])), w[2:], False),
+            "range_mut_idx": lambda w: in_positions(held, *map(read_bound, w)),
+        }
 
 
-def ordered(value: str) -> tuple[int, str]:
-    """Returns what the order of values compares: numbers, or letters."""
-    return (read_natural(value), "") if value.isdigit() else (0, value)
+class MapAuthor(PlainAuthor):
+    """A generator of scripts of maps."""
+
+    maker = "map"
+
+    def __init__(self, draw: Draw, model: Maps, name: str, sees_nodes: bool) -> None:
+        super().__init__(draw, model, sees_nodes)
+        self.is_tagged, self.has_letters = model.is_tagged, name in ("letter_map", "tagged_map")
+
+    def is_long(self, name: str) -> bool:
+        return name in (*LISTS, "nodes", "retain", "range", "range_rev", "range_idx", "range_mut_idx")
+
+    def opening(self) -> list[str]:
+        size = self.plains.size
+        if size <= 8 or self.has_letters:
+            return []
+        return [f"fill {self.draw.rng.choice(('insert', 'from_sorted'))} {2 * size} 2"]
+
+    def tag(self) -> str:
+        return f":{self.draw.letter()}" if self.is_tagged else ""
+
+    def value(self) -> str:
+        """The word of a value."""
+        return self.draw.letter() if self.has_letters else str(self.draw.rng.randrange(100))
+
+    def word(self, key: int) -> str:
+        return f"{key}{self.tag()}:{self.value()}"
+
+    def adding(self) -> Sequence[tuple[int, Make]]:
+        return (
+            (60, lambda: f"insert {self.key()}:{self.value()}"),
+            (4, lambda: " ".join(["extend", *self.some(9)])),
+            (3, self.append),
+            (2, self.make),
+        )
+
+    def removing(self) -> Sequence[tuple[int, Make]]:
+        rng = self.draw.rng
+        return (
+            (30, lambda: f"{rng.choice(('remove', 'remove_entry'))} {self.key()}"),
+            (16, lambda: rng.choice(("pop_first", "pop_last"))),
+            (12, lambda: f"pop_index {self.draw.position(max(self.length() - 1, 0))}"),
+            (2, self.retain),
+            (1, lambda: f"split_off {self.key()}"),
+            (1, lambda: rng.choice(("swap", "clear", "clone", "clone_of_the_trait"))),
+        )
+
+    def looking(self) -> Sequence[tuple[int, Make]]:
+        rng = self.draw.rng
+        both = (
+            (40, lambda: f"{rng.choice(SOUGHT)} {self.keys()}"),
+            (8, lambda: rng.choice(WHOLE)),
+            (6, lambda: f"get_index {self.draw.position(self.length())}"),
+            (4, lambda: rng.choice(LISTS)),
+            (15, self.range),
+            (5, lambda: rng.choice(COMPARED)),
+            (6, lambda: self.walk(WALKS)),
+            (8, self.cursor),
+            (6, lambda: f"get_mut {self.key()} {self.value()}"),
+            (4, lambda: f"get_mut_index {self.draw.position(self.length())} {self.value()}"),
+            (2, lambda: rng.choice(("swap", "clone"))),
+        )
+        return (*both, (12, lambda: rng.choice(NODES))) if self.sees_nodes else both
+
+    def cursor(self) -> str:
+        """A cursor that is moved."""
+        rng = self.draw.rng
+        bound = f"{rng.choice('[(')}{self.key()}" if self.draw.chance(0.9) else ".."
+        return f"{rng.choice(('lower_bound', 'upper_bound'))} {bound} {self.draw.steps((*SHOWN, self.jump()))}"
+
+
+class LendingAuthor(Author):
+    """A generator of scripts of the map that lends values."""
+
+    def __init__(self, draw: Draw, model: LendingMaps) -> None:
+        super().__init__(draw, model)
+        self.maps = model
+
+    def length(self) -> int:
+        return len(self.maps.held.items)
+
+    def is_long(self, name: str) -> bool:
+        return name in ("nodes", "range_mut_idx")
+
+    def key(self) -> int:
+        """Returns a present key, or any."""
+        return self.draw.near(self.maps.held.items)
+
+    def value(self) -> int:
+        """A value."""
+        return self.draw.rng.randrange(100)
+
+    def maybe(self) -> str:
+        """Returns a value to be written to a borrowed one, or nothing."""
+        return f" {self.value()}" if self.draw.chance(0.5) else ""
+
+    def adding(self) -> Sequence[tuple[int, Make]]:
+        rng = self.draw.rng
+        return (
+            (40, lambda: f"{rng.choice(('or_insert', 'or_insert_with'))} {self.key()} {self.value()}{self.maybe()}"),
+            (10, lambda: f"or_insert_with_key {self.key()} 0{self.maybe()}"),
+            (10, lambda: f"or_default {self.key()}{self.maybe()}"),
+            (10, lambda: f"and_modify {self.value()} {self.key()} {self.value()}{self.maybe()}"),
+            (30, lambda: f"entry_insert {self.key()} {self.value()}"),
+        )
+
+    def removing(self) -> Sequence[tuple[int, Make]]:
+        return ((1, lambda: f"{self.draw.rng.choice(ENTERED[2:])} {self.key()}"),)
+
+    def looking(self) -> Sequence[tuple[int, Make]]:
+        rng = self.draw.rng
+        return (
+            (20, lambda: f"{rng.choice(('entry', 'entry_key', 'entry_into_key'))} {self.key()}"),
+            (20, lambda: f"{rng.choice(ENTERED[:2])} {self.key()} {self.value()}"),
+            (10, lambda: rng.choice(("len", "node_count", "nodes"))),
+            (15, self.walk),
+            (6, lambda: f"range_mut_idx {self.draw.bounds(lambda: self.draw.position(self.length()))}"),
+        )
+
+    def walk(self) -> str:
+        """An iterator that borrows values mutably."""
+        name = self.draw.rng.choice(("iter_mut", "values_mut", "range_mut"))
+        steps = [*LENT, f"next={self.value()}", f"next_back={self.value()}"]
+        head = f"range_mut {self.draw.bounds(self.key)}" if name == "range_mut" else name
+        return f"{head} {self.draw.steps(steps if name == 'values_mut' else [*steps, 'has_next'])}"

@@ -1,16 +1,17 @@
-"""The multimap that a script calls: its pairs are in the order of their keys, and then of their numbers."""
+"""The multimap, whose pairs are in the order of keys and then of numbers: its calls, and the author of its scripts."""
 
 from __future__ import annotations
 
-from collections.abc import Sequence
+from collections.abc import Iterable, Sequence
 
-from items import LARGEST, NUMBERED, PAIRS, Item, read_natural, write_pair
-from language import Group, Refused, Words, none, one, shown
-from logged import Tree
-from logged_pairs import LoggedPairs
+from draw import Make
+from followed import LoggedAuthor
+from items import LARGEST, NUMBERED, PAIRS, Item, write_pair
+from language import Answer, Calls, NoCall, Refused, Words, number, one
+from logged_maps import LoggedPairs
 from nodes import Events, Node, Nodes
-from positions import by_key, key_of, ranks
-from walks import NONE
+from reads import at
+from trees import Tree
 
 
 class MultiMaps(LoggedPairs):
@@ -20,136 +21,126 @@ class MultiMaps(LoggedPairs):
         super().__init__(size, NUMBERED)
         self.pair_next = 0
 
-    def groups(self) -> Sequence[Group]:
-        return (self.fill, self.put, self.push, self.remove, self.take, self.remove_all, self.find, self.rank,
-                *self.common())  # fmt: skip
+    def shown(self, item: Item) -> str:
+        return write_pair(item)
 
-    def shown_item(self, item: Item | None) -> str:
-        return NONE if item is None else write_pair(item)
-
-    def restart(self, tree: Tree) -> None:
-        super().restart(tree)
+    def restart(self, tree: Tree, items: Iterable[Item] = ()) -> str:
         self.pair_next = 1 + max((it.number for it in tree.items), default=-1)
+        return super().restart(tree, items)
 
     def refusal_of_nodes(self, nodes: Nodes, size: int) -> str | None:
         if any(it.number == LARGEST for node in nodes for it in node):
             return "PairNumber"
         return super().refusal_of_nodes(nodes, size)
 
-    def attach_node(self, node: Node) -> None:
+    def attach(self, node: Node) -> str:
         if any(it.number == LARGEST for it in node):
             raise Refused("PairNumber")
-        self.tree.attach(node)
+        super().attach(node)
         self.pair_next = max(self.pair_next, *(it.number + 1 for it in node))
+        return ""
 
-    def pairs_of(self, key: int) -> list[Item]:
+    def of_key(self, words: Words) -> list[Item]:
         """Returns the pairs of a key."""
-        return [it for it in self.tree.items if it.key == key]
+        return [it for it in self.tree.items if it.key == number(words)]
 
-    def put_pair(self, pair: Item) -> tuple[str, Events]:
-        """Puts a pair, with the number of the first of its key and value, which it replaces, or with a new one."""
-        old = next(iter(self.equal_pairs(pair)), None)
+    def equal(self, pair: Item) -> Item | None:
+        """Returns the first pair of a key with an equal value."""
+        return next((it for it in self.tree.items if it.key == pair.key and it.value == pair.value), None)
+
+    def put(self, name: str, pair: Item) -> tuple[Answer, Events]:
+        """Puts a pair, with the number of the first of its key and value, which it replaces, or with a new one. A push
+        always takes a new one."""
+        old = None if name.startswith("push") else self.equal(pair)
         if old is not None:
             return old.value, self.tree.put(pair._replace(number=old.number))[1]
-        return NONE, self.add_pair(pair)
-
-    def add_pair(self, pair: Item) -> Events:
-        """Puts a pair with a new number, as the last of its key."""
         if self.pair_next == LARGEST:
             raise Refused("Numbers")
         events = self.tree.put(pair._replace(number=self.pair_next))[1]
         self.pair_next += 1
-        return events
+        return {"push": "", "push_cdc": "some"}.get(name), events
 
-    def push(self, name: str, words: Words) -> str | None:
-        """Stores a pair beside those of its key, with any values."""
-        if name not in ("push", "push_cdc"):
-            return None
-        try:
-            events = self.add_pair(PAIRS.read(one(words)))
-        except Refused as refused:
-            raise Refused(refused.cause, one(words)) from None
-        return self.told("some", events) if name == "push_cdc" else ""
-
-    def equal_pairs(self, pair: Item) -> list[Item]:
-        """Returns the pairs of a key with an equal value."""
-        return [it for it in self.pairs_of(pair.key) if it.value == pair.value]
-
-    def remove(self, name: str, words: Words) -> str | None:
-        """Removes the first pair of a key with an equal value."""
-        if name not in ("remove", "remove_cdc"):
-            return None
-        return self.removed(self.equal_pairs(PAIRS.read(one(words)))[:1], name.endswith("_cdc"))
-
-    def take(self, name: str, words: Words) -> str | None:
-        """Removes the first pair of a key, or the pair at an end or at a position."""
-        match name:
-            case "remove_some" | "remove_some_cdc":
-                pairs = self.pairs_of(read_natural(one(words)))[:1]
-            case "pop_first" | "pop_first_cdc":
-                none(words)
-                pairs = self.tree.items[:1]
-            case "pop_last" | "pop_last_cdc":
-                none(words)
-                pairs = self.tree.items[-1:]
-            case "pop_index" | "pop_index_cdc":
-                place = read_natural(one(words))
-                pairs = self.tree.items[place : place + 1]
-            case _:
-                return None
-        return self.removed(pairs, name.endswith("_cdc"))
-
-    def removed(self, pairs: Sequence[Item], is_told: bool) -> str:
-        """Removes a pair, if any."""
-        answer, events = self.gone(pairs)
-        return self.told(answer, events) if is_told else answer
-
-    def gone(self, pairs: Sequence[Item]) -> tuple[str, Events]:
-        """Removes pairs; returns the first, and the events of all."""
-        events = [event for pair in pairs for event in self.tree.remove(pair)[1]]
-        return self.shown_item(pairs[0] if pairs else None), events
-
-    def remove_all(self, name: str, words: Words) -> str | None:
+    def remove_all(self, name: str, words: Words) -> Answer:
         """Removes the pairs of a key, one after another; returns their number."""
-        if name not in ("remove_all", "remove_all_cdc"):
-            return None
-        pairs = self.pairs_of(read_natural(one(words)))
-        events = self.gone(pairs)[1]
-        return self.told(str(len(pairs)), events) if name == "remove_all_cdc" else str(len(pairs))
+        pairs = self.of_key(words)
+        return self.told_if(name, len(pairs), [event for pair in pairs for event in self.tree.remove(pair)[1]])
 
-    def command(self, name: str, word: str) -> tuple[str, Events]:
+    def command(self, name: str, word: str) -> tuple[Answer, Events]:
         match name:
-            case "remove":
-                return self.gone(self.equal_pairs(PAIRS.read(word))[:1])
-            case "remove_some":
-                return self.gone(self.pairs_of(read_natural(word))[:1])
+            case "insert":
+                return self.put(name, PAIRS.read(word))
+            case "remove" | "remove_some":
+                pair = self.equal(PAIRS.read(word)) if name == "remove" else at(self.of_key([word]), 0)
+                return pair, [] if pair is None else self.tree.remove(pair)[1]
             case _:
-                return super().command(name, word)
+                raise NoCall(name)
 
-    def find(self, name: str, words: Words) -> str | None:
-        """Looks up a key."""
-        if name not in ("contains_key", "get", "raw_get", "raw_get_back"):
-            return None
-        pairs = self.pairs_of(read_natural(one(words)))
-        match name:
-            case "contains_key":
-                return shown(bool(pairs))
-            case "get":
-                return " ".join(map(write_pair, pairs))
-            case _:
-                return self.spelling.write_all(pairs if name == "raw_get" else pairs[::-1])
+    def index_of(self, pair: Item) -> int | None:
+        """Returns the position of the first pair of a key with an equal value."""
+        equal = self.equal(pair)
+        return None if equal is None else self.tree.items.index(equal)
 
-    def rank(self, name: str, words: Words) -> str | None:
-        """Returns the rank, the position or the count of a key, or the position of the first pair with an equal value.
-        value."""
-        items = self.tree.items
-        match name:
-            case "index_of":
-                equal = self.equal_pairs(PAIRS.read(one(words)))
-                return str(items.index(equal[0])) if equal else NONE
-            case "rank" | "count_of":
-                return by_key(name, items, read_natural(one(words)))
-            case "ranks":
-                return ranks(list(map(key_of, items)))
-            case _:
-                return None
+    def calls(self) -> Calls:
+        items, spelling = self.tree.items, self.spelling
+        return {
+            **super().calls(),
+            **self.named(("push", "push_cdc"), self.put_back),
+            **self.named(
+                ("remove", "remove_cdc"), lambda name, w: self.remove(name, self.equal(PAIRS.read(one(w))))
+            ),
+            **self.named(
+                ("remove_some", "remove_some_cdc"), lambda name, w: self.remove(name, at(self.of_key(w), 0))
+            ),
+            **self.named(
+                ("pop_index", "pop_index_cdc"), lambda name, w: self.remove(name, at(items, number(w)))
+            ),
+            **self.named(("remove_all", "remove_all_cdc"), self.remove_all),
+            "get": self.of_key,
+            "size_of": lambda w: len(self.of_key(w)),
+            "raw_get": lambda w: spelling.write_all(self.of_key(w)),
+            "raw_get_back": lambda w: spelling.write_all(self.of_key(w)[::-1]),
+            "index_of": lambda w: self.index_of(PAIRS.read(one(w))),
+        }
+
+
+class MultiMapAuthor(LoggedAuthor):
+    """A generator of scripts of multimaps."""
+
+    maker = "map"
+    attach = "attach"
+
+    def item(self, key: int, number: int) -> Item:
+        return Item(key, number, self.draw.letter())
+
+    def pair(self) -> str:
+        """Returns the word of a present pair, or of any."""
+        held = self.draw.held(self.trees.tree.items)
+        if held is not None and self.draw.chance(0.4):
+            return f"{held.key}:{held.value}"
+        return f"{self.near()}:{self.draw.letter()}"
+
+    def add(self) -> str:
+        return f"{self.cdc(self.draw.rng.choice(('insert', 'insert', 'push')))} {self.pair()}"
+
+    def remove(self) -> str:
+        name = self.draw.rng.choice(("remove", "remove", "remove_some"))
+        return f"{self.cdc(name)} {self.pair() if name == 'remove' else self.near()}"
+
+    def removing(self) -> Sequence[tuple[int, Make]]:
+        pop = (8, lambda: f"{self.cdc('pop_index')} {self.draw.position(self.length())}")
+        return (*super().removing(), (4, self.remove_all), pop)
+
+    def remove_all(self) -> str:
+        """Removes all pairs of a key, if their events fit."""
+        return f"{self.cdc('remove_all')} {self.near()}" if self.trees.tree.next < 2**63 else "len"
+
+    def commands(self) -> Sequence[str]:
+        return f"insert({self.pair()})", f"remove({self.pair()})", f"remove_some({self.near()})"
+
+    def find(self) -> str:
+        return f"{self.draw.rng.choice(('get', 'raw_get', 'raw_get_back', 'contains_key', 'size_of'))} {self.near()}"
+
+    def rank(self) -> str:
+        if self.draw.chance(0.3):
+            return f"index_of {self.pair()}"
+        return f"{self.draw.rng.choice(('rank', 'count_of'))} {self.near()}"

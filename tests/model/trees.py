@@ -1,7 +1,7 @@
-"""A logged tree: its nodes, its event numbers, and the events of a change.
+"""A logged tree and a replica: their nodes, their event numbers, and what they refuse.
 
-A change edits the nodes by the rules of nodes, returns the events of the event table, and fails unless the events,
-replayed on the nodes before it, give the nodes after it.
+A change of a tree edits the nodes by the rules of nodes, returns the events of the event table, and fails unless the
+events, replayed on the nodes before it, give the nodes after it. A replica applies an event by its definition alone.
 """
 
 from __future__ import annotations
@@ -11,10 +11,12 @@ from dataclasses import dataclass, field
 
 import definitions
 from definitions import Bound, equal_to, in_range, is_ascending, joined
-from items import LARGEST, Item, Spelling, order
+from items import LARGEST, Item, order
 from language import Refused
-from nodes import Event, Events, Node, Nodes, is_node_list, put_events, removal_events, replay, with_node
-from nodes import target_of, with_put, with_removal
+from nodes import Event, Events, Node, Nodes, is_node_list, node_named, put_events, removal_events, replay, step
+from nodes import target_of, with_node, with_put, with_removal
+
+NO_SIZE = LARGEST
 
 
 @dataclass
@@ -80,10 +82,7 @@ class Tree:
 
     def attach(self, node: Node) -> None:
         """Inserts a whole node."""
-        cause = refusal_of_node(node, self.size) or (None if fits(self.nodes, node) else "Overlaps")
-        if cause is not None:
-            raise Refused(cause)
-        self.nodes = with_node(self.nodes, node)
+        self.nodes = attached(self.nodes, node, self.size)
 
     def place_of(self, item: Item) -> tuple[bool, int, int]:
         """Returns whether an item is present, and the node and the position of it or of its insertion."""
@@ -108,6 +107,14 @@ def fits(nodes: Sequence[Node], node: Node) -> bool:
     return is_node_list(with_node(nodes, node))
 
 
+def attached(nodes: Nodes, node: Node, size: int) -> Nodes:
+    """Returns the nodes with a whole node, which must fit."""
+    cause = refusal_of_node(node, size) or (None if fits(nodes, node) else "Overlaps")
+    if cause is not None:
+        raise Refused(cause)
+    return with_node(nodes, node)
+
+
 def refusal_of_nodes(nodes: Iterable[Node], size: int) -> str | None:
     """Returns the reason why these are not the nodes of a tree: the fault of the first that may not follow the
     others."""
@@ -120,6 +127,81 @@ def refusal_of_nodes(nodes: Iterable[Node], size: int) -> str | None:
     return None
 
 
-def texts(events: Iterable[tuple[int, Event]], spelling: Spelling) -> list[str]:
-    """Returns the texts of events."""
-    return [event.write(number, spelling) for number, event in events]
+@dataclass
+class Replica:
+    """A replica of nodes, which expects the event `next`."""
+
+    next: int = 0
+    nodes: Nodes = field(default_factory=list)
+
+    @property
+    def items(self) -> list[Item]:
+        """Returns the contents."""
+        return joined(self.nodes)
+
+    def attach(self, node: Node) -> None:
+        """Inserts a whole node."""
+        self.nodes = attached(self.nodes, node, NO_SIZE)
+
+    def refusal(self, number: int, event: Event) -> str | None:
+        """Returns the first reason why an event is refused, in the order of the checks, if any."""
+        if number != self.next:
+            return "Gap"
+        if number == LARGEST:
+            return "Numbers"
+        if event.kind == "create":
+            return None if fits(self.nodes, [event.last]) else "OutOfOrder"
+        place = node_named(self.nodes, event.last)
+        if place is None:
+            return "NoSuchNode"
+        return self.refusal_at(place, event)
+
+    def refusal_at(self, place: int, event: Event) -> str | None:
+        """Returns the reason why an event of this node is refused, if any."""
+        node, i = self.nodes[place], event.index
+        match event.kind:
+            case "insert":
+                if i > len(node):
+                    return "IndexOutside"
+                return "OutOfOrder" if step(self.nodes, event) is None else None
+            case "remove":
+                if i >= len(node):
+                    return "IndexOutside"
+                if event.item is None or order(node[i]) != order(event.item):
+                    return "ValueDiffers"
+                return "WouldBeEmpty" if len(node) == 1 else None
+            case "split":
+                return None if 0 < i < len(node) else "BadSplit"
+            case "merge":
+                other = None if event.item is None else node_named(self.nodes, event.item)
+                if other is None:
+                    return "NoSuchNode"
+                return None if other == place + 1 else "NotNeighbours"
+            case _:
+                return None
+
+    def apply(self, number: int, event: Event) -> None:
+        """Applies the expected event."""
+        cause, after = self.refusal(number, event), step(self.nodes, event)
+        if cause is not None:
+            assert after is None or cause in ("Gap", "Numbers")
+            raise Refused(cause)
+        assert after is not None
+        self.nodes, self.next = after, self.next + 1
+
+    def follow(self, events: Sequence[tuple[int, Event]], places: Iterable[int]) -> None:
+        """Applies the events at these places in turn, and skips those out of turn."""
+        for place in places:
+            try:
+                self.apply(*events[place])
+            except Refused as refused:
+                if refused.cause != "Gap":
+                    raise
+
+
+def replica_of(nodes: Nodes, next: int) -> Replica:
+    """Makes a replica of a snapshot."""
+    cause = refusal_of_nodes(nodes, NO_SIZE)
+    if cause is not None:
+        raise Refused(cause)
+    return Replica(next, nodes)
