@@ -61,11 +61,6 @@ class Replicas(Subject):
         """Returns the event of the words, with its number."""
         return read_event(words, self.spelling)
 
-    def turn(self, number: int) -> str:
-        """Returns whether an event of a number is expected."""
-        expected = self.replica.next
-        return "Had" if number < expected else "Next" if number == expected else "Missing"
-
     def by_key(self, name: str, words: Words) -> Answer:
         """Returns the result of a call by a key."""
         items = self.replica.items
@@ -80,12 +75,12 @@ class Replicas(Subject):
             "from_nodes": self.made_of,
             "attach": self.attached,
             "apply": self.apply,
+            "offer": lambda w: self.replica.offer(*self.event(w)),
             "event": self.keep,
             "follow": lambda w: deliver(self.replica, self.events, w),
             "nodes": lambda w: nodes,
             "text": lambda w: nodes.replace(",", ", ").replace(" ", "_"),
             "next": lambda w: self.replica.next,
-            "expects": lambda w: self.turn(self.event(w)[0]),
             "items": lambda w: items,
             "walk": lambda w: walk(items, w),
             "by_key": lambda w: self.by_key(w[0], w[1:]),
@@ -130,7 +125,14 @@ class ReplicaAuthor(Author):
         return self.ahead[0]
 
     def adding(self) -> Sequence[tuple[int, Make]]:
-        return ((70, self.apply), (25, self.hostile), (6, self.keep), (6, self.deliver), (2, self.restart))
+        return (
+            (60, self.apply),
+            (16, self.offer),
+            (25, self.hostile),
+            (6, self.keep),
+            (6, self.deliver),
+            (2, self.restart),
+        )
 
     def removing(self) -> Sequence[tuple[int, Make]]:
         return self.adding()
@@ -143,7 +145,6 @@ class ReplicaAuthor(Author):
             (4, self.range),
             (14, self.position),
             (3, lambda: f"walk {self.draw.steps(('next', 'next_back'))}"),
-            (6, lambda: f"expects {self.text(*self.turned(self.next_event()))}"),
             (4, self.attach),
         )
 
@@ -154,6 +155,15 @@ class ReplicaAuthor(Author):
             return self.resume()
         self.ahead = self.ahead[1:]
         return f"apply {self.text(number, event)}"
+
+    def offer(self) -> str:
+        """Offers the next event, an earlier one again, or one that is turned."""
+        number, event = self.next_event()
+        if self.draw.chance(0.4):
+            number, event = self.turned((number, event))
+        elif self.copies.replica.next == number and not self.copies.replica.refusal(number, event):
+            self.ahead = self.ahead[1:]
+        return f"offer {self.text(number, event)}"
 
     def resume(self) -> str:
         """Makes a replica of the tree's nodes."""

@@ -189,14 +189,17 @@ class Replica:
         assert after is not None
         self.nodes, self.next = after, self.next + 1
 
+    def offer(self, number: int, event: Event) -> str:
+        """Applies the event if it is the expected one, and returns what became of it."""
+        if number != self.next:
+            return "Duplicate" if number < self.next else "Gap"
+        self.apply(number, event)
+        return "Applied"
+
     def follow(self, events: Sequence[tuple[int, Event]], places: Iterable[int]) -> None:
-        """Applies the events at these places in turn, and skips those out of turn."""
+        """Offers the events at these places in turn."""
         for place in places:
-            try:
-                self.apply(*events[place])
-            except Refused as refused:
-                if refused.cause != "Gap":
-                    raise
+            self.offer(*events[place])
 
 
 def replica_of(nodes: Nodes, next: int) -> Replica:

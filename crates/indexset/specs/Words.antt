@@ -78,7 +78,7 @@ pub use Rattle.indexset_events.specs.declared.change.ChangeEvent.{ChangeEvent}
 pub use Rattle.indexset_events.specs.Attach.{nodes_refusal}
 pub use Rattle.indexset_events.specs.Keys.{key_removal_events}
 pub use Rattle.indexset_events.specs.Table.{put_events, checked_put_events, removal_events}
-pub use Rattle.indexset_events.specs.Replay.{IsNumberedFrom, numbered_from}
+pub use Rattle.indexset_events.specs.Replay.{IsNumberedFrom, event_number, numbered_from}
 pub use Rattle.indexset_events.specs.Replay.{replay, step, unassigned}
 pub use Rattle.indexset_wire.specs.Event.{EventInRange, event_of, event_text}
 unfoldable pub use Rattle.indexset_wire.specs.Parts.{is_item, is_token}
@@ -89,10 +89,12 @@ pub use Rattle.indexset_multi.specs.Keys.{entries, equal_pair, has_pair_of, pair
 pub use Rattle.indexset_multi.specs.Tree.{MultiTree, inserted_pair}
 pub use Rattle.indexset_multi.specs.Tree.{insertion_refusal, pair_removal_events}
 pub use Rattle.indexset_replica.specs.Copies.{AreClonesEqual, AreCopies, IsCopy, LeadsToCopies}
-pub use Rattle.indexset_replica.specs.Delivery.{CopiesAll, CopiesPrefix, HasStopped, IsCaughtUp}
-pub use Rattle.indexset_replica.specs.Delivery.{IsAlike, IsAt, IsPrefix, IsDelivered}
-pub use Rattle.indexset_replica.specs.Delivery.{IsDelivery, IsEventLog, IsFollowed}
-pub use Rattle.indexset_replica.specs.Delivery.{IsDeliveredUpTo, IsSubsequence, numbers_from}
+pub use Rattle.indexset_replica.specs.Delivery.{CopiesAll, CopiesPrefix, FailsWith, HasStopped}
+pub use Rattle.indexset_replica.specs.Delivery.{IsAlike, IsAt, IsCaughtUp, IsDelivered}
+pub use Rattle.indexset_replica.specs.Delivery.{IsDeliveredUpTo, IsDelivery, IsEventLog}
+pub use Rattle.indexset_replica.specs.Delivery.{IsOffered, IsPrefix, IsSubsequence}
+unfoldable pub use Rattle.indexset_replica.specs.Delivery.{delivered}
+pub use Rattle.indexset_replica.specs.Delivery.{delivery_of, events_at, numbers_from, offered}
 pub use Rattle.indexset_replica.specs.Keyed.{count_equal}
 pub use Rattle.indexset_replica.specs.Replica.{ReplicaState, apply_refusal}
 pub use Rattle.indexset_replica.specs.Replica.{AddsClone, IsClonedStep, IsEqualClone}

@@ -60,7 +60,7 @@ pub mod cdc {
 
 /// A replica, which follows a tree by its events.
 pub mod replica {
-    pub use indexset_replica::{Replica, iter, laws, lookup};
+    pub use indexset_replica::{Delivery, Replica, iter, laws};
 }
 
 pub use indexset_core::key_range::KeyRange;

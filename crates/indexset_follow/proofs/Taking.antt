@@ -16,10 +16,11 @@ use Rattle.indexset_core.specs.declared.pair.Pair.{Pair}
 use Rattle.indexset_core.specs.declared.refusal.Refusal.{Refusal}
 use Rattle.indexset_core.specs.declared.refusal.Refusal.TheVariants.{Gap, Memory, Numbers}
 use Rattle.indexset_events.specs.Replay.{event_number, step, unassigned}
-use Rattle.indexset_replica.specs.Delivery.{delivered}
+use Rattle.indexset_replica.specs.Delivery.{delivered, delivery_of}
 use Rattle.indexset_replica.specs.Replica.{apply_refusal, misfit}
-use Rattle.indexset_replica.specs.declared.lookup.Delivery.{Delivery}
-use Rattle.indexset_replica.specs.declared.lookup.Delivery.TheVariants.{Next, Had, Missing}
+use Rattle.indexset_replica.proofs.CallerLemmas.{applied_fits}
+use Rattle.indexset_replica.specs.declared.delivery.Delivery.TheVariants.{Applied, Duplicate}
+use Rattle.indexset_replica.specs.declared.delivery.Delivery.TheVariants as delivery
 use Rattle.indexset_follow.specs.EventLine.{Event}
 use Rattle.indexset_follow.specs.Copy.{Copy}
 use Rattle.indexset_follow.specs.Early.{EarlyEvents, Taken, caught_up, copy_after, taken}
@@ -36,24 +37,12 @@ use Rattle.indexset_follow.specs.declared.reply.Reply.TheVariants as reply
 pub pair_identical : {K : Type 0} {C : K → K → Type 0} → ((x y : K) → C x y → y ≡ x) → (p q : Pair K K) → C p.key q.key × C p.value q.value → q ≡ p
 pair_identical same p q cloned i = record { key = same p.key q.key cloned.0 i; value = same p.value q.value cloned.1 i }
 
--- ---- the number of an event and the awaited number
+-- ---- what becomes of an event, and its number
 
-turn_next : (b c : Bool) → (if b then Next else if c then Had else Missing) ≡ Next → b ≡ true
-turn_next true c e = refl
-turn_next false true e = absurd (cc)
-turn_next false false e = absurd (cc)
-
-module _ {T : Type 0} where
-  abbrev turn : Copy T → Event T → Delivery
-  turn r e = if event_number e == r.next then Next else if nat_lt (event_number e) r.next then Had else Missing
-
-module _ {T : Type 0} (cmp : T → T → Ordering) where
-  module _ (s : State T) (e : Event T) where
-    pub is_next : turn s.held e ≡ Next → event_taken cmp s e ≡ caught_up cmp s.held (pair s.held.next e ∷ s.early)
-    is_next t =
-        let is = turn_next (event_number e == s.held.next) (nat_lt (event_number e) s.held.next) t in
-        let chosen : event_taken cmp s e ≡ caught_up cmp s.held (pair (event_number e) e ∷ s.early) = rw is refl in
-        chosen ∙ ap (λ n. caught_up cmp s.held (pair n e ∷ s.early)) (eqb-true (event_number e) s.held.next is)
+chosen_applied : (b c : Bool) → (if b then Applied else if c then Duplicate else delivery.Gap) ≡ Applied → b ≡ true
+chosen_applied true c e = refl
+chosen_applied false true e = absurd (cc)
+chosen_applied false false e = absurd (cc)
 
 -- ---- the awaited event
 
@@ -106,6 +95,22 @@ module _ {T : Type 0} (cmp : T → T → Ordering) where
       → apply_refusal (by_key cmp) r.nodes r.next e ≡ None → step (by_key cmp) r.nodes e ≡ Some new.nodes → new.next ≡ r.next + 1 → all ≡ caught_up cmp new rest
   first_taken r new early rest n e all from first here fits made next =
       from ∙ ap (caught_up cmp r) first ∙ ap (λ n. caught_up cmp r (pair n e ∷ rest)) here ∙ one_taken r e rest new fits made next
+
+module _ {T : Type 0} (cmp : T → T → Ordering) (s : State T) (e : Event T) where
+  -- the awaited event
+  pub is_next : event_number e ≡ s.held.next → event_taken cmp s e ≡ caught_up cmp s.held (pair s.held.next e ∷ s.early)
+  is_next number =
+      let chosen : event_taken cmp s e ≡ caught_up cmp s.held (pair (event_number e) e ∷ s.early) = rw (eq-eqb (event_number e) s.held.next number) refl in
+      chosen ∙ ap (λ n. caught_up cmp s.held (pair n e ∷ s.early)) number
+
+  -- what was offered and is applied
+  pub offer_applied : (new : Copy T) → Applied ≡ delivery_of s.held.next (event_number e) → delivered (by_key cmp) s.held e ≡ Some new
+      → event_taken cmp s e ≡ caught_up cmp new s.early
+  unfolding caught_up
+  offer_applied new is made =
+      let number = eqb-true (event_number e) s.held.next (chosen_applied _ (nat_lt (event_number e) s.held.next) (sym is)) in
+      let held : copy_after cmp s.held e ≡ new = ap (λ o. unwrap_or o s.held) made in
+      is_next number ∙ rw (eq-eqb s.held.next s.held.next refl, applied_fits (by_key cmp) s.held new e number made, held) refl
 
 module _ {T : Type 0} where
   -- the result of a call is the follower's new state and its reply

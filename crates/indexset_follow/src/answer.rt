@@ -20,7 +20,7 @@ use crate::write::{Nodes, write_voiced};
 use indexset_bench::key::Key;
 use indexset_core::refusal::Refusal;
 use indexset_lines::RunFault;
-use indexset_replica::lookup::Delivery;
+use indexset_replica::Delivery;
 use std::alloc::Global;
 use std::io::Write;
 
@@ -81,13 +81,11 @@ fn take_event<T: Key>(
     ensures fault { IfErr result (λ fault. fault ≡ RunFault.Memory) }
 {
     let next = follower.held.next();
-    match follower.held.expects(&event) {
-        Delivery::Next => match follower.held.apply(&event) {
-            Ok(()) => catch_up(&mut follower.held, &mut follower.early),
-            Err(refusal) => reply_unless_memory(refusal, next),
-        },
-        Delivery::Had => Ok(Reply::Had(next)),
-        Delivery::Missing => take_ahead(alloc, follower, event),
+    match follower.held.offer(&event) {
+        Ok(Delivery::Applied) => catch_up(&mut follower.held, &mut follower.early),
+        Ok(Delivery::Duplicate) => Ok(Reply::Had(next)),
+        Ok(Delivery::Gap) => take_ahead(alloc, follower, event),
+        Err(refusal) => reply_unless_memory(refusal, next),
     }
 }
 

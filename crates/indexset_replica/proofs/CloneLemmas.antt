@@ -1,11 +1,11 @@
 -- Equal clones in the place of their sources.
-use Rattle.std.proofs.Common.{◌≡◌, ◌==◌, ◌&&◌, ℕ, zero, suc, ◌+◌, ◌<◌, true, not, if◌then◌else◌, List}
-use Rattle.std.proofs.Common.{[], ◌∷◌, length, slice_get, take, insert, Result, Ok, Err, OnOk, Option}
-use Rattle.std.proofs.Common.{Some, None, Ordering, option_and_then, refl, ap, sym, ◌∙◌, inl, inr, subst}
+use Rattle.std.proofs.Common.{◌≡◌, ◌==◌, ◌&&◌, ℕ, ◌+◌, ◌<◌, true, not, if◌then◌else◌, List}
+use Rattle.std.proofs.Common.{[], ◌∷◌, length, insert, Result, Ok, Err, OnOk, Option}
+use Rattle.std.proofs.Common.{Some, None, Ordering, refl, ap, sym, ◌∙◌, inl, inr, subst}
 use Rattle.std.below.core.specs.declared.int.u64.TheConstants.{MAX}
 use Rattle.std.specs.Cmp.{IsTotalOrder}
 use Rattle.std.specs.List.{position_or_len, splice}
-use Rattle.std.specs.Option.{IsSomeAnd, option_map_or}
+use Rattle.std.specs.Option.{option_map_or}
 use Rattle.std.specs.Ordering.{is_lt}
 use Rattle.std.proofs.lemmas.Bool.{eqb-false}
 use Rattle.std.proofs.lemmas.Cmp.{alike_right}
@@ -17,13 +17,12 @@ use Rattle.indexset_events.specs.declared.change.ChangeEvent.{ChangeEvent}
 use Rattle.indexset_events.specs.declared.change.ChangeEventUnassigned.{ChangeEventUnassigned}
 use Rattle.indexset_events.specs.declared.change.ChangeEventUnassigned.TheVariants.{InsertAt, RemoveAt, CreateNode, RemoveNode, SplitNode, MergeNodes}
 use Rattle.indexset_events.proofs.CallerLemmas.{Ruled}
-use Rattle.indexset_replica.specs.Delivery.{IsDelivery, IsFollowed, delivered, followed}
+use Rattle.indexset_replica.specs.Delivery.{IsDelivery, IsOffered, delivered, offered}
 use Rattle.indexset_replica.specs.Replica.{AddsClone, IsClonedEdit, IsClonedStep, IsEdit, ReplicaState, apply_refusal, is_between, misfit}
 use Rattle.indexset_core.specs.declared.refusal.Refusal.TheVariants.{Gap, Numbers}
 use Rattle.indexset_replica.proofs.DeliveryLemmas.{passed_over, taken_in}
-use Rattle.indexset_replica.proofs.EditLemmas.{some_inj}
 use Rattle.indexset_replica.proofs.NodeSearchLemmas.{fits_alone, fits_node}
-use Rattle.indexset_replica.proofs.StepLemmas.{else_none, misfit_refused, none_some, step_fits}
+use Rattle.indexset_replica.proofs.StepLemmas.{else_none, misfit_refused, step_fits}
 
 -- a clone that is identical to its source is the event's own item
 pub adds_same : {T : Type 0} (cmp : T → T → Ordering) (C : T → T → Type 0) → ((x y : T) → C x y → y ≡ x) → (e f : ChangeEventUnassigned T) → AddsClone cmp C e f → f ≡ e
@@ -77,20 +76,12 @@ module _ {T U E : Type 0} (cmp : T → T → Ordering) (C : T → T → Type 0) 
       inr (number, eqb-false r.next MAX last.0, next, made)
   delivery_where_ok (Err x) r q e number fits next made = tt
 
--- with one more place
-module _ {T : Type 0} (cmp : T → T → Ordering) (C : T → T → Type 0) where
-  pub followed_on : (es : List (ChangeEvent T)) (r q s : ReplicaState T) (e : ChangeEvent T) (order : List ℕ) (i p : ℕ)
-      → slice_get order i ≡ Some p → slice_get es p ≡ Some e → IsFollowed cmp C es r (take i order) q → IsDelivery cmp C q e s → IsFollowed cmp C es r (take (suc i) order) s
-  followed_on es r q s e [] i p placed told before made = none_some placed
-  followed_on es r q s e (x ∷ order) zero p placed told before made = (s, rw (some_inj placed, told) (subst (λ t. IsDelivery cmp C t e s) before made), refl)
-  followed_on es r q s e (x ∷ order) (suc i) p placed told before made = (before.0, before.1, followed_on es before.0 q s e order i p placed told before.2 made)
-
 -- if clones are identical to their sources, the replica is as after the events themselves
 module _ {T : Type 0} (cmp : T → T → Ordering) (C : T → T → Type 0) (h : (x y : T) → C x y → y ≡ x) where
   pub step_same : (ns : List (List T)) (e : ChangeEventUnassigned T) (after : List (List T)) → IsClonedStep cmp C ns e after → step_plain cmp ns e ≡ Some after
   step_same ns e after s = subst (λ f. step_plain cmp ns f ≡ Some after) (adds_same cmp C h e s.event s.adds) s.made
 
-  delivered_same : (r q : ReplicaState T) (e : ChangeEvent T) → IsDelivery cmp C r e q → delivered cmp r e ≡ Some q
+  pub delivered_same : (r q : ReplicaState T) (e : ChangeEvent T) → IsDelivery cmp C r e q → delivered cmp r e ≡ Some q
   delivered_same r q e d =
       elim d [
         | inl past ↦ passed_over cmp r e past.0 ∙ ap (λ s. Some s) (sym past.1)
@@ -99,12 +90,6 @@ module _ {T : Type 0} (cmp : T → T → Ordering) (C : T → T → Type 0) (h :
             taken_in cmp r q e (misfit_refused cmp r.nodes r.next e here.0 here.1 ∙ step_fits cmp r.nodes (unassigned e) q.nodes step) step here.2
       ]
 
-  pub followed_same : (es : List (ChangeEvent T)) (r q : ReplicaState T) (order : List ℕ) → IsFollowed cmp C es r order q → followed cmp es r order ≡ Some q
-  followed_same es r q [] d = ap (λ s. Some s) (sym d)
-  followed_same es r q (p ∷ order) d = one (slice_get es p) d.1 (followed_same es d.0 q order d.2)
-    where
-      one : (o : Option (ChangeEvent T)) → IsSomeAnd o (λ e. IsDelivery cmp C r e d.0)
-          → followed cmp es d.0 order ≡ Some q
-          → option_and_then (λ s. followed cmp es s order) (option_and_then (delivered cmp r) o) ≡ Some q
-      one None there rest = absurd there
-      one (Some e) there rest = rw (delivered_same r d.0 e there) rest
+  pub offered_same : (r q : ReplicaState T) (es : List (ChangeEvent T)) → IsOffered cmp C r es q → offered cmp r es ≡ Some q
+  offered_same r q [] d = ap (λ s. Some s) (sym d)
+  offered_same r q (e ∷ es) d = rw (delivered_same r d.0 e d.1) (offered_same d.0 q es d.2)

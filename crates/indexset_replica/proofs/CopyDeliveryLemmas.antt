@@ -1,22 +1,19 @@
--- Events delivered to a replica that holds copies of the tree's items.
-use Rattle.std.proofs.Common.{◌≡◌, ◌==◌, ℕ, ◌+◌, ◌<◌, List, [], ◌∷◌, slice_get, Option, Some, None, Ordering, refl, ap, sym, ◌∙◌, inl, inr, subst, arith}
+-- Events that are offered to a replica that holds copies of the tree's items.
+use Rattle.std.proofs.Common.{◌≡◌, ◌==◌, ℕ, ◌+◌, ◌-◌, ◌<◌, List, [], ◌∷◌, slice_get, Option, Some, None, Ordering, refl, ap, sym, ◌∙◌, inl, inr, subst, arith}
 use Rattle.std.below.core.specs.declared.int.u64.TheConstants.{MAX}
 use Rattle.std.specs.Cmp.{IsTotalOrder}
-use Rattle.std.specs.Option.{IsSomeAnd}
+use Rattle.std.specs.List.{All, Contains}
+use Rattle.std.proofs.lemmas.List.Elements.{All-head, All-tail}
 use Rattle.indexset_core.proofs.CallerLemmas.{some_held}
 use Rattle.indexset_events.specs.Replay.{event_number, step, step_plain, unassigned}
 use Rattle.indexset_events.specs.declared.change.ChangeEvent.{ChangeEvent}
 use Rattle.indexset_replica.specs.Copies.{AreCopies, IsCopy}
-use Rattle.indexset_replica.specs.Delivery.{IsAlike, IsAt, IsDelivery, IsEventLog, IsFollowed, awaited, delivered, followed}
+use Rattle.indexset_replica.specs.Delivery.{IsAlike, IsAt, IsDelivery, IsEventLog, IsOffered, IsPrefix, awaited, delivered, offered}
 use Rattle.indexset_replica.specs.Replica.{ReplicaState, apply_refusal}
 use Rattle.indexset_replica.proofs.RelatedNodeLemmas.{AreAlike, adds_alike, event_itself, step_alike}
 use Rattle.indexset_replica.proofs.CopyLemmas.{copies_itself, copy_equal, copy_itself, copy_on}
-use Rattle.indexset_replica.proofs.DeliveryLemmas.{at_more, nothing_fatal, number_at, passed_over, read_at, steps_on, taken_in}
+use Rattle.indexset_replica.proofs.DeliveryLemmas.{at_more, begun, nothing_fatal, number_at, passed_over, place_of, read_at, steps_on, taken_in}
 use Rattle.indexset_replica.proofs.StepLemmas.{misfit_refused, step_fits}
-
-pub some_at : {X : Type 0} {Q : X → Type 0} (o : Option X) → IsSomeAnd o Q → (x : X) × (o ≡ Some x) × Q x
-some_at None h = absurd h
-some_at (Some x) h = (x, refl, h)
 
 other_some : {X : Type 0} (R : X → X → Type 0) (x : X) (o : Option X) → AreAlike R (Some x) o → (y : X) × (o ≡ Some y)
 other_some R x None h = absurd h
@@ -25,11 +22,6 @@ other_some R x (Some y) h = (y, refl)
 module _ {T : Type 0} (cmp : T → T → Ordering) (o : IsTotalOrder cmp) (C : T → T → Type 0) where
   abbrev AreNodesAlike : List (List T) → List (List T) → Type 0
   AreNodesAlike = AreCopies cmp C
-
-  followed_one : (es : List (ChangeEvent T)) (x y z : ReplicaState T) (e : ChangeEvent T) (p : ℕ) (order : List ℕ)
-      → slice_get es p ≡ Some e → delivered cmp x e ≡ Some y → followed cmp es y order ≡ Some z
-      → followed cmp es x (p ∷ order) ≡ Some z
-  followed_one es x y z e p order told made rest = rw (told, made) rest
 
   pub alike_itself : (r : ReplicaState T) → IsAlike cmp C r r
   alike_itself r = record { nodes = copies_itself cmp C r.nodes; next = refl }
@@ -79,13 +71,14 @@ module _ {T : Type 0} (cmp : T → T → Ordering) (o : IsTotalOrder cmp) (C : T
               (y, taken_in cmp x y e (nothing_fatal cmp s ns es feed j x p e at told number) made.1 refl, record { nodes = near; next = here.2 ∙ ap (λ n. n + 1) like.next })
         ]
 
-    pub alike_followed : (order : List ℕ) (j : ℕ) (x r q : ReplicaState T) → IsAt cmp s ns es j x
-        → IsAlike cmp C x r → IsFollowed cmp C es r order q
-        → (y : ReplicaState T) × (followed cmp es x order ≡ Some y) × IsAlike cmp C y q
-    alike_followed [] j x r q at like d = (x, refl, subst (IsAlike cmp C x) (sym d) like)
-    alike_followed (p ∷ order) j x r q at like d =
-        let told = some_at (slice_get es p) d.1 in
-        let first = alike_more j x r d.0 p told.0 at like told.1 told.2 in
-        let on = at_more cmp s ns es feed j p (p == j) x first.0 told.0 refl at told.1 first.1 in
-        let rest = alike_followed order (awaited j p) first.0 d.0 q on first.2 d.2 in
-        (rest.0, followed_one es x first.0 rest.0 told.0 p order told.1 first.1 rest.1, rest.2)
+    pub alike_offered : (arriving : List (ChangeEvent T)) (x r q : ReplicaState T) → All (Contains es) arriving
+        → IsPrefix cmp s ns es x → IsAlike cmp C x r → IsOffered cmp C r arriving q
+        → (y : ReplicaState T) × (offered cmp x arriving ≡ Some y) × IsAlike cmp C y q
+    alike_offered [] x r q of at like d = (x, refl, subst (IsAlike cmp C x) (sym d) like)
+    alike_offered (e ∷ arriving) x r q of at like d =
+        let j = x.next - s in
+        let p = place_of cmp s ns es feed e (All-head (Contains es) e arriving of) in
+        let first = alike_more j x r d.0 p.0 e at like p.1 d.1 in
+        let on = at_more cmp s ns es feed j p.0 (p.0 == j) x first.0 e refl at p.1 first.1 in
+        let rest = alike_offered arriving first.0 d.0 q (All-tail (Contains es) e arriving of) (begun cmp s ns es feed (awaited j p.0) first.0 on) first.2 d.2 in
+        (rest.0, rw first.1 rest.1, rest.2)

@@ -1,11 +1,12 @@
--- Events delivered out of order, and the prefix that they make.
+-- One event that is offered to a replica, and the greatest number that is reached.
 use Rattle.std.proofs.Common.{◌≡◌, ◌==◌, is_some, inl, inr, ℕ, zero, suc, ◌+◌, ◌-◌, ◌<◌, ◌≤◌, Bool, true}
 use Rattle.std.proofs.Common.{false, if◌then◌else◌, List, [], ◌∷◌, ◌++◌, length, get_or, slice_get, take, drop}
 use Rattle.std.proofs.Common.{Option, Some, None, Ordering, option_and_then, refl, ap, sym, ◌∙◌, subst, arith}
 use Rattle.std.below.core.specs.declared.int.u64.TheConstants.{MAX}
-use Rattle.std.specs.List.{fold}
+use Rattle.std.specs.List.{Contains, fold}
 use Rattle.std.proofs.lemmas.Bool.{eqb-true, eqb-false, eq-eqb, ne_eqb, not-false}
 use Rattle.std.proofs.lemmas.List.{take-append-drop, take_more}
+use Rattle.std.proofs.lemmas.Option.{slice_get-get_or}
 use Rattle.indexset_core.proofs.CallerLemmas.{some_held}
 use Rattle.indexset_core.specs.declared.refusal.Refusal.TheVariants.{Gap, Numbers}
 use Rattle.indexset_events.specs.Replay.{event_number, replay, step, unassigned}
@@ -14,7 +15,7 @@ use Rattle.indexset_events.proofs.CallerLemmas.{replay-append}
 use Rattle.indexset_replica.proofs.EditLemmas.{some_inj}
 use Rattle.indexset_replica.proofs.StepLemmas.{else_none, map_some, misfit_refused, none_some, step_fits, then_some}
 use Rattle.indexset_replica.specs.Replica.{ReplicaState, apply_refusal, misfit}
-use Rattle.indexset_replica.specs.Delivery.{IsAt, IsDelivered, IsEventLog, IsDeliveredUpTo, IsSubsequence, awaited, delivered, followed, numbers_from}
+use Rattle.indexset_replica.specs.Delivery.{IsAt, IsEventLog, IsDeliveredUpTo, IsPrefix, IsSubsequence, awaited, delivered, numbers_from}
 
 -- ---- subsequences
 
@@ -99,7 +100,7 @@ reached_once j m n order a b = omega (arith, a.greatest n b.from b.came, b.great
 
 -- ---- one event
 
-and_then_some : {X : Type 0} (o : Option X) → option_and_then (λ x. Some x) o ≡ o
+pub and_then_some : {X : Type 0} (o : Option X) → option_and_then (λ x. Some x) o ≡ o
 and_then_some None = refl
 and_then_some (Some x) = refl
 
@@ -127,14 +128,22 @@ module _ {T : Type 0} (cmp : T → T → Ordering) where
       let more = else_none (r.next == MAX) Numbers (misfit cmp r.nodes (unassigned e)) number.1 in
       rw (not-false _ number.0, more.0, made, ← next) refl
 
-  followed_then : (es : List (ChangeEvent T)) (r q : ReplicaState T) (p : ℕ) (order : List ℕ) → followed cmp es r (p ∷ order) ≡ Some q
-      → (e : ChangeEvent T) × (s : ReplicaState T) × (slice_get es p ≡ Some e) × (delivered cmp r e ≡ Some s) × (followed cmp es s order ≡ Some q)
-  followed_then es r q p order h =
-      let first = then_some (option_and_then (delivered cmp r) (slice_get es p)) (λ s. followed cmp es s order) q h in
-      let told = then_some (slice_get es p) (delivered cmp r) first.0 first.1 in
-      (told.0, first.0, told.1, told.2, first.2)
+  -- the next event has no error if there is a replica after it
+  pub applied_fits : (r new : ReplicaState T) (e : ChangeEvent T) → event_number e ≡ r.next → delivered cmp r e ≡ Some new → apply_refusal cmp r.nodes r.next e ≡ None
+  unfolding delivered
+  applied_fits r new e number made = by (r.next == MAX) refl
+    where
+      by : (b : Bool) → (r.next == MAX) ≡ b → apply_refusal cmp r.nodes r.next e ≡ None
+      by true last =
+          let none : delivered cmp r e ≡ None = rw (eq-eqb (event_number e) r.next number, last) refl in
+          none_some (sym none ∙ made)
+      by false more =
+          let stepped =
+          map_some (step cmp r.nodes e) (λ ns. record { nodes = ns; next = r.next + 1 }) new
+          (rw (eq-eqb (event_number e) r.next number, more) at made) in
+          misfit_refused cmp r.nodes r.next e number (eqb-false r.next MAX more) ∙ step_fits cmp r.nodes (unassigned e) stepped.0 stepped.1
 
-  -- ---- a feed
+  -- ---- a log of events
 
   module _ (s : ℕ) (ns : List (List T)) (es : List (ChangeEvent T)) (feed : IsEventLog cmp s ns es) where
     pub number_at : (p : ℕ) (e : ChangeEvent T) → slice_get es p ≡ Some e → event_number e ≡ s + p
@@ -186,12 +195,10 @@ module _ {T : Type 0} (cmp : T → T → Ordering) where
         let other : event_number e ≡ r.next → ⊥ = λ number. eqb-false p j here (omega (arith, number_at p e told, number, at.next)) in
         subst (λ t. IsAt cmp s ns es j t) (some_inj (sym (passed_over r e other) ∙ made)) at
 
-    pub at_after : (order : List ℕ) (j : ℕ) (r q : ReplicaState T) → IsAt cmp s ns es j r → followed cmp es r order ≡ Some q → IsAt cmp s ns es (fold awaited j order) q
-    at_after [] j r q at done = subst (λ t. IsAt cmp s ns es j t) (some_inj done) at
-    at_after (p ∷ order) j r q at done =
-        let first = followed_then es r q p order done in
-        at_after order (awaited j p) first.1 q (at_more j p (p == j) r first.1 first.0 refl at first.2 first.3) first.4
+    -- the nodes after the first j events are those after a prefix
+    pub begun : (j : ℕ) (r : ReplicaState T) → IsAt cmp s ns es j r → IsPrefix cmp s ns es r
+    begun j r at = subst (λ k. IsAt cmp s ns es k r) (omega (arith, at.next)) at
 
-    pub delivered_after : (order : List ℕ) (j : ℕ) (r q : ReplicaState T) → IsAt cmp s ns es j r → followed cmp es r order ≡ Some q → IsDelivered cmp s ns es j order q
-    delivered_after order j r q at done = λ m is.
-        subst (λ n. IsAt cmp s ns es n q) (reached_once j (fold awaited j order) m order (reached j order) is) (at_after order j r q at done)
+    -- an event of the log has a place in it
+    pub place_of : (e : ChangeEvent T) → Contains es e → (p : ℕ) × (slice_get es p ≡ Some e)
+    place_of e c = (c.0, slice_get-get_or es c.0 e c.1 ∙ ap (λ x. Some x) c.2)

@@ -1,6 +1,7 @@
 pub mod RelatedNodeLemmas
 pub mod CopyDeliveryLemmas
 pub mod CallerLemmas
+pub mod OfferLemmas
 pub mod PrefixLemmas
 pub mod CloneLemmas
 pub mod CopyLemmas

@@ -1,7 +1,7 @@
 -- A replica after events that are delivered with losses, repeats and in any order.
 use Rattle.std.specs.Prelude.{◌≡◌, ◌≢◌, ℕ, ◌+◌, ◌-◌, ◌≤◌, ◌==◌, ◌⊎◌, ⊤, zero, suc, true}
-use Rattle.std.specs.Prelude.{is_some, if◌then◌else◌, Option, Some, None, unwrap_or}
-use Rattle.std.specs.Prelude.{IsSomeAnd, slice_get, List, [], ◌∷◌, length, take}
+use Rattle.std.specs.Prelude.{is_some, if◌then◌else◌, nat_lt, Option, Some, None, unwrap_or}
+use Rattle.std.specs.Prelude.{IsSomeAnd, filter_map, slice_get, List, [], ◌∷◌, length, take}
 use Rattle.std.below.core.specs.declared.int.u64.TheConstants.{MAX}
 use Rattle.std.specs.Option.{option_map, option_and_then}
 use Rattle.std.specs.declared.cmp.Ordering.{Ordering}
@@ -11,6 +11,8 @@ use Rattle.indexset_events.specs.Replay.{event_number, replay, step, unassigned,
 use Rattle.indexset_events.specs.declared.change.ChangeEvent.{ChangeEvent}
 use Rattle.indexset_replica.specs.Copies.{AreCopies}
 use Rattle.indexset_replica.specs.Replica.{IsClonedStep, ReplicaState, apply_refusal}
+use Rattle.indexset_replica.specs.declared.delivery.Delivery.{Delivery}
+use Rattle.indexset_replica.specs.declared.delivery.Delivery.TheVariants.{Applied, Duplicate, Gap}
 
 -- xs is a subsequence of ys
 abbrev pub IsSubsequence : {A : Type 0} → List A → List A → Type 0
@@ -23,16 +25,24 @@ abbrev pub numbers_from : ℕ → ℕ → List ℕ
 numbers_from j zero = []
 numbers_from j (suc n) = j ∷ numbers_from (j + 1) n
 
--- m is the greatest number from j on for which j, j + 1, .. m - 1 occur among the places in this
+-- m is the greatest number from j on for which j, j + 1, .. m - 1 occur among the numbers in this
 -- order
-pub record IsDeliveredUpTo (j : ℕ) (order : List ℕ) (m : ℕ) : Type 0 where
+pub record IsDeliveredUpTo (j : ℕ) (numbers : List ℕ) (m : ℕ) : Type 0 where
   pub from : j ≤ m
-  pub came : IsSubsequence (numbers_from j (m - j)) order
-  pub greatest : (n : ℕ) → j ≤ n → IsSubsequence (numbers_from j (n - j)) order → n ≤ m
+  pub came : IsSubsequence (numbers_from j (m - j)) numbers
+  pub greatest : (n : ℕ) → j ≤ n → IsSubsequence (numbers_from j (n - j)) numbers → n ≤ m
 
--- the number expected after the event at place p was delivered to a replica that expects m
+-- the number expected after an event of number n was offered to a replica that expects m
 abbrev pub awaited : ℕ → ℕ → ℕ
-awaited m p = if p == m then m + 1 else m
+awaited m n = if n == m then m + 1 else m
+
+-- what becomes of an event of number n that is offered to a replica that expects m
+abbrev pub delivery_of : ℕ → ℕ → Delivery
+delivery_of m n = if n == m then Applied else if nat_lt n m then Duplicate else Gap
+
+-- the events at these places of a list, in the order of the places
+abbrev pub events_at : {T : Type 0} → List (ChangeEvent T) → List ℕ → List (ChangeEvent T)
+events_at es order = filter_map (slice_get es) order
 
 module _ {T : Type 0} (cmp : T → T → Ordering) where
   -- the replica after an event: unchanged if the event is not the next, and none if it does not
@@ -45,11 +55,10 @@ module _ {T : Type 0} (cmp : T → T → Ordering) where
       else option_map (λ ns. record { nodes = ns; next = r.next + 1 }) (step cmp r.nodes e))
       else Some r
 
-  -- the replica after the events at these places, in order
-  abbrev pub followed : List (ChangeEvent T) → ReplicaState T → List ℕ → Option (ReplicaState T)
-  followed es r [] = Some r
-  followed es r (p ∷ order) =
-      option_and_then (λ q. followed es q order) (option_and_then (delivered r) (slice_get es p))
+  -- the replica after these events were offered to it, in order
+  abbrev pub offered : ReplicaState T → List (ChangeEvent T) → Option (ReplicaState T)
+  offered r [] = Some r
+  offered r (e ∷ es) = option_and_then (λ q. offered q es) (delivered r e)
 
   -- the same, with an equal clone in the place of the item that an event adds
   module _ (C : T → T → Type 0) where
@@ -60,33 +69,25 @@ module _ {T : Type 0} (cmp : T → T → Ordering) where
         ⊎ ((event_number e ≡ r.next) × (r.next ≢ MAX) × (q.next ≡ r.next + 1)
         × IsClonedStep cmp C r.nodes (unassigned e) q.nodes)
 
-    -- q is the replica r after the events at these places, in order, up to equal clones of the
+    -- q is the replica r after these events were offered to it, in order, up to equal clones of the
     -- items that they add
-    abbrev pub IsFollowed : List (ChangeEvent T) → ReplicaState T → List ℕ → ReplicaState T → Type 0
-    IsFollowed es r [] q = q ≡ r
-    IsFollowed es r (p ∷ order) q =
-        (s : ReplicaState T) × IsSomeAnd (slice_get es p) (λ e. IsDelivery r e s)
-        × IsFollowed es s order q
+    abbrev pub IsOffered : ReplicaState T → List (ChangeEvent T) → ReplicaState T → Type 0
+    IsOffered r [] q = q ≡ r
+    IsOffered r (e ∷ es) q = (s : ReplicaState T) × IsDelivery r e s × IsOffered s es q
 
-  -- the error of a replica that fails at this event: `Memory` if no other applies
-  abbrev pub failure : ReplicaState T → ChangeEvent T → Refusal
-  failure r e = unwrap_or (apply_refusal cmp r.nodes r.next e) Memory
+  -- the event is the one that the replica expects, and fails with this error: `Memory` if no other
+  -- applies
+  abbrev pub FailsWith : ReplicaState T → ChangeEvent T → Refusal → Type 0
+  FailsWith r e cause =
+      (event_number e ≡ r.next) × (cause ≡ unwrap_or (apply_refusal cmp r.nodes r.next e) Memory)
 
-  -- the replica failed at the event that it expected, and is as after the places before
-  pub record IsStopped (es : List (ChangeEvent T)) (old : ReplicaState T) (order : List ℕ)
+  -- one of the events that were offered failed with this error, and the replica is as after those
+  -- before it
+  pub record HasStopped (C : T → T → Type 0) (old : ReplicaState T) (es : List (ChangeEvent T))
       (cause : Refusal) (new : ReplicaState T) : Type 0 where
     pub count : ℕ
-    pub before : followed es old (take count order) ≡ Some new
-    pub at : IsSomeAnd (slice_get order count) (λ p.
-        IsSomeAnd (slice_get es p) (λ e. (event_number e ≡ new.next) × (cause ≡ failure new e)))
-
-  -- the same, up to equal clones of the items that were added
-  pub record HasStopped (C : T → T → Type 0) (es : List (ChangeEvent T)) (old : ReplicaState T)
-      (order : List ℕ) (cause : Refusal) (new : ReplicaState T) : Type 0 where
-    pub count : ℕ
-    pub before : IsFollowed C es old (take count order) new
-    pub at : IsSomeAnd (slice_get order count) (λ p.
-        IsSomeAnd (slice_get es p) (λ e. (event_number e ≡ new.next) × (cause ≡ failure new e)))
+    pub before : IsOffered C old (take count es) new
+    pub at : IsSomeAnd (slice_get es count) (λ e. FailsWith new e cause)
 
   -- the events are numbered from s, they apply to the nodes ns in order, and a number remains after
   -- them

@@ -15,6 +15,7 @@ ghost use Rattle.indexset_events.specs.Replay.{event_number, replay, step, unass
 ghost use Rattle.indexset_events.specs.declared.change.ChangeEvent.{ChangeEvent};
 
 pub mod clones;
+pub mod delivery;
 pub mod positions;
 
 use crate::iter::Iter;

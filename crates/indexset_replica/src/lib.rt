@@ -6,12 +6,14 @@
 //! not the next or does not apply to the nodes. After it has applied the events of the tree's
 //! calls, a replica has the nodes of the tree, with the same boundaries.
 //!
-//! `nodes`, `contains`, `next`, `range` and the calls of [`lookup`], [`positions`] and [`iter`]
-//! read the nodes. Look-ups take the keys of `base::lookup_key`; pairs are also found by their key.
-//! `follow` is for events that are delivered with losses, repeats and in any order. [`laws`] states
-//! properties of the definitions: for example, which events a replica applies. `edits` has the
-//! change of each kind of event, `places` the searches among the nodes, and `index` the lengths of
-//! the nodes.
+//! `offer` is for events that are delivered with losses, repeats and in any order: it applies the
+//! next one, and says of any other whether it is late or early. `follow` offers events of a list.
+//!
+//! `nodes`, `contains`, `next`, `range` and the calls of `lookup`, `positions` and [`iter`] read
+//! the nodes. Look-ups take the keys of `base::lookup_key`; pairs are also found by their key.
+//! [`laws`] states properties of the definitions: for example, what a replica has after events
+//! that were offered in any order. `edits` has the change of each kind of event, `places` the
+//! searches among the nodes, and `index` the lengths of the nodes.
 #![tactic(auto)]
 
 ghost use Rattle.indexset_core.specs.Clones.{AreIdentical};
@@ -22,18 +24,20 @@ ghost use Rattle.indexset_replica.specs.Replica.{apply_refusal, IsClonedStep};
 ghost use Rattle.indexset_events.specs.Attach.{attached, attach_refusal};
 ghost use Rattle.indexset_events.specs.Replay.{step, unassigned};
 
+mod delivery;
 mod edits;
 mod follow;
 mod from_nodes;
 mod index;
 pub mod iter;
 pub mod laws;
-pub mod lookup;
+mod lookup;
 mod places;
 mod positions;
 mod range;
 mod text;
 
+pub use self::delivery::Delivery;
 use self::index::NodeIndex;
 use indexset_core::refusal::{Refusal, Refused};
 use indexset_events::change::ChangeEvent;

@@ -1,5 +1,5 @@
-//! Look-ups of items, the first and the last item, and whether an event is the next.
-ghost use Rattle.std.specs.Prelude.{◌≡◌, ℕ, ◌+◌, ◌≤◌, ◌==◌, if◌then◌else◌, find, length, nat_lt};
+//! Look-ups of items, and the first and the last item.
+ghost use Rattle.std.specs.Prelude.{◌≡◌, ℕ, ◌+◌, ◌≤◌, ◌==◌, find, length};
 ghost use Rattle.std.specs.List.{All};
 ghost use Rattle.std.specs.Option.{option_copied};
 ghost use Rattle.std.specs.Ordering.{is_eq};
@@ -8,7 +8,6 @@ ghost use Rattle.indexset_core.specs.Nodes.{concat, node_lengths};
 ghost use Rattle.indexset_core.specs.Parted.{IsParted};
 ghost use Rattle.indexset_core.specs.Order.{equal_element, has_equal};
 ghost use Rattle.indexset_replica.specs.Replica.{first_item, last_item};
-ghost use Rattle.indexset_events.specs.Replay.{event_number};
 
 use super::Replica;
 use super::places::{item_before, item_from};
@@ -16,25 +15,6 @@ use indexset_core::item_iter::OfVec;
 use indexset_core::locate::locate_by;
 use indexset_core::lookup_key::LookupKey;
 use indexset_core::probe::{ByItem, Probe};
-use indexset_events::change::ChangeEvent;
-
-/// The number of an event, compared with the one that a replica expects.
-///
-/// ```
-/// # use indexset::replica::lookup::Delivery;
-/// let copy: Replica<u64> = Replica::new(alloc, 4);
-/// let event = ChangeEvent::CreateNode { event_id: Id::from(6), max_value: 5 };
-/// assert_eq!(rt; copy.expects(&event), Delivery::Missing);
-/// ```
-#[derive(Clone, Copy, Debug, PartialEq, Eq)]
-pub enum Delivery {
-    /// The event is the next one.
-    Next,
-    /// An event with this number was applied, or it precedes the first one: it can be dropped.
-    Had,
-    /// Events between the last applied one and this one are missing.
-    Missing,
-}
 
 impl<T: Ord + Clone + Drop> Replica<T> {
     /// Returns the item equal to the value, if any.
@@ -60,9 +40,16 @@ impl<T: Ord + Clone + Drop> Replica<T> {
         ensures { option_copied result
             ≡ equal_element Q.order (concat self.now.nodes) value }
     {
-        // The nodes ascend, so a search by a key finds them in order.
+        self.get_by(&mut self.probe(&value))
+    }
+
+    // Returns the comparator of a key, which finds the items in order, as the nodes ascend.
+    pub(super) fn probe<'a, Q: LookupKey<T>>(&self, key: &'a Q) -> ByItem<'a, Q>
+        ensures key { result ≡ (key.now, 0) }
+        ensures parted { IsParted (λ x. Q.order x result.0) (concat self.now.nodes) }
+    {
         let _nodes = &self.nodes;
-        self.get_by(&mut ByItem::new(&value))
+        ByItem::new(key)
     }
 
     /// Returns true if the replica contains an item equal to the value.
@@ -175,40 +162,5 @@ impl<T: Ord + Clone + Drop> Replica<T> {
     {
         let nodes = self.nodes.as_slice();
         item_before(nodes, nodes.len())
-    }
-
-    /// Returns whether the event is the next, was applied already, or comes after missing events.
-    ///
-    /// It compares only the number, and does not test whether the event applies. `apply` fails with
-    /// `Gap` for `Had` and `Missing`.
-    ///
-    /// # Examples
-    ///
-    /// ```
-    /// # use indexset::replica::lookup::Delivery;
-    /// let replica: Replica<u64> = Replica::new(alloc, 3);
-    /// let late = ChangeEvent::CreateNode { event_id: Id::from(2), max_value: 5 };
-    /// let early = ChangeEvent::CreateNode { event_id: Id::from(4), max_value: 5 };
-    /// assert!(rt; replica.expects(&late) == Delivery::Had
-    ///     && replica.expects(&early) == Delivery::Missing);
-    /// ```
-    ///
-    /// # Complexity
-    ///
-    /// Takes constant time.
-    pub fn expects(&self, event: &ChangeEvent<T>) -> Delivery
-        ensures { result ≡ (if event_number event.now
-            == self.now.next then Delivery.Next
-            else if nat_lt (event_number event.now) self.now.next
-            then Delivery.Had else Delivery.Missing) }
-    {
-        let number = event.id().inner();
-        if number == self.next {
-            Delivery::Next
-        } else if number < self.next {
-            Delivery::Had
-        } else {
-            Delivery::Missing
-        }
     }
 }

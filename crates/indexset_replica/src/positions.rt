@@ -70,9 +70,7 @@ impl<T: Ord + Clone + Drop> Replica<T> {
         ensures before { AllWithin (λ x. Q.order x value ≡ Less)
             (concat self.now.nodes) 0 result }
     {
-        // The nodes ascend, so a search by a key finds them in order.
-        let _nodes = &self.nodes;
-        self.count_before(Bound::Included(ByItem::new(&value)))
+        self.count_before(Bound::Included(self.probe(&value)))
     }
 
     /// Returns the position of the item equal to the value, if any.
@@ -96,8 +94,6 @@ impl<T: Ord + Clone + Drop> Replica<T> {
             ≡ equal_element Q.order (concat self.now.nodes) value) }
         ensures inside { IfSome result (λ i. i < length (concat self.now.nodes)) }
     {
-        // The nodes ascend, so a search by a key finds them in order.
-        let _nodes = &self.nodes;
         match locate_by::<T, Vec<T>, OfVec, ByItem<'_, Q>>(
             self.nodes.as_slice(),
             &mut ByItem::new(&value),
@@ -126,10 +122,8 @@ impl<T: Ord + Clone + Drop> Replica<T> {
     pub fn count<Q: LookupKey<T> + Drop>(&self, value: Q) -> usize
         ensures { result ≡ count_equal Q.order (concat self.now.nodes) value }
     {
-        // The nodes ascend, so a search by a key finds them in order.
-        let _nodes = &self.nodes;
-        let past = self.count_up_to(Bound::Included(ByItem::new(&value)));
-        past - self.count_before(Bound::Included(ByItem::new(&value)))
+        let past = self.count_up_to(Bound::Included(self.probe(&value)));
+        past - self.count_before(Bound::Included(self.probe(&value)))
     }
 
     /// Returns the item at a position, counted from 0, or `None` past the end.

@@ -1,15 +1,19 @@
-//! Replicas of trees: the events of a call, applied in order.
+//! Replicas of trees: events that are applied in order, and events that arrive in any order.
 ghost use Rattle.indexset_core.specs.Clones.{AreIdentical};
-ghost use Rattle.std.specs.Prelude.{◌≡◌, ◌+◌, ◌-◌, ◌<◌, ◌≤◌, List, length, slice_get};
-ghost use Rattle.std.specs.Prelude.{take, unwrap_or, Some, IfErr, IfSome, OnErr, OnOk};
-ghost use Rattle.std.specs.List.{AllZip};
-ghost use Rattle.indexset.specs.Words.{apply_refusal, replay, AreClonesEqual};
-ghost use Rattle.indexset.specs.Words.{AreCopies, IsEventClone};
+ghost use Rattle.std.specs.Prelude.{◌≡◌, ◌+◌, ◌-◌, ◌<◌, ◌≤◌, ℕ, List, length, map, slice_get};
+ghost use Rattle.std.specs.Prelude.{take, unwrap_or, Contains, Some, IfErr, IfSome, OnErr, OnOk};
+ghost use Rattle.std.specs.List.{All, AllZip};
+ghost use Rattle.indexset.specs.Words.{apply_refusal, event_number, replay, AreClonesEqual};
+ghost use Rattle.indexset.specs.Words.{AreCopies, ChangeEvent, IsDeliveredUpTo, IsEventClone};
+ghost use Rattle.indexset.specs.Words.{IsEventLog, IsPrefix};
 
 use indexset::base::refusal::Refusal;
 use indexset::cdc::change::ChangeEvent;
 use indexset::cdc::laws::replay_in_parts;
 use indexset::replica::Replica;
+use indexset::replica::laws::delivery::{
+    follow_is_a_fold_of_offers, offers_leave_a_prefix, offers_of_identical_clones,
+};
 use indexset::replica::laws::step_of_clones;
 
 /// Applies events in order, and stops at the first that fails.
@@ -45,6 +49,30 @@ pub fn apply_all<T: Ord + Clone + Drop>(
     step_of_clones::<T>();
     for event in events {
         copy.apply(event)?;
+    }
+    Ok(())
+}
+
+/// Offers events of a log as they arrive, in any order, with losses and repeats.
+///
+/// A replica that had the nodes after a prefix of the log then has the nodes after a prefix, and
+/// expects event m: all events from the one that it expected to m - 1 arrived in this order.
+pub fn offer_all<T: Ord + Clone + Drop>(
+    copy: &mut Replica<T>,
+    arriving: &[ChangeEvent<T>],
+) -> Result<(), Refusal>
+    ensures { AreIdentical T.is_clone → (s : ℕ) (ns : List (List T)) (log : List (ChangeEvent T))
+        → IsEventLog T.cmp s ns log → IsPrefix T.cmp s ns log copy.old
+        → All (Contains log) arriving.now
+        → OnOk result (IsPrefix T.cmp s ns log copy.new
+        × ((m : ℕ) → IsDeliveredUpTo copy.old.next (map event_number arriving.now) m
+        → copy.new.next ≡ m)) }
+{
+    follow_is_a_fold_of_offers::<T>();
+    offers_of_identical_clones::<T>();
+    offers_leave_a_prefix::<T>();
+    for event in arriving {
+        copy.offer(event)?;
     }
     Ok(())
 }

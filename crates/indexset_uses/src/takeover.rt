@@ -10,6 +10,7 @@ use indexset::base::refusal::Refusal;
 use indexset::cdc::change::ChangeEvent;
 use indexset::cdc::laws::steps_lead_to_nodes;
 use indexset::replica::Replica;
+use indexset::replica::laws::delivery::offers_only_advance;
 
 /// Returns a replica that starts from a snapshot and then follows events of the set, in any order.
 ///
@@ -33,6 +34,7 @@ pub fn resume(
     ensures memory { IfErr result (λ refusal. refusal ≡ Refusal.Memory) }
 {
     steps_lead_to_nodes::<u64>();
+    offers_only_advance::<u64>();
     let mut copy = Replica::from_nodes(nodes, next)?;
     copy.follow(events, order)?;
     Ok(copy)

@@ -63,6 +63,12 @@ impl<T: Item, Q: Keyed<T>> Replicas<T, Q> {
         Ok(self.replica.apply(&event)?)
     }
 
+    fn offer(&mut self, words: &mut SplitWhitespace<'_>, answer: &mut String) -> Result<(), Stop> {
+        let event = read_event(&self.source, words)?;
+        let delivery = self.replica.offer(&event)?;
+        Ok(write!(answer, " {delivery:?}")?)
+    }
+
     /// Stores an event to be delivered.
     fn keep(&mut self, words: &mut SplitWhitespace<'_>) -> Result<(), Stop> {
         self.events.push(read_event(&self.source, words)?)?;
@@ -94,7 +100,6 @@ impl<T: Item, Q: Keyed<T>> Replicas<T, Q> {
             "is_empty" => tell(answer, self.replica.is_empty()),
             "first" => tell_option(answer, self.replica.first()),
             "last" => tell_option(answer, self.replica.last()),
-            "expects" => self.tell_turn(words, answer),
             "items" => self.tell_items(answer),
             "walk" => self.walk(words, answer),
             "by_key" => {
@@ -103,12 +108,6 @@ impl<T: Item, Q: Keyed<T>> Replicas<T, Q> {
             }
             _ => seek(&self.replica, &self.source, name, words, answer),
         }
-    }
-
-    fn tell_turn(&self, words: &mut SplitWhitespace<'_>, answer: &mut String) -> Result<(), Stop> {
-        let event = read_event(&self.source, words)?;
-        let turn = self.replica.expects(&event);
-        Ok(write!(answer, " {turn:?}")?)
     }
 
     fn tell_items(&self, answer: &mut String) -> Result<(), Stop> {
@@ -143,6 +142,7 @@ impl<T: Item, Q: Keyed<T>> Subject for Replicas<T, Q> {
             "from_nodes" => self.make_of_nodes(words, answer),
             "attach" => self.attach(words, answer),
             "apply" => self.apply(words),
+            "offer" => self.offer(words, answer),
             "event" => self.keep(words),
             "follow" => self.follow(words),
             _ => self.look(name, words, answer),

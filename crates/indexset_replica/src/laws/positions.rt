@@ -21,9 +21,9 @@ pub fn positions_of_copies<T: Ord + Clone, Q: LookupKey<T>>()
 
 /// A key has the same rank and position in a replica as in the nodes after a prefix of the events.
 ///
-/// The replica has copies of these nodes. `follow` states which prefix that is, for any events and
-/// any delivery.
-pub fn positions_in_a_beginning<T: Ord + Clone, Q: LookupKey<T>>()
+/// The replica has copies of these nodes. [`super::delivery`] states which prefix that is, however
+/// the events arrive.
+pub fn positions_in_a_prefix<T: Ord + Clone, Q: LookupKey<T>>()
     ensures rank { (s : ℕ) (ns : List (List T)) (es : List (ChangeEvent T)) (q : ReplicaState T)
         → CopiesPrefix T.cmp T.is_clone s ns es q
         → (held : List (List T)) × (replay T.cmp ns (take (q.next - s) es) ≡ Some held)
@@ -39,7 +39,7 @@ pub fn positions_in_a_beginning<T: Ord + Clone, Q: LookupKey<T>>()
 /// A key has the same rank and position in a replica of all events as in the primary's nodes.
 ///
 /// The primary's nodes are those after all events, and the replica has copies of them.
-pub fn positions_where_all_came<T: Ord + Clone, Q: LookupKey<T>>()
+pub fn positions_where_all_arrived<T: Ord + Clone, Q: LookupKey<T>>()
     ensures rank { (s : ℕ) (ns after : List (List T)) (es : List (ChangeEvent T))
         (q : ReplicaState T) (k : Q) → CopiesAll T.cmp T.is_clone s ns es q
         → replay T.cmp ns es ≡ Some after

@@ -1,5 +1,4 @@
-use Rattle.std.proofs.Common.{◌≡◌, ap, arith, Ordering}
-use Rattle.indexset_core.proofs.CallerLemmas.{parted_by_sought}
+use Rattle.std.proofs.Common.{◌≡◌, arith, Ordering}
 use Rattle.indexset_core.specs.Nodes.{concat}
 use Rattle.indexset_core.specs.Parted.{less_count, not_greater_count}
 use Rattle.indexset_replica.proofs.KeySearchLemmas.{count_equal}
@@ -13,14 +12,10 @@ module _ (g : Over) (c : After-count_before g) where
   answer x = g.Q.LookupKey.order x c.args.value
 
   low : c.count_before.result ≡ less_count answer (concat c.args.self.now.nodes)
-  low = rw c.new-2.ensures at c.count_before.ensures
+  low = rw c.probe-2.ensures.key at c.count_before.ensures
 
   high : c.count_up_to-past.result ≡ not_greater_count answer (concat c.args.self.now.nodes)
-  high = rw c.new.ensures at c.count_up_to-past.ensures
-
-pub count_before-requires : goal.count_before-requires
-count_before-requires g c =
-    parted_by_sought g.met.Q.LookupKey.acts_as_key (concat c.args.self.now.nodes) (rw (ap (λ t. t.nodes) c.self.view_is) at c.self.invariant.nodes.ascending) c.new-2.result.0
+  high = rw c.probe.ensures.key at c.count_up_to-past.ensures
 
 pub overflow_sub-result : goal.overflow_sub-result
 overflow_sub-result g c = omega (arith, low g c, high g c, count_equal (answer g c) (concat c.args.self.now.nodes))

@@ -1,5 +1,4 @@
-use Rattle.std.proofs.Common.{◌≡◌, slice_get, ap, ◌∙◌, Ordering}
-use Rattle.indexset_core.proofs.CallerLemmas.{parted_by_sought}
+use Rattle.std.proofs.Common.{◌≡◌, slice_get, ap, ◌∙◌, subst, Ordering}
 use Rattle.indexset_core.specs.Nodes.{concat}
 use Rattle.indexset_core.specs.Parted.{IsParted, less_count}
 use Rattle.indexset_replica.proofs.KeySearchLemmas.{all_before, there_inside, there_item}
@@ -13,10 +12,10 @@ module _ (g : Over) (c : After-drop-value g) where
   answer x = g.Q.LookupKey.order x c.args.value
 
   parted : IsParted answer (concat c.args.self.now.nodes)
-  parted = parted_by_sought g.met.Q.LookupKey.acts_as_key (concat c.args.self.now.nodes) (rw (ap (λ t. t.nodes) c.self.view_is) at c.self.invariant.nodes.ascending) c.args.value
+  parted = subst (λ p. IsParted (λ x. g.Q.LookupKey.order x p.0) (concat c.args.self.now.nodes)) c.probe.ensures.key c.probe.ensures.parted
 
   is : c.count_before.result ≡ less_count answer (concat c.args.self.now.nodes)
-  is = rw c.new.ensures at c.count_before.ensures
+  is = rw c.probe.ensures.key at c.count_before.ensures
 
 pub returns-clause-at_rank : goal.returns-clause-at_rank
 returns-clause-at_rank g c = λ has. ap (slice_get (concat c.args.self.now.nodes)) (is g c) ∙ there_item (answer g c) _ (parted g c) has

@@ -47,8 +47,8 @@ begins es n copy at = subst (λ m. IsAt nat_cmp 0 [] es m copy) (omega (arith, a
 pub returns-clause-beginning : goal.returns-clause-beginning
 returns-clause-beginning c =
     let made = c.in_ok-copy.ensures.replica in
-    c.in_ok-follow.ensures.beginning (λ x y same. same) 0 [] c.requires.feed
+    c.in_ok-follow.ensures.prefix (λ x y same. same) 0 [] c.requires.feed
     (begins _ c.args.next _ (record { within = c.requires.within; nodes = c.requires.snapshot ∙ ap (λ r. Some r.nodes) (sym made); next = omega (arith, ap (λ r. r.next) made) }))
 
 pub returns-clause-onwards : goal.returns-clause-onwards
-returns-clause-onwards c = omega (arith, ap (λ r. r.next) c.in_ok-copy.ensures.replica, c.in_ok-follow.ensures.onwards)
+returns-clause-onwards c = omega (arith, ap (λ r. r.next) c.in_ok-copy.ensures.replica, c.offers_only_advance.ensures _ _ _ c.in_ok-follow.ensures.offered)

@@ -3,7 +3,7 @@ use Rattle.std.proofs.lemmas.Option.{same_Some}
 use Rattle.indexset_core.specs.Nodes.{concat}
 use Rattle.indexset_core.specs.Order.{index_of, rank}
 use Rattle.indexset_replica.proofs.CopyPositionLemmas.{index_copied, rank_copied}
-use Rattle.indexset_replica.proofs.laws.positions.positions_where_all_came.Goals as goal
+use Rattle.indexset_replica.proofs.laws.positions.positions_where_all_arrived.Goals as goal
 
 pub returns-clause-rank : goal.returns-clause-rank
 returns-clause-rank g c = λ s ns after es q k all led.

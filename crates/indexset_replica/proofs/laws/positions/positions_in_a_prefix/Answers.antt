@@ -1,6 +1,6 @@
 use Rattle.std.proofs.Common.{◌≡◌, sym}
 use Rattle.indexset_replica.proofs.CopyPositionLemmas.{index_copied, rank_copied}
-use Rattle.indexset_replica.proofs.laws.positions.positions_in_a_beginning.Goals as goal
+use Rattle.indexset_replica.proofs.laws.positions.positions_in_a_prefix.Goals as goal
 
 pub returns-clause-rank : goal.returns-clause-rank
 returns-clause-rank g c = λ s ns es q at.
