@@ -2,7 +2,6 @@ pub mod Acts
 pub mod CallerLemmas
 pub mod ClonedRuns
 pub mod CommandRuns
-pub mod DigitCounts
 pub mod KeyTexts
 pub mod LoggedMaps
 pub mod LoggedRuns

@@ -14,7 +14,7 @@ use Rattle.indexset_bench.specs.PairCommand.{pair_meaning}
 use Rattle.indexset_bench.specs.Pairs.{PairTree, pair_reply, pairs_after, reply_ended}
 use Rattle.indexset_bench.specs.Reply.{AddsNew, contents_after, reply_to}
 use Rattle.std.specs.Ordering.{nat_cmp}
-use Rattle.indexset_bench.specs.Texts.{number_texts}
+use Rattle.indexset_wire.specs.Texts.{number_texts}
 use Rattle.indexset_bench.specs.Text.{Changes, reply_line, stores, stores_after}
 
 -- ---- a put has an event

@@ -4,22 +4,23 @@ use lib.Chars.{codes}
 use Rattle.std.proofs.lemmas.Slice.Eq.{bytes_eq-Decides}
 use Rattle.std.specs.Option.{option_map, option_map_or}
 use Rattle.std.specs.Str.{bytes_eq}
-use Rattle.indexset_events.specs.Spelling.{cut_at}
-use Rattle.indexset_events.specs.Spelling.Laws.{cut_sound, cut_told, lacks_tested, map_some, none_some, some_inj}
+use Rattle.indexset_wire.specs.Parts.{cut_at}
+use Rattle.indexset_wire.specs.Parts.Laws.{cut_sound, cut_told, lacks_tested, map_some, none_some, some_inj}
 use Rattle.indexset_bench.specs.declared.pair_command.PairCommand.{PairCommand}
 use Rattle.indexset_bench.specs.declared.pair_command.PairCommand.TheVariants.{Put, Cut, Nodes}
 use Rattle.indexset_bench.specs.declared.command.Command.{Command}
 use Rattle.indexset_bench.specs.declared.command.Command.TheVariants.{Add, Del, Has, Rank, At, Len}
 use Rattle.indexset_bench.specs.Command.{meaning, spelling}
 use Rattle.indexset_bench.specs.PairCommand.{CommandFits, pair_meaning, pair_spelling, word_command}
-use Rattle.indexset_bench.specs.Texts.{AreWords, Texts, number_texts, number_words, two_keys}
+use Rattle.indexset_bench.specs.Texts.{two_keys}
+use Rattle.indexset_wire.specs.Texts.{AreTokens, Texts, number_texts, number_tokens}
 use Rattle.indexset_bench.proofs.KeyTexts.{two_keys_sound, two_keys_told}
 use Rattle.indexset_bench.proofs.Meanings.{sound}
 
 same : (word text : List ℕ) → bytes_eq word text ≡ true → word ≡ text
 same word text e = (bytes_eq-Decides word text).0 e
 
-module _ {T : Type 0} (texts : Texts T) (words : AreWords texts) where
+module _ {T : Type 0} (texts : Texts T) (words : AreTokens texts) where
   -- the text is that of the command
   abbrev Spells : List ℕ → PairCommand T → Type 0
   Spells text c = (text ≡ pair_spelling texts c) × CommandFits texts c
@@ -28,14 +29,14 @@ module _ {T : Type 0} (texts : Texts T) (words : AreWords texts) where
   word_sound word rest c h = at (bytes_eq word (codes "put")) (bytes_eq word (codes "cut")) refl refl h
     where
       at : (a b : Bool) → bytes_eq word (codes "put") ≡ a → bytes_eq word (codes "cut") ≡ b
-          → cond a (option_map (λ p. Put p.0 p.1) (two_keys texts rest)) (cond b (option_map Cut (texts.reading rest)) None) ≡ Some c → Spells (word ++ 32 ∷ rest) c
+          → cond a (option_map (λ p. Put p.0 p.1) (two_keys texts rest)) (cond b (option_map Cut (texts.parse rest)) None) ≡ Some c → Spells (word ++ 32 ∷ rest) c
       at true b is _ h =
           let made = map_some (two_keys texts rest) (λ p. Put p.0 p.1) c h in
           let read = two_keys_sound texts words rest made.0 made.1 in
           subst (Spells (word ++ 32 ∷ rest)) made.2 ((λ i. same word (codes "put") is i ++ 32 ∷ read.0 i), (read.1, read.2))
       at false true _ is h =
-          let made = map_some (texts.reading rest) Cut c h in
-          let read = words.sound rest made.0 made.1 in
+          let made = map_some (texts.parse rest) Cut c h in
+          let read = words.items.only rest made.0 made.1 in
           subst (Spells (word ++ 32 ∷ rest)) made.2 ((λ i. same word (codes "cut") is i ++ 32 ∷ read.0 i), read.1)
       at false false _ _ h = none_some c h
 
@@ -54,12 +55,12 @@ module _ {T : Type 0} (texts : Texts T) (words : AreWords texts) where
   told : (c : PairCommand T) → CommandFits texts c → pair_meaning texts (pair_spelling texts c) ≡ Some c
   unfolding pair_meaning
   told (Put k v) fit =
-      let both = texts.spelling k ++ 32 ∷ texts.spelling v in
+      let both = texts.text k ++ 32 ∷ texts.text v in
       let cut : cut_at 32 (pair_spelling texts (Put k v)) ≡ Some (codes "put", both) = cut_told 32 (codes "put") both (lacks_tested 32 (codes "put") refl) in
       rw cut (ap (option_map (λ p. Put p.0 p.1)) (two_keys_told texts words k v fit.0 fit.1))
   told (Cut k) fit =
-      let cut : cut_at 32 (pair_spelling texts (Cut k)) ≡ Some (codes "cut", texts.spelling k) = cut_told 32 (codes "cut") (texts.spelling k) (lacks_tested 32 (codes "cut") refl) in
-      rw cut (ap (option_map Cut) (words.told k fit))
+      let cut : cut_at 32 (pair_spelling texts (Cut k)) ≡ Some (codes "cut", texts.text k) = cut_told 32 (codes "cut") (texts.text k) (lacks_tested 32 (codes "cut") refl) in
+      rw cut (ap (option_map Cut) (words.items.reads_back k fit))
   told Nodes fit = refl
 
   pub pair_complete : (line : List ℕ) (c : PairCommand T) → line ≡ pair_spelling texts c → CommandFits texts c → pair_meaning texts line ≡ Some c
@@ -94,5 +95,5 @@ pub no_pairs_meant : (line : List ℕ) (c : Command) → meaning line ≡ Some c
 no_pairs_meant line c meant =
     elim (pair_meaning number_texts line) as (λ o. pair_meaning number_texts line ≡ o → o ≡ None) [
       | None ↦ λ e. refl
-      | Some d ↦ λ e. absurd (apart number_texts c d (sym (sound line c meant).0 ∙ (pair_sound number_texts number_words line d e).0))
+      | Some d ↦ λ e. absurd (apart number_texts c d (sym (sound line c meant).0 ∙ (pair_sound number_texts number_tokens line d e).0))
     ] refl

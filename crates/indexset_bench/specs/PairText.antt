@@ -1,19 +1,11 @@
 -- The texts of pairs, events and nodes, from the texts of keys and values.
-use Rattle.std.specs.Prelude.{ℕ, List, [], ◌∷◌, ◌++◌, map, codes}
+use Rattle.std.specs.Prelude.{ℕ, List, [], ◌∷◌, ◌++◌, map}
 use Rattle.std.specs.List.{concat, join_with_byte}
-use Rattle.std.specs.Fmt.{decimal}
 use Rattle.indexset_core.specs.declared.pair.Pair.{Pair}
 use Rattle.indexset_events.specs.declared.change.ChangeEvent.{ChangeEvent}
-use Rattle.indexset_events.specs.declared.change.ChangeEvent.TheVariants.{
-  InsertAt,
-  RemoveAt,
-  CreateNode,
-  RemoveNode,
-  SplitNode,
-  MergeNodes,
-}
-use Rattle.indexset_events.specs.declared.change.Id.{Id}
-use Rattle.indexset_bench.specs.Texts.{Texts}
+use Rattle.indexset_wire.specs.Event.{event_text as text_of_event}
+use Rattle.indexset_wire.specs.Pairs.{pair_texts}
+use Rattle.indexset_wire.specs.Texts.{Texts}
 
 -- a text followed by a byte 10
 abbrev pub ended : List ℕ → List ℕ
@@ -24,23 +16,13 @@ abbrev pub lines_for : {X : Type 0} → (X → List ℕ) → List X → List ℕ
 lines_for text xs = concat (map (λ x. ended (text x)) xs)
 
 module _ {T : Type 0} (texts : Texts T) where
+  -- the text of a pair of keys
   abbrev pub pair_text : Pair T T → List ℕ
-  pair_text p = texts.spelling p.key ++ codes ":" ++ texts.spelling p.value
+  pair_text p = (pair_texts texts texts).text p
 
-  -- the first fields of an event: its number, its word, and the maximum of its node
-  abbrev pub event_head : Id → List ℕ → Pair T T → List ℕ
-  event_head id word max = decimal id.0 ++ word ++ pair_text max
-
+  -- the text of an event whose items are pairs
   abbrev pub event_text : ChangeEvent (Pair T T) → List ℕ
-  event_text (CreateNode id max) = event_head id (codes " create ") max
-  event_text (RemoveNode id max) = event_head id (codes " drop ") max
-  event_text (InsertAt id max p i) =
-      event_head id (codes " insert ") max ++ codes " " ++ pair_text p ++ codes " " ++ decimal i
-  event_text (RemoveAt id max p i) =
-      event_head id (codes " remove ") max ++ codes " " ++ pair_text p ++ codes " " ++ decimal i
-  event_text (SplitNode id max k) = event_head id (codes " split ") max ++ codes " " ++ decimal k
-  event_text (MergeNodes id max next) =
-      event_head id (codes " merge ") max ++ codes " " ++ pair_text next
+  event_text e = text_of_event (pair_texts texts texts) e
 
   -- the pairs of a node, separated by spaces
   abbrev pub node_text : List (Pair T T) → List ℕ

@@ -20,7 +20,7 @@ use Rattle.indexset_bench.specs.declared.reply.Reply.TheVariants.{New, OldValue,
 use Rattle.indexset_bench.specs.declared.reply.Reply.TheVariants.{Nothing, Empty}
 use Rattle.indexset_bench.specs.PairText.{ended, event_text, lines_for, node_text}
 use Rattle.indexset_bench.specs.Reply.{reply_text}
-use Rattle.indexset_bench.specs.Texts.{Texts}
+use Rattle.indexset_wire.specs.Texts.{Texts}
 use Rattle.indexset_bench.specs.Told.{tree_after}
 
 -- the nodes of a map, the maximum node size, and the number of the next event

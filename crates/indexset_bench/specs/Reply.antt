@@ -4,7 +4,7 @@ use Rattle.std.specs.Prelude.{List, length, None, Some, codes, slice_get}
 use Rattle.std.specs.Ordering.{nat_cmp}
 use Rattle.std.specs.Fmt.{decimal}
 use Rattle.indexset_core.specs.Order.{rank, has_equal, keep, without}
-use Rattle.indexset_bench.specs.Texts.{Texts}
+use Rattle.indexset_wire.specs.Texts.{Texts}
 use Rattle.indexset_bench.specs.declared.command.Command.{Command}
 use Rattle.indexset_bench.specs.declared.command.Command.TheVariants.{Add, Del, Has, Rank, At, Len}
 use Rattle.indexset_bench.specs.declared.reply.Reply.{Reply}
@@ -47,13 +47,13 @@ module _ {T : Type 0} (texts : Texts T) where
   abbrev pub reply_text : Reply T → List ℕ
   reply_text New = codes "new"
   reply_text Old = codes "old"
-  reply_text (OldValue v) = codes "old " ++ texts.spelling v
+  reply_text (OldValue v) = codes "old " ++ texts.text v
   reply_text Gone = codes "gone"
-  reply_text (GoneValue v) = codes "gone " ++ texts.spelling v
+  reply_text (GoneValue v) = codes "gone " ++ texts.text v
   reply_text Yes = codes "yes"
   reply_text No = codes "no"
   reply_text (Count n) = decimal n
-  reply_text (Item n) = texts.spelling n
+  reply_text (Item n) = texts.text n
   reply_text Nothing = codes "none"
   reply_text Empty = codes "empty"
   reply_text Bad = codes "bad"

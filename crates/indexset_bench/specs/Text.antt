@@ -8,7 +8,7 @@ use Rattle.indexset_bench.specs.PairCommand.{pair_meaning}
 use Rattle.indexset_lines.specs.Lines.{lines_of}
 use Rattle.indexset_lines.specs.Run.{left_by, replies_to}
 use Rattle.indexset_bench.specs.Pairs.{PairTree, pair_events, pair_reply, pairs_after, reply_ended}
-use Rattle.indexset_bench.specs.Texts.{number_texts}
+use Rattle.indexset_wire.specs.Texts.{number_texts}
 use Rattle.indexset_bench.specs.Reply.{AddsNew, reply_to, contents_after}
 
 -- the state of a run: the numbers of the set, and the map

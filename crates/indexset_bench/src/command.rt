@@ -3,7 +3,7 @@
 ghost use Rattle.std.specs.Prelude.{◌≡◌};
 ghost use Rattle.indexset_bench.specs.Command.{meaning};
 
-pub use indexset_events::parts::number;
+use indexset_wire::number::read_number;
 
 /// A command to the set.
 #[derive(Clone, Copy, Debug, PartialEq, Eq)]
@@ -27,19 +27,19 @@ pub fn parse(line: &[u8]) -> Option<Command>
     ensures { result ≡ meaning line.now }
 {
     if let Some(digits) = line.strip_prefix(b"add ") {
-        return number(digits).map(Command::Add);
+        return read_number(digits).map(Command::Add);
     }
     if let Some(digits) = line.strip_prefix(b"del ") {
-        return number(digits).map(Command::Del);
+        return read_number(digits).map(Command::Del);
     }
     if let Some(digits) = line.strip_prefix(b"has ") {
-        return number(digits).map(Command::Has);
+        return read_number(digits).map(Command::Has);
     }
     if let Some(digits) = line.strip_prefix(b"rank ") {
-        return number(digits).map(Command::Rank);
+        return read_number(digits).map(Command::Rank);
     }
     if let Some(digits) = line.strip_prefix(b"at ") {
-        return number(digits).map(Command::At);
+        return read_number(digits).map(Command::At);
     }
     if line == b"len".as_slice() {
         Some(Command::Len)

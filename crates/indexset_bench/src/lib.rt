@@ -9,7 +9,6 @@
 
 pub mod command;
 pub mod command_run;
-mod digits;
 pub mod key;
 pub mod laws;
 pub mod logged;

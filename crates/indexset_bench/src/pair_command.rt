@@ -3,8 +3,8 @@
 ghost use Rattle.std.specs.Prelude.{◌≡◌, false, IfErr, IfOk, IsOk};
 ghost use Rattle.indexset_bench.specs.PairCommand.{pair_meaning, word_command};
 
-use crate::key::{Key, read_key, read_two_keys};
-use indexset_events::parts::cut;
+use crate::key::{Key, read_item, read_two_keys};
+use indexset_wire::parts::cut;
 use indexset_lines::RunFault;
 use std::alloc::Global;
 
@@ -52,7 +52,7 @@ fn parse_word<T: Key>(
         let keys = read_two_keys(alloc, rest)?;
         Ok(keys.map(|keys| PairCommand::Put(keys.0, keys.1)))
     } else if word == b"cut".as_slice() {
-        let key = read_key(alloc, rest)?;
+        let key = read_item(alloc, rest)?;
         Ok(key.map(PairCommand::Cut))
     } else {
         Ok(None)

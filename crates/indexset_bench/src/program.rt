@@ -9,7 +9,7 @@ ghost use Rattle.indexset_bench.specs.Reply.{AddsNew, contents_after, reply_to};
 ghost use Rattle.indexset_bench.specs.Pairs.{reply_ended};
 ghost use Rattle.indexset_bench.specs.Run.{AnswersAll, AnswersWholeLines, LacksNumbers};
 ghost use Rattle.indexset_bench.specs.Text.{Changes, reply_line, stores, stores_after, text_of};
-ghost use Rattle.indexset_bench.specs.Texts.{number_texts};
+ghost use Rattle.indexset_wire.specs.Texts.{number_texts};
 
 use crate::command::{Command, parse};
 use crate::pair_command::parse_pairs;

@@ -1,19 +1,17 @@
 //! Output: lines of replies, of events and of nodes.
 
-ghost use Rattle.std.specs.Prelude.{◌≡◌, ◌++◌, OnOk, IfErr, codes};
+ghost use Rattle.std.specs.Prelude.{◌≡◌, ◌++◌, OnOk, IfErr};
 ghost use Rattle.std.specs.Fmt.{decimal};
 ghost use Rattle.std.specs.Io.KnownBytes.{Appends};
 ghost use Rattle.indexset_bench.specs.Pairs.{echo_text, reply_ended};
-ghost use Rattle.indexset_bench.specs.PairText.{ended, event_head, event_text};
-ghost use Rattle.indexset_bench.specs.PairText.{lines_for, node_text, pair_text};
+ghost use Rattle.indexset_bench.specs.PairText.{ended, event_text, lines_for, node_text};
 
-use crate::digits::fill_decimal;
 use crate::key::Key;
-use crate::pair_text::{EventText, PairText};
+use crate::pair_text::PairText;
 use crate::pairs::Pairs;
 use crate::reply::Reply;
 use indexset_core::pair::Pair;
-use indexset_events::change::{ChangeEvent, Id};
+use indexset_events::change::ChangeEvent;
 use indexset_lines::RunFault;
 use std::io::Write;
 
@@ -31,23 +29,7 @@ pub fn write_number<W: Write>(writer: &mut W, number: u64) -> Result<(), RunFaul
         (decimal number)) }
     ensures fault { IfErr result (λ fault. fault ≡ RunFault.Write) }
 {
-    let mut buffer = [0; 20];
-    let start = fill_decimal(number, &mut buffer);
-    write_bytes(writer, &buffer[start..])
-}
-
-/// Writes a pair.
-pub(crate) fn write_pair<T: Key, W: Write>(
-    writer: &mut W,
-    pair: &Pair<T, T>,
-) -> Result<(), RunFault>
-    ensures told { OnOk result (Appends (W.contents writer.old) (W.contents writer.new)
-        (pair_text T.texts pair.now)) }
-    ensures fault { IfErr result (λ fault. fault ≡ RunFault.Write) }
-{
-    pair.key.write_text(writer)?;
-    write_bytes(writer, b":".as_slice())?;
-    pair.value.write_text(writer)
+    indexset_wire::number::write_number(writer, number).map_err(|_| RunFault::Write)
 }
 
 /// Writes a reply as a line.
@@ -90,33 +72,7 @@ pub(crate) fn write_change<T: Key, W: Write>(
     write_events(writer, events)
 }
 
-/// Writes an insert or remove event as a line, from its fields.
-fn write_placed<T: Key, W: Write>(
-    writer: &mut W,
-    id: Id,
-    word: &[u8],
-    max: &Pair<T, T>,
-    value: &Pair<T, T>,
-    index: usize,
-) -> Result<(), RunFault>
-    ensures told { OnOk result (Appends (W.contents writer.old) (W.contents writer.new)
-        (ended (event_head T.texts id word.now max.now ++ codes " " ++ pair_text T.texts value.now
-        ++ codes " " ++ decimal index))) }
-    ensures fault { IfErr result (λ fault. fault ≡ RunFault.Write) }
-{
-    write_number(writer, id.inner())?;
-    write_bytes(writer, word)?;
-    write_pair(writer, max)?;
-    write_bytes(writer, b" ".as_slice())?;
-    write_pair(writer, value)?;
-    write_bytes(writer, b" ".as_slice())?;
-    write_number(writer, index as u64)?;
-    write_bytes(writer, b"\n".as_slice())
-}
-
 /// Writes an event as a line.
-///
-/// The two most frequent kinds are written field by field, which is faster than a format string.
 fn write_event<T: Key, W: Write>(
     writer: &mut W,
     event: &ChangeEvent<Pair<T, T>>,
@@ -125,30 +81,8 @@ fn write_event<T: Key, W: Write>(
         (ended (event_text T.texts event.now))) }
     ensures fault { IfErr result (λ fault. fault ≡ RunFault.Write) }
 {
-    match event {
-        ChangeEvent::InsertAt {
-            event_id,
-            max_value,
-            value,
-            index,
-        } => {
-            let word = b" insert ".as_slice();
-            write_placed(writer, *event_id, word, max_value, value, *index)
-        }
-        ChangeEvent::RemoveAt {
-            event_id,
-            max_value,
-            value,
-            index,
-        } => {
-            let word = b" remove ".as_slice();
-            write_placed(writer, *event_id, word, max_value, value, *index)
-        }
-        _ => {
-            let shown = EventText(event);
-            writer.writeln(shown).map_err(|_| RunFault::Write)
-        }
-    }
+    indexset_wire::event::write_event(writer, event).map_err(|_| RunFault::Write)?;
+    write_bytes(writer, b"\n".as_slice())
 }
 
 /// Writes each event as a line.

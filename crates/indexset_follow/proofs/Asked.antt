@@ -17,7 +17,7 @@ use Rattle.indexset_follow.specs.declared.role.Role.TheVariants.{Following, Lead
 use Rattle.indexset_follow.proofs.QueryLines.{query_cut, query_told}
 use Rattle.indexset_follow.proofs.Readings.{no_number}
 use Rattle.std.specs.declared.cmp.Ordering.{Ordering}
-use Rattle.indexset_bench.specs.Texts.{AreWords, Texts}
+use Rattle.indexset_wire.specs.Texts.{AreTokens, Texts}
 
 module _ {T : Type 0} (texts : Texts T) where
   -- the line of a read is not an event
@@ -105,7 +105,7 @@ module _ {T : Type 0} (texts : Texts T) where
   no_follow Sum = refl
   no_follow Compact = refl
 
-module _ {T : Type 0} (cmp : T → T → Ordering) (texts : Texts T) (spelled : AreWords texts) where
+module _ {T : Type 0} (cmp : T → T → Ordering) (texts : Texts T) (spelled : AreTokens texts) where
   module _ (q : Query T) (fit : QueryFits texts q) where
     pub follower_answers : (v : Voice) (size w : ℕ) (s : State T) → held_reply cmp texts v (held size w (Following s)) (query_line texts q) ≡ query_text cmp texts s.held.nodes s.held.next s.done q
     follower_answers v size w s = rw (no_lead texts q, no_follow texts q, no_event texts q, no_node texts q, no_mark texts q, query_told texts spelled q fit) refl

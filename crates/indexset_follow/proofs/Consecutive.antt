@@ -6,7 +6,7 @@ use Rattle.indexset_bench.specs.PairText.{event_text}
 use Rattle.indexset_core.specs.declared.pair.Pair.{Pair}
 use Rattle.indexset_follow.specs.Early.{EarlyEvents, consecutive}
 use Rattle.indexset_follow.specs.EventLine.{Event}
-use Rattle.indexset_bench.specs.Texts.{Texts}
+use Rattle.indexset_wire.specs.Texts.{Texts}
 
 module _ {T : Type 0} (texts : Texts T) where
   module _ (done : List (List ℕ)) (n : ℕ) (p : Pair ℕ (Event T)) (rest : EarlyEvents T) where

@@ -8,7 +8,7 @@ use Rattle.indexset_follow.specs.Store.{Held, after_input, first_held, held_afte
 use Rattle.indexset_follow.specs.StoreRun.{store_after, store_text}
 use Rattle.indexset_follow.specs.declared.others.Voice.{Voice}
 use Rattle.std.specs.declared.cmp.Ordering.{Ordering}
-use Rattle.indexset_bench.specs.Texts.{Texts}
+use Rattle.indexset_wire.specs.Texts.{Texts}
 
 module _ {T : Type 0} (cmp : T → T → Ordering) (texts : Texts T) where
   -- reading the lines of the input has the effect of these lines without the bytes 13

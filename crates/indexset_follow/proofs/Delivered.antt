@@ -16,9 +16,9 @@ use Rattle.indexset_follow.specs.Told.{IsAmong, event_lines, events_of_lines, ou
 use Rattle.indexset_follow.proofs.EventLines.{event_sound, event_told}
 use Rattle.indexset_follow.proofs.Output.{Known, events_in, output_known, output_tells}
 use Rattle.indexset_follow.proofs.Programs.{follower_begins, follower_ends, follower_holds, same_nodes, told_fit}
-use Rattle.indexset_events.specs.Spelling.Laws.{some_inj, none_some}
+use Rattle.indexset_wire.specs.Parts.Laws.{some_inj, none_some}
 use Rattle.std.specs.Ordering.{nat_cmp}
-use Rattle.indexset_bench.specs.Texts.{number_texts, number_words}
+use Rattle.indexset_wire.specs.Texts.{number_texts, number_tokens}
 
 -- ---- lists
 
@@ -39,7 +39,7 @@ all_among ls k d lt = record { place = k; at = slice_get-get_or ls k d lt }
 -- the lines that are events are the texts of these events
 texts_told : (ls : List (List ℕ)) → event_lines ls ≡ map (event_text number_texts) (events_in ls)
 texts_told [] = refl
-texts_told (l ∷ ls) = at (event_of number_texts l) (λ e told. (event_sound number_texts number_words l e told).0) (texts_told ls)
+texts_told (l ∷ ls) = at (event_of number_texts l) (λ e told. (event_sound number_texts number_tokens l e told).0) (texts_told ls)
   where
     at : (o : Option (Event ℕ)) → ((e : Event ℕ) → o ≡ Some e → l ≡ event_text number_texts e) → event_lines ls ≡ map (event_text number_texts) (events_in ls)
         → cond (is_some o) (l ∷ event_lines ls) (event_lines ls) ≡ map (event_text number_texts) (option_map_or (λ e. e ∷ events_in ls) o (events_in ls))
@@ -120,7 +120,7 @@ module _ (lines : List (List ℕ)) (many : length lines < 2 ^ 64) (less : (store
     one_drawn : (line : List ℕ) → IsAmong (output_lines lines) line → (e : Event ℕ) → event_of number_texts line ≡ Some e → IsDrawn number_texts (events_of_lines lines) line
     one_drawn line a e told =
         let found = event_at (output_lines lines) a.place line e a.at told in
-        record { place = found.0; event = e; at = subst (λ es. slice_get es found.0 ≡ Some e) (output_tells lines many less) found.1; text = (event_sound number_texts number_words line e told).0 }
+        record { place = found.0; event = e; at = subst (λ es. slice_get es found.0 ≡ Some e) (output_tells lines many less) found.1; text = (event_sound number_texts number_tokens line e told).0 }
 
     drawn : All (IsDrawn number_texts (events_of_lines lines)) (event_lines delivered)
     drawn =
@@ -160,7 +160,7 @@ module _ (lines : List (List ℕ)) (many : length lines < 2 ^ 64) (less : (store
         there : (p : ℕ) (e : Event ℕ) → 0 ≤ p → slice_get (events_of_lines lines) p ≡ Some e → IsAmong (event_lines delivered) (event_text number_texts e)
         there p e le at =
             let told : event_of number_texts (event_text number_texts e) ≡ Some e =
-            event_told number_texts number_words e
+            event_told number_texts number_tokens e
             (each_read (EventFits number_texts) (events_of_lines lines) p
             e at (all_each (EventFits number_texts) (events_of_lines lines) (told_fit lines less))) in
             let text : slice_get (event_lines (output_lines lines)) p ≡ Some (event_text number_texts e) = ap (λ ls. slice_get ls p) output_texts ∙ text_at (events_of_lines lines) p e at in

@@ -11,7 +11,7 @@ use Rattle.indexset_lines.specs.Run.{left_by}
 use Rattle.indexset_bench.specs.PairText.{event_text}
 use Rattle.indexset_core.specs.declared.pair.Pair.{Pair}
 use Rattle.indexset_events.specs.Replay.{event_number}
-use Rattle.indexset_events.specs.Spelling.Laws.{some_inj}
+use Rattle.indexset_wire.specs.Parts.Laws.{some_inj}
 use Rattle.indexset_replica.specs.Delivery.{IsSubsequence}
 use Rattle.indexset_follow.specs.Drawn.{HoldsAhead, HoldsFirst, IsDrawn, IsFeedOfPairs}
 use Rattle.indexset_follow.specs.EventLine.{Event, EventFits, event_of}
@@ -19,7 +19,7 @@ use Rattle.indexset_follow.specs.Follow.{State, after_event, after_line, state_a
 use Rattle.indexset_follow.proofs.EventLines.{event_told}
 use Rattle.indexset_follow.proofs.Turns.{Onward, number_at, onward, read_at}
 use Rattle.std.specs.declared.cmp.Ordering.{Ordering}
-use Rattle.indexset_bench.specs.Texts.{AreWords, Texts}
+use Rattle.indexset_wire.specs.Texts.{AreTokens, Texts}
 
 -- ---- lists
 
@@ -49,7 +49,7 @@ got [] i d lt = absurd (omega (arith, lt))
 got (x ∷ xs) zero d lt = refl
 got (x ∷ xs) (suc i) d lt = got xs i d (omega (arith, lt))
 
-module _ {T : Type 0} (cmp : T → T → Ordering) (texts : Texts T) (spelled : AreWords texts) where
+module _ {T : Type 0} (cmp : T → T → Ordering) (texts : Texts T) (spelled : AreTokens texts) where
   -- ---- lines
 
   module _ (s : ℕ) (ns : List (List (Pair T T))) (es : List (Event T)) (feed : IsFeedOfPairs cmp s ns es) (fit : All (EventFits texts) es) where

@@ -4,19 +4,19 @@ use Rattle.std.specs.Option.{option_and_then, option_map, option_map_or}
 use Rattle.indexset_bench.specs.PairCommand.{CommandFits, pair_meaning}
 use Rattle.indexset_bench.specs.declared.pair_command.PairCommand.{PairCommand}
 use Rattle.indexset_bench.proofs.CallerLemmas.{pair_sound}
-use Rattle.indexset_events.specs.Spelling.{cut_at}
-use Rattle.indexset_events.specs.Spelling.Laws.{map_some, none_some, some_inj, then_some}
+use Rattle.indexset_wire.specs.Parts.{cut_at}
+use Rattle.indexset_wire.specs.Parts.Laws.{map_some, none_some, some_inj, then_some}
 use Rattle.indexset_follow.specs.Echo.{change_of, command, command_of, echo_of, echoed_of}
 use Rattle.indexset_follow.specs.Query.{query_of}
 use Rattle.indexset_follow.specs.declared.echo.Command.{Command}
 use Rattle.indexset_follow.specs.declared.reads.query.Query.{Query}
-use Rattle.indexset_bench.specs.Texts.{AreWords, Texts}
+use Rattle.indexset_wire.specs.Texts.{AreTokens, Texts}
 
 module _ {T : Type 0} (texts : Texts T) where
   abbrev Fits : Command T → Type 0
   Fits c = CommandFits texts c.change
 
-module _ {T : Type 0} (texts : Texts T) (spelled : AreWords texts) where
+module _ {T : Type 0} (texts : Texts T) (spelled : AreTokens texts) where
   change_fits : (text : List ℕ) (c : PairCommand T) → change_of texts text ≡ Some c → CommandFits texts c
   change_fits text c h = at (query_of texts text) (pair_meaning texts text) refl h
     where

@@ -20,7 +20,8 @@ use Rattle.indexset_events.specs.Table.{half_of, halving_events, is_after_last, 
 use Rattle.indexset_events.specs.declared.change.ChangeEventUnassigned.{ChangeEventUnassigned}
 use Rattle.indexset_events.specs.declared.change.ChangeEventUnassigned.TheVariants.{InsertAt, RemoveAt, CreateNode, RemoveNode, SplitNode, MergeNodes}
 use Rattle.indexset_events.proofs.CallerLemmas.{Each, each-append, each-left, each-right}
-use Rattle.indexset_bench.specs.Texts.{PairFits, Texts}
+use Rattle.indexset_bench.specs.Texts.{PairFits}
+use Rattle.indexset_wire.specs.Texts.{Texts}
 
 -- ---- lists
 

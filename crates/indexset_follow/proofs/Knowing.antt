@@ -22,7 +22,7 @@ use Rattle.indexset_follow.specs.declared.mark.Mark.TheVariants.{Start, End, Don
 use Rattle.indexset_follow.specs.declared.reads.query.Query.{Query}
 use Rattle.indexset_follow.proofs.Near.{awaits_on}
 use Rattle.std.specs.declared.cmp.Ordering.{Ordering}
-use Rattle.indexset_bench.specs.Texts.{Texts}
+use Rattle.indexset_wire.specs.Texts.{Texts}
 
 -- ---- the greatest number
 

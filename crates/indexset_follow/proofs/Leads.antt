@@ -13,7 +13,7 @@ use Rattle.indexset_core.specs.Pairs.{by_key}
 use Rattle.indexset_events.specs.Attach.{nodes_refusal}
 use Rattle.indexset_events.specs.Nodes.{is_filled}
 use Rattle.indexset_events.specs.Replay.{replay}
-use Rattle.indexset_events.specs.Spelling.Laws.{some_inj}
+use Rattle.indexset_wire.specs.Parts.Laws.{some_inj}
 use Rattle.indexset_events.proofs.CallerLemmas.{lawful_taken, none_lawful}
 use Rattle.indexset_log.specs.Tree.{fresh}
 use Rattle.indexset_follow.specs.Copy.{copy}
@@ -34,10 +34,10 @@ use Rattle.indexset_follow.specs.declared.role.Role.TheVariants as role
 use Rattle.indexset_follow.proofs.Echoes.{command_fits}
 use Rattle.indexset_follow.proofs.Onwards.{Good, Onward, both_onward, command_onward, order, still}
 use Rattle.std.specs.declared.cmp.Ordering.{Ordering}
-use Rattle.indexset_bench.specs.Texts.{AreWords, Texts}
+use Rattle.indexset_wire.specs.Texts.{AreTokens, Texts}
 use Rattle.std.specs.Cmp.{IsTotalOrder}
 
-module _ {T : Type 0} (cmp : T → T → Ordering) (texts : Texts T) (total : IsTotalOrder cmp) (spelled : AreWords texts) where
+module _ {T : Type 0} (cmp : T → T → Ordering) (texts : Texts T) (total : IsTotalOrder cmp) (spelled : AreTokens texts) where
   -- ---- lines of a leader
 
   pub leading_onward : (t : PairTree T) → Good cmp texts t → (line : List ℕ) → Onward cmp texts t (after_leading cmp texts t line) (leading_events cmp texts t line)
@@ -78,7 +78,7 @@ module _ {T : Type 0} (cmp : T → T → Ordering) (texts : Texts T) where
   sizes_kept t [] = refl
   sizes_kept t (line ∷ lines) = sizes_kept (after_leading cmp texts t line) lines ∙ size_kept t line
 
-module _ {T : Type 0} (cmp : T → T → Ordering) (texts : Texts T) (total : IsTotalOrder cmp) (spelled : AreWords texts) where
+module _ {T : Type 0} (cmp : T → T → Ordering) (texts : Texts T) (total : IsTotalOrder cmp) (spelled : AreTokens texts) where
   module _ (size : ℕ) (two : 2 ≤ size) (few : size < 2 ^ 64) where
     fresh_good : Good cmp texts (fresh size)
     fresh_good = record { two = two; few = few; lawful = none_lawful (order cmp) size; held = tt }
@@ -156,7 +156,7 @@ module _ {T : Type 0} (cmp : T → T → Ordering) (texts : Texts T) where
         ∙ (λ i. reply_ended (reply.Next (holds i).next)
         ++ held_replies cmp texts v (held l.pairs.size w (role.Leading (same_leader i))) lines)
 
-module _ {T : Type 0} (cmp : T → T → Ordering) (texts : Texts T) (total : IsTotalOrder cmp) (spelled : AreWords texts) where
+module _ {T : Type 0} (cmp : T → T → Ordering) (texts : Texts T) (total : IsTotalOrder cmp) (spelled : AreTokens texts) where
   -- a follower that applied all events of a leader and has its greatest command number
   module _ (size : ℕ) (two : 2 ≤ size) (few : size < 2 ^ 64) (lines : List (List ℕ)) (s : State T)
       (holds : HoldsFirst cmp 0 [] (events_led cmp texts (fresh size) lines)

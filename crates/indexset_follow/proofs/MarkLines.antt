@@ -5,8 +5,10 @@ use Rattle.std.proofs.lemmas.Bool.{eqb-true}
 use Rattle.std.specs.Fmt.{decimal}
 use Rattle.std.specs.Option.{option_and_then, option_map, option_map_or}
 use Rattle.std.specs.Str.{bytes_eq}
-use Rattle.indexset_events.specs.Spelling.{cut_at, number_of}
-use Rattle.indexset_events.specs.Spelling.Laws.{cut_sound, cut_told, lacks_tested, map_some, none_some, number_lacks, number_sound, number_told, some_inj, then_some}
+use Rattle.indexset_wire.specs.Numbers.{number_of}
+use Rattle.indexset_wire.specs.Parts.{cut_at}
+use Rattle.indexset_wire.specs.Numbers.Laws.{number_lacks, number_sound, number_told}
+use Rattle.indexset_wire.specs.Parts.Laws.{cut_sound, cut_told, lacks_tested, map_some, none_some, some_inj, then_some}
 use Rattle.indexset_follow.specs.Mark.{MarkFits, end_of, mark_line, mark_of, start_of, sum_text, word_mark}
 use Rattle.indexset_follow.specs.Numbers.{tail_text, two_numbers}
 use Rattle.indexset_follow.specs.declared.mark.Mark.{Mark}

@@ -16,9 +16,10 @@ use Rattle.std.specs.Str.{bytes_eq}
 use Rattle.indexset_bench.specs.PairText.{node_text, pair_text}
 use Rattle.indexset_core.specs.declared.pair.Pair.{Pair}
 use Rattle.indexset_follow.specs.NodeLine.{NodeFits, node_line, node_of, pairs_of, words}
-use Rattle.indexset_events.specs.Spelling.{cut_at}
-use Rattle.indexset_bench.specs.Texts.{AreWords, PairFits, Texts, pair_of}
-use Rattle.indexset_events.specs.Spelling.Laws.{Lacks, cut_sound, cut_told, lacks_tested, map_some, none_some, some_inj, then_some}
+use Rattle.indexset_wire.specs.Parts.{cut_at}
+use Rattle.indexset_bench.specs.Texts.{PairFits, pair_of}
+use Rattle.indexset_wire.specs.Texts.{AreTokens, Texts}
+use Rattle.indexset_wire.specs.Parts.Laws.{Lacks, cut_sound, cut_told, lacks_tested, map_some, none_some, some_inj, then_some}
 use Rattle.indexset_follow.proofs.Readings.{pair_lacks, pair_sound, pair_told, space_apart}
 
 -- ---- words
@@ -79,7 +80,7 @@ module _ {T : Type 0} where
   pairs_more ps p None = refl
   pairs_more ps p (Some qs) = ap Some (sym (append_assoc ps (p ∷ []) qs))
 
-module _ {T : Type 0} (texts : Texts T) (spelled : AreWords texts) where
+module _ {T : Type 0} (texts : Texts T) (spelled : AreTokens texts) where
   pub all_pairs_told : (ps : List (Pair T T)) → All (PairFits texts) ps → pairs_of texts (map (pair_text texts) ps) ≡ Some ps
   unfolding pairs_of
   all_pairs_told [] fit = refl

@@ -16,7 +16,8 @@ use Rattle.indexset_events.specs.declared.change.ChangeEventUnassigned.{ChangeEv
 use Rattle.indexset_events.specs.declared.change.ChangeEventUnassigned.TheVariants.{InsertAt, RemoveAt, CreateNode, RemoveNode, SplitNode, MergeNodes}
 use Rattle.indexset_events.proofs.CallerLemmas.{Each, Leads, each-append, key_removal_leads, length-numbered, nodes_each, nothing_leads, numbered-append, numbered_is, put_leads, replay-append}
 use Rattle.indexset_follow.specs.EventLine.{Event, EventFits}
-use Rattle.indexset_bench.specs.Texts.{PairFits, Texts}
+use Rattle.indexset_bench.specs.Texts.{PairFits}
+use Rattle.indexset_wire.specs.Texts.{Texts}
 use Rattle.indexset_follow.proofs.Fits.{PlainFits, key_removal_fit, put_fit}
 use Rattle.std.specs.Cmp.{IsTotalOrder}
 

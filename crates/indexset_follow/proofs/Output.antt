@@ -30,16 +30,17 @@ use Rattle.indexset_follow.specs.EventLine.{Event, EventFits, event_of}
 use Rattle.indexset_follow.specs.Follow.{State, after_line}
 use Rattle.indexset_follow.specs.Passed.{IsPassedOver, ReplyFits}
 use Rattle.indexset_follow.specs.Told.{events_from, events_of_lines, line_events, output_lines}
-use Rattle.indexset_follow.proofs.EventLines.{event_told}
+use Rattle.indexset_follow.proofs.EventLines.{event_told, event_whole}
 use Rattle.indexset_follow.proofs.Fits.{each_apart}
 use Rattle.indexset_follow.proofs.Passing.{node_alone, node_passed}
 use Rattle.indexset_follow.proofs.PassedReplies.{reply_passed}
 use Rattle.indexset_follow.proofs.Onwards.{Good}
 use Rattle.indexset_follow.proofs.Programs.{line_onward, lines_onward, no_good}
-use Rattle.indexset_events.specs.Spelling.Laws.{none_some}
+use Rattle.indexset_wire.specs.Parts.Laws.{none_some}
 use Rattle.indexset_follow.proofs.Snapshots.{first_line, row_lacks}
-use Rattle.indexset_bench.specs.Texts.{PairFits, number_texts, number_words}
-use Rattle.indexset_follow.proofs.Replies.{change_fits, event_whole, reply_alone, reply_whole}
+use Rattle.indexset_bench.specs.Texts.{PairFits}
+use Rattle.indexset_wire.specs.Texts.{number_texts, number_tokens}
+use Rattle.indexset_follow.proofs.Replies.{change_fits, reply_alone, reply_whole}
 
 -- ---- the events of a text, with any text after it
 
@@ -63,8 +64,8 @@ tells_nothing line none event passed rest =
 
 tells_event : (e : Event ℕ) → EventFits number_texts e → Tells (ended (event_text number_texts e)) (e ∷ [])
 tells_event e fit rest =
-    let told = event_told number_texts number_words e fit in
-    let first = first_line (event_text number_texts e) rest (event_whole number_texts number_words e fit) in
+    let told = event_told number_texts number_tokens e fit in
+    let first = first_line (event_text number_texts e) rest (event_whole number_texts number_tokens e fit) in
     (ap events_in first ∙ rw told refl, λ known. subst (Each Known) (sym first) ((λ none. none_some e (sym none ∙ told)), known))
 
 tells_both : (a b : List ℕ) (es fs : List (Event ℕ)) → Tells a es → Tells b fs → Tells (a ++ b) (es ++ fs)
@@ -85,12 +86,12 @@ tells_nodes [] fit = tells_none
 tells_nodes (n ∷ ns) fit =
     tells_both (ended (node_text number_texts n)) (lines_for (node_text number_texts) ns) [] []
     (tells_nothing (node_text number_texts n)
-    (row_lacks number_texts number_words n (each_all (PairFits number_texts) n fit.0))
-    (node_alone number_texts number_words n fit.0) (node_passed nat_cmp number_texts number_words n fit.0))
+    (row_lacks number_texts number_tokens n (each_all (PairFits number_texts) n fit.0))
+    (node_alone number_texts number_tokens n fit.0) (node_passed nat_cmp number_texts number_tokens n fit.0))
     (tells_nodes ns fit.1)
 
 tells_reply : (r : Reply ℕ) → ReplyFits number_texts r → Tells (reply_ended number_texts r) []
-tells_reply r fit = tells_nothing (reply_text number_texts r) (reply_whole number_texts number_words r fit) (reply_alone number_texts number_words r fit) (reply_passed r fit)
+tells_reply r fit = tells_nothing (reply_text number_texts r) (reply_whole number_texts number_tokens r fit) (reply_alone number_texts number_tokens r fit) (reply_passed r fit)
 
 -- ---- a command to the map
 

@@ -10,10 +10,11 @@ use Rattle.indexset_bench.specs.Reply.{reply_text}
 use Rattle.indexset_bench.specs.declared.reply.Reply.{Reply}
 use Rattle.indexset_bench.specs.declared.reply.Reply.TheVariants.{New, Old, OldValue, Gone, GoneValue, Yes, No, Count, Item, Nothing, Empty, Bad}
 use Rattle.indexset_follow.specs.Passed.{IsPassedOver, ReplyFits}
-use Rattle.indexset_events.specs.Spelling.Laws.{Lacks, lacks_tested, number_lacks}
+use Rattle.indexset_wire.specs.Numbers.Laws.{number_lacks}
+use Rattle.indexset_wire.specs.Parts.Laws.{Lacks, lacks_tested}
 use Rattle.indexset_follow.proofs.Passing.{gone_passed, old_passed, says_nothing, uncut, word_passed}
 use Rattle.std.specs.Ordering.{nat_cmp}
-use Rattle.indexset_bench.specs.Texts.{number_texts}
+use Rattle.indexset_wire.specs.Texts.{number_texts}
 
 -- a number is not a word that begins with a byte other than a digit
 no_word : (n : ℕ) → n < 2 ^ 64 → (c : ℕ) (word : List ℕ) → 10 ≤ digit_value c → bytes_eq (decimal n) (c ∷ word) ≡ false

@@ -24,12 +24,15 @@ use Rattle.indexset_follow.specs.EventLine.{event_of}
 use Rattle.indexset_follow.specs.Follow.{reply_line}
 use Rattle.indexset_follow.specs.Mark.{mark_of}
 use Rattle.indexset_follow.specs.NodeLine.{node_of}
-use Rattle.indexset_events.specs.Spelling.{cut_at, lacks, number_of}
-use Rattle.indexset_bench.specs.Texts.{AreWords, PairFits, Texts}
+use Rattle.indexset_wire.specs.Numbers.{number_of}
+use Rattle.indexset_wire.specs.Parts.{cut_at, lacks}
+use Rattle.indexset_bench.specs.Texts.{PairFits}
+use Rattle.indexset_wire.specs.Texts.{AreTokens, Texts}
 use Rattle.indexset_follow.specs.Passed.{IsPassedOver}
 use Rattle.indexset_follow.specs.Query.{query_of}
 use Rattle.indexset_follow.specs.declared.others.Others.TheVariants.{Pass}
-use Rattle.indexset_events.specs.Spelling.Laws.{Lacks, cut_told, lacks_tested, number_lacks, number_sound}
+use Rattle.indexset_wire.specs.Numbers.Laws.{number_lacks, number_sound}
+use Rattle.indexset_wire.specs.Parts.Laws.{Lacks, cut_told, lacks_tested}
 use Rattle.indexset_follow.proofs.Readings.{no_number, pair_lacks, space_apart}
 use Rattle.std.specs.declared.cmp.Ordering.{Ordering}
 
@@ -56,15 +59,15 @@ uncut c text lacks = at (nat_lt spot (length text)) refl
     at false is = refl
 
 module _ {T : Type 0} (cmp : T → T → Ordering) (texts : Texts T) where
-  pub old_passed : (v : T) → IsPassedOver cmp texts (codes "old " ++ texts.spelling v)
+  pub old_passed : (v : T) → IsPassedOver cmp texts (codes "old " ++ texts.text v)
   old_passed v =
-      let cut : cut_at 32 (codes "old " ++ texts.spelling v) ≡ Some (codes "old", texts.spelling v) = cut_told 32 (codes "old") (texts.spelling v) (lacks_tested 32 (codes "old") refl) in
-      says_nothing cmp texts (codes "old " ++ texts.spelling v) (rw (cut, no_number 111 (codes "ld") (omega arith)) refl) (rw cut refl) (rw cut refl) (rw cut refl)
+      let cut : cut_at 32 (codes "old " ++ texts.text v) ≡ Some (codes "old", texts.text v) = cut_told 32 (codes "old") (texts.text v) (lacks_tested 32 (codes "old") refl) in
+      says_nothing cmp texts (codes "old " ++ texts.text v) (rw (cut, no_number 111 (codes "ld") (omega arith)) refl) (rw cut refl) (rw cut refl) (rw cut refl)
 
-  pub gone_passed : (v : T) → IsPassedOver cmp texts (codes "gone " ++ texts.spelling v)
+  pub gone_passed : (v : T) → IsPassedOver cmp texts (codes "gone " ++ texts.text v)
   gone_passed v =
-      let cut : cut_at 32 (codes "gone " ++ texts.spelling v) ≡ Some (codes "gone", texts.spelling v) = cut_told 32 (codes "gone") (texts.spelling v) (lacks_tested 32 (codes "gone") refl) in
-      says_nothing cmp texts (codes "gone " ++ texts.spelling v) (rw (cut, no_number 103 (codes "one") (omega arith)) refl) (rw cut refl) (rw cut refl) (rw cut refl)
+      let cut : cut_at 32 (codes "gone " ++ texts.text v) ≡ Some (codes "gone", texts.text v) = cut_told 32 (codes "gone") (texts.text v) (lacks_tested 32 (codes "gone") refl) in
+      says_nothing cmp texts (codes "gone " ++ texts.text v) (rw (cut, no_number 103 (codes "one") (omega arith)) refl) (rw cut refl) (rw cut refl) (rw cut refl)
 
   -- the last line of a leader's answer to a command
   pub next_passed : (n : ℕ) → IsPassedOver cmp texts (codes "next " ++ decimal n)
@@ -96,9 +99,8 @@ module _ {T : Type 0} (texts : Texts T) where
   -- a pair has a colon
   pair_has_colon : (p : Pair T T) → Lacks 58 (pair_text texts p) → ⊥
   pair_has_colon p lacks =
-      let text = texts.spelling p.key in
-      let parts : pair_text texts p ≡ text ++ 58 ∷ texts.spelling p.value = append_assoc text (58 ∷ []) (texts.spelling p.value) in
-      subst (Lacks 58) parts lacks (length text) 0 (omega (arith, length-append text (58 ∷ texts.spelling p.value))) (get_or-append_seam text 58 (texts.spelling p.value) 0)
+      let text = texts.text p.key in
+      lacks (length text) 0 (omega (arith, length-append text (58 ∷ texts.text p.value))) (get_or-append_seam text 58 (texts.text p.value) 0)
 
   -- so it is not a number, nor a word without a colon
   pair_no_number : (p : Pair T T) → number_of (pair_text texts p) ≡ None
@@ -117,7 +119,7 @@ module _ {T : Type 0} (texts : Texts T) where
       at true e = absurd (pair_has_colon p (subst (Lacks 58) (sym ((bytes_eq-Decides (pair_text texts p) word).0 e)) (lacks_tested 58 word none)))
       at false e = refl
 
-module _ {T : Type 0} (texts : Texts T) (spelled : AreWords texts) where
+module _ {T : Type 0} (texts : Texts T) (spelled : AreTokens texts) where
   pub node_alone : (n : List (Pair T T)) → Each (PairFits texts) n → event_of texts (node_text texts n) ≡ None
   node_alone [] fit = refl
   node_alone (p ∷ []) fit = (let one = uncut 32 (pair_text texts p) (pair_lacks texts 32 (space_apart texts spelled) p fit.0) in rw one refl)
@@ -127,7 +129,7 @@ module _ {T : Type 0} (texts : Texts T) (spelled : AreWords texts) where
       (pair_lacks texts 32 (space_apart texts spelled) p fit.0) in
       rw (cut, pair_no_number texts p) refl
 
-module _ {T : Type 0} (cmp : T → T → Ordering) (texts : Texts T) (spelled : AreWords texts) where
+module _ {T : Type 0} (cmp : T → T → Ordering) (texts : Texts T) (spelled : AreTokens texts) where
   pub node_passed : (n : List (Pair T T)) → Each (PairFits texts) n → IsPassedOver cmp texts (node_text texts n)
   node_passed [] fit = says_nothing cmp texts [] refl refl refl refl
   node_passed (p ∷ []) fit =

@@ -27,14 +27,14 @@ use Rattle.indexset_follow.specs.Follow.{start_state, state_after}
 use Rattle.indexset_follow.specs.Told.{IsAmong, events_from, events_of_lines, line_events}
 use Rattle.indexset_follow.proofs.Drawing.{beginning, whole}
 use Rattle.indexset_follow.proofs.Within.{all_held}
-use Rattle.indexset_events.specs.Spelling.Laws.{some_inj}
+use Rattle.indexset_wire.specs.Parts.Laws.{some_inj}
 use Rattle.indexset_follow.proofs.Onwards.{Good, Onward, both_onward, command_onward, still}
-use Rattle.indexset_bench.specs.Texts.{number_texts, number_words}
+use Rattle.indexset_wire.specs.Texts.{number_texts, number_tokens}
 
 -- ---- lines
 
 pub line_onward : (s : Stores) → Good nat_cmp number_texts s.pairs → (line : List ℕ) → Onward nat_cmp number_texts s.pairs (stores_after s line).pairs (line_events s line)
-line_onward s g line = at (pair_meaning number_texts line) (λ c told. (pair_sound number_texts number_words line c told).1)
+line_onward s g line = at (pair_meaning number_texts line) (λ c told. (pair_sound number_texts number_tokens line c told).1)
   where
     at : (o : Option (PairCommand ℕ)) → ((c : PairCommand ℕ) → o ≡ Some c → CommandFits number_texts c)
         → Onward nat_cmp number_texts s.pairs
@@ -104,7 +104,7 @@ module _ (lines : List (List ℕ)) where
 
     module _ (w : ℕ) (delivered : List (List ℕ)) (drawn : All (IsDrawn number_texts (events_of_lines lines)) delivered) where
       pub follower_begins : (k : ℕ) × HoldsFirst nat_cmp 0 [] (events_of_lines lines) k (state_after nat_cmp number_texts (start_state w) delivered)
-      follower_begins = let held = beginning nat_cmp number_texts number_words 0 [] (events_of_lines lines) told_feed told_fit 0 (start_state w) delivered (start w) tt drawn in (held.0, held.1)
+      follower_begins = let held = beginning nat_cmp number_texts number_tokens 0 [] (events_of_lines lines) told_feed told_fit 0 (start_state w) delivered (start w) tt drawn in (held.0, held.1)
 
       -- a follower that applied k events, and the program after lines that emitted as many
       pub same_nodes : (n : ℕ)
@@ -138,11 +138,11 @@ module _ (lines : List (List ℕ)) where
       pub follower_ends : IsSubsequence (map (event_text number_texts) (events_of_lines lines)) delivered
           → (state_after nat_cmp number_texts (start_state w) delivered).held
           ≡ copy (stores_of no_stores lines).pairs.nodes (stores_of no_stores lines).pairs.next
-      follower_ends came = at_end (whole nat_cmp number_texts number_words 0 [] (events_of_lines lines) told_feed told_fit 0 (start_state w) delivered (start w) tt drawn came)
+      follower_ends came = at_end (whole nat_cmp number_texts number_tokens 0 [] (events_of_lines lines) told_feed told_fit 0 (start_state w) delivered (start w) tt drawn came)
 
       pub follower_holds : AreWithin nat_cmp number_texts (start_state w) delivered
           → ((p : ℕ) (e : Event ℕ) → 0 ≤ p → slice_get (events_of_lines lines) p ≡ Some e
           → IsAmong delivered (event_text number_texts e))
           → (state_after nat_cmp number_texts (start_state w) delivered).held
           ≡ copy (stores_of no_stores lines).pairs.nodes (stores_of no_stores lines).pairs.next
-      follower_holds within came = at_end (all_held nat_cmp number_texts number_words 0 [] (events_of_lines lines) told_feed told_fit 0 (start_state w) delivered refl (start w) drawn within came)
+      follower_holds within came = at_end (all_held nat_cmp number_texts number_tokens 0 [] (events_of_lines lines) told_feed told_fit 0 (start_state w) delivered refl (start w) drawn within came)

@@ -5,14 +5,17 @@ use Rattle.std.proofs.lemmas.Slice.Eq.{bytes_eq-Decides}
 use Rattle.std.specs.Fmt.{decimal}
 use Rattle.std.specs.Option.{option_and_then, option_map, option_map_or}
 use Rattle.std.specs.Str.{bytes_eq}
-use Rattle.indexset_events.specs.Spelling.{cut_at, number_of}
-use Rattle.indexset_bench.specs.Texts.{AreWords, Texts, two_keys}
+use Rattle.indexset_wire.specs.Numbers.{number_of}
+use Rattle.indexset_wire.specs.Parts.{cut_at}
+use Rattle.indexset_bench.specs.Texts.{two_keys}
+use Rattle.indexset_wire.specs.Texts.{AreTokens, Texts}
 use Rattle.indexset_bench.proofs.CallerLemmas.{two_keys_sound, two_keys_told}
 use Rattle.indexset_follow.specs.Numbers.{two_numbers}
 use Rattle.indexset_follow.specs.Query.{QueryFits, keyed_query, numbered_query, query_line, query_of, word_query}
 use Rattle.indexset_follow.specs.declared.reads.query.Query.{Query}
 use Rattle.indexset_follow.specs.declared.reads.query.Query.TheVariants.{Get, Len, First, Last, Range, Rank, At, Page, Nodes, Next, Head, Snapshot, Sum, Compact}
-use Rattle.indexset_events.specs.Spelling.Laws.{cut_sound, cut_told, lacks_tested, map_some, none_some, number_lacks, number_sound, number_told, some_inj, then_some}
+use Rattle.indexset_wire.specs.Numbers.Laws.{number_lacks, number_sound, number_told}
+use Rattle.indexset_wire.specs.Parts.Laws.{cut_sound, cut_told, lacks_tested, map_some, none_some, some_inj, then_some}
 
 -- ---- two numbers
 
@@ -39,12 +42,12 @@ same word text e = (bytes_eq-Decides word text).0 e
 module _ {T : Type 0} (texts : Texts T) where
   -- the word of a read and the text after it, if it has one
   abbrev pub parts_of : Query T → Option (List ℕ × List ℕ)
-  parts_of (Get k) = Some (codes "get", texts.spelling k)
+  parts_of (Get k) = Some (codes "get", texts.text k)
   parts_of Len = None
   parts_of First = None
   parts_of Last = None
-  parts_of (Range a b) = Some (codes "range", texts.spelling a ++ 32 ∷ texts.spelling b)
-  parts_of (Rank k) = Some (codes "rank", texts.spelling k)
+  parts_of (Range a b) = Some (codes "range", texts.text a ++ 32 ∷ texts.text b)
+  parts_of (Rank k) = Some (codes "rank", texts.text k)
   parts_of (At i) = Some (codes "at", decimal i)
   parts_of (Page i n) = Some (codes "page", decimal i ++ 32 ∷ decimal n)
   parts_of Nodes = None
@@ -55,12 +58,12 @@ module _ {T : Type 0} (texts : Texts T) where
   parts_of Compact = None
 
   pub query_cut : (q : Query T) → cut_at 32 (query_line texts q) ≡ parts_of q
-  query_cut (Get k) = cut_told 32 (codes "get") (texts.spelling k) (lacks_tested 32 (codes "get") refl)
+  query_cut (Get k) = cut_told 32 (codes "get") (texts.text k) (lacks_tested 32 (codes "get") refl)
   query_cut Len = refl
   query_cut First = refl
   query_cut Last = refl
-  query_cut (Range a b) = cut_told 32 (codes "range") (texts.spelling a ++ 32 ∷ texts.spelling b) (lacks_tested 32 (codes "range") refl)
-  query_cut (Rank k) = cut_told 32 (codes "rank") (texts.spelling k) (lacks_tested 32 (codes "rank") refl)
+  query_cut (Range a b) = cut_told 32 (codes "range") (texts.text a ++ 32 ∷ texts.text b) (lacks_tested 32 (codes "range") refl)
+  query_cut (Rank k) = cut_told 32 (codes "rank") (texts.text k) (lacks_tested 32 (codes "rank") refl)
   query_cut (At i) = cut_told 32 (codes "at") (decimal i) (lacks_tested 32 (codes "at") refl)
   query_cut (Page i n) = cut_told 32 (codes "page") (decimal i ++ 32 ∷ decimal n) (lacks_tested 32 (codes "page") refl)
   query_cut Nodes = refl
@@ -74,14 +77,14 @@ module _ {T : Type 0} (texts : Texts T) where
   abbrev Spells : List ℕ → Query T → Type 0
   Spells text q = (text ≡ query_line texts q) × QueryFits texts q
 
-  module _ (words : AreWords texts) where
+  module _ (words : AreTokens texts) where
     pub query_told : (q : Query T) → QueryFits texts q → query_of texts (query_line texts q) ≡ Some q
-    query_told (Get k) fit = rw (query_cut (Get k)) (ap (option_map Get) (words.told k fit))
+    query_told (Get k) fit = rw (query_cut (Get k)) (ap (option_map Get) (words.items.reads_back k fit))
     query_told Len fit = refl
     query_told First fit = refl
     query_told Last fit = refl
     query_told (Range a b) fit = rw (query_cut (Range a b)) (ap (option_map (λ p. Range p.0 p.1)) (two_keys_told texts words a b fit.0 fit.1))
-    query_told (Rank k) fit = rw (query_cut (Rank k)) (ap (option_map Rank) (words.told k fit))
+    query_told (Rank k) fit = rw (query_cut (Rank k)) (ap (option_map Rank) (words.items.reads_back k fit))
     query_told (At i) fit = rw (query_cut (At i)) (ap (option_map At) (number_told i fit))
     query_told (Page i n) fit = rw (query_cut (Page i n)) (ap (option_map (λ p. Page p.0 p.1)) (two_told i n fit.0 fit.1))
     query_told Nodes fit = refl
@@ -100,8 +103,8 @@ module _ {T : Type 0} (texts : Texts T) where
         (bytes_eq word (codes "sum")) (bytes_eq word (codes "compact")) refl refl refl refl refl refl refl refl h
       where
         -- the word is that of this read
-        is_word : (s : Query T) → QueryFits texts s → word ≡ query_line texts s → Some s ≡ Some q → Spells word q
-        is_word s fit text e = subst (Spells word) (some_inj s q e) (text, fit)
+        is_token : (s : Query T) → QueryFits texts s → word ≡ query_line texts s → Some s ≡ Some q → Spells word q
+        is_token s fit text e = subst (Spells word) (some_inj s q e) (text, fit)
 
         at : (a b c d e f g i : Bool) → bytes_eq word (codes "len") ≡ a → bytes_eq word (codes "first") ≡ b
             → bytes_eq word (codes "last") ≡ c → bytes_eq word (codes "nodes") ≡ d → bytes_eq word (codes "next") ≡ e
@@ -114,14 +117,14 @@ module _ {T : Type 0} (texts : Texts T) where
             (cond e (Some Next) (cond f (Some Snapshot) (cond g (Some Sum) (cond i (Some Compact) None)))))))
             ≡ Some q
             → Spells word q
-        at true b c d e f g i is _ _ _ _ _ _ _ h = is_word Len tt (same word (codes "len") is) h
-        at false true c d e f g i _ is _ _ _ _ _ _ h = is_word First tt (same word (codes "first") is) h
-        at false false true d e f g i _ _ is _ _ _ _ _ h = is_word Last tt (same word (codes "last") is) h
-        at false false false true e f g i _ _ _ is _ _ _ _ h = is_word Nodes tt (same word (codes "nodes") is) h
-        at false false false false true f g i _ _ _ _ is _ _ _ h = is_word Next tt (same word (codes "next") is) h
-        at false false false false false true g i _ _ _ _ _ is _ _ h = is_word Snapshot tt (same word (codes "snapshot") is) h
-        at false false false false false false true i _ _ _ _ _ _ is _ h = is_word Sum tt (same word (codes "sum") is) h
-        at false false false false false false false true _ _ _ _ _ _ _ is h = is_word Compact tt (same word (codes "compact") is) h
+        at true b c d e f g i is _ _ _ _ _ _ _ h = is_token Len tt (same word (codes "len") is) h
+        at false true c d e f g i _ is _ _ _ _ _ _ h = is_token First tt (same word (codes "first") is) h
+        at false false true d e f g i _ _ is _ _ _ _ _ h = is_token Last tt (same word (codes "last") is) h
+        at false false false true e f g i _ _ _ is _ _ _ _ h = is_token Nodes tt (same word (codes "nodes") is) h
+        at false false false false true f g i _ _ _ _ is _ _ _ h = is_token Next tt (same word (codes "next") is) h
+        at false false false false false true g i _ _ _ _ _ is _ _ h = is_token Snapshot tt (same word (codes "snapshot") is) h
+        at false false false false false false true i _ _ _ _ _ _ is _ h = is_token Sum tt (same word (codes "sum") is) h
+        at false false false false false false false true _ _ _ _ _ _ _ is h = is_token Compact tt (same word (codes "compact") is) h
         at false false false false false false false false _ _ _ _ _ _ _ _ h = none_some q h
 
     numbered_sound : (word rest : List ℕ) (q : Query T) → numbered_query word rest ≡ Some q → Spells (word ++ 32 ∷ rest) q
@@ -155,17 +158,17 @@ module _ {T : Type 0} (texts : Texts T) where
       where
         -- a word and a key
         one : (text : List ℕ) (make : T → Query T)
-            → ((k : T) → query_line texts (make k) ≡ text ++ 32 ∷ texts.spelling k)
+            → ((k : T) → query_line texts (make k) ≡ text ++ 32 ∷ texts.text k)
             → ((k : T) → texts.InRange k → QueryFits texts (make k)) → bytes_eq word text ≡ true
-            → option_map make (texts.reading rest) ≡ Some q → Spells (word ++ 32 ∷ rest) q
+            → option_map make (texts.parse rest) ≡ Some q → Spells (word ++ 32 ∷ rest) q
         one text make line fits is h =
-            let made = map_some (texts.reading rest) make q h in
-            let read = words.sound rest made.0 made.1 in
+            let made = map_some (texts.parse rest) make q h in
+            let read = words.items.only rest made.0 made.1 in
             subst (Spells (word ++ 32 ∷ rest)) made.2 ((λ i. same word text is i ++ 32 ∷ read.0 i) ∙ sym (line made.0), fits made.0 read.1)
 
         at : (a b c : Bool) → bytes_eq word (codes "get") ≡ a → bytes_eq word (codes "rank") ≡ b → bytes_eq word (codes "range") ≡ c
-            → cond a (option_map Get (texts.reading rest))
-            (cond b (option_map Rank (texts.reading rest))
+            → cond a (option_map Get (texts.parse rest))
+            (cond b (option_map Rank (texts.parse rest))
             (cond c (option_map (λ p. Range p.0 p.1) (two_keys texts rest)) (numbered_query word rest)))
             ≡ Some q
             → Spells (word ++ 32 ∷ rest) q

@@ -2,8 +2,9 @@
 use Rattle.std.proofs.Common.{Option, None, Some, ◌≡◌, ◌≢◌, ℕ, ◌≤◌, List, ◌∷◌, refl, sym, subst}
 use Rattle.std.proofs.lemmas.List.Elements.{All-head}
 use Rattle.std.specs.Char.{digit_value}
-use Rattle.indexset_events.specs.Spelling.{number_of}
-use Rattle.indexset_events.specs.Spelling.Laws.{Lacks, number_lacks, number_sound}
+use Rattle.indexset_wire.specs.Numbers.{number_of}
+use Rattle.indexset_wire.specs.Numbers.Laws.{number_lacks, number_sound}
+use Rattle.indexset_wire.specs.Parts.Laws.{Lacks}
 pub use Rattle.indexset_bench.proofs.CallerLemmas.{IsApart, end_apart, pair_lacks, pair_told, space_apart}
 pub use Rattle.indexset_bench.proofs.CallerLemmas.{pair_read as pair_sound}
 

@@ -16,7 +16,7 @@ use Rattle.indexset_follow.specs.declared.others.Others.TheVariants.{Tell, Pass}
 use Rattle.indexset_follow.specs.declared.others.Voice.{Voice}
 use Rattle.indexset_follow.specs.declared.reply.Reply.TheVariants.{Next, Had, Gap, Held}
 use Rattle.std.specs.Ordering.{nat_cmp}
-use Rattle.indexset_bench.specs.Texts.{number_texts}
+use Rattle.indexset_wire.specs.Texts.{number_texts}
 
 -- the first pair of a map, and the removal of an absent key
 commands : (command_text nat_cmp number_texts (leader_of (fresh 4) 0) (command None (Put 3 30)) ≡ ended (codes "new") ++ ended (codes "0 create 3:30") ++ ended (codes "next 1"))

@@ -10,7 +10,7 @@ use Rattle.indexset_bench.proofs.CallerLemmas.{lead_after}
 use Rattle.std.specs.List.{join_with_byte}
 use Rattle.indexset_follow.specs.Reads.{row_text}
 use Rattle.indexset_follow.specs.NodeLine.{node_line}
-use Rattle.indexset_bench.specs.Texts.{Texts}
+use Rattle.indexset_wire.specs.Texts.{Texts}
 
 -- lines for the elements of an iteration
 module _ {X : Type 0} (text : X → List ℕ) where

@@ -28,16 +28,18 @@ use Rattle.indexset_follow.specs.EventLine.{Event, event_of}
 use Rattle.indexset_follow.specs.Copy.{Copy, body_text, copy, end_line, snapshot_text, sum_of, unsummed_text}
 use Rattle.indexset_follow.specs.Follow.{State, after_event, after_line, after_mark, after_node, has_sum, holding, put_in_place, state_after, with_coming, with_done}
 use Rattle.indexset_follow.specs.NodeLine.{NodeFits, node_line, node_of}
-use Rattle.indexset_events.specs.Spelling.{cut_at}
+use Rattle.indexset_wire.specs.Parts.{cut_at}
 use Rattle.indexset_follow.specs.Numbers.{tail_text}
-use Rattle.indexset_bench.specs.Texts.{AreWords, PairFits, Texts}
+use Rattle.indexset_bench.specs.Texts.{PairFits}
+use Rattle.indexset_wire.specs.Texts.{AreTokens, Texts}
 use Rattle.indexset_follow.specs.Mark.{LacksEnd, MarkFits, mark_line, mark_of, sum_text}
 use Rattle.indexset_follow.specs.declared.mark.Mark.TheVariants.{Start, End, Done}
 use Rattle.indexset_follow.specs.declared.mark.Mark.{Mark}
 use Rattle.indexset_follow.proofs.MarkLines.{end_cut, mark_told, start_cut}
 use Rattle.indexset_follow.proofs.NodeLines.{node_told}
 use Rattle.indexset_follow.proofs.Sums.{sum_small}
-use Rattle.indexset_events.specs.Spelling.Laws.{Lacks, cut_told, lacks_tested, number_lacks}
+use Rattle.indexset_wire.specs.Numbers.Laws.{number_lacks}
+use Rattle.indexset_wire.specs.Parts.Laws.{Lacks, cut_told, lacks_tested}
 use Rattle.indexset_follow.proofs.Readings.{end_apart, no_number, pair_lacks}
 
 -- ---- consecutive nodes
@@ -112,7 +114,7 @@ module _ {T : Type 0} (texts : Texts T) where
   whole_put : (s : State T) (came : Copy T) (d : ℕ) (sum : Option ℕ) → has_sum texts sum came d ≡ true → after_mark texts (coming s came d) (End (length came.nodes) sum) ≡ holding s.window came d
   whole_put s came d sum has = rw (eq-eqb (length came.nodes) (length came.nodes) refl, has) refl
 
-module _ {T : Type 0} (cmp : T → T → Ordering) (texts : Texts T) (spelled : AreWords texts) where
+module _ {T : Type 0} (cmp : T → T → Ordering) (texts : Texts T) (spelled : AreTokens texts) where
   node_line_told : (s : State T) (n : List (Pair T T)) → NodeFits texts n → after_line cmp texts s (node_line texts n) ≡ after_node cmp s n
   node_line_told s n fit =
       let cut : cut_at 32 (node_line texts n) ≡ Some (codes "node", node_text texts n) = cut_told 32 (codes "node") (node_text texts n) (lacks_tested 32 (codes "node") refl) in
@@ -136,7 +138,7 @@ module _ {T : Type 0} (cmp : T → T → Ordering) (texts : Texts T) (spelled : 
       ∙ filled_up s next d (done ++ n ∷ []) rest (subst (Ruled (by_key cmp)) (sym more) rule) (All-tail (NodeFits texts) n rest fit)
       ∙ ap (λ ns. coming s (copy ns next) d) more
 
-module _ {T : Type 0} (texts : Texts T) (spelled : AreWords texts) where
+module _ {T : Type 0} (texts : Texts T) (spelled : AreTokens texts) where
   -- ---- the text of a snapshot is split into its lines
 
   pub row_lacks : (ps : List (Pair T T)) → All (PairFits texts) ps → Lacks 10 (node_text texts ps)
@@ -152,7 +154,7 @@ module _ {T : Type 0} (texts : Texts T) (spelled : AreWords texts) where
 pub first_line : (line rest : List ℕ) → HasNoEnd line → lines_of (ended line ++ rest) ≡ line ∷ lines_of rest
 first_line line rest none = ap lines_of (append_assoc line (10 ∷ []) rest) ∙ lines_of-line line rest none
 
-module _ {T : Type 0} (texts : Texts T) (spelled : AreWords texts) where
+module _ {T : Type 0} (texts : Texts T) (spelled : AreTokens texts) where
   node_lines : (ns : List (List (Pair T T))) (rest : List ℕ) → All (NodeFits texts) ns → lines_of (lines_for (node_line texts) ns ++ rest) ≡ map (node_line texts) ns ++ lines_of rest
   node_lines [] rest fit = refl
   node_lines (n ∷ ns) rest fit =
@@ -180,7 +182,7 @@ mark_lacks (Done d n) fit =
     (All-append (λ x. x ≢ 10) (decimal d) (32 ∷ decimal n) (number_lacks 10 (omega arith) d fit.0)
     (All-cons (λ x. x ≢ 10) 32 (decimal n) (omega arith) (number_lacks 10 (omega arith) n fit.1)))
 
-module _ {T : Type 0} (cmp : T → T → Ordering) (texts : Texts T) (spelled : AreWords texts) where
+module _ {T : Type 0} (cmp : T → T → Ordering) (texts : Texts T) (spelled : AreTokens texts) where
   module _ (c : Copy T) (d : ℕ) (small : c.next < 2 ^ 64) (less : d < 2 ^ 64) (few : length c.nodes < 2 ^ 64) (fit : All (NodeFits texts) c.nodes) where
     module _ (sum : Option ℕ) (fits : IfSome sum (λ s. s < 2 ^ 64)) where
       its_lines : lines_of (body_text texts c d ++ ended (end_line c sum)) ≡ mark_line (Start c.next d) ∷ (map (node_line texts) c.nodes ++ end_line c sum ∷ [])

@@ -7,7 +7,7 @@ use Rattle.std.specs.List.{All}
 use Rattle.sha2.specs.Sha256.{digest_bytes, sha256}
 use Rattle.std.specs.Prelude.{slice_index}
 use Rattle.indexset_follow.specs.Copy.{Copy, body_text, sum_of}
-use Rattle.indexset_bench.specs.Texts.{Texts}
+use Rattle.indexset_wire.specs.Texts.{Texts}
 
 abbrev IsByte : ℕ → Type 0
 IsByte b = b < 256

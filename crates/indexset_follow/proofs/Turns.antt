@@ -11,7 +11,7 @@ use Rattle.indexset_core.specs.Pairs.{by_key, pair}
 use Rattle.indexset_core.specs.declared.pair.Pair.{Pair}
 use Rattle.indexset_core.proofs.CallerLemmas.{some_held}
 use Rattle.indexset_events.specs.Replay.{event_number, replay, step, unassigned}
-use Rattle.indexset_events.specs.Spelling.Laws.{none_some, some_inj, then_some}
+use Rattle.indexset_wire.specs.Parts.Laws.{none_some, some_inj, then_some}
 use Rattle.indexset_events.proofs.CallerLemmas.{replay-append}
 use Rattle.indexset_replica.specs.Delivery.{IsAt, delivered}
 use Rattle.indexset_replica.specs.Replica.{apply_refusal}

@@ -9,7 +9,7 @@ use Rattle.indexset_lines.specs.Run.{left_by}
 use Rattle.indexset_bench.specs.PairText.{event_text}
 use Rattle.indexset_core.specs.declared.pair.Pair.{Pair}
 use Rattle.indexset_events.specs.Replay.{event_number}
-use Rattle.indexset_events.specs.Spelling.Laws.{none_some, some_inj}
+use Rattle.indexset_wire.specs.Parts.Laws.{none_some, some_inj}
 use Rattle.indexset_follow.specs.Drawn.{AreWithin, HoldsAhead, HoldsFirst, IsDrawn, IsFeedOfPairs, IsFirstMissing, IsOneOf}
 use Rattle.indexset_follow.specs.Early.{AscendFrom}
 use Rattle.indexset_follow.specs.EventLine.{Event, EventFits, event_of}
@@ -19,14 +19,14 @@ use Rattle.indexset_follow.proofs.Drawing.{fits_at, one, same_place}
 use Rattle.indexset_follow.proofs.EventLines.{event_told}
 use Rattle.indexset_follow.proofs.Turns.{At, Knows, Onward, is_taken, number_at}
 use Rattle.std.specs.declared.cmp.Ordering.{Ordering}
-use Rattle.indexset_bench.specs.Texts.{AreWords, Texts}
+use Rattle.indexset_wire.specs.Texts.{AreTokens, Texts}
 
 some_at : {X : Type 0} (xs : List X) (i : ℕ) → i < length xs → (x : X) × (slice_get xs i ≡ Some x)
 some_at [] i lt = absurd (omega (arith, lt))
 some_at (x ∷ xs) zero lt = (x, refl)
 some_at (x ∷ xs) (suc i) lt = some_at xs i (omega (arith, lt))
 
-module _ {T : Type 0} (cmp : T → T → Ordering) (texts : Texts T) (spelled : AreWords texts) where
+module _ {T : Type 0} (cmp : T → T → Ordering) (texts : Texts T) (spelled : AreTokens texts) where
   module _ (s : ℕ) (ns : List (List (Pair T T))) (es : List (Event T)) (feed : IsFeedOfPairs cmp s ns es) (fit : All (EventFits texts) es) where
     -- the events that are applied or held early after the lines: those before, and those that came
     record Known (k : ℕ) (r : State T) (ls : List (List ℕ)) (after : State T) : Type 0 where

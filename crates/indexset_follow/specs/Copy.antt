@@ -3,7 +3,7 @@ use Rattle.std.specs.Prelude.{ℕ, List, ◌++◌, Option, None, Some, length, t
 use Rattle.std.specs.Int.{w64, from_be_bytes}
 use Rattle.sha2.specs.Sha256.{sha256}
 use Rattle.indexset_bench.specs.PairText.{ended, lines_for}
-use Rattle.indexset_bench.specs.Texts.{Texts}
+use Rattle.indexset_wire.specs.Texts.{Texts}
 use Rattle.indexset_core.specs.declared.pair.Pair.{Pair}
 use Rattle.indexset_replica.specs.Replica.{ReplicaState}
 use Rattle.indexset_follow.specs.Mark.{mark_line}

@@ -10,7 +10,7 @@ use Rattle.indexset_follow.specs.EventLine.{Event, event_of}
 use Rattle.indexset_follow.specs.Follow.{State, after_line}
 use Rattle.indexset_follow.specs.Told.{IsAmong}
 use Rattle.std.specs.declared.cmp.Ordering.{Ordering}
-use Rattle.indexset_bench.specs.Texts.{Texts}
+use Rattle.indexset_wire.specs.Texts.{Texts}
 
 module _ {T : Type 0} (texts : Texts T) where
   -- the line is the text of one of the events

@@ -3,8 +3,9 @@ use Rattle.std.specs.Prelude.{ℕ, ◌==◌, if◌then◌else◌, max, List, [],
 use Rattle.std.specs.Option.{option_map, option_and_then, option_map_or}
 use Rattle.indexset_bench.specs.PairCommand.{pair_meaning}
 use Rattle.indexset_bench.specs.declared.pair_command.PairCommand.{PairCommand}
-use Rattle.indexset_bench.specs.Texts.{Texts}
-use Rattle.indexset_events.specs.Spelling.{cut_at, number_of}
+use Rattle.indexset_wire.specs.Texts.{Texts}
+use Rattle.indexset_wire.specs.Numbers.{number_of}
+use Rattle.indexset_wire.specs.Parts.{cut_at}
 use Rattle.indexset_follow.specs.Query.{query_of}
 use Rattle.indexset_follow.specs.declared.echo.Command.{Command}
 

@@ -25,7 +25,7 @@ use Rattle.indexset_follow.specs.declared.reason.Reason.TheVariants.{Refused, No
 use Rattle.indexset_follow.specs.declared.reply.Reply.{Reply}
 use Rattle.indexset_follow.specs.declared.reply.Reply.TheVariants as reply
 use Rattle.std.specs.declared.cmp.Ordering.{Ordering}
-use Rattle.indexset_bench.specs.Texts.{Texts}
+use Rattle.indexset_wire.specs.Texts.{Texts}
 
 -- the state of a follower, with the snapshot that has begun and not ended
 abbrev pub State : Type 0 → Type 0

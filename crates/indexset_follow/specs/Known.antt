@@ -6,7 +6,7 @@ use Rattle.indexset_follow.specs.Leading.{done_of, tree_of}
 use Rattle.indexset_follow.specs.Mark.{mark_of}
 use Rattle.indexset_follow.specs.declared.mark.Mark.TheVariants.{End, Done}
 use Rattle.std.specs.declared.cmp.Ordering.{Ordering}
-use Rattle.indexset_bench.specs.Texts.{Texts}
+use Rattle.indexset_wire.specs.Texts.{Texts}
 
 module _ {T : Type 0} (cmp : T → T → Ordering) (texts : Texts T) where
   -- after the first k of its lines the leader had d as the greatest command number, and n as the

@@ -17,7 +17,7 @@ use Rattle.indexset_follow.specs.declared.mark.Mark.TheVariants.{Done}
 use Rattle.indexset_follow.specs.declared.others.Others.{Others}
 use Rattle.indexset_follow.specs.declared.reply.Reply.TheVariants as reply
 use Rattle.std.specs.declared.cmp.Ordering.{Ordering}
-use Rattle.indexset_bench.specs.Texts.{Texts}
+use Rattle.indexset_wire.specs.Texts.{Texts}
 
 module _ {T : Type 0} where
   -- a leader of a tree with a greatest command number

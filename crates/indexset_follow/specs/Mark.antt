@@ -5,8 +5,9 @@ use Rattle.std.specs.Prelude.{[], ◌∷◌, ◌++◌, Option, None, Some, IfSom
 use Rattle.std.specs.Fmt.{decimal}
 use Rattle.std.specs.Option.{option_map, option_map_or, option_and_then}
 use Rattle.std.specs.Str.{bytes_eq}
-use Rattle.indexset_bench.specs.Texts.{Texts}
-use Rattle.indexset_events.specs.Spelling.{cut_at, number_of}
+use Rattle.indexset_wire.specs.Texts.{Texts}
+use Rattle.indexset_wire.specs.Numbers.{number_of}
+use Rattle.indexset_wire.specs.Parts.{cut_at}
 use Rattle.indexset_follow.specs.EventLine.{event_of}
 use Rattle.indexset_follow.specs.Numbers.{tail_text, two_numbers}
 use Rattle.indexset_follow.specs.declared.mark.Mark.{Mark}

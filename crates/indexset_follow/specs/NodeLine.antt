@@ -6,8 +6,9 @@ use Rattle.std.specs.Option.{option_map, option_and_then}
 use Rattle.std.specs.Str.{bytes_eq}
 use Rattle.indexset_bench.specs.PairText.{node_text}
 use Rattle.indexset_core.specs.declared.pair.Pair.{Pair}
-use Rattle.indexset_events.specs.Spelling.{cut_at}
-use Rattle.indexset_bench.specs.Texts.{PairFits, Texts, pair_of}
+use Rattle.indexset_wire.specs.Parts.{cut_at}
+use Rattle.indexset_bench.specs.Texts.{PairFits, pair_of}
+use Rattle.indexset_wire.specs.Texts.{Texts}
 
 -- the words of a text, which spaces separate
 abbrev pub words : List ℕ → List (List ℕ)

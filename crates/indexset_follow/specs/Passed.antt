@@ -1,7 +1,7 @@
 -- Lines of the first program that are not events.
 use Rattle.std.specs.Prelude.{◌≡◌, Bool, ℕ, ◌^◌, ◌<◌, List, []}
 use Rattle.std.specs.declared.cmp.Ordering.{Ordering}
-use Rattle.indexset_bench.specs.Texts.{Texts}
+use Rattle.indexset_wire.specs.Texts.{Texts}
 use Rattle.indexset_bench.specs.declared.reply.Reply.{Reply}
 use Rattle.indexset_bench.specs.declared.reply.Reply.TheVariants.{New, Old, OldValue, Gone}
 use Rattle.indexset_bench.specs.declared.reply.Reply.TheVariants.{GoneValue, Yes, No, Count}

@@ -4,8 +4,10 @@ use Rattle.std.specs.Prelude.{◌∷◌, ◌++◌, Option, None, Some, codes}
 use Rattle.std.specs.Fmt.{decimal}
 use Rattle.std.specs.Option.{option_map, option_map_or}
 use Rattle.std.specs.Str.{bytes_eq}
-use Rattle.indexset_bench.specs.Texts.{Texts, two_keys}
-use Rattle.indexset_events.specs.Spelling.{cut_at, number_of}
+use Rattle.indexset_bench.specs.Texts.{two_keys}
+use Rattle.indexset_wire.specs.Texts.{Texts}
+use Rattle.indexset_wire.specs.Numbers.{number_of}
+use Rattle.indexset_wire.specs.Parts.{cut_at}
 use Rattle.indexset_follow.specs.Numbers.{two_numbers}
 use Rattle.indexset_follow.specs.declared.reads.query.Query.{Query}
 use Rattle.indexset_follow.specs.declared.reads.query.Query.TheVariants.{
@@ -49,12 +51,12 @@ numbered_query word rest =
 module _ {T : Type 0} (texts : Texts T) where
   -- the line of a read
   abbrev pub query_line : Query T → List ℕ
-  query_line (Get k) = codes "get " ++ texts.spelling k
+  query_line (Get k) = codes "get " ++ texts.text k
   query_line Len = codes "len"
   query_line First = codes "first"
   query_line Last = codes "last"
-  query_line (Range a b) = codes "range " ++ texts.spelling a ++ 32 ∷ texts.spelling b
-  query_line (Rank k) = codes "rank " ++ texts.spelling k
+  query_line (Range a b) = codes "range " ++ texts.text a ++ 32 ∷ texts.text b
+  query_line (Rank k) = codes "rank " ++ texts.text k
   query_line (At i) = codes "at " ++ decimal i
   query_line (Page i n) = codes "page " ++ decimal i ++ 32 ∷ decimal n
   query_line Nodes = codes "nodes"
@@ -84,8 +86,8 @@ module _ {T : Type 0} (texts : Texts T) where
   -- the read of a word and the text after it
   abbrev pub keyed_query : List ℕ → List ℕ → Option (Query T)
   keyed_query word rest =
-      if bytes_eq word (codes "get") then option_map Get (texts.reading rest)
-      else if bytes_eq word (codes "rank") then option_map Rank (texts.reading rest)
+      if bytes_eq word (codes "get") then option_map Get (texts.parse rest)
+      else if bytes_eq word (codes "rank") then option_map Rank (texts.parse rest)
       else if bytes_eq word (codes "range")
       then option_map (λ p. Range p.0 p.1) (two_keys texts rest)
       else numbered_query word rest

@@ -5,7 +5,7 @@ use Rattle.std.specs.Option.{option_map, option_map_or}
 use Rattle.std.specs.declared.cmp.Ordering.{Ordering}
 use Rattle.std.specs.declared.ops.Bound.TheVariants.{Included}
 use Rattle.indexset_bench.specs.PairText.{ended, lines_for, node_text, pair_text}
-use Rattle.indexset_bench.specs.Texts.{Texts}
+use Rattle.indexset_wire.specs.Texts.{Texts}
 use Rattle.indexset_core.specs.Nodes.{concat}
 use Rattle.indexset_core.specs.Pairs.{entry_of, key_rank, pair, pair_of, pairs_within}
 use Rattle.indexset_core.specs.declared.pair.Pair.{Pair}

@@ -23,7 +23,7 @@ use Rattle.indexset_follow.specs.declared.reply.Reply.TheVariants as reply
 use Rattle.indexset_follow.specs.declared.role.Role.{Role}
 use Rattle.indexset_follow.specs.declared.role.Role.TheVariants.{Following, Leading}
 use Rattle.std.specs.declared.cmp.Ordering.{Ordering}
-use Rattle.indexset_bench.specs.Texts.{Texts}
+use Rattle.indexset_wire.specs.Texts.{Texts}
 
 -- a map in one of two roles, with the node size of a leader and the window of a follower
 pub record Held (T : Type 0) : Type 0 where

@@ -7,7 +7,7 @@ use Rattle.indexset_follow.specs.Store.{Held, after_input, first_held, held_afte
 use Rattle.indexset_follow.specs.Store.{held_cut, held_lacks, input_reply, without_return}
 use Rattle.indexset_follow.specs.declared.others.Voice.{Voice}
 use Rattle.std.specs.declared.cmp.Ordering.{Ordering}
-use Rattle.indexset_bench.specs.Texts.{Texts}
+use Rattle.indexset_wire.specs.Texts.{Texts}
 
 module _ {T : Type 0} (cmp : T → T → Ordering) (texts : Texts T) where
   -- the answers to the lines of the input, from the initial map

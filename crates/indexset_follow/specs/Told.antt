@@ -7,7 +7,7 @@ use Rattle.indexset_bench.specs.Pairs.{told_events}
 use Rattle.indexset_bench.specs.Text.{Stores, no_stores, replies_of, stores_after}
 use Rattle.indexset_follow.specs.EventLine.{Event, event_of}
 use Rattle.std.specs.Ordering.{nat_cmp}
-use Rattle.indexset_bench.specs.Texts.{number_texts}
+use Rattle.indexset_wire.specs.Texts.{number_texts}
 
 -- the events of a line: those of its command to the map
 abbrev pub line_events : Stores → List ℕ → List (Event ℕ)

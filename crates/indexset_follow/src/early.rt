@@ -9,9 +9,9 @@ ghost use Rattle.indexset_follow.specs.Early.{consecutive, first_number, with_ea
 
 use crate::event::Event;
 use indexset_bench::key::Key;
-use indexset_bench::pair_text::EventText;
 use indexset_lines::RunFault;
 use indexset_map::BTreeMap;
+use indexset_wire::event::write_event;
 use std::alloc::Global;
 use std::marker::Model;
 
@@ -131,7 +131,7 @@ fn event_line<T: Key>(alloc: Global, event: &Event<T>) -> Result<Vec<u8>, RunFau
     ensures line { IfOk result (λ line. line.items ≡ event_text T.texts event.now) }
     ensures fault { IfErr result (λ fault. fault ≡ RunFault.Memory) }
 {
-    let shown = EventText(event);
-    let text = format!(in alloc; "{shown}").map_err(|_| RunFault::Memory)?;
-    Ok(text.into_bytes())
+    let mut line = Vec::new(alloc);
+    write_event(&mut line, event).map_err(|_| RunFault::Memory)?;
+    Ok(line)
 }

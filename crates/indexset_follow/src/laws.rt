@@ -11,7 +11,7 @@ ghost use Rattle.indexset_bench.specs.PairText.{event_text};
 ghost use Rattle.indexset_bench.specs.Pairs.{PairTree, change_reply};
 ghost use Rattle.indexset_bench.specs.Reply.{reply_text};
 ghost use Rattle.indexset_bench.specs.declared.pair_command.PairCommand.{PairCommand};
-ghost use Rattle.indexset_bench.specs.Texts.{number_texts};
+ghost use Rattle.indexset_wire.specs.Texts.{number_texts};
 ghost use Rattle.indexset_bench.specs.Text.{no_stores, stores_of};
 ghost use Rattle.indexset_bench.specs.declared.reply.Reply.{Reply};
 ghost use Rattle.indexset_core.specs.Nodes.{IsNodeList};

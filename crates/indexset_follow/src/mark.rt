@@ -4,7 +4,8 @@ ghost use Rattle.std.specs.Prelude.{◌≡◌, Some};
 ghost use Rattle.indexset_follow.specs.Mark.{end_of, mark_line, mark_of, start_of, word_mark};
 
 use crate::numbers::{Tail, read_two};
-use indexset_events::parts::{cut, read_number};
+use indexset_wire::number::read_number;
+use indexset_wire::parts::cut;
 use std::fmt;
 
 /// The first or the last line of a snapshot, or a `done` line.

@@ -4,9 +4,9 @@ ghost use Rattle.std.specs.Prelude.{◌≡◌, [], ◌∷◌, ◌++◌, IfOk, On
 ghost use Rattle.std.specs.Option.{option_map};
 ghost use Rattle.indexset_follow.specs.NodeLine.{node_of, pairs_of, words};
 
-use indexset_bench::key::{Key, read_pair};
+use indexset_bench::key::{Key, read_item};
 use indexset_core::pair::Pair;
-use indexset_events::parts::cut;
+use indexset_wire::parts::cut;
 use indexset_lines::RunFault;
 use std::alloc::Global;
 
@@ -39,13 +39,13 @@ fn read_pairs<T: Key>(alloc: Global, text: &[u8]) -> Result<Option<Node<T>>, Run
     let mut items = Vec::new(alloc);
     let mut left = text;
     while let Some((word, rest)) = cut(left, b' ') {
-        match read_pair(alloc, word)? {
+        match read_item(alloc, word)? {
             Some(item) => keep(&mut items, item)?,
             None => return Ok(None),
         }
         left = rest;
     }
-    match read_pair(alloc, left)? {
+    match read_item(alloc, left)? {
         Some(item) => {
             keep(&mut items, item)?;
             Ok(Some(items))

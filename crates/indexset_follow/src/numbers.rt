@@ -3,7 +3,8 @@
 ghost use Rattle.std.specs.Prelude.{◌≡◌, Some};
 ghost use Rattle.indexset_follow.specs.Numbers.{tail_text, two_numbers};
 
-use indexset_events::parts::{cut, read_number};
+use indexset_wire::number::read_number;
+use indexset_wire::parts::cut;
 use std::fmt;
 
 /// Returns the two numbers of a text that separates them with a space.

@@ -12,8 +12,8 @@ use Rattle.std.specs.List.{position_or_len}
 use Rattle.std.specs.Option.{option_map}
 use Rattle.indexset_lines.specs.Lines.{HasNoEnd, IsWhole, before_first, lines_of, whole_lines}
 use Rattle.indexset_lines.proofs.Lines.{whole_lines-append}
-use Rattle.indexset_events.specs.Spelling.{cut_at}
-use Rattle.indexset_events.specs.Spelling.Laws.{cut_sound, none_some, some_inj}
+use Rattle.indexset_wire.specs.Parts.{cut_at}
+use Rattle.indexset_wire.specs.Parts.Laws.{cut_sound, none_some, some_inj}
 use Rattle.indexset_keep.specs.Told.{inner}
 
 -- the index of the first line end, or the length if there is none

@@ -20,7 +20,8 @@ use Rattle.indexset_events.specs.declared.change.ChangeEvent.TheVariants.{Insert
 use Rattle.indexset_events.proofs.AttachLemmas.{good}
 use Rattle.indexset_events.proofs.CallerLemmas.{Each, attaches_node, each-append, each-left, each-right, last_answer, nodes_ruled, ruled_nodes, tested_ruled}
 use Rattle.indexset_follow.specs.EventLine.{Event, EventFits}
-use Rattle.indexset_bench.specs.Texts.{PairFits, Texts}
+use Rattle.indexset_bench.specs.Texts.{PairFits}
+use Rattle.indexset_wire.specs.Texts.{Texts}
 use Rattle.indexset_follow.proofs.Onwards.{order}
 use Rattle.std.specs.declared.cmp.Ordering.{Ordering}
 use Rattle.std.specs.Cmp.{IsTotalOrder}

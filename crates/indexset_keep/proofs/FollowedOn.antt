@@ -17,7 +17,7 @@ use Rattle.indexset_core.specs.declared.pair.Pair.{Pair}
 use Rattle.indexset_core.specs.declared.refusal.Refusal.{Refusal}
 use Rattle.indexset_events.specs.Nodes.{are_nodes}
 use Rattle.indexset_events.specs.Replay.{edit, event_number, step, step_plain, unassigned}
-use Rattle.indexset_events.specs.Spelling.Laws.{none_some, some_inj, then_some}
+use Rattle.indexset_wire.specs.Parts.Laws.{none_some, some_inj, then_some}
 use Rattle.indexset_events.proofs.CallerLemmas.{Ruled, nodes_ruled, tested_ruled}
 use Rattle.indexset_replica.specs.Delivery.{delivered}
 use Rattle.indexset_replica.specs.Replica.{apply_refusal}
@@ -42,7 +42,7 @@ use Rattle.indexset_keep.specs.Sound.{IsSoundCopy, IsSoundFollower}
 use Rattle.indexset_keep.proofs.Onward.{one_taken}
 use Rattle.indexset_keep.proofs.Soundness.{snapshot_leads}
 use Rattle.std.specs.declared.cmp.Ordering.{Ordering}
-use Rattle.indexset_bench.specs.Texts.{AreWords, Texts}
+use Rattle.indexset_wire.specs.Texts.{AreTokens, Texts}
 use Rattle.std.specs.Cmp.{IsTotalOrder}
 
 module _ {T : Type 0} (cmp : T → T → Ordering) where
@@ -88,7 +88,7 @@ module _ {T : Type 0} (cmp : T → T → Ordering) (texts : Texts T) where
       let none : 0 ≡ c.next - c.next = omega arith in
       (omega arith, subst (λ k. state_after cmp texts (holding 0 c d) (map (event_text texts) (take k es)) ≡ holding 0 c d) none refl)
 
-module _ {T : Type 0} (cmp : T → T → Ordering) (texts : Texts T) (spelled : AreWords texts) where
+module _ {T : Type 0} (cmp : T → T → Ordering) (texts : Texts T) (spelled : AreTokens texts) where
   steps : (d : ℕ) (c t : Copy T) (e : Event T) (es : List (Event T)) → EventFits texts e
       → (copy_after cmp c e).next ≡ c.next + 1 → StepsTo cmp texts d (copy_after cmp c e) es t
       → StepsTo cmp texts d c (e ∷ es) t
@@ -101,7 +101,7 @@ module _ {T : Type 0} (cmp : T → T → Ordering) (texts : Texts T) (spelled : 
             (ap (λ r. state_after cmp texts r (map (event_text texts) (take (t.next - (copy_after cmp c e).next) es))) (one_taken cmp texts spelled c d e fit) ∙ more.1),
       )
 
-module _ {T : Type 0} (cmp : T → T → Ordering) (texts : Texts T) (total : IsTotalOrder cmp) (spelled : AreWords texts) where
+module _ {T : Type 0} (cmp : T → T → Ordering) (texts : Texts T) (total : IsTotalOrder cmp) (spelled : AreTokens texts) where
   -- the events that are applied one after another
   caught : (d : ℕ) (c : Copy T) (early : EarlyEvents T) → Ruled (order cmp) c.nodes
       → All (λ p. EventFits texts p.value) early
@@ -179,7 +179,7 @@ module _ {T : Type 0} (texts : Texts T) where
 abbrev reason_by : Bool → Bool → Option Reason
 reason_by count sum = if not count then Some Count else if not sum then Some Sum else None
 
-module _ {T : Type 0} (cmp : T → T → Ordering) (texts : Texts T) (total : IsTotalOrder cmp) (spelled : AreWords texts) where
+module _ {T : Type 0} (cmp : T → T → Ordering) (texts : Texts T) (total : IsTotalOrder cmp) (spelled : AreTokens texts) where
   module _ (s : State T) (sound : IsSoundFollower cmp texts s) where
     -- the line takes the replayed state and the finished commands to this state
     abbrev GoesTo : List (List ℕ) → State T → Type 0

@@ -15,13 +15,14 @@ use Rattle.indexset_bench.specs.PairCommand.{CommandFits, pair_meaning}
 use Rattle.indexset_bench.specs.PairText.{ended, event_text, lines_for}
 use Rattle.indexset_bench.specs.Pairs.{PairTree, change_reply, echo_text, pair_reply, pairs_after, reply_ended, told_events}
 use Rattle.indexset_bench.specs.Reply.{reply_text}
-use Rattle.indexset_bench.specs.Texts.{AreWords, Texts}
+use Rattle.indexset_wire.specs.Texts.{AreTokens, Texts}
 use Rattle.indexset_bench.specs.declared.pair_command.PairCommand.{PairCommand}
 use Rattle.indexset_bench.specs.declared.pair_command.PairCommand.TheVariants.{Put, Cut, Nodes}
 use Rattle.indexset_bench.specs.declared.reply.Reply.{Reply}
 use Rattle.indexset_bench.proofs.CallerLemmas.{pair_sound}
-use Rattle.indexset_events.specs.Spelling.{cut_at}
-use Rattle.indexset_events.specs.Spelling.Laws.{lacks_tested, map_some, none_some, number_lacks, some_inj, then_some}
+use Rattle.indexset_wire.specs.Parts.{cut_at}
+use Rattle.indexset_wire.specs.Numbers.Laws.{number_lacks}
+use Rattle.indexset_wire.specs.Parts.Laws.{lacks_tested, map_some, none_some, some_inj, then_some}
 use Rattle.indexset_events.proofs.CallerLemmas.{Each}
 use Rattle.indexset_follow.specs.Echo.{change_of, command, command_of, done_by, echo_of, echoed_of}
 use Rattle.indexset_follow.specs.EventLine.{Event, EventFits}
@@ -40,7 +41,8 @@ use Rattle.indexset_follow.specs.declared.reads.query.Query.{Query}
 use Rattle.indexset_follow.specs.declared.reads.query.Query.TheVariants as query
 use Rattle.indexset_follow.proofs.Echoes.{command_fits}
 use Rattle.indexset_follow.proofs.Onwards.{Good, command_onward}
-use Rattle.indexset_follow.proofs.Replies.{change_fits, event_whole, reply_whole}
+use Rattle.indexset_follow.proofs.EventLines.{event_whole}
+use Rattle.indexset_follow.proofs.Replies.{change_fits, reply_whole}
 use Rattle.indexset_follow.proofs.Snapshots.{first_line}
 use Rattle.indexset_keep.specs.Leads.{IsSound}
 use Rattle.indexset_keep.specs.Told.{inner, told_lines}
@@ -60,7 +62,7 @@ cuts_both a b ls ks first second rest = ap lines_of (append_assoc a b rest) ∙ 
 cuts_line : (line : List ℕ) → HasNoEnd line → Cuts (ended line) (line ∷ [])
 cuts_line line none rest = first_line line rest none
 
-module _ {T : Type 0} (texts : Texts T) (spelled : AreWords texts) where
+module _ {T : Type 0} (texts : Texts T) (spelled : AreTokens texts) where
   cuts_events : (es : List (Event T)) → Each (EventFits texts) es → Cuts (lines_for (event_text texts) es) (map (event_text texts) es)
   cuts_events [] fit = λ rest. refl
   cuts_events (e ∷ es) fit =
@@ -98,7 +100,7 @@ is_change (Put k v) = true
 is_change (Cut k) = true
 is_change Nodes = false
 
-module _ {T : Type 0} (texts : Texts T) (spelled : AreWords texts) where
+module _ {T : Type 0} (texts : Texts T) (spelled : AreTokens texts) where
   meant_change : (text : List ℕ) (p : PairCommand T) → query_of texts text ≡ None → pair_meaning texts text ≡ Some p → is_change p ≡ true
   meant_change text (Put k v) none is = refl
   meant_change text (Cut k) none is = refl
@@ -129,7 +131,7 @@ module _ {T : Type 0} (texts : Texts T) (spelled : AreWords texts) where
       at (Some p) is h = subst (λ c. is_change c.change ≡ true) (some_inj (command None p) c h) (meant_change line p none is)
       at None is h = echoed_change line c h
 
-module _ {T : Type 0} (cmp : T → T → Ordering) (texts : Texts T) (spelled : AreWords texts) where
+module _ {T : Type 0} (cmp : T → T → Ordering) (texts : Texts T) (spelled : AreTokens texts) where
   cuts_reply : (echo : Option ℕ) → EchoFits echo → (t : PairTree T) → Good cmp texts t → (c : PairCommand T) → is_change c ≡ true → Each (EventFits texts) (told_events cmp t c)
       → Cuts (echo_text echo ++ pair_reply cmp texts t c) ((echo_text echo ++ reply_text texts (change_reply cmp t c)) ∷ map (event_text texts) (told_events cmp t c))
   cuts_reply echo small t g (Put k v) is fits = cuts_change texts spelled echo small (change_reply cmp t (Put k v)) (change_fits cmp texts t g (Put k v)) (told_events cmp t (Put k v)) fits
@@ -162,7 +164,7 @@ cut_whole text ls is cut = ended_lines text is ∙ ap lines_of (sym (append-nil 
 pub next_inner : (n : ℕ) → n < 2 ^ 64 → inner (whole_lines (ended (codes "next " ++ decimal n))) ≡ []
 next_inner n less = ap inner (cut_whole (ended (next_line n)) (next_line n ∷ []) (IsWhole-end (next_line n)) (cuts_line (next_line n) (next_whole n less)))
 
-module _ {T : Type 0} (cmp : T → T → Ordering) (texts : Texts T) (total : IsTotalOrder cmp) (spelled : AreWords texts) where
+module _ {T : Type 0} (cmp : T → T → Ordering) (texts : Texts T) (total : IsTotalOrder cmp) (spelled : AreTokens texts) where
   module _ (l : Leader T) (g : Good cmp texts l.pairs) (c : Command T) (fit : CommandFits texts c.change)
       (is : is_change c.change ≡ true) (small : EchoFits c.echo) (known : done_by l.done c < 2 ^ 64)
       (less : (pairs_after cmp l.pairs c.change).next ≤ MAX) where
@@ -207,7 +209,7 @@ unfolding whole_lines
 others_inner Tell = refl
 others_inner Pass = refl
 
-module _ {T : Type 0} (cmp : T → T → Ordering) (texts : Texts T) (total : IsTotalOrder cmp) (spelled : AreWords texts) where
+module _ {T : Type 0} (cmp : T → T → Ordering) (texts : Texts T) (total : IsTotalOrder cmp) (spelled : AreTokens texts) where
   pub leading_inner : (o : Others) (l : Leader T) → IsSound cmp texts l → (line : List ℕ) → query_of texts line ≡ None → (after_leading cmp texts l.pairs line).next < 2 ^ 64
       → inner (whole_lines (leading_reply cmp texts o l line)) ≡ told_lines texts (whole_lines (leading_reply cmp texts o l line))
   leading_inner o l s line none less = at (query_of texts line) none (command_of texts line) refl

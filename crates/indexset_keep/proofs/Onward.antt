@@ -13,7 +13,7 @@ use Rattle.indexset_bench.specs.PairText.{event_text}
 use Rattle.indexset_bench.specs.Pairs.{PairTree, pairs_after, told_events}
 use Rattle.indexset_core.specs.Nodes.{concat}
 use Rattle.indexset_events.specs.Replay.{replay}
-use Rattle.indexset_events.specs.Spelling.Laws.{some_inj}
+use Rattle.indexset_wire.specs.Parts.Laws.{some_inj}
 use Rattle.indexset_events.proofs.CallerLemmas.{Each, all_each, each_all, none_lawful}
 use Rattle.indexset_log.specs.Tree.{fresh}
 use Rattle.indexset_replica.specs.Delivery.{IsSubsequence}
@@ -26,7 +26,8 @@ use Rattle.indexset_follow.specs.Follow.{State, after_line, event_taken, holding
 use Rattle.indexset_follow.specs.Leading.{after_leading, command_text, done_after, events_led, leader_after, leader_of, leading_events, leading_reply, tree_of}
 use Rattle.indexset_follow.specs.Mark.{mark_line}
 use Rattle.indexset_follow.specs.NodeLine.{node_of}
-use Rattle.indexset_bench.specs.Texts.{AreWords, PairFits, Texts}
+use Rattle.indexset_bench.specs.Texts.{PairFits}
+use Rattle.indexset_wire.specs.Texts.{AreTokens, Texts}
 use Rattle.indexset_follow.specs.Query.{query_of}
 use Rattle.indexset_follow.specs.Reads.{query_text}
 use Rattle.indexset_follow.specs.Reply.{others_text}
@@ -75,7 +76,7 @@ module _ {T : Type 0} (texts : Texts T) where
       at None None fit = known
       at None (Some c) fit = number_kept d known c.echo (fit c refl)
 
-module _ {T : Type 0} (cmp : T → T → Ordering) (texts : Texts T) (total : IsTotalOrder cmp) (spelled : AreWords texts) where
+module _ {T : Type 0} (cmp : T → T → Ordering) (texts : Texts T) (total : IsTotalOrder cmp) (spelled : AreTokens texts) where
   pub line_sound : (l : Leader T) (line : List ℕ) → IsSound cmp texts l → IsSound cmp texts (leader_after cmp texts l line)
   line_sound l line s = sound cmp texts (leader_after cmp texts l line) (leading_onward cmp texts total spelled l.pairs (good cmp texts l s) line).good (done_kept texts l.done s.done line)
 
@@ -95,7 +96,7 @@ module _ {T : Type 0} (texts : Texts T) where
   own_texts : (es : List (Event T)) → All (IsDrawn texts es) (map (event_text texts) es)
   own_texts es k d lt = let it = text_at es k d lt in record { place = k; event = it.0; at = it.1; text = it.2 }
 
-module _ {T : Type 0} (cmp : T → T → Ordering) (texts : Texts T) (spelled : AreWords texts) where
+module _ {T : Type 0} (cmp : T → T → Ordering) (texts : Texts T) (spelled : AreTokens texts) where
   -- a follower without a window applies the event of a line, and holds no early event
   pub one_taken : (c : Copy T) (n : ℕ) (e : Event T) → EventFits texts e → after_line cmp texts (holding 0 c n) (event_text texts e) ≡ holding 0 (copy_after cmp c e) n
   one_taken c n e fit =
@@ -119,7 +120,7 @@ module _ {T : Type 0} where
   abbrev copied : PairTree T → Copy T
   copied t = copy t.nodes t.next
 
-module _ {T : Type 0} (cmp : T → T → Ordering) (texts : Texts T) (total : IsTotalOrder cmp) (spelled : AreWords texts) where
+module _ {T : Type 0} (cmp : T → T → Ordering) (texts : Texts T) (total : IsTotalOrder cmp) (spelled : AreTokens texts) where
   module _ (l : Leader T) (s : IsSound cmp texts l) (lines : List (List ℕ)) (less : (tree_of cmp texts l.pairs lines).next < 2 ^ 64) where
     abbrev events : List (Event T)
     events = events_led cmp texts l.pairs lines
@@ -165,7 +166,7 @@ module _ {T : Type 0} where
   abbrev followed : Leader T → State T
   followed l = holding 0 (copied l.pairs) l.done
 
-module _ {T : Type 0} (cmp : T → T → Ordering) (texts : Texts T) (total : IsTotalOrder cmp) (spelled : AreWords texts) where
+module _ {T : Type 0} (cmp : T → T → Ordering) (texts : Texts T) (total : IsTotalOrder cmp) (spelled : AreTokens texts) where
   -- the events of a line
   events_onward : (l : Leader T) → IsSound cmp texts l → (line : List ℕ)
       → (after_leading cmp texts l.pairs line).next < 2 ^ 64
@@ -192,7 +193,7 @@ module _ {T : Type 0} (cmp : T → T → Ordering) (texts : Texts T) where
       let near = le-ltb t.next t.next (omega arith) in
       rw (event, node, mark, near) (ap (holding 0 (copied t)) (max_twice d n))
 
-module _ {T : Type 0} (cmp : T → T → Ordering) (texts : Texts T) (total : IsTotalOrder cmp) (spelled : AreWords texts) where
+module _ {T : Type 0} (cmp : T → T → Ordering) (texts : Texts T) (total : IsTotalOrder cmp) (spelled : AreTokens texts) where
   done_onward : (t : PairTree T) (d : ℕ) (echo : Option ℕ) → EchoFits echo → d < 2 ^ 64 → t.next < 2 ^ 64
       → state_after cmp texts (holding 0 (copied t) d) (done_lines echo (option_map_or (max d) echo d) t.next) ≡ holding 0 (copied t) (option_map_or (max d) echo d)
   unfolding left_by

@@ -11,7 +11,7 @@ use Rattle.indexset_events.specs.Replay.{replay}
 use Rattle.indexset_events.proofs.CallerLemmas.{each_all}
 use Rattle.indexset_lines.specs.Run.{left_by}
 use Rattle.indexset_bench.specs.Pairs.{PairTree}
-use Rattle.indexset_bench.specs.Texts.{AreWords, Texts}
+use Rattle.indexset_wire.specs.Texts.{AreTokens, Texts}
 use Rattle.indexset_follow.specs.Copy.{copy}
 use Rattle.indexset_follow.specs.Drawn.{HoldsFirst, IsDrawn, IsFeedOfPairs}
 use Rattle.indexset_follow.specs.EventLine.{Event, EventFits}
@@ -36,7 +36,7 @@ module _ {T : Type 0} (cmp : T → T → Ordering) (texts : Texts T) where
       (append_assoc (leading_events cmp texts t line) (events_led cmp texts (after_leading cmp texts t line) front)
       (events_led cmp texts (tree_of cmp texts (after_leading cmp texts t line) front) back))
 
-module _ {T : Type 0} (cmp : T → T → Ordering) (texts : Texts T) (total : IsTotalOrder cmp) (spelled : AreWords texts) where
+module _ {T : Type 0} (cmp : T → T → Ordering) (texts : Texts T) (total : IsTotalOrder cmp) (spelled : AreTokens texts) where
   module _ (l : Leader T) (lines : List (List ℕ)) (sound : IsSound cmp texts l) where
     abbrev told : List (Event T)
     told = events_led cmp texts l.pairs lines

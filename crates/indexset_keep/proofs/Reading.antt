@@ -12,10 +12,10 @@ use Rattle.indexset_keep.specs.Told.{kept_by}
 use Rattle.indexset_keep.proofs.Roles.{kept_on, map_sound}
 use Rattle.indexset_keep.proofs.Runs.{Going, carried}
 use Rattle.std.specs.declared.cmp.Ordering.{Ordering}
-use Rattle.indexset_bench.specs.Texts.{AreWords, Texts}
+use Rattle.indexset_wire.specs.Texts.{AreTokens, Texts}
 use Rattle.std.specs.Cmp.{IsTotalOrder}
 
-module _ {T : Type 0} (cmp : T → T → Ordering) (texts : Texts T) (total : IsTotalOrder cmp) (spelled : AreWords texts) where
+module _ {T : Type 0} (cmp : T → T → Ordering) (texts : Texts T) (total : IsTotalOrder cmp) (spelled : AreTokens texts) where
   module _ (v u : Voice) (t : Held T) {S : Type 0} (view : S → View) (recovers : S → Trees → Type 0) (old : S)
       (r w : Option (List ℕ)) (from : State T) (now : S) (r' w' : Option (List ℕ)) (waiting : List ℕ)
       (told : List (List ℕ)) (held : Held T)

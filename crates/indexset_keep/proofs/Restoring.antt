@@ -5,7 +5,7 @@ use Rattle.indexset_follow.specs.Copy.{Copy, copy}
 use Rattle.indexset_follow.specs.Follow.{State, after_line, holding, start_state, state_after}
 use Rattle.indexset_keep.proofs.States.{more_lines}
 use Rattle.std.specs.declared.cmp.Ordering.{Ordering}
-use Rattle.indexset_bench.specs.Texts.{Texts}
+use Rattle.indexset_wire.specs.Texts.{Texts}
 
 module _ {T : Type 0} (cmp : T → T → Ordering) (texts : Texts T) where
   pub one_more : (s : State T) (lines : List (List ℕ)) (line : List ℕ) → state_after cmp texts s (lines ++ line ∷ []) ≡ after_line cmp texts (state_after cmp texts s lines) line

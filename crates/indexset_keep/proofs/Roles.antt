@@ -46,7 +46,7 @@ use Rattle.indexset_keep.proofs.Soundness.{line_sound as follower_sound}
 use Rattle.indexset_keep.proofs.States.{nothing_after}
 use Rattle.indexset_keep.proofs.Told.{next_keeps}
 use Rattle.std.specs.declared.cmp.Ordering.{Ordering}
-use Rattle.indexset_bench.specs.Texts.{AreWords, Texts}
+use Rattle.indexset_wire.specs.Texts.{AreTokens, Texts}
 use Rattle.std.specs.Cmp.{IsTotalOrder}
 
 same_word : (word text : List ℕ) → bytes_eq word text ≡ true → word ≡ text
@@ -89,7 +89,7 @@ module _ {T : Type 0} (cmp : T → T → Ordering) where
         at true = refl
         at false = refl
 
-module _ {T : Type 0} (cmp : T → T → Ordering) (texts : Texts T) (total : IsTotalOrder cmp) (spelled : AreWords texts) where
+module _ {T : Type 0} (cmp : T → T → Ordering) (texts : Texts T) (total : IsTotalOrder cmp) (spelled : AreTokens texts) where
   module _ (v : Voice) (size window : ℕ) (s : State T) (sound : IsSoundFollower cmp texts s) where
     follower_leads : (line : List ℕ) → state_after cmp texts (settled (Following s)) (line_kept cmp texts s line) ≡ holding 0 (after_line cmp texts s line).held (after_line cmp texts s line).done
     follower_leads line = followed_on cmp texts total spelled s line sound (settled (Following s)) [] (nothing_after cmp texts (settled (Following s)))
@@ -209,7 +209,7 @@ module _ {T : Type 0} (cmp : T → T → Ordering) (texts : Texts T) where
     start_told : (v : Voice) (s : State T) → reply_line cmp texts v s line ≡ voiced v reply.Held
     start_told v s = let event = no_event in let node = no_node in let mark = started.2 in rw (event, node, mark) refl
 
-module _ {T : Type 0} (cmp : T → T → Ordering) (texts : Texts T) (total : IsTotalOrder cmp) (spelled : AreWords texts) where
+module _ {T : Type 0} (cmp : T → T → Ordering) (texts : Texts T) (total : IsTotalOrder cmp) (spelled : AreTokens texts) where
   module _ (v : Voice) (size window : ℕ) (l : Leader T) (sound : IsSound cmp texts l) (less : l.pairs.next < 2 ^ 64) where
     abbrev from : State T
     from = settled (Leading l)

@@ -24,7 +24,7 @@ use Rattle.indexset_keep.specs.declared.fault.KeepFault.{KeepFault}
 use Rattle.indexset_keep.specs.declared.fault.KeepFault.TheVariants.{Run, Journal, NodeSize}
 use Rattle.indexset_keep.proofs.States.{leads_on, leads_still, may_lead_none, may_lead_on, more_lines, nothing_after, settled_same}
 use Rattle.std.specs.declared.cmp.Ordering.{Ordering}
-use Rattle.indexset_bench.specs.Texts.{Texts}
+use Rattle.indexset_wire.specs.Texts.{Texts}
 
 -- ---- consecutive lines
 

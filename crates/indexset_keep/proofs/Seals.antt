@@ -7,8 +7,8 @@ use Rattle.std.specs.Fmt.{decimal}
 use Rattle.std.specs.Hash.DefaultHasher as sip
 use Rattle.std.proofs.lemmas.List.Sums.{fold-append}
 use Rattle.indexset_lines.specs.Run.{left_by}
-use Rattle.indexset_events.specs.Spelling.{cut_at}
-use Rattle.indexset_events.specs.Spelling.Laws.{cut_told, lacks_tested}
+use Rattle.indexset_wire.specs.Parts.{cut_at}
+use Rattle.indexset_wire.specs.Parts.Laws.{cut_told, lacks_tested}
 use Rattle.indexset_follow.specs.Follow.{State, after_line, start_state, state_after}
 use Rattle.indexset_follow.proofs.Readings.{no_number}
 use Rattle.indexset_keep.specs.Roles.{LeadsTo}
@@ -17,7 +17,7 @@ use Rattle.indexset_keep.specs.Seal.{seal_after, seal_line, seal_of, seal_read}
 use Rattle.indexset_keep.proofs.States.{more_lines}
 use Rattle.std.specs.declared.hash.DefaultHasher.{DefaultHasher}
 use Rattle.std.specs.declared.cmp.Ordering.{Ordering}
-use Rattle.indexset_bench.specs.Texts.{Texts}
+use Rattle.indexset_wire.specs.Texts.{Texts}
 
 module _ {T : Type 0} (cmp : T → T → Ordering) (texts : Texts T) where
   seal_still : (s : State T) (n : ℕ) → after_line cmp texts s (seal_line n) ≡ s

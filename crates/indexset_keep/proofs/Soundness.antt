@@ -33,7 +33,8 @@ use Rattle.indexset_follow.specs.Follow.{start_state, state_after, with_coming, 
 use Rattle.indexset_follow.specs.Leading.{leader_of}
 use Rattle.indexset_follow.specs.Mark.{MarkFits, mark_of}
 use Rattle.indexset_follow.specs.NodeLine.{NodeFits, node_of}
-use Rattle.indexset_bench.specs.Texts.{AreWords, PairFits, Texts}
+use Rattle.indexset_bench.specs.Texts.{PairFits}
+use Rattle.indexset_wire.specs.Texts.{AreTokens, Texts}
 use Rattle.indexset_follow.specs.Store.{can_lead, promoted}
 use Rattle.indexset_follow.specs.declared.leader.Leader.{Leader}
 use Rattle.indexset_follow.specs.declared.mark.Mark.{Mark}
@@ -227,7 +228,7 @@ module _ {T : Type 0} (cmp : T → T → Ordering) (texts : Texts T) (total : Is
       at true = f
       at false = record { held = f.held; done = max_fits s.done d f.done fit.0; coming = f.coming; coming_done = f.coming_done; early = f.early }
 
-module _ {T : Type 0} (cmp : T → T → Ordering) (texts : Texts T) (total : IsTotalOrder cmp) (spelled : AreWords texts) where
+module _ {T : Type 0} (cmp : T → T → Ordering) (texts : Texts T) (total : IsTotalOrder cmp) (spelled : AreTokens texts) where
   pub line_sound : (s : State T) (line : List ℕ) → IsSoundFollower cmp texts s → IsSoundFollower cmp texts (after_line cmp texts s line)
   line_sound s line f =
       at (event_of texts line) (λ e is. (event_sound texts spelled line e is).1) (node_of texts line)
@@ -278,7 +279,7 @@ module _ {T : Type 0} (texts : Texts T) where
       let end : (front ++ last) ++ 10 ∷ [] ≡ text = append_assoc front last (10 ∷ []) in
       sym (ap whole_lines (append-nil text)) ∙ whole_lines-append [] (All-nil (λ x. x ≢ 10)) text (subst IsWhole end (IsWhole-end (front ++ last)))
 
-module _ {T : Type 0} (cmp : T → T → Ordering) (texts : Texts T) (spelled : AreWords texts) where
+module _ {T : Type 0} (cmp : T → T → Ordering) (texts : Texts T) (spelled : AreTokens texts) where
   pub snapshot_leads : (taker : State T) (c : Copy T) (d : ℕ) → IsSoundCopy cmp texts c → d < 2 ^ 64
       → length c.nodes < 2 ^ 64
       → state_after cmp texts taker (whole_lines (unsummed_text texts c d)) ≡ holding taker.window c d

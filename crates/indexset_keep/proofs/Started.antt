@@ -17,7 +17,7 @@ use Rattle.indexset_keep.proofs.Runs.{none_whole}
 use Rattle.indexset_keep.proofs.Starts.{first_same, first_sound, first_whole}
 use Rattle.indexset_keep.proofs.States.{leads_on, may_lead_behind, may_lead_same, settled_same}
 use Rattle.std.specs.declared.cmp.Ordering.{Ordering}
-use Rattle.indexset_bench.specs.Texts.{AreWords, Texts}
+use Rattle.indexset_wire.specs.Texts.{AreTokens, Texts}
 use Rattle.std.specs.Cmp.{IsTotalOrder}
 
 module _ {T : Type 0} (cmp : T → T → Ordering) (texts : Texts T) where
@@ -105,7 +105,7 @@ pub if_err_map : {X E : Type 0} (r : Result X E) {P Q : E → Type 0} → IfErr 
 if_err_map (Ok x) p f = tt
 if_err_map (Err e) p f = f e p
 
-module _ {T : Type 0} (cmp : T → T → Ordering) (texts : Texts T) (total : IsTotalOrder cmp) (spelled : AreWords texts) where
+module _ {T : Type 0} (cmp : T → T → Ordering) (texts : Texts T) (total : IsTotalOrder cmp) (spelled : AreTokens texts) where
   -- ---- the initial map
 
   module _ (m : Manner) (lines : List (List ℕ)) (follower : State T) (role : Role T)

@@ -21,7 +21,7 @@ use Rattle.indexset_keep.specs.Roles.{IsSoundRole, LeadsTo, copy_held, done_held
 use Rattle.indexset_keep.specs.Sound.{IsSoundCopy, IsSoundFollower}
 use Rattle.indexset_keep.proofs.Soundness.{copy_sound, holding_sound, leader_sound, lines_sound, snapshot_leads, start_sound}
 use Rattle.std.specs.declared.cmp.Ordering.{Ordering}
-use Rattle.indexset_bench.specs.Texts.{AreWords, Texts}
+use Rattle.indexset_wire.specs.Texts.{AreTokens, Texts}
 use Rattle.std.specs.Cmp.{IsTotalOrder}
 
 module _ {T : Type 0} (cmp : T → T → Ordering) (texts : Texts T) where
@@ -31,11 +31,11 @@ module _ {T : Type 0} (cmp : T → T → Ordering) (texts : Texts T) where
   role_copy (Following s) sound = (sound.held, sound.done)
   role_copy (Leading l) sound = (copy_sound cmp texts l sound.0 sound.1, sound.0.done)
 
-module _ {T : Type 0} (cmp : T → T → Ordering) (texts : Texts T) (spelled : AreWords texts) where
+module _ {T : Type 0} (cmp : T → T → Ordering) (texts : Texts T) (spelled : AreTokens texts) where
   pub snapshot_on : (r : Role T) → IsSoundRole cmp texts r → length (copy_held r).nodes < 2 ^ 64 → LeadsTo cmp texts (snapshot_of texts r) (settled r)
   snapshot_on r sound few = let it = role_copy cmp texts r sound in snapshot_leads cmp texts spelled (start_state 0) (copy_held r) (done_held r) it.0 it.1 few
 
-module _ {T : Type 0} (cmp : T → T → Ordering) (texts : Texts T) (total : IsTotalOrder cmp) (spelled : AreWords texts) where
+module _ {T : Type 0} (cmp : T → T → Ordering) (texts : Texts T) (total : IsTotalOrder cmp) (spelled : AreTokens texts) where
   -- ---- the initial role
 
   pub first_sound : (size window : ℕ) (leads : Bool) (lines : List (List ℕ)) → 2 ≤ size → size < 2 ^ 64

@@ -10,7 +10,7 @@ use Rattle.indexset_follow.specs.EventLine.{Event}
 use Rattle.indexset_follow.specs.Follow.{State, event_taken}
 use Rattle.indexset_keep.specs.Followed.{event_kept, step_count}
 use Rattle.std.specs.declared.cmp.Ordering.{Ordering}
-use Rattle.indexset_bench.specs.Texts.{Texts}
+use Rattle.indexset_wire.specs.Texts.{Texts}
 
 module _ {T : Type 0} (cmp : T → T → Ordering) (texts : Texts T) where
   module _ (s : State T) (e : Event T) (here : event_number e ≡ s.held.next) where

@@ -18,14 +18,17 @@ use Rattle.indexset_bench.specs.declared.reply.Reply.{Reply}
 use Rattle.indexset_bench.specs.declared.reply.Reply.TheVariants.{New, Old, OldValue, Gone, GoneValue, Yes, No, Count, Item, Nothing, Empty, Bad}
 use Rattle.indexset_core.specs.declared.pair.Pair.{Pair}
 use Rattle.indexset_events.specs.Nodes.{is_filled}
-use Rattle.indexset_events.specs.Spelling.{cut_at, number_of}
-use Rattle.indexset_events.specs.Spelling.Laws.{Lacks, cut_told, lacks_tested, number_lacks, map_some, none_some, number_sound, some_inj, then_some}
+use Rattle.indexset_wire.specs.Numbers.{number_of}
+use Rattle.indexset_wire.specs.Parts.{cut_at}
+use Rattle.indexset_wire.specs.Numbers.Laws.{number_lacks, number_sound}
+use Rattle.indexset_wire.specs.Parts.Laws.{Lacks, cut_told, lacks_tested, map_some, none_some, some_inj, then_some}
 use Rattle.indexset_events.proofs.CallerLemmas.{Each, each_all}
 use Rattle.indexset_follow.specs.Echo.{change_of, command, command_of, done_by, echo_of, echoed_of}
 use Rattle.indexset_follow.specs.EventLine.{Event, EventFits, event_of}
 use Rattle.indexset_follow.specs.Leading.{command_text, done_text}
 use Rattle.indexset_follow.specs.Mark.{mark_line, mark_of}
-use Rattle.indexset_bench.specs.Texts.{AreWords, PairFits, Texts}
+use Rattle.indexset_bench.specs.Texts.{PairFits}
+use Rattle.indexset_wire.specs.Texts.{AreTokens, Texts}
 use Rattle.indexset_follow.specs.Passed.{ReplyFits}
 use Rattle.indexset_follow.specs.Reply.{others_text}
 use Rattle.indexset_follow.specs.declared.echo.Command.{Command}
@@ -33,10 +36,10 @@ use Rattle.indexset_follow.specs.declared.leader.Leader.{Leader}
 use Rattle.indexset_follow.specs.declared.mark.Mark.TheVariants.{Done}
 use Rattle.indexset_follow.specs.declared.others.Others.{Others}
 use Rattle.indexset_follow.specs.declared.others.Others.TheVariants.{Tell, Pass}
-use Rattle.indexset_follow.proofs.EventLines.{event_told}
+use Rattle.indexset_follow.proofs.EventLines.{event_told, event_whole}
 use Rattle.indexset_follow.proofs.Fits.{each_apart}
 use Rattle.indexset_follow.proofs.MarkLines.{done_cut, mark_told}
-use Rattle.indexset_follow.proofs.Replies.{change_fits, event_whole, reply_alone, reply_whole}
+use Rattle.indexset_follow.proofs.Replies.{change_fits, reply_alone, reply_whole}
 use Rattle.indexset_follow.proofs.Passing.{node_alone, pair_no_word, uncut}
 use Rattle.indexset_follow.proofs.Onwards.{Good, command_onward}
 use Rattle.indexset_follow.proofs.Readings.{no_number, pair_lacks, space_apart}
@@ -66,7 +69,7 @@ module _ {T : Type 0} (texts : Texts T) where
   keeps_line : (line : List ℕ) → HasNoEnd line → is_told texts line ≡ true → Keeps (ended line) (line ∷ [])
   keeps_line line none is rest = ap (told_lines texts) (first_line line rest none) ∙ rw is refl
 
-module _ {T : Type 0} (texts : Texts T) (spelled : AreWords texts) where
+module _ {T : Type 0} (texts : Texts T) (spelled : AreTokens texts) where
   keeps_events : (es : List (Event T)) → Each (EventFits texts) es → Keeps texts (lines_for (event_text texts) es) (map (event_text texts) es)
   keeps_events [] fit = keeps_none texts
   keeps_events (e ∷ es) fit =
@@ -81,21 +84,21 @@ module _ {T : Type 0} (texts : Texts T) (spelled : AreWords texts) where
 word_unmarked : (word : List ℕ) → Lacks 32 word → mark_of word ≡ None
 word_unmarked word lacks = let one = uncut 32 word lacks in rw one refl
 
-module _ {T : Type 0} (texts : Texts T) (spelled : AreWords texts) where
+module _ {T : Type 0} (texts : Texts T) (spelled : AreTokens texts) where
   reply_unmarked : (r : Reply T) → ReplyFits texts r → mark_of (reply_text texts r) ≡ None
   reply_unmarked New fit = word_unmarked (codes "new") (lacks_tested 32 (codes "new") refl)
   reply_unmarked Old fit = word_unmarked (codes "old") (lacks_tested 32 (codes "old") refl)
   reply_unmarked (OldValue v) fit =
-      let cut : cut_at 32 (codes "old " ++ texts.spelling v) ≡ Some (codes "old", texts.spelling v) = cut_told 32 (codes "old") (texts.spelling v) (lacks_tested 32 (codes "old") refl) in
+      let cut : cut_at 32 (codes "old " ++ texts.text v) ≡ Some (codes "old", texts.text v) = cut_told 32 (codes "old") (texts.text v) (lacks_tested 32 (codes "old") refl) in
       rw cut refl
   reply_unmarked Gone fit = word_unmarked (codes "gone") (lacks_tested 32 (codes "gone") refl)
   reply_unmarked (GoneValue v) fit =
-      let cut : cut_at 32 (codes "gone " ++ texts.spelling v) ≡ Some (codes "gone", texts.spelling v) = cut_told 32 (codes "gone") (texts.spelling v) (lacks_tested 32 (codes "gone") refl) in
+      let cut : cut_at 32 (codes "gone " ++ texts.text v) ≡ Some (codes "gone", texts.text v) = cut_told 32 (codes "gone") (texts.text v) (lacks_tested 32 (codes "gone") refl) in
       rw cut refl
   reply_unmarked Yes fit = word_unmarked (codes "yes") (lacks_tested 32 (codes "yes") refl)
   reply_unmarked No fit = word_unmarked (codes "no") (lacks_tested 32 (codes "no") refl)
   reply_unmarked (Count n) fit = word_unmarked (decimal n) (number_lacks 32 (omega arith) n fit)
-  reply_unmarked (Item v) fit = word_unmarked (texts.spelling v) (space_lacks texts spelled v fit)
+  reply_unmarked (Item v) fit = word_unmarked (texts.text v) (space_lacks texts spelled v fit)
   reply_unmarked Nothing fit = word_unmarked (codes "none") (lacks_tested 32 (codes "none") refl)
   reply_unmarked Empty fit = word_unmarked (codes "empty") (lacks_tested 32 (codes "empty") refl)
   reply_unmarked Bad fit = word_unmarked (codes "bad") (lacks_tested 32 (codes "bad") refl)
@@ -170,7 +173,7 @@ abbrev pub EchoFits : Option ℕ → Type 0
 EchoFits None = Unit {0}
 EchoFits (Some n) = n < 2 ^ 64
 
-module _ {T : Type 0} (texts : Texts T) (spelled : AreWords texts) where
+module _ {T : Type 0} (texts : Texts T) (spelled : AreTokens texts) where
   keeps_change : (echo : Option ℕ) → EchoFits echo → (r : Reply T) → ReplyFits texts r → (es : List (Event T))
       → Each (EventFits texts) es
       → Keeps texts (echo_text echo ++ (reply_ended texts r ++ lines_for (event_text texts) es))
@@ -195,7 +198,7 @@ module _ {T : Type 0} (texts : Texts T) (spelled : AreWords texts) where
       passes_number texts n small (node_text texts x) (lines_for (node_text texts) ns) []
       (row_lacks texts spelled x (each_all (PairFits texts) x fit.0)) (passes_nodes texts spelled ns fit.1)
 
-module _ {T : Type 0} (cmp : T → T → Ordering) (texts : Texts T) (spelled : AreWords texts) where
+module _ {T : Type 0} (cmp : T → T → Ordering) (texts : Texts T) (spelled : AreTokens texts) where
   keeps_reply : (echo : Option ℕ) → EchoFits echo → (t : PairTree T) → Good cmp texts t → (c : PairCommand T)
       → Each (EventFits texts) (told_events cmp t c)
       → Keeps texts (echo_text echo ++ pair_reply cmp texts t c) (map (event_text texts) (told_events cmp t c))
@@ -250,7 +253,7 @@ module _ {T : Type 0} (texts : Texts T) where
   others_keep Tell = refl
   others_keep Pass = refl
 
-module _ {T : Type 0} (cmp : T → T → Ordering) (texts : Texts T) (total : IsTotalOrder cmp) (spelled : AreWords texts) where
+module _ {T : Type 0} (cmp : T → T → Ordering) (texts : Texts T) (total : IsTotalOrder cmp) (spelled : AreTokens texts) where
   module _ (l : Leader T) (g : Good cmp texts l.pairs) (c : Command T) (fit : CommandFits texts c.change)
       (small : EchoFits c.echo) (known : done_by l.done c < 2 ^ 64)
       (less : (pairs_after cmp l.pairs c.change).next ≤ MAX) where

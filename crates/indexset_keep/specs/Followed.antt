@@ -14,7 +14,7 @@ use Rattle.indexset_follow.specs.Mark.{mark_of}
 use Rattle.indexset_follow.specs.declared.mark.Mark.{Mark}
 use Rattle.indexset_follow.specs.declared.mark.Mark.TheVariants.{Start, End, Done}
 use Rattle.std.specs.declared.cmp.Ordering.{Ordering}
-use Rattle.indexset_bench.specs.Texts.{Texts}
+use Rattle.indexset_wire.specs.Texts.{Texts}
 
 module _ {T : Type 0} (cmp : T → T → Ordering) where
   -- the number of events that an event applies: itself and the early events after it

@@ -3,7 +3,8 @@ use Rattle.std.specs.Prelude.{◌<◌, ◌≤◌, ◌^◌}
 use Rattle.std.specs.List.{All}
 use Rattle.indexset_core.specs.Nodes.{IsLawful, concat}
 use Rattle.indexset_core.specs.Pairs.{by_key}
-use Rattle.indexset_bench.specs.Texts.{PairFits, Texts}
+use Rattle.indexset_bench.specs.Texts.{PairFits}
+use Rattle.indexset_wire.specs.Texts.{Texts}
 use Rattle.indexset_follow.specs.declared.leader.Leader.{Leader}
 use Rattle.std.specs.declared.cmp.Ordering.{Ordering}
 

@@ -10,7 +10,7 @@ use Rattle.indexset_follow.specs.declared.role.Role.TheVariants.{Following, Lead
 use Rattle.indexset_keep.specs.Leads.{IsSound}
 use Rattle.indexset_keep.specs.Sound.{IsSoundFollower}
 use Rattle.std.specs.declared.cmp.Ordering.{Ordering}
-use Rattle.indexset_bench.specs.Texts.{Texts}
+use Rattle.indexset_wire.specs.Texts.{Texts}
 
 module _ {T : Type 0} where
   -- the nodes and the next number

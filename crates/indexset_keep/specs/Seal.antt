@@ -7,7 +7,8 @@ use Rattle.std.specs.Option.{option_and_then, option_map_or}
 use Rattle.std.specs.Str.{bytes_eq}
 use Rattle.indexset_bench.specs.PairText.{ended, lines_for}
 use Rattle.indexset_events.specs.Nodes.{is_filled}
-use Rattle.indexset_events.specs.Spelling.{cut_at, number_of}
+use Rattle.indexset_wire.specs.Numbers.{number_of}
+use Rattle.indexset_wire.specs.Parts.{cut_at}
 
 -- the line of a seal
 abbrev pub seal_line : ℕ → List ℕ

@@ -6,7 +6,8 @@ use Rattle.indexset_core.specs.Pairs.{by_key}
 use Rattle.indexset_follow.specs.Copy.{Copy}
 use Rattle.indexset_follow.specs.EventLine.{EventFits}
 use Rattle.indexset_follow.specs.Follow.{State}
-use Rattle.indexset_bench.specs.Texts.{PairFits, Texts}
+use Rattle.indexset_bench.specs.Texts.{PairFits}
+use Rattle.indexset_wire.specs.Texts.{Texts}
 use Rattle.std.specs.declared.cmp.Ordering.{Ordering}
 
 module _ {T : Type 0} (cmp : T → T → Ordering) (texts : Texts T) where

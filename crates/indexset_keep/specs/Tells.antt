@@ -5,7 +5,7 @@ use Rattle.indexset_journal.specs.Kept.{texts as lines_texts}
 use Rattle.indexset_keep.specs.Roles.{copy_held, snapshot_of}
 use Rattle.indexset_keep.specs.declared.followed.Tells.{Tells}
 use Rattle.indexset_keep.specs.declared.followed.Tells.TheVariants.{Nothing, Line, Steps, Snapshot}
-use Rattle.indexset_bench.specs.Texts.{Texts}
+use Rattle.indexset_wire.specs.Texts.{Texts}
 
 module _ {T : Type 0} (texts : Texts T) where
   -- the lines that are kept, from the number awaited before the line and the role after it

@@ -5,7 +5,7 @@ ghost use Rattle.indexset_journal.specs.Kept.{texts};
 ghost use Rattle.indexset_lines.specs.Lines.{whole_lines};
 ghost use Rattle.indexset_keep.specs.Told.{inner};
 
-use indexset_events::parts::cut;
+use indexset_wire::parts::cut;
 use indexset_lines::RunFault;
 use std::alloc::Global;
 

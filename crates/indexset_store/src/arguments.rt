@@ -2,7 +2,7 @@
 
 ghost use Rattle.std.specs.Prelude.{◌≤◌};
 
-use indexset_events::parts::read_number;
+use indexset_wire::number::read_number;
 use indexset_follow::others::{Others, Voice};
 use indexset_keep::manner::Manner;
 use std::io::ErrorKind;

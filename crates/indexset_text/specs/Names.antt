@@ -5,7 +5,7 @@ use Rattle.std.specs.Prelude.{if◌then◌else◌, List, [], ◌∷◌, Option, 
 use Rattle.std.specs.Char.{digit_value}
 use Rattle.std.specs.List.{All, flat_map, list_all}
 use Rattle.std.specs.Str.{bytes_eq}
-use Rattle.indexset_bench.specs.Texts.{Texts}
+use Rattle.indexset_wire.specs.Texts.{Texts}
 use Rattle.percent_encoding.specs.Percent.{percent_decode, percent_encode_byte}
 
 -- the numbers are bytes
@@ -32,4 +32,4 @@ name_of text =
 
 -- the spellings of texts
 abbrev pub name_texts : Texts (List ℕ)
-name_texts = record { spelling = name_text; reading = name_of; InRange = AreBytes }
+name_texts = record { text = name_text; parse = name_of; InRange = AreBytes }

@@ -2,16 +2,16 @@
 
 ghost use Rattle.std.specs.Prelude.{◌≡◌, ℕ, List, Some, true, refl};
 ghost use Rattle.std.proofs.Common.{rules};
-ghost use Rattle.indexset_text.specs.Names.{name_text, name_texts};
-ghost use Rattle.indexset_text.specs.Names.Laws.{EscapesOthers, name_words};
+ghost use Rattle.indexset_text.specs.Names.{AreBytes, name_text, name_texts};
+ghost use Rattle.indexset_text.specs.Names.Laws.{EscapesOthers, name_items, name_tokens};
 
 use indexset_bench::key::Key;
 use indexset_core::text::Text;
-use indexset_lines::RunFault;
+use indexset_wire::item::{Item, Token};
 use percent_encoding::{AsciiSet, NON_ALPHANUMERIC, percent_decode, percent_encode};
 use std::alloc::{AllocError, Global};
 use std::fmt;
-use std::io::Write;
+use std::io::{self, Write};
 use std::marker::Model;
 
 /// Returns the bytes that are escaped: all but letters, digits and `-._~`.
@@ -48,18 +48,21 @@ impl fmt::Display for Name {
     }
 }
 
-impl Key for Name {
+// Does nothing; its contract states that each byte is below 256.
+fn recall_bytes(bytes: &[u8])
+    ensures { AreBytes bytes.now }
+{
+    let _bytes = bytes;
+}
+
+impl Item for Name {
     ghost texts = { name_texts };
 
     ghost allocates = { true };
 
-    ghost shown = { λ x. refl };
+    ghost items = { name_items };
 
-    ghost words = { name_words };
-
-    ghost identical = { Prim.search rules };
-
-    fn read_key(alloc: Global, text: &[u8]) -> Result<Option<Name>, AllocError> {
+    fn read(alloc: Global, text: &[u8]) -> Result<Option<Name>, AllocError> {
         let mut bytes = Vec::new(alloc);
         percent_decode(text).append_to(&mut bytes)?;
         let mut spelled = String::new(alloc);
@@ -72,7 +75,21 @@ impl Key for Name {
         }
     }
 
-    fn write_text<W: Write>(&self, writer: &mut W) -> Result<(), RunFault> {
-        write!(writer, "{self}").map_err(|_| RunFault::Write)
+    fn write<W: Write>(&self, writer: &mut W) -> io::Result<()> {
+        write!(writer, "{self}")
     }
+
+    fn recall_range(&self) {
+        recall_bytes(self.text.as_bytes());
+    }
+}
+
+impl Token for Name {
+    ghost tokens = { name_tokens };
+}
+
+impl Key for Name {
+    ghost shown = { λ x. refl };
+
+    ghost identical = { Prim.search rules };
 }

@@ -4,8 +4,9 @@ ghost use Rattle.std.specs.Prelude.{◌≡◌, IfErr, IfOk};
 ghost use Rattle.indexset_follow.specs.Query.{keyed_query, numbered_query, query_of, word_query};
 
 use crate::numbers::read_two;
-use indexset_bench::key::{Key, read_key, read_two_keys};
-use indexset_events::parts::{cut, read_number};
+use indexset_bench::key::{Key, read_item, read_two_keys};
+use indexset_wire::number::read_number;
+use indexset_wire::parts::cut;
 use indexset_lines::RunFault;
 use std::alloc::Global;
 
@@ -84,9 +85,9 @@ fn read_keyed<T: Key>(alloc: Global, word: &[u8], rest: &[u8]) -> Result<Option<
     ensures fault { IfErr result (λ fault. fault ≡ RunFault.Memory) }
 {
     if word == b"get".as_slice() {
-        Ok(read_key(alloc, rest)?.map(Query::Get))
+        Ok(read_item(alloc, rest)?.map(Query::Get))
     } else if word == b"rank".as_slice() {
-        Ok(read_key(alloc, rest)?.map(Query::Rank))
+        Ok(read_item(alloc, rest)?.map(Query::Rank))
     } else if word == b"range".as_slice() {
         let keys = read_two_keys(alloc, rest)?;
         Ok(keys.map(|keys| Query::Range(keys.0, keys.1)))

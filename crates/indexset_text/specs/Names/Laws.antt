@@ -9,9 +9,9 @@ use Rattle.std.proofs.lemmas.List.Elements.{All-cons, All-head, All-nil, All-tai
 use Rattle.std.proofs.lemmas.Slice.Eq.{bytes_eq-Decides}
 use Rattle.std.specs.List.{list_all}
 use Rattle.std.specs.Str.{bytes_eq}
-use Rattle.indexset_bench.specs.Texts.{AreWords}
-use Rattle.indexset_events.specs.Spelling.{is_word, lacks}
-use Rattle.indexset_events.specs.Spelling.Laws.{Lacks, both, none_some, some_inj}
+use Rattle.indexset_wire.specs.Texts.{AreItems, AreTokens}
+use Rattle.indexset_wire.specs.Parts.{is_item, is_token, lacks}
+use Rattle.indexset_wire.specs.Parts.Laws.{Lacks, both, none_some, some_inj, token_item}
 use Rattle.indexset_text.specs.Names.{AreBytes, byte_text, is_plain, name_of, name_text, name_texts}
 use Rattle.percent_encoding.proofs.PercentLemmas.{All-percent_encode, IsEscapeByte}
 use Rattle.percent_encoding.proofs.PercentLemmas.{percent_encode_escaped, percent_encode_kept}
@@ -243,8 +243,8 @@ no_space b h e = grind arith
 no_colon : (b : ℕ) → IsEscapeByte b → b ≢ 58
 no_colon b h e = grind arith
 
-pub name_whole : (name : List ℕ) → AreBytes name → is_word (name_text name) ≡ true
-unfolding is_word plain_set should_percent_encode
+pub name_whole : (name : List ℕ) → AreBytes name → is_token (name_text name) ≡ true
+unfolding is_token plain_set should_percent_encode
 name_whole name fit =
     rw (
       spelled_lacks 10 refl no_end name,
@@ -253,8 +253,14 @@ name_whole name fit =
     )
     refl
 
-pub name_words : AreWords name_texts
-name_words = record { told = name_told; sound = name_sound; whole = name_whole }
+name_item : (name : List ℕ) → AreBytes name → is_item (name_text name) ≡ true
+name_item name fit = token_item (name_text name) (name_whole name fit)
+
+pub name_items : AreItems name_texts
+name_items = record { reads_back = name_told; only = name_sound; one_item = name_item }
+
+pub name_tokens : AreTokens name_texts
+name_tokens = record { items = name_items; one_token = name_whole }
 
 -- ---- a text as its bytes
 

@@ -34,7 +34,7 @@ returns-in_ok-old-in-Put g c =
           on_ok_weaker last.result
           (subst (Appends _ _)
           (λ i. echo_text c.args.echo
-          ++ (reply_ended g.T.Key.texts (replied i) ++ lines_for (event_text g.T.Key.texts) (events i))))
+          ++ (reply_ended g.T.Item.texts (replied i) ++ lines_for (event_text g.T.Item.texts) (events i))))
           last.ensures.told;
       memory_refused = λ e. write_not_memory (sym (rw e at last.ensures.fault));
       numbers_refused = λ e. write_not_numbers (sym (rw e at last.ensures.fault));
@@ -65,7 +65,7 @@ returns-in_ok-out-in-Cut-clause-told g c =
     (on_ok_weaker last.result
     (subst (Appends _ _)
     (λ i. echo_text c.args.echo
-    ++ (reply_ended g.T.Key.texts (replied i) ++ lines_for (event_text g.T.Key.texts) (events i))))
+    ++ (reply_ended g.T.Item.texts (replied i) ++ lines_for (event_text g.T.Item.texts) (events i))))
     last.ensures.told)
 
 pub returns-in_ok-out-in-Cut-clause-memory_refused : goal.returns-in_ok-out-in-Cut-clause-memory_refused

@@ -6,7 +6,7 @@ use Rattle.indexset_bench.specs.Command.{meaning}
 use Rattle.indexset_bench.specs.Pairs.{reply_ended}
 use Rattle.indexset_bench.specs.Reply.{AddsNew, contents_after, reply_to}
 use Rattle.indexset_bench.specs.Text.{stores}
-use Rattle.indexset_bench.specs.Texts.{number_texts}
+use Rattle.indexset_wire.specs.Texts.{number_texts}
 use Rattle.indexset_bench.proofs.PairChanges.{numbers_change, numbers_left, numbers_reply}
 use Rattle.indexset_bench.proofs.PairMeanings.{no_pairs_meant}
 use Rattle.indexset_bench.proofs.program.answer_line.Goals as goal

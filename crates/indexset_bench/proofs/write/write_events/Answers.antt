@@ -12,8 +12,8 @@ loop-event-init g c = Appends-nil _
 pub loop-event-preserved : goal.loop-event-preserved
 loop-event-preserved g c =
     let told = on_ok_given _ c.write_event.result _ c.write_event.ensures.told (search rules) in
-    let line = subst (λ e. Appends (g.W.Write.contents c.loop-event.writer) (g.W.Write.contents c.write_event.new.writer) (ended (event_text g.T.Key.texts e))) c.event-item.is told in
-    more_lines (event_text g.T.Key.texts) c.args.events.now c.loop-event.event-index c.event-item.result (omega arith) _ _ _ c.loop-event.invariant line
+    let line = subst (λ e. Appends (g.W.Write.contents c.loop-event.writer) (g.W.Write.contents c.write_event.new.writer) (ended (event_text g.T.Item.texts e))) c.event-item.is told in
+    more_lines (event_text g.T.Item.texts) c.args.events.now c.loop-event.event-index c.event-item.result (omega arith) _ _ _ c.loop-event.invariant line
 
 pub returns-clause-told : goal.returns-clause-told
 returns-clause-told g c =

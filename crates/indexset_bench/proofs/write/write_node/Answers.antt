@@ -15,16 +15,16 @@ unfolding lib.Utf8.encode
 loop-pair-preserved g c =
     let node = c.args.node.now in
     let told = on_ok_given _ c.write.result _ c.write.ensures.bytes (search rules) in
-    let shown = subst (λ p. Appends (g.W.Write.contents c.loop-pair.writer) (g.W.Write.contents c.write.new.self) (c.loop-pair.lead.now ++ pair_text g.T.Key.texts p)) c.pair-item.is told in (
+    let shown = subst (λ p. Appends (g.W.Write.contents c.loop-pair.writer) (g.W.Write.contents c.write.new.self) (c.loop-pair.lead.now ++ pair_text g.T.Item.texts p)) c.pair-item.is told in (
       (32 ∷ [], (refl, refl)),
       next_lead node c.loop-pair.pair-index (omega arith),
-      more_joined (pair_text g.T.Key.texts) node c.loop-pair.pair-index c.pair-item.result (omega arith) c.loop-pair.lead.now _ _ _ c.loop-pair.invariant.1 c.loop-pair.invariant.2 shown,
+      more_joined (pair_text g.T.Item.texts) node c.loop-pair.pair-index c.pair-item.result (omega arith) c.loop-pair.lead.now _ _ _ c.loop-pair.invariant.1 c.loop-pair.invariant.2 shown,
     )
 
 pub returns-clause-told : goal.returns-clause-told
 returns-clause-told g c =
     let node = c.args.node.now in
     let all : take c.loop-pair.pair-index node ≡ node = take_all _ _ c.loop-pair-test.false in
-    let far : Appends (g.W.Write.contents c.args.writer.now) (g.W.Write.contents c.loop-pair.writer) (node_text g.T.Key.texts node) = rw all at c.loop-pair.invariant.2 in
+    let far : Appends (g.W.Write.contents c.args.writer.now) (g.W.Write.contents c.loop-pair.writer) (node_text g.T.Item.texts node) = rw all at c.loop-pair.invariant.2 in
     let last : OnOk c.map_err-2.result (Appends (g.W.Write.contents c.loop-pair.writer) (g.W.Write.contents c.writeln.new.self) (10 ∷ [])) = search rules in
-    on_ok_weaker c.map_err-2.result (Appends-trans _ _ _ (node_text g.T.Key.texts node) (10 ∷ []) far) last
+    on_ok_weaker c.map_err-2.result (Appends-trans _ _ _ (node_text g.T.Item.texts node) (10 ∷ []) far) last

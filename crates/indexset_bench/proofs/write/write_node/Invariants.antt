@@ -11,4 +11,4 @@ abbrev pub invariant-loop-pair : goal.invariant-loop-pair
 invariant-loop-pair g l =
     shadow (Utf8 l.lead) × (l.lead ≡ lead_after (take l.pair-index l.node))
     × Appends (g.W.Write.contents l.fn.writer) (g.W.Write.contents l.writer)
-    (join_with_byte 32 (map (pair_text g.T.Key.texts) (take l.pair-index l.node)))
+    (join_with_byte 32 (map (pair_text g.T.Item.texts) (take l.pair-index l.node)))

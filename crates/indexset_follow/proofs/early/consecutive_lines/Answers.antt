@@ -18,10 +18,10 @@ loop-event_number-preserved g c =
     let here : c.in-Some.event_number.now ≡ n =
     number_ahead c.checked_sub.result c.in-Some.event_number.now c.args.number (length lines) c.checked_sub.ensures
     (c.if-ne.ensures ∙ ap (λ k. not (option_eq eqb c.checked_sub.result (Some k))) (c.len.ensures ∙ size)) in
-    let line : c.in_ok-line.line.items ≡ event_text g.T.Key.texts c.in-Some.event.now = search rules in
+    let line : c.in_ok-line.line.items ≡ event_text g.T.Item.texts c.in-Some.event.now = search rules in
     let pushed : c.push.new.self.items ≡ lines ++ c.in_ok-line.line ∷ [] = search rules in
     let shown = ap (map (λ l. l.items)) pushed ∙ map_push (λ l. l.items) lines c.in_ok-line.line ∙ ap (λ t. map (λ l. l.items) lines ++ t ∷ []) line in
     let count : n + 1 ≡ c.args.number + length c.push.new.self.items = omega (arith, ap (λ l. length l) pushed, length-append lines (c.in_ok-line.line ∷ [])) in
-    c.loop-event_number.invariant ∙ ap (λ it. map (λ l. l.items) lines ++ map (event_text g.T.Key.texts) (consecutive n it)) next
-    ∙ line_more g.T.Key.texts (map (λ l. l.items) lines) n p c.next.new.self here
-    ∙ (λ i. sym shown i ++ map (event_text g.T.Key.texts) (consecutive (count i) c.next.new.self))
+    c.loop-event_number.invariant ∙ ap (λ it. map (λ l. l.items) lines ++ map (event_text g.T.Item.texts) (consecutive n it)) next
+    ∙ line_more g.T.Item.texts (map (λ l. l.items) lines) n p c.next.new.self here
+    ∙ (λ i. sym shown i ++ map (event_text g.T.Item.texts) (consecutive (count i) c.next.new.self))

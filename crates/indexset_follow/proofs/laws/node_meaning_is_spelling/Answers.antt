@@ -6,9 +6,9 @@ use Rattle.indexset_follow.proofs.laws.node_meaning_is_spelling.Goals as goal
 pub returns-clause-spelled : goal.returns-clause-spelled
 returns-clause-spelled g c =
     λ line n fit. (
-      (λ told. (node_sound g.T.Key.texts g.met.T.Key.words line n told).0),
-      (λ is. ap (node_of g.T.Key.texts) is ∙ node_told g.T.Key.texts g.met.T.Key.words n fit),
+      (λ told. (node_sound g.T.Item.texts g.met.T.Token.tokens line n told).0),
+      (λ is. ap (node_of g.T.Item.texts) is ∙ node_told g.T.Item.texts g.met.T.Token.tokens n fit),
     )
 
 pub returns-clause-fits : goal.returns-clause-fits
-returns-clause-fits g c = λ line n told. (node_sound g.T.Key.texts g.met.T.Key.words line n told).1
+returns-clause-fits g c = λ line n told. (node_sound g.T.Item.texts g.met.T.Token.tokens line n told).1

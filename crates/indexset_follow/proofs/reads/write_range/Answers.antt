@@ -10,7 +10,7 @@ pub returns-in-Greater-clause-told : goal.returns-in-Greater-clause-told
 returns-in-Greater-clause-told g c =
     on_ok_weaker c.write_reply.result
     (subst (Appends _ _)
-    (ap (row_text g.T.Key.texts)
+    (ap (row_text g.T.Item.texts)
     (sym
     (none_within g.T.Ord.cmp g.met.T.Ord.total c.args.low.now c.args.high.now (sym c.cmp.ensures ∙ c.in-Greater.is)
     (concat (g.R.Reads.nodes c.args.map.now))))))

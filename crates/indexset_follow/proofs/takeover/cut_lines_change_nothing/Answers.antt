@@ -1,6 +1,6 @@
 use Rattle.std.proofs.Common.{◌≡◌, Bool, true, false, cond, None, List, ℕ, [], refl}
 use Rattle.std.specs.declared.cmp.Ordering.{Ordering}
-use Rattle.indexset_bench.specs.Texts.{Texts}
+use Rattle.indexset_wire.specs.Texts.{Texts}
 use Rattle.indexset_follow.specs.Query.{query_of}
 use Rattle.indexset_follow.specs.Store.{cut_in_role}
 use Rattle.indexset_follow.specs.Reply.{others_text}
@@ -21,13 +21,13 @@ module _ {T : Type 0} (cmp : T → T → Ordering) (texts : Texts T) where
   silent v (Leading l) rest pass none = rw (none, pass) refl
 
 pub returns-clause-held : goal.returns-clause-held
-returns-clause-held g c = λ size w leads whole rest is_whole none. held_whole g.T.Ord.cmp g.T.Key.texts size w leads whole is_whole rest none
+returns-clause-held g c = λ size w leads whole rest is_whole none. held_whole g.T.Ord.cmp g.T.Item.texts size w leads whole is_whole rest none
 
 pub returns-clause-all_held : goal.returns-clause-all_held
-returns-clause-all_held g c = λ size w leads whole is_whole. all_held g.T.Ord.cmp g.T.Key.texts size w leads whole is_whole
+returns-clause-all_held g c = λ size w leads whole is_whole. all_held g.T.Ord.cmp g.T.Item.texts size w leads whole is_whole
 
 pub returns-clause-told : goal.returns-clause-told
-returns-clause-told g c = λ v size w leads whole rest is_whole none some. cut_answered g.T.Ord.cmp g.T.Key.texts size w leads whole is_whole v rest none some
+returns-clause-told g c = λ v size w leads whole rest is_whole none some. cut_answered g.T.Ord.cmp g.T.Item.texts size w leads whole is_whole v rest none some
 
 pub returns-clause-silent : goal.returns-clause-silent
-returns-clause-silent g c = λ v h rest pass none. silent g.T.Ord.cmp g.T.Key.texts v h.role rest pass none
+returns-clause-silent g c = λ v h rest pass none. silent g.T.Ord.cmp g.T.Item.texts v h.role rest pass none

@@ -19,7 +19,7 @@ loop-node-preserved g c =
     let node = c.in-Some.node.now in
     let told = on_ok_given _ c.write_node_line.result _ c.write_node_line.ensures.told (search rules) in
     let next : g.N.WalkNodes.rest c.loop-node.walk ≡ node ∷ g.N.WalkNodes.rest c.next_node.new.self = search rules in
-    (before.0 ++ node ∷ [], walked_on before.0 node _ _ _ before.1 next, line_behind (node_line g.T.Key.texts) (ended (mark_line (Start c.args.next c.args.done))) before.0 node _ _ _ before.2 told)
+    (before.0 ++ node ∷ [], walked_on before.0 node _ _ _ before.1 next, line_behind (node_line g.T.Item.texts) (ended (mark_line (Start c.args.next c.args.done))) before.0 node _ _ _ before.2 told)
 
 pub returns-clause-told : goal.returns-clause-told
 returns-clause-told g c =
@@ -28,5 +28,5 @@ returns-clause-told g c =
     let all : before.0 ≡ g.N.WalkNodes.rest c.args.nodes = sym (append-nil before.0) ∙ ap (λ l. before.0 ++ l) (sym none) ∙ before.1 in
     subst (λ ns.
     Appends (g.W.Write.contents c.args.writer.now) (g.W.Write.contents c.loop-node.writer)
-    (ended (mark_line (Start c.args.next c.args.done)) ++ lines_for (node_line g.T.Key.texts) ns))
+    (ended (mark_line (Start c.args.next c.args.done)) ++ lines_for (node_line g.T.Item.texts) ns))
     all before.2

@@ -10,7 +10,7 @@ use Rattle.indexset_follow.proofs.write.write_body.Given as goal
 abbrev pub invariant-loop-node : goal.invariant-loop-node
 invariant-loop-node g l =
     (done : PairNodes _) × (done ++ g.N.WalkNodes.rest l.walk ≡ g.N.WalkNodes.rest l.fn.nodes)
-    × Appends (g.W.Write.contents l.fn.writer) (g.W.Write.contents l.writer) (ended (mark_line (Start l.next l.done)) ++ lines_for (node_line g.T.Key.texts) done)
+    × Appends (g.W.Write.contents l.fn.writer) (g.W.Write.contents l.writer) (ended (mark_line (Start l.next l.done)) ++ lines_for (node_line g.T.Item.texts) done)
 
 abbrev pub decreases-loop-node : goal.decreases-loop-node
 decreases-loop-node g l = length (g.N.WalkNodes.rest l.walk)

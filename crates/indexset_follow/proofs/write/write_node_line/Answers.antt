@@ -8,6 +8,6 @@ pub returns-clause-told : goal.returns-clause-told
 returns-clause-told g c =
     let word = on_ok_given _ c.write.result _ c.write.ensures.bytes (search rules) in
     on_ok_weaker c.write_node.result (λ told.
-    node_written g.T.Key.texts c.args.node.now (g.W.Write.contents c.args.writer.now)
+    node_written g.T.Item.texts c.args.node.now (g.W.Write.contents c.args.writer.now)
     (g.W.Write.contents c.write.new.self) (g.W.Write.contents c.write_node.new.writer) word told)
     c.write_node.ensures.told

@@ -1,6 +1,6 @@
 use Rattle.std.proofs.Common.{rules, ◌≡◌, ◌∙◌, ◌∷◌, ◌++◌, [], None, Some, ap, sym, append-nil}
 use Rattle.indexset_journal.specs.Kept.{texts}
-use Rattle.indexset_events.specs.Spelling.{cut_at}
+use Rattle.indexset_wire.specs.Parts.{cut_at}
 use Rattle.indexset_lines.specs.Lines.{whole_lines}
 use Rattle.indexset_keep.proofs.Cuts.{but_last, but_last_end, but_last_more, inner_cut, inner_none, inner_one}
 use Rattle.indexset_keep.proofs.text.push_inner_lines.Goals as goal

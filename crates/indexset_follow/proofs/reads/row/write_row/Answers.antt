@@ -4,7 +4,7 @@ use Rattle.std.proofs.lemmas.Grind.{common_steps}
 use Rattle.std.proofs.lemmas.Result.{on_ok_weaker}
 use Rattle.std.specs.Io.KnownBytes.{Appends}
 use Rattle.indexset_bench.proofs.CallerLemmas.{lead_after, on_ok_given, one_read}
-use Rattle.indexset_bench.specs.Texts.{Texts}
+use Rattle.indexset_wire.specs.Texts.{Texts}
 use Rattle.indexset_bench.specs.PairText.{node_text, pair_text}
 use Rattle.indexset_core.specs.Pairs.{pair}
 use Rattle.indexset_core.specs.declared.pair.Pair.{Pair}
@@ -38,9 +38,9 @@ loop-key-preserved g c =
       (32 ∷ [], (refl, refl)),
       (
         before.0 ++ entry ∷ [],
-        lead_now (pair_text g.T.Key.texts) read before.0 entry,
-        one_read (pair_text g.T.Key.texts) read before.0 entry _ _ _ before.2 next,
-        one_joined (pair_text g.T.Key.texts) read before.0 entry c.loop-key.lead.now _ _ _ before.1 before.3 told,
+        lead_now (pair_text g.T.Item.texts) read before.0 entry,
+        one_read (pair_text g.T.Item.texts) read before.0 entry _ _ _ before.2 next,
+        one_joined (pair_text g.T.Item.texts) read before.0 entry c.loop-key.lead.now _ _ _ before.1 before.3 told,
       ),
     )
 
@@ -50,7 +50,7 @@ returns-then-is_empty-clause-told g c =
     let none : g.P.Walk.rest c.loop-key.walk ≡ [] = search rules in
     let empty : c.loop-key.lead.now ≡ [] = grind (arith, common_steps) in
     let walked = rw none at before.2 in
-    on_ok_weaker c.write_reply.result (row_none g.T.Key.texts before.0 _ c.loop-key.lead.now before.1 empty walked _ _ _ before.3) c.write_reply.ensures.told
+    on_ok_weaker c.write_reply.result (row_none g.T.Item.texts before.0 _ c.loop-key.lead.now before.1 empty walked _ _ _ before.3) c.write_reply.ensures.told
 
 pub returns-clause-told : goal.returns-clause-told
 returns-clause-told g c =
@@ -58,6 +58,6 @@ returns-clause-told g c =
     let none : g.P.Walk.rest c.loop-key.walk ≡ [] = search rules in
     let some : c.loop-key.lead.now ≢ [] = grind (arith, common_steps) in
     let same : map read before.0 ≡ g.P.Walk.rest c.args.pairs = sym (append-nil (map read before.0)) ∙ ap (λ l. map read before.0 ++ l) (sym none) ∙ before.2 in
-    let far = subst (λ ps. Appends (g.W.Write.contents c.args.writer.now) (g.W.Write.contents c.loop-key.writer) (node_text g.T.Key.texts ps)) same before.3 in
+    let far = subst (λ ps. Appends (g.W.Write.contents c.args.writer.now) (g.W.Write.contents c.loop-key.writer) (node_text g.T.Item.texts ps)) same before.3 in
     let last : OnOk c.map_err-else-is_empty.result (Appends (g.W.Write.contents c.loop-key.writer) (g.W.Write.contents c.writeln.new.self) (10 ∷ [])) = search rules in
-    on_ok_weaker c.map_err-else-is_empty.result (row_full g.T.Key.texts (g.P.Walk.rest c.args.pairs) _ _ _ (λ e. some (before.1 ∙ ap lead_after same ∙ e)) far) last
+    on_ok_weaker c.map_err-else-is_empty.result (row_full g.T.Item.texts (g.P.Walk.rest c.args.pairs) _ _ _ (λ e. some (before.1 ∙ ap lead_after same ∙ e)) far) last

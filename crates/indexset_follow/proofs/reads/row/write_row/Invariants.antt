@@ -12,7 +12,7 @@ invariant-loop-key g l =
     shadow (Utf8 l.lead)
     × ((done : List (g.row.T.Denot × g.row.T.Denot)) × (l.lead ≡ lead_after (map (λ e. pair e.0 e.1) done))
     × (map (λ e. pair e.0 e.1) done ++ g.P.Walk.rest l.walk ≡ g.P.Walk.rest l.fn.pairs)
-    × Appends (g.W.Write.contents l.fn.writer) (g.W.Write.contents l.writer) (node_text g.T.Key.texts (map (λ e. pair e.0 e.1) done)))
+    × Appends (g.W.Write.contents l.fn.writer) (g.W.Write.contents l.writer) (node_text g.T.Item.texts (map (λ e. pair e.0 e.1) done)))
 
 abbrev pub decreases-loop-key : goal.decreases-loop-key
 decreases-loop-key g l = length (g.P.Walk.rest l.walk)

@@ -10,9 +10,9 @@ use Rattle.indexset_keep.proofs.batch.Batch.keep.Goals as goal
 pub returns-in_err-append-clause-failed : goal.returns-in_err-append-clause-failed
 returns-in_err-append-clause-failed g c =
     let to = settled c.args.map.now.role in
-    let it : (from : State _) → state_after g.T.Ord.cmp g.T.Key.texts from (texts c.args.self.now.told.items) ≡ to
-    → IsSoundRole g.T.Ord.cmp g.T.Key.texts c.args.map.now.role
-    → MayLead g.T.Ord.cmp g.T.Key.texts g.S.Store.view g.S.Store.recovers c.args.kept.now.journal
+    let it : (from : State _) → state_after g.T.Ord.cmp g.T.Item.texts from (texts c.args.self.now.told.items) ≡ to
+    → IsSoundRole g.T.Ord.cmp g.T.Item.texts c.args.map.now.role
+    → MayLead g.T.Ord.cmp g.T.Item.texts g.S.Store.view g.S.Store.recovers c.args.kept.now.journal
     c.append.new.self.journal from from to
     = λ from is sound. c.in_err-append.ensures.failed from to is in
     on_err_any _ it
@@ -20,12 +20,12 @@ returns-in_err-append-clause-failed g c =
 pub returns-in_err-compact-clause-failed : goal.returns-in_err-compact-clause-failed
 returns-in_err-compact-clause-failed g c =
     let to = settled c.args.map.now.role in
-    let it : (from : State _) → state_after g.T.Ord.cmp g.T.Key.texts from (texts c.args.self.now.told.items) ≡ to
-    → IsSoundRole g.T.Ord.cmp g.T.Key.texts c.args.map.now.role
-    → MayLead g.T.Ord.cmp g.T.Key.texts g.S.Store.view g.S.Store.recovers c.args.kept.now.journal
+    let it : (from : State _) → state_after g.T.Ord.cmp g.T.Item.texts from (texts c.args.self.now.told.items) ≡ to
+    → IsSoundRole g.T.Ord.cmp g.T.Item.texts c.args.map.now.role
+    → MayLead g.T.Ord.cmp g.T.Item.texts g.S.Store.view g.S.Store.recovers c.args.kept.now.journal
     c.compact.new.self.journal from from to
     = λ from is sound.
-    may_lead_kept g.T.Ord.cmp g.T.Key.texts g.S.Store.view g.S.Store.recovers c.args.kept.now.journal
+    may_lead_kept g.T.Ord.cmp g.T.Item.texts g.S.Store.view g.S.Store.recovers c.args.kept.now.journal
     c.append.new.self.journal c.compact.new.self.journal from to (c.in_ok-append.ensures.leads from to is)
     (c.in_err-compact.ensures.failed sound to (same_refl to)) in
     on_err_any _ it
@@ -33,7 +33,7 @@ returns-in_err-compact-clause-failed g c =
 pub returns-in_ok-compact-clause-leads : goal.returns-in_ok-compact-clause-leads
 returns-in_ok-compact-clause-leads g c from is sound =
     let to = settled c.args.map.now.role in
-    leads_on g.T.Ord.cmp g.T.Key.texts g.S.Store.view g.S.Store.recovers c.args.kept.now.journal
+    leads_on g.T.Ord.cmp g.T.Item.texts g.S.Store.view g.S.Store.recovers c.args.kept.now.journal
     c.append.new.self.journal c.compact.new.self.journal from to (c.in_ok-append.ensures.leads from to is) to
     (λ same. refl) (c.in_ok-compact.ensures.leads sound to)
 

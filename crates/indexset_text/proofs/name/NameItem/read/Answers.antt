@@ -3,7 +3,7 @@ use Rattle.std.proofs.lemmas.Slice.Eq.{bytes_eq-Decides}
 use Rattle.percent_encoding.specs.Percent.{percent_decode, percent_encode}
 use Rattle.indexset_text.specs.Names.{AreBytes, name_text}
 use Rattle.indexset_text.specs.Names.Laws.{others_escaped, read_none, read_some}
-use Rattle.indexset_text.proofs.name.NameKey.read_key.Goals as goal
+use Rattle.indexset_text.proofs.name.NameItem.read.Goals as goal
 
 pub returns-then-eq-clause-value : goal.returns-then-eq-clause-value
 returns-then-eq-clause-value c =
