@@ -355,7 +355,7 @@ class LoggedAuthor(Author):
         return f"{self.attach} {self.trees.spelling.write_nodes([self.fresh_node(self.trees.tree.size)])}"
 
     def restart(self) -> str:
-        """Makes a new tree, at times with few event numbers left, or one that goes on from the nodes."""
+        """Makes a new tree, at times with few event numbers left, or one from the same nodes."""
         rng, tree = self.draw.rng, self.trees.tree
         name = rng.choice((self.maker, "starting_at", "starting_at", "from_nodes", "on"))
         if self.length() and name != "on" and self.draw.chance(0.6):

@@ -32,7 +32,7 @@ class LoggedPairs(Followed):
         return ""
 
     def put_back(self, name: str, words: Words) -> Answer:
-        """Puts the pair of a word, which a refused call hands back."""
+        """Puts the pair of a word; a refused call returns it."""
         return handing_back(one(words), lambda: self.told_if(name, *self.put(name, PAIRS.read(one(words)))))
 
     def remove(self, name: str, pair: Item | None) -> Answer:

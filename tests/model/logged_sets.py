@@ -76,7 +76,7 @@ class LoggedSets(Followed):
         }
 
     def put_back(self, name: str, words: Words) -> Answer:
-        """Puts the item of the words, which a refused call hands back."""
+        """Puts the item of the words; a refused call returns it."""
         item = self.item(words)
         return handing_back(self.shown(item), lambda: self.put(name, item))
 

@@ -62,7 +62,7 @@ class Maps(Plains):
         return equal_to(self.held.items, self.key([word]))
 
     def index(self, key: Item) -> Answer:
-        """Returns the value of a key that is there."""
+        """Returns the value of a present key."""
         pair = equal_to(self.held.items, key)
         permitted(pair is not None, "a key that is not there")
         return self.value(pair)

@@ -39,7 +39,7 @@ class Sets(Plains):
         return self.hold(other=self.held.split_off(place))
 
     def index(self, place: int) -> Item:
-        """Returns the item at a position that is there."""
+        """Returns the item at a position within the length."""
         permitted(place < len(self.held.items), "a position that is not there")
         return self.held.items[place]
 

@@ -25,12 +25,18 @@ sys.path[:0] = [str(HERE.parent.parent / "scripts"), str(HERE.parent / "model")]
 from answers import DONE, MOST, NUMBERS, START, Model, is_number, number, snapshot  # noqa: E402
 from hostile import Counts, Hostile, agreed, cuts, joined  # noqa: E402
 from items import PAIRS, Item  # noqa: E402
-from logged import Tree, texts  # noqa: E402
+from nodes import Events  # noqa: E402
 from programs import built  # noqa: E402
+from trees import Tree  # noqa: E402
 
 LINES = 20_000
 TURNS = 12
 SECONDS = 1200  # for one run, on a busy machine
+
+
+def texts(events: Events) -> list[str]:
+    """Returns the texts of events."""
+    return [event.write(number, PAIRS) for number, event in events]
 
 
 class Store(Model):
@@ -65,10 +71,10 @@ class Store(Model):
         self.nodes = [[(item.key, int(item.value)) for item in node] for node in self.tree.nodes]
         self.next = self.tree.next
         if echo is None:
-            return "\n".join([reply, *texts(events, PAIRS), f"next {self.next}"]).encode()
+            return "\n".join([reply, *texts(events), f"next {self.next}"]).encode()
         self.done = max(self.done, echo)
         return "\n".join(
-            [f"#{echo} {reply}", *texts(events, PAIRS), f"done {self.done} {self.next}", f"next {self.next}"]
+            [f"#{echo} {reply}", *texts(events), f"done {self.done} {self.next}", f"next {self.next}"]
         ).encode()
 
     def led(self, line: bytes) -> bytes:
