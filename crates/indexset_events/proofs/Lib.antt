@@ -2,7 +2,6 @@ pub mod AttachLemmas
 pub mod CallerLemmas
 pub mod ChangeLemmas
 pub mod CloneLemmas
-pub mod DecimalLemmas
 pub mod NodeOrderLemmas
 pub mod MergeLemmas
 pub mod NodeEventLemmas

@@ -2,14 +2,12 @@ pub mod Attach
 pub mod Clones
 pub mod Edits
 pub mod Ends
-pub mod EventText
 pub mod Merging
 pub mod Keys
 pub mod Located
 pub mod Nodes
 pub mod Pairs
 pub mod Replay
-pub mod Spelling
 pub mod Table
 pub mod Text
 pub mod WithoutMerges

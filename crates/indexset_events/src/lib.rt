@@ -6,10 +6,8 @@
 //! `specs/Attach.antt` which nodes can be inserted whole; [`nodes`] has that test. [`laws`] has
 //! consequences of these definitions: replay in parts, a bound on the number of nodes, examples.
 //! `specs/Text.antt` defines the text that `{}` writes of an event; `indexset_wire` reads it.
-//! [`parts`] reads numbers and splits texts, for crates with texts of their own.
 #![tactic(auto)]
 
 pub mod change;
 pub mod laws;
 pub mod nodes;
-pub mod parts;
