@@ -4,8 +4,8 @@ ghost use Rattle.std.specs.Prelude.{◌≡◌, false, IfErr, IfOk, IsOk};
 ghost use Rattle.indexset_bench.specs.PairCommand.{pair_meaning, word_command};
 
 use crate::key::{Key, read_item, read_two_keys};
-use indexset_wire::parts::cut;
 use indexset_lines::RunFault;
+use indexset_wire::parts::cut;
 use std::alloc::Global;
 
 /// A command to the map.

@@ -6,9 +6,9 @@ ghost use Rattle.indexset_follow.specs.Echo.{change_of, command_of, done_by, ech
 use crate::reads::query::read_query;
 use indexset_bench::key::Key;
 use indexset_bench::pair_command::{PairCommand, parse_pairs};
+use indexset_lines::RunFault;
 use indexset_wire::number::read_number;
 use indexset_wire::parts::cut;
-use indexset_lines::RunFault;
 use std::alloc::Global;
 
 /// A command, and its command number.

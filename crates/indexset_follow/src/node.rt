@@ -6,8 +6,8 @@ ghost use Rattle.indexset_follow.specs.NodeLine.{node_of, pairs_of, words};
 
 use indexset_bench::key::{Key, read_item};
 use indexset_core::pair::Pair;
-use indexset_wire::parts::cut;
 use indexset_lines::RunFault;
+use indexset_wire::parts::cut;
 use std::alloc::Global;
 
 /// A node of a snapshot.

@@ -4,10 +4,10 @@ ghost use Rattle.std.specs.Prelude.{◌≡◌, ◌⊎◌, Err, IfErr, IfOk, None
 ghost use Rattle.indexset_journal.specs.Kept.{texts};
 ghost use Rattle.indexset_keep.specs.Seal.{last_seal, seal_line, seal_of, seal_read};
 
-use indexset_wire::number::read_number;
-use indexset_wire::parts::cut;
 use indexset_journal::JournalError;
 use indexset_lines::RunFault;
+use indexset_wire::number::read_number;
+use indexset_wire::parts::cut;
 use std::alloc::Global;
 use std::hash::{DefaultHasher, Hasher};
 use std::io::Write;

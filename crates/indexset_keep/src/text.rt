@@ -5,8 +5,8 @@ ghost use Rattle.indexset_journal.specs.Kept.{texts};
 ghost use Rattle.indexset_lines.specs.Lines.{whole_lines};
 ghost use Rattle.indexset_keep.specs.Told.{inner};
 
-use indexset_wire::parts::cut;
 use indexset_lines::RunFault;
+use indexset_wire::parts::cut;
 use std::alloc::Global;
 
 /// Appends the lines of a text that have a line end.

@@ -2,9 +2,9 @@
 
 ghost use Rattle.std.specs.Prelude.{◌≤◌};
 
-use indexset_wire::number::read_number;
 use indexset_follow::others::{Others, Voice};
 use indexset_keep::manner::Manner;
+use indexset_wire::number::read_number;
 use std::io::ErrorKind;
 use std::{env, io};
 

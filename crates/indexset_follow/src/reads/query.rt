@@ -5,9 +5,9 @@ ghost use Rattle.indexset_follow.specs.Query.{keyed_query, numbered_query, query
 
 use crate::numbers::read_two;
 use indexset_bench::key::{Key, read_item, read_two_keys};
+use indexset_lines::RunFault;
 use indexset_wire::number::read_number;
 use indexset_wire::parts::cut;
-use indexset_lines::RunFault;
 use std::alloc::Global;
 
 /// A read of a map. Positions are counted from 0, in the order of the keys.
