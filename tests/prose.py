@@ -134,7 +134,7 @@ def other_versions() -> Iterator[str]:
     named = {
         "README.md": rf"^Version {re.escape(version)}\.",
         "CHANGELOG.md": rf"^## \[{re.escape(version)}\]",
-        "crates/indexset_store/src/arguments.rt": rf'"indexset_store {re.escape(version)}"',
+        "crates/indexset_store/src/arguments.rt": rf'^const VERSION: &str = "{re.escape(version)}";$',
         "crates/indexset_c/src/lib.rt": rf"^pub const VERSION: u32 = {major * 65536 + minor * 256 + patch};$",
     }
     for name, form in named.items():

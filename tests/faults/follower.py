@@ -4,9 +4,11 @@
 `indexset_store` gets the lines of `follower_lines`, with the replies of `follower_replies`, those to one line separated
 by ` / `; as a leader those of `leader_lines`; and over texts those of `text_follower_lines` and `text_leader_lines`. If
 an allocation, a read or a write fails, it must write the replies to the lines before, the fault's word and nothing
-else, exit with the fault's status, and free all memory. Three more cases are tested. The reply to an unterminated last
+else, exit with the fault's status, and free all memory. Four more cases are tested. The reply to an unterminated last
 line is written only by the last flush: if that fails, the run fails. If an allocation fails and then the last flush
-too, the first fault is reported. And each reply must be written while the follower waits for the rest of a line.
+too, the first fault is reported. If one fails while the arguments are read, memory is reported, or of wrong arguments
+the whole message, since the search for a tip can do without. And each reply must be written while the follower waits
+for the rest of a line.
 
 Run it once the program is built; `--linked` if refuse.c is linked into it. The last line is 'N passed, M failed'.
 """
@@ -28,6 +30,7 @@ from programs import built  # noqa: E402
 from refuse import MEMORY, WRITE, Sweep, replies_to_first, sweeping  # noqa: E402
 
 PATIENCE = 30.0  # seconds for a reply, on a busy machine
+BAD_ARGUMENTS = 5  # the status
 
 
 def last_flush(sweep: Sweep, follower: pathlib.Path, line: bytes, reply: bytes) -> None:
@@ -45,6 +48,26 @@ def first_fault(sweep: Sweep, follower: pathlib.Path, given: bytes, replies: lis
     for n in range(1, asked + 1):
         run = sweep.run([str(follower)], given, **{MEMORY: n, WRITE: 1})
         sweep.expect(run.tells(MEMORY) and run.out in replies, f"memory request {n}, then a write: {run}")
+
+
+def each_argument(sweep: Sweep, follower: pathlib.Path) -> None:
+    """Tests each allocation that fails while the program reads arguments that are wrong, or that ask for the help."""
+    for status, words in (
+        (0, ["--help"]),
+        (0, ["-V"]),
+        (BAD_ARGUMENTS, ["--leads"]),
+        (BAD_ARGUMENTS, ["--node-size", "1"]),
+        (BAD_ARGUMENTS, ["--keys", "tex"]),
+        (BAD_ARGUMENTS, ["--lead", "--follow"]),
+        (BAD_ARGUMENTS, [os.fsdecode(b"--lead\xff")]),
+    ):
+        whole = sweep.run([str(follower), *words], b"")
+        sweep.expect((whole.status, whole.kept) == (status, 0) and whole.memory > 0, f"{words}: {whole}")
+        for n, run in sweep.runs([str(follower), *words], b"", MEMORY):
+            is_whole = (run.status, run.out, run.err, run.kept) == (status, whole.out, whole.err, 0)
+            is_memory = run.failed == 1 and run.tells(MEMORY) and not run.out
+            may_be_whole = status == BAD_ARGUMENTS or run.failed == 0
+            sweep.expect(is_memory or is_whole and may_be_whole, f"{words}, memory request {n}: {run}")
 
 
 def waits(sweep: Sweep, follower: pathlib.Path) -> None:
@@ -90,6 +113,7 @@ def main() -> int:
         sweep.each_request(follower, *lines_and_replies("text_leader"), *leads, *of_texts)
         last_flush(sweep, follower, b"len", b"0\n")
         first_fault(sweep, follower, given, replies)
+        each_argument(sweep, follower)
         waits(sweep, follower)
         return sweep.end()
 

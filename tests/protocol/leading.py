@@ -15,6 +15,7 @@ from __future__ import annotations
 import argparse
 import pathlib
 import random
+import re
 import subprocess
 import sys
 from collections.abc import Sequence
@@ -289,42 +290,107 @@ def no_number(program: pathlib.Path) -> Counts:
     return Counts(int(passed), int(not passed))
 
 
+# The message for wrong arguments, without `error: ` and without the last line.
+NO_VALUE = "a value is required for '--{} <{}>' but none was supplied"
+WRONG_VALUE = "invalid value '{}' for '--{} <N>': {}"
+TWICE = "the argument '--{}' cannot be used multiple times"
+UNKNOWN = "unexpected argument '{}' found"
+BOTH = "the argument '--{}' cannot be used with '--{}'"
+KINDS = "\n  [possible values: numbers, text]"
+WRONG: dict[tuple[str | bytes, ...], str] = {
+    ("--node-size",): NO_VALUE.format("node-size", "N"),
+    ("--lead", "--node-size"): NO_VALUE.format("node-size", "N"),
+    ("--node-size", "--quiet"): NO_VALUE.format("node-size", "N"),
+    ("--node-size=",): WRONG_VALUE.format("", "node-size", "cannot parse integer from empty string"),
+    ("--node-size", "1"): WRONG_VALUE.format(1, "node-size", "1 is not in 2..=65535"),
+    ("--node-size=1",): WRONG_VALUE.format(1, "node-size", "1 is not in 2..=65535"),
+    ("--node-size", "65536"): WRONG_VALUE.format(65536, "node-size", "65536 is not in 2..=65535"),
+    ("--node-size", "x"): WRONG_VALUE.format("x", "node-size", "invalid digit found in string"),
+    ("--window",): NO_VALUE.format("window", "N"),
+    ("--window", "x"): WRONG_VALUE.format("x", "window", "invalid digit found in string"),
+    ("--window", str(MOST + 1)): WRONG_VALUE.format(
+        MOST + 1, "window", "number too large to fit in target type"
+    ),
+    ("--keep",): NO_VALUE.format("keep", "FILE"),
+    ("--keys",): NO_VALUE.format("keys", "KEYS") + KINDS,
+    ("--keys", "x"): "invalid value 'x' for '--keys <KEYS>'" + KINDS,
+    ("--keys=tex",): "invalid value 'tex' for '--keys <KEYS>'" + KINDS + "\n\n  tip: a similar value exists: 'text'",
+    ("--leads",): UNKNOWN.format("--leads") + "\n\n  tip: a similar argument exists: '--lead'",
+    ("--windw", "1"): UNKNOWN.format("--windw") + "\n\n  tip: a similar argument exists: '--window'",
+    ("--lead", "-"): UNKNOWN.format("-"),
+    ("--lead", "stray"): UNKNOWN.format("stray"),
+    ("-x",): UNKNOWN.format("-x"),
+    ("",): UNKNOWN.format(""),
+    ("--lead", "--help="): "unexpected value '' for '--help' found; no more were expected",
+    ("--lead=yes",): "unexpected value 'yes' for '--lead' found; no more were expected",
+    (b"--lead\xff",): "the argument '--lead\\xff' is not UTF-8",
+    ("--lead", "--keep", b"\xc3\xa9\xff.db", b"\xfe"): "the argument '\\xc3\\xa9\\xff.db' is not UTF-8",
+    ("--lead", "--follow"): BOTH.format("lead", "follow"),
+    ("--follow", "--lead"): BOTH.format("follow", "lead"),
+    **{(f"--{it}", f"--{it}"): TWICE.format(it) for it in ("lead", "follow", "pass-others", "quiet")},
+    **{
+        (f"--{it}", value, f"--{it}={value}"): TWICE.format(f"{it} <{name}>")
+        for it, value, name in (
+            ("node-size", "2", "N"), ("window", "1", "N"), ("keys", "text", "KEYS"), ("keep", "x", "FILE"),
+        )
+    },
+}
+RIGHT = [
+    ["--lead"], ["--follow"], ["--quiet", "--lead"], ["--node-size", "2"], ["--node-size", "65535", "--pass-others"],
+    ["--node-size=4"], ["--node-size=+4"], ["--node-size", "0256"], ["--window", "0"], ["--window", str(MOST)],
+    ["--window=7", "--node-size=4"], ["--keys", "text"], ["--keys", "numbers", "--lead"], ["--keys=text"],
+]
+HELP = [["--help"], ["-h"], ["--lead", "--help"], ["--lead", "-h"]]
+VERSION = [["--version"], ["-V"], ["--quiet", "--version"], ["--quiet", "-V"]]
+END = "For more information, try '--help'.\n"
+
+
 def arguments(program: pathlib.Path) -> Counts:
     """Tests valid and invalid arguments."""
-    usage = (
-        b"usage: indexset_store [--follow | --lead] [--keys numbers|text] [--keep FILE] [--node-size N] [--window N]"
-        b" [--pass-others] [--quiet] | --help | --version"
-    )
     project = (HERE.parent.parent / "bindings/python/pyproject.toml").read_text()
-    version = f"indexset_store {project.split('version = ')[1].split()[0].strip(chr(34))}".encode()
-    bad: list[Sequence[str | bytes]] = [
-        ["--node-size"], ["--lead", "--node-size"], ["--node-size", "1"], ["--node-size", "65536"],
-        ["--node-size", "x"],
-    ]
-    bad += [["--leads"], ["--lead", "-"], ["--node-size", "--quiet"], [b"--lead\xff"], [""], ["--lead", "--help="]]
-    bad += [it * 2 for it in (["--lead"], ["--follow"], ["--pass-others"], ["--quiet"], ["--node-size", "2"])]
-    bad += [["--window"], ["--window", "x"], ["--window", str(MOST + 1)], ["--window", "1", "--window", "1"]]
-    bad += [
-        ["--lead", "--follow"], ["--follow", "--lead"], ["--keys"], ["--keys", "x"],
-        ["--keys", "text", "--keys", "text"],
-    ]
-    good = [
-        ["--lead"], ["--follow"], ["--quiet", "--lead"], ["--node-size", "2"],
-        ["--node-size", "65535", "--pass-others"],
-    ]
-    good += [["--window", "0"], ["--window", str(MOST)], ["--keys", "text"], ["--keys", "numbers", "--lead"]]
-    told = {("--help",): usage, ("--lead", "--help"): usage, ("--version",): version, ("--quiet", "--version"): version}
+    version = f"indexset_store {project.split('version = ')[1].split()[0].strip(chr(34))}\n"
+    found = [(words, run(program, words, [])) for words in (*WRONG, *RIGHT, *HELP, *VERSION)]
+    wrong = [(words, it) for words, it in found if not is_answered([*words], it, version)]
+    for words, done in wrong:
+        print(f"{words}: status {done.returncode}, {done.stdout!r} {done.stderr!r}")
+    return Counts(len(found) - len(wrong), len(wrong))
+
+
+def is_answered(words: list[str | bytes], done: subprocess.CompletedProcess[bytes], version: str) -> bool:
+    """Returns whether a run without input has ended as its arguments say."""
+    out, message = done.stdout.decode(), done.stderr.decode()
+    if words in RIGHT:
+        return (done.returncode, out, message) == (0, "", "")
+    if words in VERSION:
+        return (done.returncode, out, message) == (0, version, "")
+    if words in HELP:
+        return done.returncode == 0 and not message and is_help(out)
+    begins = f"error: {WRONG[tuple(words)]}\n\n"
+    usage = message.removeprefix(begins).removesuffix(END)
+    is_usage = not usage or usage.startswith("Usage: indexset_store ") and usage.endswith("\n\n")
+    return (done.returncode, out) == (5, "") and message == begins + usage + END and is_usage
+
+
+def is_help(text: str) -> bool:
+    """Returns whether a text is the help: it has the usage, each option and each default."""
+    options = re.findall(r"(?m)^  (?:-\w, |    )--(\S+)", text)
+    wanted = "follow lead keys keep node-size window pass-others quiet help version".split()
+    defaults = re.findall(r"default: (\w+)", text)
+    is_narrow = all(len(line) <= 100 for line in text.splitlines())
+    has_usage = "\nUsage: indexset_store [OPTIONS]\n" in text
+    return has_usage and is_narrow and options == wanted and defaults == ["numbers", "256", "4096"]
+
+
+def full_output(program: pathlib.Path) -> Counts:
+    """Tests the help and the version where nothing can be written."""
     failed = 0
-    for words, wanted in (
-        [(it, (5, b"", usage)) for it in bad]
-        + [(it, (0, b"", b"")) for it in good]
-        + [([*it], (0, line, b"")) for it, line in told.items()]
-    ):
-        done = run(program, words, [])
-        if (done.returncode, done.stdout.split(b"\n")[0], done.stderr.strip()) != wanted:
-            print(f"{words}: status {done.returncode}, {done.stdout!r} {done.stderr!r}")
+    for word in ("--help", "--version"):
+        with open("/dev/full", "wb") as full:
+            done = subprocess.run([program, word], stdout=full, stderr=subprocess.PIPE, timeout=SECONDS)
+        if (done.returncode, done.stderr) != (4, b"write\n"):
+            print(f"{word} on a full disk: status {done.returncode}, {done.stderr!r}")
             failed += 1
-    return Counts(len(bad) + len(good) + len(told) - failed, failed)
+    return Counts(2 - failed, failed)
 
 
 def main() -> int:
@@ -338,7 +404,7 @@ def main() -> int:
     ]
     counts += [begins_late(program, random.Random(turn).randrange(2, 9), given.seed + turn) for turn in range(TURNS)]
     counts += [quiet(program, leads, given.seed) for leads in (True, False)]
-    counts += [cut_lines(program), too_large(program), no_number(program), arguments(program)]
+    counts += [cut_lines(program), too_large(program), no_number(program), arguments(program), full_output(program)]
     passed, failed = sum(it.passed for it in counts), sum(it.failed for it in counts)
     print(f"{passed} passed, {failed} failed")
     return 1 if failed else 0

@@ -2,62 +2,30 @@
 
 ghost use Rattle.std.specs.Prelude.{◌≤◌};
 
+use clap::error::ErrorKind;
+use clap::{Arg, ArgAction, ArgMatches, Command, Error, value_parser};
 use indexset_follow::others::{Others, Voice};
 use indexset_keep::manner::Manner;
-use indexset_wire::number::read_number;
-use std::io::ErrorKind;
-use std::{env, io};
+use std::alloc::{AllocError, Global};
+use std::env::{Env, FillError};
+use std::io;
 
-/// The first line of the help, and the message for bad arguments.
-pub const USAGE: &str =
-    "usage: indexset_store [--follow | --lead] [--keys numbers|text] [--keep FILE] \
-[--node-size N] [--window N] [--pass-others] [--quiet] | --help | --version";
+/// The name of the program.
+const NAME: &str = "indexset_store";
 
-/// The help after its first line.
-pub const HELP: &str = "
-Serves a map of numbers or texts: reads lines from standard input, and writes the answer to each
-to standard output.
+/// The version of the program.
+const VERSION: &str = "0.2.0";
 
-  --follow       start as a follower, which applies the events of another map (default)
-  --lead         start as a leader, which executes commands and writes their events
-  --keys KEYS    type of keys and values: numbers, or text (percent-encoded). Default: numbers
-  --keep FILE    start from the map in this SQLite file, and commit each change before its answer
-  --node-size N  maximum number of pairs in a node of a leader, 2 to 65535. Default: 256
-  --window N     as a follower, hold events up to N ahead of the awaited one. Default: 4096
-  --pass-others  ignore lines that are not part of the protocol
-  --quiet        as a follower, write only gap, unfit and the answers to requests
-  --help         show this message
-  --version      show the version";
+/// The first lines of the help.
+const ABOUT: &str =
+    "Serves a map of numbers or of percent-encoded texts: reads lines from standard input, and{n}\
+writes the answer to each to standard output.";
 
-/// The name and the version of the program.
-pub const VERSION: &str = "indexset_store 0.2.0";
+/// The least node size.
+const LEAST: usize = 2;
 
-/// The default node size.
-const NODE_SIZE: usize = 256;
-
-/// The default window.
-const WINDOW: u64 = 4_096;
-
-/// The greatest node size.
-const MOST: u64 = 65_535;
-
-/// The maximum number of pairs in a node of a leader.
-#[derive(Clone, Copy, Debug)]
-struct NodeSize {
-    pairs: usize,
-    ghost two: { 2 ≤ pairs },
-}
-
-/// What the program writes.
-#[derive(Clone, Copy, Debug)]
-pub enum Asked {
-    /// The answers to lines.
-    Answers,
-    /// The help.
-    Help,
-    /// The version.
-    Version,
-}
+/// The size of the longest argument that Linux passes to a program, in bytes.
+const LONGEST: usize = 131_072;
 
 /// The type of keys and values.
 #[derive(Clone, Copy, Debug)]
@@ -68,185 +36,191 @@ pub enum Keys {
     Text,
 }
 
-/// The settings of a run.
+/// The arguments of a run.
 #[derive(Drop)]
-pub struct Settings {
-    /// What the program writes.
-    pub asked: Asked,
+pub struct Args<'a> {
     /// The type of keys and values.
     pub keys: Keys,
     /// The file that keeps changes, if there is one.
-    pub file: Option<String>,
+    pub file: Option<&'a str>,
     /// The settings of the map.
     pub manner: Manner,
 }
 
-/// The option whose value is the next argument.
-#[derive(Clone, Copy, Debug)]
-enum Wanted {
-    File,
-    Keys,
-    NodeSize,
-    Window,
+/// Returns an option without a value.
+fn flag<'a>(alloc: Global, name: &'a str, help: &'a str) -> Arg<'a> {
+    Arg::new(alloc, name)
+        .long(name)
+        .action(ArgAction::SetTrue)
+        .help(help)
 }
 
-/// The options that were given, each at most once.
-#[derive(Drop)]
-struct Given {
-    file: Option<String>,
-    asked: Option<Asked>,
-    leads: Option<bool>,
-    keys: Option<Keys>,
-    others: Option<Others>,
-    is_quiet: Option<bool>,
-    node_size: Option<NodeSize>,
-    window: Option<u64>,
-    /// The option whose value is the next argument.
-    wanted: Option<Wanted>,
+/// Returns an option with a value.
+fn option<'a>(alloc: Global, name: &'a str, value: &'a str, help: &'a str) -> Arg<'a> {
+    Arg::new(alloc, name)
+        .long(name)
+        .value_name(value)
+        .help(help)
 }
 
-impl Given {
-    /// Adds an argument. Returns `false` if it is unknown, has a bad value or was given before.
-    fn take(&mut self, argument: String) -> bool {
-        if let Some(wanted) = self.wanted.take() {
-            return self.set(wanted, argument);
-        }
-        let word = argument.as_str();
-        if word == "--help" {
-            keep(&mut self.asked, Some(Asked::Help))
-        } else if word == "--version" {
-            keep(&mut self.asked, Some(Asked::Version))
-        } else if word == "--lead" {
-            keep(&mut self.leads, Some(true))
-        } else if word == "--follow" {
-            keep(&mut self.leads, Some(false))
-        } else if word == "--pass-others" {
-            keep(&mut self.others, Some(Others::Pass))
-        } else if word == "--quiet" {
-            keep(&mut self.is_quiet, Some(true))
+/// Adds the options of the role and the map.
+fn with_map<'a>(alloc: Global, command: Command<'a>) -> Result<Command<'a>, AllocError> {
+    let follow = flag(
+        alloc,
+        "follow",
+        "Start as a follower, which applies the events of another map (default)",
+    );
+    let lead = flag(
+        alloc,
+        "lead",
+        "Start as a leader, which executes commands and writes their events",
+    );
+    let keys = option(alloc, "keys", "KEYS", "Type of keys and values")
+        .value_parser(["numbers", "text"].as_slice())
+        .default_value("numbers");
+    let keep = option(
+        alloc,
+        "keep",
+        "FILE",
+        "Continue from this SQLite file, and commit each change before its answer",
+    );
+    command
+        .arg(follow)?
+        .arg(lead.conflicts_with("follow")?)?
+        .arg(keys)?
+        .arg(keep)
+}
+
+/// Adds the options of nodes and replies.
+fn with_replies<'a>(alloc: Global, command: Command<'a>) -> Result<Command<'a>, AllocError> {
+    let node_size = option(
+        alloc,
+        "node-size",
+        "N",
+        "Maximum number of pairs in a node of a leader, 2 to 65535",
+    )
+    .value_parser(value_parser!(usize).range(2..65_536))
+    .default_value("256");
+    let window = option(
+        alloc,
+        "window",
+        "N",
+        "As a follower, hold events up to N ahead of the awaited one",
+    )
+    .value_parser(value_parser!(u64))
+    .default_value("4096");
+    let pass_others = flag(
+        alloc,
+        "pass-others",
+        "Ignore lines that are not part of the protocol",
+    );
+    let quiet = flag(
+        alloc,
+        "quiet",
+        "As a follower, write only gap, unfit and the answers to requests",
+    );
+    command
+        .arg(node_size)?
+        .arg(window)?
+        .arg(pass_others)?
+        .arg(quiet)
+}
+
+/// Returns the command line of the program.
+fn command_line<'a>(alloc: Global) -> Result<Command<'a>, AllocError> {
+    let command = Command::new(alloc, NAME)
+        .bin_name(NAME)?
+        .version(VERSION)
+        .about(ABOUT);
+    with_replies(alloc, with_map(alloc, command)?)
+}
+
+/// Returns the maximum number of pairs in a node. Each argument has one, since it has a default.
+fn node_size(matches: &ArgMatches<'_>) -> usize
+    ensures two { 2 ≤ result }
+{
+    matches
+        .get_one::<usize>("node-size")
+        .unwrap_or_default()
+        .max(LEAST)
+}
+
+/// Returns which replies are written.
+fn voice(matches: &ArgMatches<'_>) -> Voice {
+    Voice {
+        others: if matches.get_flag("pass-others") {
+            Others::Pass
         } else {
-            self.wanted = wanted_by(word);
-            self.wanted.is_some()
-        }
-    }
-
-    /// Sets the value of an option. Returns `false` if it is a bad value or was given before.
-    fn set(&mut self, wanted: Wanted, argument: String) -> bool {
-        match wanted {
-            Wanted::File => {
-                let is_new = self.file.is_none();
-                self.file = Some(argument);
-                is_new
-            }
-            Wanted::Keys => keep(&mut self.keys, read_keys(argument.as_str())),
-            Wanted::NodeSize => { keep(&mut self.node_size, read_node_size(argument.as_bytes())) }
-            Wanted::Window => keep(&mut self.window, read_number(argument.as_bytes())),
-        }
-    }
-
-    /// Returns the settings, or `None` if an option has no value.
-    fn settings(self) -> Option<Settings> {
-        if self.wanted.is_some() {
-            return None;
-        }
-        Some(Settings {
-            asked: self.asked.unwrap_or(Asked::Answers),
-            keys: self.keys.unwrap_or(Keys::Numbers),
-            file: self.file,
-            manner: Manner {
-                voice: Voice {
-                    others: self.others.unwrap_or(Others::Tell),
-                    is_quiet: self.is_quiet.unwrap_or(false),
-                },
-                leads: self.leads.unwrap_or(false),
-                window: self.window.unwrap_or(WINDOW),
-                size: self
-                    .node_size
-                    .unwrap_or(NodeSize { pairs: NODE_SIZE })
-                    .pairs,
-            },
-        })
+            Others::Tell
+        },
+        is_quiet: matches.get_flag("quiet"),
     }
 }
 
-/// Returns the option of this name that has a value.
-fn wanted_by(word: &str) -> Option<Wanted> {
-    if word == "--keep" {
-        Some(Wanted::File)
-    } else if word == "--keys" {
-        Some(Wanted::Keys)
-    } else if word == "--node-size" {
-        Some(Wanted::NodeSize)
-    } else if word == "--window" {
-        Some(Wanted::Window)
-    } else {
-        None
-    }
-}
-
-/// Stores a value. Returns `false` if there is none, or one was stored before.
-fn keep<T: Copy>(place: &mut Option<T>, said: Option<T>) -> bool {
-    let is_new = place.is_none() && said.is_some();
-    if is_new {
-        *place = said;
-    }
-    is_new
-}
-
-/// Returns the settings, or `None` if an argument is unknown, given twice or without its value.
+/// Returns the arguments that the words of a command line give. The first word is the program.
 ///
 /// # Errors
 ///
-/// An error of `env::args`.
-pub fn read_settings(rt: &HostRuntime) -> io::Result<Option<Settings>> {
-    let mut arguments = match env::args(rt) {
-        Ok(arguments) => arguments,
-        Err(e) => {
-            return if e.kind() == ErrorKind::InvalidData {
-                Ok(None)
-            } else {
-                Err(e)
-            };
-        }
-    };
-    let _program = arguments.next();
-    let mut given = Given {
-        asked: None,
-        leads: None,
-        keys: None,
-        file: None,
-        others: None,
-        is_quiet: None,
-        node_size: None,
-        window: None,
-        wanted: None,
-    };
-    for argument in arguments {
-        if !given.take(argument) {
-            return Ok(None);
-        }
-    }
-    Ok(given.settings())
-}
-
-/// Returns the type of keys and values of this name.
-fn read_keys(word: &str) -> Option<Keys> {
-    if word == "numbers" {
-        Some(Keys::Numbers)
-    } else if word == "text" {
-        Some(Keys::Text)
-    } else {
-        None
-    }
-}
-
-/// Returns the node size of a text, or `None` if it is not one.
-fn read_node_size(text: &[u8]) -> Option<NodeSize> {
-    let pairs = read_number(text)?;
-    if pairs < 2 || pairs > MOST {
-        return None;
-    }
-    Some(NodeSize {
-        pairs: pairs as usize,
+/// The help, the version, or the error that the user reads.
+pub fn parse_args<'a>(alloc: Global, words: &'a [String]) -> Result<Args<'a>, Error> {
+    let matches = command_line(alloc)?.try_get_matches_from(words)?;
+    Ok(Args {
+        keys: match matches.get_str("keys") {
+            Some("text") => Keys::Text,
+            _ => Keys::Numbers,
+        },
+        file: matches.get_str("keep"),
+        manner: Manner {
+            voice: voice(&matches),
+            size: node_size(&matches),
+            window: matches.get_one::<u64>("window").unwrap_or_default(),
+            leads: matches.get_flag("lead"),
+        },
     })
+}
+
+/// Returns the error for the first argument that is not UTF-8.
+fn not_utf8(rt: &HostRuntime) -> Result<Error, AllocError> {
+    let alloc = rt.alloc();
+    let mut bytes = vec![in alloc; 0u8; LONGEST]?;
+    let mut message = String::from_str(alloc, "an argument is not UTF-8")?;
+    for at in 0..usize::MAX {
+        match rt.arg(at, bytes.as_mut_slice()) {
+            Ok(length) => {
+                let argument = &bytes.as_slice()[..length];
+                if std::str::from_utf8(argument).is_err() {
+                    let shown = argument.escape_ascii();
+                    message = format!(in alloc; "the argument '{shown}' is not UTF-8")?;
+                    break;
+                }
+            }
+            Err(FillError::TooLong) => {}
+            Err(FillError::NotPresent) => break,
+        }
+    }
+    command_line(alloc)?.error(ErrorKind::InvalidValue, message.as_str())
+}
+
+/// Returns the words of the command line.
+///
+/// # Errors
+///
+/// The error that the user reads if an argument is not UTF-8, or one of memory.
+pub fn read_words(rt: &HostRuntime) -> Result<Vec<String>, Error> {
+    match std::env::args(rt) {
+        Ok(args) => {
+            let mut words = Vec::new(rt.alloc());
+            for word in args {
+                words.push(word)?;
+            }
+            Ok(words)
+        }
+        Err(error) => {
+            if error.kind() == io::ErrorKind::InvalidData {
+                Err(not_utf8(rt)?)
+            } else {
+                Err(Error::from(AllocError))
+            }
+        }
+    }
 }

@@ -7,7 +7,9 @@
 
 mod arguments;
 
-use arguments::{Asked, HELP, Keys, Settings, USAGE, VERSION, read_settings};
+use arguments::{Args, Keys, parse_args, read_words};
+use clap::Error;
+use clap::error::ErrorKind;
 use indexset_bench::key::Key;
 use indexset_follow::serve;
 use indexset_journal::JournalError;
@@ -77,50 +79,60 @@ fn run_alone<T: Key>(rt: &HostRuntime, manner: Manner) -> Result<(), RunFault> {
     )
 }
 
-/// Writes lines to standard output.
-fn tell(rt: &HostRuntime, text: &str) -> Result<(), RunFault> {
-    println!(rt; "{text}").map_err(|_| RunFault::Write)
-}
-
 /// Answers the lines of standard input with a map of this type of keys and values.
-fn run<T: Key>(rt: &HostRuntime, settings: &Settings) -> Result<(), KeepFault> {
-    match &settings.file {
-        Some(path) => run_kept::<T>(rt, settings.manner, path.as_str())?,
-        None => run_alone::<T>(rt, settings.manner)?,
+fn run<T: Key>(rt: &HostRuntime, args: &Args<'_>) -> Result<(), KeepFault> {
+    match args.file {
+        Some(path) => run_kept::<T>(rt, args.manner, path)?,
+        None => run_alone::<T>(rt, args.manner)?,
     }
     Ok(())
 }
 
-/// Runs as the settings say.
-fn answer(rt: &HostRuntime, settings: &Settings) -> Result<(), KeepFault> {
-    match settings.asked {
-        Asked::Answers => match settings.keys {
-            Keys::Numbers => run::<u64>(rt, settings)?,
-            Keys::Text => run::<Name>(rt, settings)?,
-        },
-        Asked::Help => {
-            tell(rt, USAGE)?;
-            tell(rt, HELP)?;
-        }
-        Asked::Version => tell(rt, VERSION)?,
+/// Writes a fault to standard error. Returns its exit status.
+fn fail(rt: &HostRuntime, fault: KeepFault) -> u8 {
+    let _ = eprintln!(rt; "{fault}");
+    fault.status()
+}
+
+/// Writes the help or the version to standard output, or an error of the arguments to standard
+/// error. Returns the exit status.
+fn report(rt: &HostRuntime, error: &Error) -> u8 {
+    if error.kind() == ErrorKind::OutOfMemory {
+        return fail(rt, KeepFault::Run(RunFault::Memory));
     }
-    Ok(())
+    let printed = error.print(rt);
+    if error.use_stderr() {
+        BAD_ARGUMENTS
+    } else if printed.is_err() {
+        fail(rt, KeepFault::Run(RunFault::Write))
+    } else {
+        0
+    }
+}
+
+/// Runs with these arguments. Returns the exit status.
+fn run_args(rt: &HostRuntime, args: &Args<'_>) -> u8 {
+    let ended = match args.keys {
+        Keys::Numbers => run::<u64>(rt, args),
+        Keys::Text => run::<Name>(rt, args),
+    };
+    match ended {
+        Ok(()) => 0,
+        Err(fault) => fail(rt, fault),
+    }
+}
+
+/// Runs with the arguments of these words. Returns the exit status.
+fn run_words(rt: &HostRuntime, words: &[String]) -> u8 {
+    match parse_args(rt.alloc(), words) {
+        Ok(args) => run_args(rt, &args),
+        Err(error) => report(rt, &error),
+    }
 }
 
 fn main(rt: HostRuntime) -> ExitCode {
-    let answered = match read_settings(&rt) {
-        Ok(Some(settings)) => answer(&rt, &settings),
-        Ok(None) => {
-            let _ = eprintln!(&rt; "{USAGE}");
-            return ExitCode::from(BAD_ARGUMENTS);
-        }
-        Err(_) => Err(KeepFault::Run(RunFault::Memory)),
-    };
-    match answered {
-        Ok(()) => ExitCode::SUCCESS,
-        Err(fault) => {
-            let _ = eprintln!(&rt; "{fault}");
-            ExitCode::from(fault.status())
-        }
-    }
+    ExitCode::from(match read_words(&rt) {
+        Ok(words) => run_words(&rt, words.as_slice()),
+        Err(error) => report(&rt, &error),
+    })
 }
